@@ -74,7 +74,10 @@ class Lemmas(unittest.TestCase):
         for folder, ending in (("src", "rt"), ("specs", "antt"), ("proofs", "antt")):
             for path in glob(os.path.join(CRATES, "*", folder, "**", f"*.{ending}"), recursive=True):
                 crate = os.path.relpath(path, CRATES).split(os.sep)[0]
-                for low, lemmas in re.findall(r"\bRattle\.(x25\w*)\.proofs\.(?:[a-z]\w*\.)*(\w+)", support.read(path).decode()):
+                text = support.read(path).decode()
+                one = re.findall(r"\bRattle\.(x25\w*)\.proofs\.(?:[a-z]\w*\.)*(\w+)", text)
+                some = re.findall(r"\bRattle\.(x25\w*)\.proofs\.\{(.*)\}", text)
+                for low, lemmas in one + [(low, name) for low, names in some for name in re.findall(r"(\w+)\.\{", names)]:
                     if low != crate:
                         cited["any" if low == "x25_io" else crate, low].add(lemmas)
         self.assertEqual(cited, self.CITED)

@@ -176,7 +176,6 @@ pub(crate) fn set_bit(octets: &mut Vec<u8>, place: usize, bit: bool)
 }
 
 /// The lowest `size` bits of an octet, and those of another one behind them.
-#[inline]
 fn behind(octet: u8, size: usize, next: u8) -> u16
     requires { size < 8 }
     ensures { result ≡ octet % 2 ^ size + next * 2 ^ size }
@@ -186,7 +185,6 @@ fn behind(octet: u8, size: usize, next: u8) -> u16
 
 /// Writes the bits of an octet behind the first `place` bits of the octets, of which one more stands behind that
 /// place's.
-#[inline]
 pub(crate) fn write_octet(octets: &mut [u8], place: usize, octet: u8)
     requires { place / 8 + 1 < length octets.old }
     ensures bits { (count : ℕ) → count ≤ 8 → take (place + count) (bits_of octets.new) ≡ take place (bits_of octets.old)
@@ -200,7 +198,6 @@ pub(crate) fn write_octet(octets: &mut [u8], place: usize, octet: u8)
 }
 
 /// The same of a vector's.
-#[inline]
 pub(crate) fn set_octet(octets: &mut Vec<u8>, place: usize, octet: u8)
     requires { place / 8 + 1 < length octets.old.items }
     ensures bits { (count : ℕ) → count ≤ 8

@@ -75,7 +75,6 @@ fn take_into(
 }
 
 /// The same into the memory of a vector.
-#[inline]
 pub(crate) fn take_whole(
     octets: &[u8],
     at: usize,
@@ -115,7 +114,6 @@ fn room_until(at: usize, end: usize, size: usize) -> usize
 
 impl Deframer {
     /// Whether an octet here can be of a content, and there is room for its bits.
-    #[inline]
     fn is_in_content(&self) -> bool
         ensures opened { result ≡ true → self.now.scan.is_open ≡ true }
         ensures going { result ≡ true → self.now.scan.is_aborted ≡ false }

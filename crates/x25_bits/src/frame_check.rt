@@ -15,7 +15,6 @@ use byteorder::{ByteOrder, LittleEndian};
 ///
 /// The divisor's fourth power is x^64 + x^48 + x^20 + 1. Multiples of it, taken away until the first 64 coefficients
 /// are 0, change no others but the next 64.
-#[inline]
 fn folded(held: u64) -> u64
     ensures { fed (low_bits 16 0) (low_bits 64 result) ≡ fed (low_bits 16 0) (low_bits 64 held ++ replicate 64 false) }
 {
@@ -37,7 +36,6 @@ struct Block {
 ///
 /// The divisor's sixteenth power is x^256 + x^192 + x^80 + 1, so that whole words are taken away, and words moved by
 /// sixteen places.
-#[inline(always)]
 fn folded_block(first: u64, second: u64, third: u64, fourth: u64) -> Block
     ensures { words_leave result.first result.second result.third result.fourth
         ≡ fed (words_leave first second third fourth) (replicate 256 false) }
@@ -55,7 +53,6 @@ fn folded_block(first: u64, second: u64, third: u64, fourth: u64) -> Block
 }
 
 /// Thirty-two octets that leave what the held ones and the next thirty-two leave.
-#[inline(always)]
 fn with_block(held: Block, octets: &[u8]) -> Block
     requires { 32 ≤ length octets.now }
     ensures { fed (words_leave result.first result.second result.third result.fourth) (bits_of (drop 32 octets.now))
@@ -75,7 +72,6 @@ fn with_block(held: Block, octets: &[u8]) -> Block
 }
 
 /// Eight octets that leave what these thirty-two leave.
-#[inline(always)]
 fn last_word(held: Block) -> u64
     ensures { fed (low_bits 16 0) (low_bits 64 result) ≡ words_leave held.first held.second held.third held.fourth }
 {
@@ -85,7 +81,6 @@ fn last_word(held: Block) -> u64
 }
 
 /// What an octet leaves at this place of eight, the others 0.
-#[inline(always)]
 fn left(place: usize, octet: u8) -> u16
     requires { place < 8 }
     ensures { low_bits 16 result ≡ fed (low_bits 16 0) (low_bits 64 (octet * 256 ^ place)) }
@@ -94,7 +89,6 @@ fn left(place: usize, octet: u8) -> u16
 }
 
 /// The register that eight octets leave of which the first six are 0, and the last two these.
-#[inline(always)]
 fn reduced_two(octets: u64) -> u16
     requires { octets < 2 ^ 16 }
     ensures { low_bits 16 result ≡ fed (low_bits 16 0) (low_bits 64 (octets * 2 ^ 48)) }
@@ -104,7 +98,6 @@ fn reduced_two(octets: u64) -> u16
 }
 
 /// The register that eight octets leave: what they leave each by itself, added.
-#[inline(always)]
 fn reduced(held: u64) -> u16
     ensures { low_bits 16 result ≡ fed (low_bits 16 0) (low_bits 64 held) }
 {
@@ -131,7 +124,6 @@ static STARTS: [u64; 8] = [
 ];
 
 /// One to seven octets as a number, the low octet first.
-#[inline]
 fn short_word(octets: &[u8]) -> u64
     requires some { 0 < length octets.now }
     requires few { length octets.now < 8 }
@@ -153,7 +145,6 @@ fn short_word(octets: &[u8]) -> u64
 }
 
 /// Eight octets that leave what the first `count` octets leave in a register of ones. They are fewer than eight.
-#[inline]
 fn begun(octets: &[u8], count: usize) -> u64
     requires few { count < 8 }
     requires within { count ≤ length octets.now }
@@ -172,7 +163,6 @@ fn begun(octets: &[u8], count: usize) -> u64
 }
 
 /// Eight octets that leave what the held ones and those behind them leave, eight at a time.
-#[inline(always)]
 fn through_words(start: u64, octets: &[u8]) -> u64
     requires { length octets.now % 8 ≡ 0 }
     ensures { fed (low_bits 16 0) (low_bits 64 result)
@@ -186,7 +176,6 @@ fn through_words(start: u64, octets: &[u8]) -> u64
 }
 
 /// The same, thirty-two at a time.
-#[inline(always)]
 fn through_blocks(start: u64, octets: &[u8]) -> u64
     requires { length octets.now % 32 ≡ 0 }
     ensures { fed (low_bits 16 0) (low_bits 64 result)
@@ -206,7 +195,6 @@ fn through_blocks(start: u64, octets: &[u8]) -> u64
 
 /// The same: of sixty-four octets or more thirty-two at a time, behind those beyond a multiple of that; else eight at a
 /// time.
-#[inline(always)]
 fn through(start: u64, octets: &[u8]) -> u64
     requires { length octets.now % 8 ≡ 0 }
     ensures { fed (low_bits 16 0) (low_bits 64 result)
@@ -221,7 +209,6 @@ fn through(start: u64, octets: &[u8]) -> u64
 }
 
 /// The register that two octets leave in one of ones.
-#[inline(always)]
 fn register_of_two(octets: &[u8]) -> u16
     requires { length octets.now ≡ 2 }
     ensures { low_bits 16 result ≡ fed (low_bits 16 65535) (bits_of octets.now) }
@@ -231,7 +218,6 @@ fn register_of_two(octets: &[u8]) -> u16
 }
 
 /// The register that the octets leave in one of ones.
-#[inline(always)]
 fn register(octets: &[u8]) -> u16
     ensures { low_bits 16 result ≡ fed (low_bits 16 65535) (bits_of octets.now) }
 {
@@ -266,7 +252,6 @@ pub fn fcs(octets: &[u8]) -> u16
 
 /// Whether the last two octets are the frame check sequence of the octets before them, the low octet first.
 /// Fewer than two octets aren't.
-#[inline(always)]
 pub fn check(octets: &[u8]) -> bool
     ensures sealed { IsTrue result ↔ IsSealed octets.now }
     ensures value { result ≡ is_sealed octets.now }

@@ -94,7 +94,6 @@ impl Deframer {
     }
 
     /// The same by places of bits. It is `at` where no octet begins there.
-    #[inline]
     pub(crate) fn idle_bits_until(&self, octets: &[u8], at: usize, end: usize) -> usize
         requires at { at ≤ end }
         requires end { end ≤ 8 * length octets.now }

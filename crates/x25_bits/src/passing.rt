@@ -23,7 +23,6 @@ pub struct Passed {
 }
 
 /// What an octet's bits leave behind `run` 1 bits, the lowest bit first.
-#[inline]
 pub fn pass_octet(run: u8, octet: u8) -> Option<Passed>
     ensures passes { IfSome result (λ passed. (was : Bool) → Passes passed run was (low_bits 8 octet)) }
     ensures few { IfSome result (λ passed. passed.count ≤ 8) }
@@ -46,7 +45,6 @@ pub fn pass_octet(run: u8, octet: u8) -> Option<Passed>
 
 impl Deframer {
     /// Keeps what these bits leave.
-    #[inline]
     pub(crate) fn keep_passed(&mut self, passed: Passed)
         requires size { passed.count ≤ 8 }
         requires room { length self.old.kept ≤ 32823 }

@@ -21,7 +21,6 @@ pub struct Skipped {
 
 impl Deframer {
     /// Bits from this place on, all of one octet, of which nothing is kept.
-    #[inline]
     pub(crate) fn skip_at(&self, octets: &[u8], place: usize, end: usize) -> Option<Skipped>
         requires place { place < end }
         requires end { end ≤ 8 * length octets.now }
@@ -37,7 +36,6 @@ impl Deframer {
     }
 
     /// The first seven bits of a flag, behind seven 1 bits.
-    #[inline]
     fn flag_at(&self, octets: &[u8], place: usize, end: usize) -> Option<Skipped>
         requires place { place < end }
         requires end { end ≤ 8 * length octets.now }
@@ -70,7 +68,6 @@ impl Deframer {
     }
 
     /// Seven 1 bits behind a flag that ends with an octet's first bit.
-    #[inline]
     fn seven_at(&self, octets: &[u8], place: usize, end: usize) -> Option<Skipped>
         requires place { place < end }
         requires end { end ≤ 8 * length octets.now }
@@ -103,7 +100,6 @@ impl Deframer {
     }
 
     /// Goes on with this scan.
-    #[inline]
     pub(crate) fn skip(&mut self, scan: Scan)
         ensures scan { self.new.scan ≡ scan }
         ensures kept { self.new.kept ≡ self.old.kept }

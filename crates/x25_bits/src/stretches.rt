@@ -19,7 +19,6 @@ pub struct Stretch {
 }
 
 /// What is left without so many 0 bits, which came first.
-#[inline]
 fn behind_zeros(passed: Passed, zeros: u8) -> Passed
     requires few { zeros ≤ passed.count }
     requires octet { zeros < 8 }
@@ -37,7 +36,6 @@ fn behind_zeros(passed: Passed, zeros: u8) -> Passed
 }
 
 /// The bits to an octet's end, behind a 0 that isn't an inserted one, as behind a flag.
-#[inline]
 fn rest_of(scan: Scan, octets: &[u8], place: usize, end: usize) -> Option<Stretch>
     requires place { place < 8 * length octets.now }
     requires end { place + (8 - place % 8) ≤ end }
@@ -64,7 +62,6 @@ fn rest_of(scan: Scan, octets: &[u8], place: usize, end: usize) -> Option<Stretc
 }
 
 /// The bits of an octet up to a flag's last 0, where the flag ends in it.
-#[inline]
 fn up_to_flag(scan: Scan, octets: &[u8], place: usize, end: usize) -> Option<Stretch>
     requires first { place % 8 ≡ 0 }
     requires place { place < 8 * length octets.now }
@@ -110,7 +107,6 @@ fn up_to_flag(scan: Scan, octets: &[u8], place: usize, end: usize) -> Option<Str
 
 impl Deframer {
     /// Bits from this place on, all of one octet, that are taken at once.
-    #[inline]
     pub(crate) fn stretch_at(&self, octets: &[u8], place: usize, end: usize) -> Option<Stretch>
         requires place { place < end }
         requires end { end ≤ 8 * length octets.now }

@@ -23,7 +23,6 @@ pub(crate) fn put_flag(bits: &mut Bits) -> Result<(), NoMemory>
 }
 
 /// Appends the lowest `count` bits of an octet.
-#[inline]
 fn put_low(octet: u8, count: u8, bits: &mut Bits) -> Result<(), NoMemory>
     requires { count ≤ 8 }
     ensures ok { OnOk result (bits.new ≡ bits.old ++ low_bits count octet) }
@@ -34,7 +33,6 @@ fn put_low(octet: u8, count: u8, bits: &mut Bits) -> Result<(), NoMemory>
 }
 
 /// The same where mostly there are none.
-#[inline]
 fn put_rest(octet: u8, count: u8, bits: &mut Bits) -> Result<(), NoMemory>
     requires { count ≤ 8 }
     ensures ok { OnOk result (bits.new ≡ bits.old ++ low_bits count octet) }
@@ -47,7 +45,6 @@ fn put_rest(octet: u8, count: u8, bits: &mut Bits) -> Result<(), NoMemory>
 }
 
 /// An octet's bits behind `run` 1 bits, and a 0 behind the fifth of them; answers how many stand there then.
-#[inline]
 fn put_octet(run: u8, octet: u8, bits: &mut Bits) -> Result<u8, NoMemory>
     requires { run < 5 }
     ensures few { IfOk result (λ after. after < 5) }

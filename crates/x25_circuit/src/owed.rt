@@ -23,7 +23,6 @@ impl Owed {
     ghost use Rattle.x25_circuit.specs.code.Replies.{packet_owed};
 
     /// The packet on this channel, 1 to 4,095.
-    #[inline(always)]
     pub fn packet<'a>(&self, channel: u16) -> Packet<'a>
         requires { IsChannel channel }
         ensures value { plain result ≡ packet_owed channel self.now }

@@ -171,7 +171,6 @@ impl Transfer {
 
     /// Takes a data packet that isn't refused, and gives the message that ends with it, if one does: the next comes in
     /// the spare memory then.
-    #[inline(always)]
     pub fn take(
         &mut self,
         ps: Seq,

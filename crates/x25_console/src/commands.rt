@@ -143,7 +143,6 @@ pub fn read_user(command: &Command, octets: &mut Vec<u8>) -> Result<usize, Alloc
 }
 
 /// What is asked of a call, with its octets of user data.
-#[inline(always)]
 fn call_command<'a>(call: &CallPart<'a>, user: &'a [u8]) -> CallCmd<'a>
     requires { user.now ≡ part_user (plain_part call.now) }
     ensures { request_of result ≡ part_asked (plain_part call.now) }

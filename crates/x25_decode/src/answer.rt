@@ -36,7 +36,6 @@ fn sender(mark: u8) -> Option<Role>
 }
 
 /// The mark of what an end sent, with the blank behind it.
-#[inline(always)]
 pub fn mark(from: Role) -> &'static [u8]
     ensures mark { result.now ≡ mark_of from }
     ensures size { length result.now ≡ 2 }

@@ -5,7 +5,6 @@ ghost use Rattle.x25_frame.specs.Spelling.{address_of};
 use crate::Role;
 
 /// The address that a command or a response of this end carries: A is 3, B is 1.
-#[inline(always)]
 pub(crate) fn address(from: Role, command: bool) -> u8
     ensures { result ≡ address_of from command }
 {

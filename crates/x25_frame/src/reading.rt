@@ -11,7 +11,6 @@ use crate::{Frame, FrameError, Role, Seq};
 use x25_bits::check;
 
 /// The frame, where it has no information.
-#[inline(always)]
 fn read_bare<'a>(control: u8, info: &[u8], frame: Frame<'a>) -> Result<Frame<'a>, FrameError>
     ensures { Gives result (bare control info.now (plain frame.entry)) }
 {
@@ -21,7 +20,6 @@ fn read_bare<'a>(control: u8, info: &[u8], frame: Frame<'a>) -> Result<Frame<'a>
     }
 }
 
-#[inline(always)]
 fn read_unnumbered<'a>(
     command: bool,
     control: u8,
@@ -46,7 +44,6 @@ fn read_unnumbered<'a>(
     }
 }
 
-#[inline(always)]
 fn read_kind<'a>(
     n1: usize,
     command: bool,

@@ -37,7 +37,6 @@ fn control(frame: &Frame) -> u8
     }
 }
 
-#[inline(always)]
 fn information<'a>(frame: &'a Frame<'a>) -> &'a [u8]
     ensures { result.now ≡ information_of (plain frame.now) }
 {

@@ -1,2 +1,1 @@
 pub mod ReadingLaw
-pub mod ThroughLaws

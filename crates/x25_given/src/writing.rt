@@ -6,7 +6,6 @@ ghost use Rattle.x25_packet.specs.Block.{fields_octets};
 ghost use Rattle.x25_given.specs.Given.{may_give, plain_given};
 ghost use Rattle.x25_given.specs.Writing.{fields, head_of, write};
 
-use crate::form::Form;
 use crate::given::Given;
 use std::alloc::Global;
 use std::marker::Model;
@@ -23,7 +22,7 @@ const CLEAR: u8 = 0x13;
 /// 109 behind its length, and 128 of user data.
 const MOST_OCTETS: usize = 257;
 
-/// A form in which CALL, ACCEPT and CLEAR have what is given beside them. It has memory for the octets.
+/// What is given beside a CALL, an ACCEPT or a CLEAR, and memory for their octets with it.
 #[derive(Drop)]
 pub struct Writing<'a> {
     given: Given<'a>,
@@ -43,7 +42,7 @@ impl<'a> Model for Writing<'a> {
 }
 
 impl<'a> Writing<'a> {
-    /// The form, where what is given is allowed.
+    /// Where what is given is allowed.
     ///
     /// 70 alone.
     pub fn new(alloc: Global, given: Given<'a>) -> Result<Writing<'a>, NoMemory>
@@ -55,14 +54,14 @@ impl<'a> Writing<'a> {
             Err(_) => Err(NoMemory),
         }
     }
-}
 
-impl<'a> Form for Writing<'a> {
-    ghost use Rattle.x25_given.specs.Writing.{write};
-
-    ghost form = { write };
-
-    fn written(self, octets: &[u8]) -> Option<Vec<u8>> {
+    /// The octets of a packet with what is given, 260 at most; none where they are as they were, as those of any other
+    /// packet.
+    pub fn written(self, octets: &[u8]) -> Option<Vec<u8>>
+        ensures written { MatchOption result (write self.entry octets.now ≡ octets.now)
+            (λ w. w.items ≡ write self.entry octets.now) }
+        ensures short { IfSome result (λ w. vec_len w ≤ 260) }
+    {
         let Writing { given, memory } = self;
         with_given(&given, memory, octets)
     }

@@ -1,44 +1,19 @@
 -- What is acknowledged to an end that talks, the other end has taken in the same stretch.
 use Rattle.std.proofs.Common.{◌≡◌, ◌⊎◌, inl, inr, ℕ, ◌≤◌, List, [], ◌∷◌, ◌++◌, length, take, drop, Some, refl, sym, ap, subst, ◌∙◌, arith}
-use Rattle.std.proofs.lemmas.Bool.{true≢false}
-use Rattle.std.proofs.lemmas.List.{take-append-drop, take-append-le}
-use Rattle.x25_bits.specs.declared.role.Role.{Role}
-use Rattle.x25_bits.specs.declared.role.Role.TheVariants.{Dte, Dce}
-use Rattle.x25_circuit.specs.declared.message.Message.{Message}
-use Rattle.x25_circuit.specs.Message.{no_part, joining, carried_from, carried}
-use Rattle.x25_circuit.specs.Params.{Terms}
-use Rattle.x25_circuit.specs.Notice.{CallRequest}
-use Rattle.x25_handshakes.specs.laws.Handshake.{Side, Live, At, state_of}
-use Rattle.x25_handshakes.specs.laws.Stretch.{Packet, Stretch, fresh}
-use Rattle.x25_handshakes.specs.laws.Transfer.{d1, fresh_transfer}
-use Rattle.x25_handshakes.specs.laws.Calls.{Phase, Talking, Connection, fresh_call}
-use Rattle.x25_handshakes.specs.laws.Channel.{live}
-use Rattle.x25_handshakes.specs.laws.Layers.{Channels, all_fresh, ready, Pair, turned}
-use Rattle.x25_handshakes.specs.laws.Names.{Name}
+use Rattle.std.proofs.{lemmas.Bool.{true≢false}, lemmas.List.{take-append-drop, take-append-le}}
+use Rattle.x25_bits.specs.{declared.role.Role.{Role}, declared.role.Role.TheVariants.{Dte, Dce}}
+use Rattle.x25_circuit.specs.{declared.message.Message.{Message}, Message.{no_part, joining, carried_from, carried}, Params.{Terms}, Notice.{CallRequest}}
+use Rattle.x25_handshakes.specs.{laws.Handshake.{Side, Live, At, state_of, live}, laws.Stretch.{Packet, Stretch, fresh}, laws.Transfer.{fresh_transfer}}
+use Rattle.x25_handshakes.specs.{laws.Calls.{Phase, Talking, Connection, fresh_call}, laws.Layers.{Channels, all_fresh, Pair, turned}, laws.Names.{Name}}
 use Rattle.x25_handshakes.specs.laws.Histories.{Lists, messages, resets_in, held_in, circuit_at, name_at, held_at, Histories, histories_run, histories_start, IsPrefix}
-use Rattle.x25_handshakes.specs.laws.Arrivals.{open_at}
-use Rattle.x25_handshakes.specs.laws.Acknowledged.{AcknowledgedAreUp, AcknowledgedAreHandedUp}
-use Rattle.x25_handshakes.specs.laws.PeerClaims.{InEpochs, transfer_of}
-use Rattle.x25_handshakes.specs.laws.LawsBelow.{Laws}
-use Rattle.x25_handshakes.proofs.StretchRelation.{pieces, StretchesRelated}
-use Rattle.x25_handshakes.proofs.TransferRelation.{stretch_level}
-use Rattle.x25_handshakes.proofs.CallsRelation.{stage_of, TalksRelated}
-use Rattle.x25_handshakes.proofs.ChannelRelation.{Seen, connection_level, ChannelRelated}
-use Rattle.x25_handshakes.proofs.LayersRelation.{on, channels_level, LayersRelated, EndsRelated}
-use Rattle.x25_handshakes.proofs.HandshakeLemmas.{both_fresh}
-use Rattle.x25_handshakes.proofs.TextLemmas.{carried-append}
-use Rattle.x25_handshakes.proofs.LineLemmas.{heard_least}
-use Rattle.x25_handshakes.proofs.PartLemmas.{Line-le}
-use Rattle.x25_handshakes.proofs.StretchLemmas.{StretchesRelated-fresh}
-use Rattle.x25_handshakes.proofs.CallLemmas.{TalksRelated-flip}
-use Rattle.x25_handshakes.proofs.JointLemmas.{in_stage, joint_order}
-use Rattle.x25_handshakes.proofs.NameLemmas.{name_eq}
-use Rattle.x25_handshakes.proofs.TurnLemmas.{Ends-meet}
-use Rattle.x25_handshakes.proofs.StretchKindLemmas.{messages_handled}
-use Rattle.x25_handshakes.proofs.LayerLemmas.{Stands, Stands-turned}
-use Rattle.x25_handshakes.proofs.LawLemmas.{Holds, always_holds}
-use Rattle.x25_handshakes.proofs.ArrivalLemmas.{Opened, opened, name_opened}
-use Rattle.x25_handshakes.proofs.PeerOrder.{in_epochs, ours}
+use Rattle.x25_handshakes.specs.{laws.Arrivals.{open_at}, laws.Acknowledged.{AcknowledgedAreUp, AcknowledgedAreHandedUp}}
+use Rattle.x25_handshakes.specs.{laws.PeerClaims.{InEpochs, transfer_of}, laws.LawsBelow.{Laws}}
+use Rattle.x25_handshakes.proofs.{StretchRelation.{pieces, StretchesRelated}, TransferRelation.{stretch_level}, CallsRelation.{TalksRelated}}
+use Rattle.x25_handshakes.proofs.{ChannelRelation.{Seen, connection_level, ChannelRelated}, LayersRelation.{on, channels_level, LayersRelated, EndsRelated}}
+use Rattle.x25_handshakes.proofs.{HandshakeLemmas.{both_fresh}, TextLemmas.{carried-append}, LineLemmas.{heard_least}, PartLemmas.{Line-le}}
+use Rattle.x25_handshakes.proofs.{StretchLemmas.{StretchesRelated-fresh}, CallLemmas.{TalksRelated-flip}, JointLemmas.{joint_order}, NameLemmas.{name_eq}}
+use Rattle.x25_handshakes.proofs.{TurnLemmas.{Ends-meet}, StretchKindLemmas.{messages_handled}, LayerLemmas.{Stands, Stands-turned}}
+use Rattle.x25_handshakes.proofs.{LawLemmas.{Holds, always_holds}, ArrivalLemmas.{Opened, opened, name_opened}, PeerOrder.{in_epochs}}
 
 -- ---- level by level
 
@@ -78,13 +53,10 @@ abbrev Calls : Connection → Connection → Type 0
 Calls x y = Transfers (transfer_of x.phase) (transfer_of y.phase)
 
 in_call : (r : Role) (x : Connection) (u v : List Packet) (y : Connection) → Seen r x u v y → Calls x y
-in_call Dte x u v y h =
-    let o = joint_order TalksRelated fresh_transfer fresh_transfer Transfers both_new in_talk (stage_of x.phase) (stage_of y.phase) x.made x.indicated y.made y.indicated u v h in
-    subst (λ (a : At Stretch). Transfers a (transfer_of y.phase)) (ours x.phase) (subst (Transfers (in_stage fresh_transfer (stage_of x.phase))) (ours y.phase) o.2)
+in_call Dte x u v y h = (joint_order TalksRelated fresh_transfer fresh_transfer Transfers both_new in_talk x.phase y.phase x.made x.indicated y.made y.indicated u v h).2
 in_call Dce x u v y h =
-    let o = joint_order TalksRelated fresh_transfer fresh_transfer (λ b a. Transfers a b) both_new (λ t b y u v t₂ b₂ x h. in_talk t₂ b₂ x v u t b y (TalksRelated-flip t b y u v t₂ b₂ x h))
-    (stage_of y.phase) (stage_of x.phase) y.made y.indicated x.made x.indicated v u h in
-    subst (λ (a : At Stretch). Transfers a (transfer_of y.phase)) (ours x.phase) (subst (Transfers (in_stage fresh_transfer (stage_of x.phase))) (ours y.phase) o.2)
+    (joint_order TalksRelated fresh_transfer fresh_transfer (λ b a. Transfers a b) both_new (λ t b y u v t₂ b₂ x h. in_talk t₂ b₂ x v u t b y (TalksRelated-flip t b y u v t₂ b₂ x h))
+    y.phase x.phase y.made y.indicated x.made x.indicated v u h).2
 
 abbrev Channel : At Connection → At Connection → Type 0
 Channel x y = InEpochs Calls fresh_call fresh_call x y
@@ -111,7 +83,7 @@ none_is_first (m ∷ l) up h = absurd (never h.1)
 abbrev Meets : Stretch → Type 0 → List Message → Type 0
 Meets x Same up = (Same × AcknowledgedAreUp x up) ⊎ AcknowledgedAreUp x []
 
-meets_resets : (x : Stretch) (s : ℕ) (y : At Stretch) → Transfers (d1 s x) y → Meets x (s ≡ y.epoch) (state_of y.side).up
+meets_resets : (x : Stretch) (s : ℕ) (y : At Stretch) → Transfers (live s x) y → Meets x (s ≡ y.epoch) (state_of y.side).up
 meets_resets x s y h = elim h.apart [
   | inl same ↦ inl (same, h.same same)
   | inr apart ↦ elim apart [ inl ahead ↦ inr (h.near_ahead ahead).0 | inr later ↦ absurd (true≢false (sym (h.peer_ahead later).1)) ]
@@ -129,7 +101,7 @@ up_is other = refl
 abbrev up_of : Connection → List Message
 up_of y = (messages.held y).up
 
-meets_clears : (x : Stretch) (c s : ℕ) (t b : Terms) (m i : List CallRequest) (y : At Connection) → Channel (live c (record { phase = Talking t b (d1 s x); made = m; indicated = i })) y
+meets_clears : (x : Stretch) (c s : ℕ) (t b : Terms) (m i : List CallRequest) (y : At Connection) → Channel (live c (record { phase = Talking t b (live s x); made = m; indicated = i })) y
     → Meets x ((c ≡ y.epoch) × (s ≡ messages.resets (state_of y.side))) (up_of (state_of y.side))
 meets_clears x c s t b m i y h = elim h.apart [
   | inl same ↦ elim (meets_resets x s (transfer_of (state_of y.side).phase) (h.same same)) [
@@ -142,8 +114,8 @@ meets_clears x c s t b m i y h = elim h.apart [
   ]
 ]
 
-meets_restarts : (x : Stretch) (e : ℕ) (chans : Channels) (k c s : ℕ) (t b : Terms) (m i : List CallRequest) (y : At Channels) → chans k ≡ live c (record { phase = Talking t b (d1 s x); made = m; indicated = i })
-    → InEpochs AllChannels all_fresh all_fresh (ready e chans) y → Meets x (name_at messages y k ≡ record { restarts = e; clears = c; resets = s }) (held_at messages y k).up
+meets_restarts : (x : Stretch) (e : ℕ) (chans : Channels) (k c s : ℕ) (t b : Terms) (m i : List CallRequest) (y : At Channels) → chans k ≡ live c (record { phase = Talking t b (live s x); made = m; indicated = i })
+    → InEpochs AllChannels all_fresh all_fresh (live e chans) y → Meets x (name_at messages y k ≡ record { restarts = e; clears = c; resets = s }) (held_at messages y k).up
 meets_restarts x e chans k c s t b m i y is h = elim h.apart [
   | inl same ↦ elim (meets_clears x c s t b m i (circuit_at y k) (subst (λ (a : At Connection). Channel a (circuit_at y k)) is (h.same same k))) [
     | inl meet ↦ inl (name_eq (name_at messages y k) (record { restarts = e; clears = c; resets = s }) (sym same) (sym meet.0.0) (sym meet.0.1), meet.1)
@@ -166,12 +138,12 @@ at_near : (r : Role) (w : Pair) (k : ℕ) (x : Stretch) (history : Name → List
     → open_at w.near k ≡ Some x → AcknowledgedAreUp x (history (name_at messages (state_of w.near) k)).up
 at_near r w k x history stands held is =
     let o : Opened w.near k x = opened w.near k x is in
-    let top : EndsRelated r (Live (ready o.restarts o.channels)) w.out w.back w.far = subst (λ (s : Side (At Channels)). EndsRelated r s w.out w.back w.far) o.end stands.top in
-    let ends = Ends-meet r (ready o.restarts o.channels) w.out w.back w.far top in
+    let top : EndsRelated r (Live (live o.restarts o.channels)) w.out w.back w.far = subst (λ (s : Side (At Channels)). EndsRelated r s w.out w.back w.far) o.end stands.top in
+    let ends = Ends-meet r (live o.restarts o.channels) w.out w.back w.far top in
     let there : At Channels = state_of w.far in
     subst (λ (n : Name). AcknowledgedAreUp x (history n).up) (sym (name_opened w.near k x o))
     (in_history x history (record { restarts = o.restarts; clears = o.clears; resets = o.resets }) there k held
-    (meets_restarts x o.restarts o.channels k o.clears o.resets o.sends o.takes o.made o.indicated there o.circuit (in_layers r (ready o.restarts o.channels) ends.0 w.back there ends.1)))
+    (meets_restarts x o.restarts o.channels k o.clears o.resets o.sends o.takes o.made o.indicated there o.circuit (in_layers r (live o.restarts o.channels) ends.0 w.back there ends.1)))
 
 pub acknowledged_up : Laws → AcknowledgedAreHandedUp
 acknowledged_up laws events k x =

@@ -1,27 +1,12 @@
 -- An open stretch of both ends, with nothing on the way from one: all of it has arrived.
-use Rattle.std.proofs.Common.{◌≡◌, ℕ, List, [], ◌∷◌, ◌++◌, Some, Bool, refl, sym, ap, subst, ◌∙◌, arith}
-use Rattle.std.proofs.lemmas.Option.{same_Some, none-some}
-use Rattle.x25_circuit.specs.Message.{Piece, More, Last, Partial, no_part, joined, joining, wholes}
-use Rattle.x25_bits.specs.declared.role.Role.{Role}
-use Rattle.x25_bits.specs.declared.role.Role.TheVariants.{Dte, Dce}
-use Rattle.x25_circuit.specs.Params.{Terms}
-use Rattle.x25_circuit.specs.Notice.{CallRequest}
-use Rattle.x25_handshakes.specs.laws.Handshake.{Side, Live, Left, At, state_of}
-use Rattle.x25_handshakes.specs.laws.Stretch.{Stretch}
-use Rattle.x25_handshakes.specs.laws.Transfer.{d1}
-use Rattle.x25_handshakes.specs.laws.Calls.{Phase, Talking, Connection}
-use Rattle.x25_handshakes.specs.laws.Channel.{live}
-use Rattle.x25_handshakes.specs.laws.Layers.{LayerPacket, Channels, ready, Pair, turned, pair_run, pair_start}
-use Rattle.x25_handshakes.specs.laws.Names.{Name}
-use Rattle.x25_handshakes.specs.laws.Histories.{messages, name_at}
-use Rattle.x25_handshakes.specs.laws.Arrivals.{open_in, open_phase, open_call, open_channel, open_at, HasArrived, AllArrives}
-use Rattle.x25_handshakes.specs.laws.LawsBelow.{Laws}
-use Rattle.x25_handshakes.proofs.LayersRelation.{EndsRelated}
-use Rattle.x25_handshakes.proofs.StretchRelation.{FollowsFrom}
-use Rattle.x25_handshakes.proofs.LayerLemmas.{Stands, Stands-turned, Stands-run, Stands-start}
-use Rattle.x25_handshakes.proofs.StretchLemmas.{FollowsFrom-from_Dir}
-use Rattle.x25_handshakes.proofs.ClaimLemmas.{open_stretch}
-use Rattle.x25_handshakes.proofs.TextLemmas.{joining-append}
+use Rattle.std.proofs.{Common.{◌≡◌, ℕ, List, [], ◌∷◌, ◌++◌, Some, Bool, refl, sym, ap, subst, ◌∙◌, arith}, lemmas.Option.{same_Some, none-some}}
+use Rattle.x25_circuit.specs.{Message.{Piece, More, Last, Partial, no_part, joined, joining, wholes}, Params.{Terms}, Notice.{CallRequest}}
+use Rattle.x25_bits.specs.{declared.role.Role.{Role}, declared.role.Role.TheVariants.{Dte, Dce}}
+use Rattle.x25_handshakes.specs.{laws.Handshake.{Side, Live, Left, At, state_of, live}, laws.Stretch.{Stretch}, laws.Calls.{Phase, Talking, Connection}}
+use Rattle.x25_handshakes.specs.{laws.Layers.{LayerPacket, Channels, Pair, turned, pair_run, pair_start}, laws.Names.{Name}, laws.Histories.{messages, name_at}}
+use Rattle.x25_handshakes.specs.{laws.Arrivals.{open_in, open_phase, open_call, open_channel, open_at, HasArrived, AllArrives}, laws.LawsBelow.{Laws}}
+use Rattle.x25_handshakes.proofs.{LayersRelation.{EndsRelated}, StretchRelation.{FollowsFrom}, LayerLemmas.{Stands, Stands-turned, Stands-run, Stands-start}}
+use Rattle.x25_handshakes.proofs.{StretchLemmas.{FollowsFrom-from_Dir}, ClaimLemmas.{open_stretch}, TextLemmas.{joining-append}}
 
 -- an end of which the stretch x is open on channel k
 pub record Opened (s : Side (At Channels)) (k : ℕ) (x : Stretch) : Type 0 where
@@ -33,10 +18,10 @@ pub record Opened (s : Side (At Channels)) (k : ℕ) (x : Stretch) : Type 0 wher
   pub takes : Terms
   pub made : List CallRequest
   pub indicated : List CallRequest
-  pub end : s ≡ Live (ready restarts channels)
-  pub circuit : channels k ≡ live clears (record { phase = Talking sends takes (d1 resets x); made = made; indicated = indicated })
+  pub end : s ≡ Live (live restarts channels)
+  pub circuit : channels k ≡ live clears (record { phase = Talking sends takes (live resets x); made = made; indicated = indicated })
 
-in_transfer : (at : At Stretch) (x : Stretch) → open_in at.side ≡ Some x → at ≡ d1 at.epoch x
+in_transfer : (at : At Stretch) (x : Stretch) → open_in at.side ≡ Some x → at ≡ live at.epoch x
 in_transfer at x is = ap (λ (s : Side Stretch). record { epoch = at.epoch; side = s }) (side at.side is)
   where
     side : (s : Side Stretch) → open_in s ≡ Some x → s ≡ Live x
@@ -47,7 +32,7 @@ record InPhase (a : Phase) (x : Stretch) : Type 0 where
   resets : ℕ
   sends : Terms
   takes : Terms
-  phase : a ≡ Talking sends takes (d1 resets x)
+  phase : a ≡ Talking sends takes (live resets x)
 
 in_phase : (a : Phase) (x : Stretch) → open_phase a ≡ Some x → InPhase a x
 in_phase (Talking t b at) x is = record { resets = at.epoch; sends = t; takes = b; phase = ap (λ (z : At Stretch). Talking t b z) (in_transfer at x is) }
@@ -57,7 +42,7 @@ pub opened : (s : Side (At Channels)) (k : ℕ) (x : Stretch) → open_at s k �
 opened (Left z) k x is = absurd (none-some x is)
 opened (Live z) k x is = ends z.epoch z.side is
   where
-    calls : (e : ℕ) (y : Channels) (c : Side Connection) → (y k).side ≡ c → open_call c ≡ Some x → Opened (Live (ready e y)) k x
+    calls : (e : ℕ) (y : Channels) (c : Side Connection) → (y k).side ≡ c → open_call c ≡ Some x → Opened (Live (live e y)) k x
     calls e y (Left c) same is_open = absurd (none-some x is_open)
     calls e y (Live c) same is_open =
         let phase : InPhase c.phase x = in_phase c.phase x is_open in
@@ -106,13 +91,13 @@ arrived : (r : Role) (w : Pair) (k : ℕ) (x y : Stretch) → Stands r w → (o 
     → ◌≡◌ {A = Name} (record { restarts = o.restarts; clears = o.clears; resets = o.resets }) (record { restarts = p.restarts; clears = p.clears; resets = p.resets })
     → w.out ≡ [] → HasArrived x y
 arrived r w k x y stands o p same none =
-    let top : EndsRelated r (Live (ready o.restarts o.channels)) [] w.back (Live (ready o.restarts p.channels)) =
-    subst (λ (rs : ℕ). EndsRelated r (Live (ready o.restarts o.channels)) [] w.back (Live (ready rs p.channels))) (sym (ap (λ (n : Name). n.restarts) same))
-    (subst (λ (s : Side (At Channels)). EndsRelated r (Live (ready o.restarts o.channels)) [] w.back s) p.end
+    let top : EndsRelated r (Live (live o.restarts o.channels)) [] w.back (Live (live o.restarts p.channels)) =
+    subst (λ (rs : ℕ). EndsRelated r (Live (live o.restarts o.channels)) [] w.back (Live (live rs p.channels))) (sym (ap (λ (n : Name). n.restarts) same))
+    (subst (λ (s : Side (At Channels)). EndsRelated r (Live (live o.restarts o.channels)) [] w.back s) p.end
     (subst (λ (s : Side (At Channels)). EndsRelated r s [] w.back w.far) o.end
     (subst (λ (l : List LayerPacket). EndsRelated r w.near l w.back w.far) none stands.top))) in
-    let there : p.channels k ≡ live o.clears (record { phase = Talking p.sends p.takes (d1 o.resets y); made = p.made; indicated = p.indicated }) =
-    p.circuit ∙ ap (λ (n : Name). live n.clears (record { phase = Talking p.sends p.takes (d1 n.resets y); made = p.made; indicated = p.indicated })) (sym same) in
+    let there : p.channels k ≡ live o.clears (record { phase = Talking p.sends p.takes (live o.resets y); made = p.made; indicated = p.indicated }) =
+    p.circuit ∙ ap (λ (n : Name). live n.clears (record { phase = Talking p.sends p.takes (live n.resets y); made = p.made; indicated = p.indicated })) (sym same) in
     let got = open_stretch r o.sends o.takes p.sends p.takes o.restarts o.clears o.resets o.channels p.channels k o.made o.indicated p.made p.indicated x y w.back o.circuit there top in
     let all : FollowsFrom x [] y = FollowsFrom-from_Dir o.sends x [] got.0 y got.1.there in
     record { messages = λ waits. all.all refl (nothing_waits x.sent x.rest got.1.there.text.whole waits); interrupts = all.int_all refl }

@@ -1,34 +1,23 @@
 -- Calls: what is indicated at an end, the other end made.
-use Rattle.std.proofs.Common.{◌≡◌, inr, ℕ, List, [], ◌∷◌, ◌++◌, Option, Some, None, refl, sym, ◌∙◌}
-use Rattle.std.proofs.lemmas.List.{append-nil}
-use Rattle.std.proofs.lemmas.Bool.{cond_both}
-use Rattle.x25_bits.specs.declared.role.Role.{Role}
-use Rattle.x25_bits.specs.declared.role.Role.TheVariants.{Dte, Dce}
-use Rattle.x25_circuit.specs.declared.params.Params.{Params}
-use Rattle.x25_circuit.specs.Params.{Proposal, may_propose, may_answer, field_for, said_in}
-use Rattle.x25_circuit.specs.Notice.{CallRequest}
-use Rattle.x25_handshakes.specs.laws.Handshake.{Inner}
-use Rattle.x25_handshakes.specs.laws.Stretch.{Packet, Call, Accept}
-use Rattle.x25_handshakes.specs.laws.Calls.{Phase, Unused, Waiting, Offered, Crossed, Talking, Connection, CallStep, goes, unexpected, calling_talk, called_talk, is_answered, accepts, phase_takes, call_takes, CallAct, PlacesCall, AcceptsCall, Talks, phase_acts}
-use Rattle.x25_handshakes.specs.laws.Histories.{calls, IsPrefix}
-use Rattle.x25_handshakes.proofs.CallsRelation.{TalksRelated, stage_of}
-use Rattle.x25_handshakes.proofs.JointLemmas.{joint_order}
-use Rattle.x25_handshakes.specs.laws.Transfer.{fresh_transfer}
-use Rattle.x25_handshakes.proofs.ChannelRelation.{clear_mark, Seen}
-use Rattle.x25_handshakes.proofs.CallLemmas.{Seen-takes}
-use Rattle.x25_handshakes.proofs.HistoryLemmas.{Stays, alike}
-use Rattle.x25_handshakes.proofs.TurnLemmas.{MayIndicate, WithinCall, IsHandled}
+use Rattle.std.proofs.{Common.{◌≡◌, inr, ℕ, List, [], ◌∷◌, ◌++◌, Option, Some, None, refl, sym, ◌∙◌}, lemmas.List.{append-nil}, lemmas.Bool.{cond_both}}
+use Rattle.x25_bits.specs.{declared.role.Role.{Role}, declared.role.Role.TheVariants.{Dte, Dce}}
+use Rattle.x25_circuit.specs.{declared.params.Params.{Params}, Params.{Proposal, may_propose, may_answer, field_for, said_in}, Notice.{CallRequest}}
+use Rattle.x25_handshakes.specs.{laws.Handshake.{Inner, Step}, laws.Stretch.{Packet, Call, Accept}}
+use Rattle.x25_handshakes.specs.laws.Calls.{Phase, Unused, Waiting, Offered, Crossed, Talking, Connection, goes, unexpected, calling_talk, called_talk, is_answered, accepts, phase_takes, call_takes, CallAct, PlacesCall, AcceptsCall, Talks, phase_acts}
+use Rattle.x25_handshakes.specs.{laws.Histories.{calls, IsPrefix}, laws.Transfer.{fresh_transfer}}
+use Rattle.x25_handshakes.proofs.{CallsRelation.{TalksRelated}, JointLemmas.{joint_order}, ChannelRelation.{clear_mark, Seen}, CallLemmas.{Seen-takes}}
+use Rattle.x25_handshakes.proofs.{HistoryLemmas.{Stays, alike}, TurnLemmas.{MayIndicate, WithinCall, IsHandled}}
 
 seen_begins : (r : Role) (x : Connection) (u v : List Packet) (y : Connection) → Seen r x u v y → IsPrefix x.indicated y.made
-seen_begins Dte x u v y h = (joint_order TalksRelated fresh_transfer fresh_transfer (λ a b. Unit {0}) tt (λ t k x u v t₂ k₂ y h. tt) (stage_of x.phase) (stage_of y.phase) x.made x.indicated y.made y.indicated u v h).0
-seen_begins Dce x u v y h = (joint_order TalksRelated fresh_transfer fresh_transfer (λ a b. Unit {0}) tt (λ t k x u v t₂ k₂ y h. tt) (stage_of y.phase) (stage_of x.phase) y.made y.indicated x.made x.indicated v u h).1
+seen_begins Dte x u v y h = (joint_order TalksRelated fresh_transfer fresh_transfer (λ a b. Unit {0}) tt (λ t k x u v t₂ k₂ y h. tt) x.phase y.phase x.made x.indicated y.made y.indicated u v h).0
+seen_begins Dce x u v y h = (joint_order TalksRelated fresh_transfer fresh_transfer (λ a b. Unit {0}) tt (λ t k x u v t₂ k₂ y h. tt) y.phase x.phase y.made y.indicated x.made x.indicated v u h).1
 
 indicated_begins : (r : Role) (c : Connection) (u : List Packet) (p : Packet) (v : List Packet) (y : Connection) → Seen r c u (p ∷ v) y → IsPrefix (call_takes r c p).next.indicated y.made
 indicated_begins r c u p v y h = seen_begins r (call_takes r c p).next (u ++ (call_takes r c p).out) v y (Seen-takes r c u p v y h).1
 
 -- a packet makes no call
 answered_made : (a : Phase) (mine : Params) (m i : List CallRequest) (q : Params) → (is_answered a mine m i q).next.made ≡ m
-answered_made a mine m i q = cond_both (may_answer mine q) (goes (calling_talk q) m i []) (unexpected a m i) (λ (s : CallStep). s.next.made ≡ m) (λ _. refl) (λ _. refl)
+answered_made a mine m i q = cond_both (may_answer mine q) (goes (calling_talk q) m i []) (unexpected a m i) (λ (s : Step Connection Packet). s.next.made ≡ m) (λ _. refl) (λ _. refl)
 
 takes_made : (r : Role) (a : Phase) (m i : List CallRequest) (p : Packet) → (phase_takes r a m i p).next.made ≡ m
 takes_made r Unused m i (Call n) = refl
@@ -47,17 +36,17 @@ call_taken : (r : Role) (e : ℕ) (c : Connection) (u : List Packet) (p : Packet
 call_taken r e c u p v y inner h =
     Stays refl refl ([], append-nil c.made ∙ sym (takes_made r c.phase c.made c.indicated p)) (inr (refl, indicated_begins r c u p v y h))
 
-abbrev Acted : List CallRequest → List CallRequest → CallStep → Type 0
+abbrev Acted : List CallRequest → List CallRequest → Step Connection Packet → Type 0
 Acted m i s = IsPrefix m s.next.made × (s.next.indicated ≡ i)
 
 accepted : (theirs : Params) (m i : List CallRequest) (answer : Option Proposal) → Acted m i (accepts theirs m i answer)
 accepted theirs m i None = (alike m, refl)
 accepted theirs m i (Some q) =
-    cond_both (may_answer theirs q.params) (goes (called_talk q.params) m i (Accept (field_for theirs q) ∷ [])) (goes (Offered theirs) m i []) (λ (s : CallStep). Acted m i s) (λ _. (alike m, refl)) (λ _. (alike m, refl))
+    cond_both (may_answer theirs q.params) (goes (called_talk q.params) m i (Accept (field_for theirs q) ∷ [])) (goes (Offered theirs) m i []) (λ (s : Step Connection Packet). Acted m i s) (λ _. (alike m, refl)) (λ _. (alike m, refl))
 
 acted : (a : Phase) (m i : List CallRequest) (act : CallAct) → Acted m i (phase_acts a m i act)
 acted Unused m i (PlacesCall n) =
-    cond_both (may_propose n.params) (goes (Waiting n.params) (m ++ n ∷ []) i (Call n ∷ [])) (goes Unused m i []) (λ (s : CallStep). Acted m i s)
+    cond_both (may_propose n.params) (goes (Waiting n.params) (m ++ n ∷ []) i (Call n ∷ [])) (goes Unused m i []) (λ (s : Step Connection Packet). Acted m i s)
     (λ _. ((n ∷ [], refl), refl)) (λ _. (alike m, refl))
 acted Unused m i other = (alike m, refl)
 acted (Waiting mine) m i act = (alike m, refl)

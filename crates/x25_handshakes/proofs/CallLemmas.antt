@@ -1,23 +1,14 @@
 -- Two circuits in p4 and their calls keep their relation, and have no procedure error.
 use Rattle.std.proofs.Common.{List, [], ◌≡◌, ◌∷◌, ◌++◌, refl, sym, subst}
-use Rattle.x25_handshakes.specs.laws.Handshake.{At}
-use Rattle.x25_circuit.specs.Params.{Terms}
-use Rattle.x25_handshakes.proofs.TermsLemmas.{IsSound}
-use Rattle.x25_handshakes.specs.laws.Stretch.{Packet, Stretch, fresh}
-use Rattle.x25_handshakes.specs.laws.Transfer.{fresh_transfer, transfer_takes, transfer_acts}
-use Rattle.x25_handshakes.proofs.HandshakeLemmas.{hand_flip, hand_map}
-use Rattle.x25_handshakes.proofs.StretchRelation.{StretchesRelated}
+use Rattle.x25_handshakes.specs.{laws.Handshake.{At}, laws.Stretch.{Packet, Stretch, fresh}, laws.Transfer.{fresh_transfer, transfer_takes, transfer_acts}}
+use Rattle.x25_handshakes.specs.{laws.Calls.{Phase, Unused, Waiting, Connection, call_takes, CallAct, call_acts, fresh_call}, laws.LawsBelow.{Laws}}
+use Rattle.x25_circuit.specs.{Params.{Terms}, Notice.{CallRequest}}
+use Rattle.x25_handshakes.proofs.{TermsLemmas.{IsSound}, HandshakeLemmas.{hand_flip, hand_map}, StretchRelation.{StretchesRelated}}
 use Rattle.x25_handshakes.proofs.TransferRelation.{reset_mark, stretch_level, TransfersRelated}
 use Rattle.x25_handshakes.proofs.StretchLemmas.{StretchesRelated-flip, StretchesRelated-fresh, GoodStretch-acts, GoodStretch-takes}
-use Rattle.x25_handshakes.proofs.OwnTransferLemmas.{OwnStretches}
-use Rattle.x25_bits.specs.declared.role.Role.TheVariants.{Dte, Dce}
-use Rattle.x25_circuit.specs.Notice.{CallRequest}
-use Rattle.x25_handshakes.specs.laws.Calls.{Phase, Unused, Waiting, Connection, call_takes, CallAct, call_acts, fresh_call}
-use Rattle.x25_handshakes.specs.laws.LawsBelow.{Laws}
-use Rattle.x25_handshakes.proofs.CallsRelation.{TalksRelated, stage_of, Joint, GoodCall, IsCalled}
-use Rattle.x25_handshakes.proofs.ChannelRelation.{Seen}
-use Rattle.x25_bits.specs.declared.role.Role.{Role}
+use Rattle.x25_handshakes.proofs.{OwnTransferLemmas.{OwnStretches}, CallsRelation.{TalksRelated, Joint, GoodCall, IsCalled}, ChannelRelation.{Seen}}
 use Rattle.x25_handshakes.proofs.OwnCallLemmas.{own_dte_talks, DteTalks, DceTalks, dte_takes, dte_acts, dce_takes, dce_acts}
+use Rattle.x25_bits.specs.{declared.role.Role.TheVariants.{Dte, Dce}, declared.role.Role.{Role}}
 
 pub TransfersRelated-flip : (t b : Terms) (x : At Stretch) (L K : List Packet) (y : At Stretch) → TransfersRelated t b x L K y → TransfersRelated b t y K L x
 TransfersRelated-flip t b x L K y h = record {
@@ -66,12 +57,12 @@ dce_talks = record {
 -- ---- the two roles at once
 
 pub Seen-takes : (r : Role) (x : Connection) (u : List Packet) (p : Packet) (v : List Packet) (y : Connection) → Seen r x u (p ∷ v) y → GoodCall (Seen r) (call_takes r x p) u v y
-Seen-takes Dte x u p v y h = dte_takes TalksRelated fresh_transfer dte_talks x (stage_of y.phase) y.made y.indicated u p v h
-Seen-takes Dce x u p v y h = dce_takes TalksRelated fresh_transfer dce_talks x (stage_of y.phase) y.made y.indicated u p v h
+Seen-takes Dte x u p v y h = dte_takes TalksRelated fresh_transfer dte_talks x y.phase y.made y.indicated u p v h
+Seen-takes Dce x u p v y h = dce_takes TalksRelated fresh_transfer dce_talks x y.phase y.made y.indicated u p v h
 
 pub Seen-acts : Laws → (r : Role) (x : Connection) (u v : List Packet) (y : Connection) (a : CallAct) → Seen r x u v y → GoodCall (Seen r) (call_acts x a) u v y
-Seen-acts laws Dte x u v y a h = dte_acts TalksRelated fresh_transfer dte_talks x (stage_of y.phase) y.made y.indicated u laws v a h
-Seen-acts laws Dce x u v y a h = dce_acts TalksRelated fresh_transfer dce_talks x (stage_of y.phase) y.made y.indicated u laws v a h
+Seen-acts laws Dte x u v y a h = dte_acts TalksRelated fresh_transfer dte_talks x y.phase y.made y.indicated u laws v a h
+Seen-acts laws Dce x u v y a h = dce_acts TalksRelated fresh_transfer dce_talks x y.phase y.made y.indicated u laws v a h
 
 pub Seen-fresh : (r : Role) → Seen r fresh_call [] [] fresh_call
 Seen-fresh Dte = (tt, tt, refl, refl, refl, refl)

@@ -1,16 +1,10 @@
 -- What is kept of two circuits between two clears. The first of the two ends is the DTE, the second the DCE.
 use Rattle.std.proofs.Common.{◌≡◌, ◌⊎◌, ℕ, List, [], ◌∷◌, ◌++◌, None, true}
-use Rattle.x25_circuit.specs.declared.params.Params.{Params}
-use Rattle.x25_circuit.specs.Params.{Terms, may_propose, may_answer, said_in, called_terms, calling_terms}
+use Rattle.x25_circuit.specs.{declared.params.Params.{Params}, Params.{Terms, may_propose, may_answer, said_in, called_terms, calling_terms}}
 use Rattle.x25_circuit.specs.Notice.{CallRequest}
-use Rattle.x25_handshakes.specs.laws.Handshake.{At}
-use Rattle.x25_handshakes.specs.laws.Stretch.{Packet, Call, Accept, Stretch, fresh}
-use Rattle.x25_handshakes.specs.laws.Transfer.{fresh_transfer}
-use Rattle.x25_handshakes.specs.laws.Calls.{Phase, Unused, Waiting, Offered, Crossed, Talking, Connection, CallStep}
-use Rattle.x25_handshakes.specs.laws.PeerCalls.{Stage, Free, Calling, Called, Collided, InData}
-use Rattle.x25_handshakes.proofs.TermsLemmas.{IsSound}
-use Rattle.x25_handshakes.proofs.TransferRelation.{OwnTransfer}
-use Rattle.x25_handshakes.proofs.StretchRelation.{StretchesRelated}
+use Rattle.x25_handshakes.specs.{laws.Handshake.{At, Step}, laws.Stretch.{Packet, Call, Accept, Stretch, fresh}, laws.Transfer.{fresh_transfer}}
+use Rattle.x25_handshakes.specs.laws.Calls.{Phase, Unused, Waiting, Offered, Crossed, Talking, Connection, Stage}
+use Rattle.x25_handshakes.proofs.{TermsLemmas.{IsSound}, TransferRelation.{OwnTransfer}, StretchRelation.{StretchesRelated}}
 
 -- our own end and the other one in p4, of whatever kind: what the one sends by, the other takes by; R is kept in a stretch, and y₀ is the other end as one begins
 pub record TalkOf {T : Type 0} (R : Terms → Terms → Stretch → List Packet → List Packet → T → Type 0) (y₀ : T) (t b : Terms) (x : At Stretch) (u v : List Packet) (t₂ b₂ : Terms) (y : At T) : Type 0 where
@@ -77,14 +71,6 @@ abbrev pub CallAccepted : List CallRequest → Params → Terms → Terms → (L
 CallAccepted m mine t b R [] = ⊥
 CallAccepted m mine t b R (p ∷ u) = call_or_accept_at m mine t b p (Accepted mine t b R u) (R u)
 
--- where the call of our own end stands
-abbrev pub stage_of : Phase → Stage (At Stretch)
-stage_of Unused = Free
-stage_of (Waiting mine) = Calling mine
-stage_of (Offered theirs) = Called theirs
-stage_of (Crossed mine) = Collided mine
-stage_of (Talking t b at) = InData t b at
-
 -- what is kept of a DTE and a DCE in p4, with the terms of what each sends, and of what it takes; the first line is on the way to the DCE
 abbrev pub TalksOf : Type 0 → Type 0 → Type 1
 TalksOf A B = Terms → Terms → A → List Packet → List Packet → Terms → Terms → B → Type 0
@@ -93,26 +79,26 @@ TalksOf A B = Terms → Terms → A → List Packet → List Packet → Terms �
 -- kept of them in p4, and what an end is as p4 begins is a at the DTE and b at the DCE.
 abbrev pub JointOf : {A B : Type 0} → TalksOf A B → A → B → Stage A → Stage B
     → List CallRequest → List CallRequest → List CallRequest → List CallRequest → List Packet → List Packet → Type 0
-JointOf R a b Free Free ma ia mb ib u v = Nil u × Nil v × (ma ≡ []) × (ia ≡ []) × (mb ≡ []) × (ib ≡ [])
-JointOf R a b Free (Calling q) ma ia mb ib u v = Nil u × OneCall mb v × (ma ≡ []) × (ia ≡ []) × (ib ≡ []) × Proposes mb q
-JointOf R a b (Calling p) Free ma ia mb ib u v = OneCall ma u × Nil v × (ia ≡ []) × (mb ≡ []) × (ib ≡ []) × Proposes ma p
-JointOf R a b (Calling p) (Calling q) ma ia mb ib u v = OneCall ma u × OneCall mb v × (ia ≡ []) × (ib ≡ []) × Proposes ma p
-JointOf R a b (Calling p) (Called q) ma ia mb ib u v = Nil u × MaybeCall mb v × (ia ≡ []) × (ib ≡ ma) × IsProposal p q
-JointOf R a b (Collided p) (Calling q) ma ia mb ib u v = OneCall ma u × Nil v × (ia ≡ []) × (ib ≡ []) × Proposes ma p
-JointOf R a b (Collided p) (Called q) ma ia mb ib u v = Nil u × Nil v × (ia ≡ []) × (ib ≡ ma) × IsProposal p q
-JointOf R a b (Calling p) (InData t k y) ma ia mb ib u v = Nil u × CallAccepted mb p t k (λ w. R k t a [] w t k y) v × (ia ≡ []) × (ib ≡ ma)
-JointOf R a b (Collided p) (InData t k y) ma ia mb ib u v = Nil u × Accepted p t k (λ w. R k t a [] w t k y) v × (ia ≡ []) × (ib ≡ ma)
-JointOf R a b (Called p) (Calling q) ma ia mb ib u v = Nil u × Nil v × (ia ≡ mb) × (ib ≡ []) × IsProposal q p
-JointOf R a b (InData t k x) (Calling q) ma ia mb ib u v = Accepted q t k (λ w. R t k x w [] k t b) u × Nil v × (ia ≡ mb) × (ib ≡ [])
-JointOf R a b (InData t k x) (InData t₂ k₂ y) ma ia mb ib u v = R t k x u v t₂ k₂ y × (((ia ≡ []) × (ib ≡ ma)) ⊎ ((ia ≡ mb) × (ib ≡ [])))
+JointOf R a b Unused Unused ma ia mb ib u v = Nil u × Nil v × (ma ≡ []) × (ia ≡ []) × (mb ≡ []) × (ib ≡ [])
+JointOf R a b Unused (Waiting q) ma ia mb ib u v = Nil u × OneCall mb v × (ma ≡ []) × (ia ≡ []) × (ib ≡ []) × Proposes mb q
+JointOf R a b (Waiting p) Unused ma ia mb ib u v = OneCall ma u × Nil v × (ia ≡ []) × (mb ≡ []) × (ib ≡ []) × Proposes ma p
+JointOf R a b (Waiting p) (Waiting q) ma ia mb ib u v = OneCall ma u × OneCall mb v × (ia ≡ []) × (ib ≡ []) × Proposes ma p
+JointOf R a b (Waiting p) (Offered q) ma ia mb ib u v = Nil u × MaybeCall mb v × (ia ≡ []) × (ib ≡ ma) × IsProposal p q
+JointOf R a b (Crossed p) (Waiting q) ma ia mb ib u v = OneCall ma u × Nil v × (ia ≡ []) × (ib ≡ []) × Proposes ma p
+JointOf R a b (Crossed p) (Offered q) ma ia mb ib u v = Nil u × Nil v × (ia ≡ []) × (ib ≡ ma) × IsProposal p q
+JointOf R a b (Waiting p) (Talking t k y) ma ia mb ib u v = Nil u × CallAccepted mb p t k (λ w. R k t a [] w t k y) v × (ia ≡ []) × (ib ≡ ma)
+JointOf R a b (Crossed p) (Talking t k y) ma ia mb ib u v = Nil u × Accepted p t k (λ w. R k t a [] w t k y) v × (ia ≡ []) × (ib ≡ ma)
+JointOf R a b (Offered p) (Waiting q) ma ia mb ib u v = Nil u × Nil v × (ia ≡ mb) × (ib ≡ []) × IsProposal q p
+JointOf R a b (Talking t k x) (Waiting q) ma ia mb ib u v = Accepted q t k (λ w. R t k x w [] k t b) u × Nil v × (ia ≡ mb) × (ib ≡ [])
+JointOf R a b (Talking t k x) (Talking t₂ k₂ y) ma ia mb ib u v = R t k x u v t₂ k₂ y × (((ia ≡ []) × (ib ≡ ma)) ⊎ ((ia ≡ mb) × (ib ≡ [])))
 JointOf R a b stage other ma ia mb ib u v = ⊥
 
 -- both ends are our own
 abbrev pub Joint : Phase → Phase → List CallRequest → List CallRequest → List CallRequest → List CallRequest → List Packet → List Packet → Type 0
-Joint a b ma ia mb ib u v = JointOf TalksRelated fresh_transfer fresh_transfer (stage_of a) (stage_of b) ma ia mb ib u v
+Joint a b ma ia mb ib u v = JointOf TalksRelated fresh_transfer fresh_transfer a b ma ia mb ib u v
 
 -- a step of our own end that is no error, and keeps what R says of it and the other end
-abbrev pub GoodCall : {T : Type 0} → (Connection → List Packet → List Packet → T → Type 0) → CallStep → List Packet → List Packet → T → Type 0
+abbrev pub GoodCall : {T : Type 0} → (Connection → List Packet → List Packet → T → Type 0) → Step Connection Packet → List Packet → List Packet → T → Type 0
 GoodCall R s u v y = (s.error ≡ None) × R s.next (u ++ s.out) v y
 
 -- where an end is not in p1

@@ -1,12 +1,9 @@
 -- What is kept of the two ends of a channel.
 use Rattle.std.proofs.Common.{List}
-use Rattle.x25_handshakes.specs.laws.Handshake.{Mark, Inner, Request, Confirm, At}
-use Rattle.x25_bits.specs.declared.role.Role.{Role}
-use Rattle.x25_bits.specs.declared.role.Role.TheVariants.{Dte, Dce}
-use Rattle.x25_handshakes.specs.laws.Stretch.{Packet, Clear, ClearConf}
+use Rattle.x25_handshakes.specs.{laws.Handshake.{Mark, Inner, Request, Confirm, At}, laws.Stretch.{Packet, Clear, ClearConf}}
 use Rattle.x25_handshakes.specs.laws.Calls.{Connection, fresh_call}
-use Rattle.x25_handshakes.proofs.HandshakeRelation.{Level, Handshaken}
-use Rattle.x25_handshakes.proofs.CallsRelation.{Joint, IsCalled}
+use Rattle.x25_bits.specs.{declared.role.Role.{Role}, declared.role.Role.TheVariants.{Dte, Dce}}
+use Rattle.x25_handshakes.proofs.{HandshakeRelation.{Level, Handshaken}, CallsRelation.{Joint, IsCalled}}
 
 abbrev pub clear_mark : Packet → Mark
 clear_mark Clear = Request

@@ -1,23 +1,13 @@
 -- What follows for the user from the relation of two layers.
 use Rattle.std.proofs.Common.{◌≡◌, ℕ, List, [], ◌∷◌, refl, subst}
-use Rattle.x25_handshakes.specs.laws.Handshake.{Live, At}
-use Rattle.x25_bits.specs.declared.role.Role.{Role}
-use Rattle.x25_bits.specs.declared.role.Role.TheVariants.{Dte, Dce}
-use Rattle.x25_circuit.specs.Params.{Terms}
-use Rattle.x25_circuit.specs.Notice.{CallRequest}
-use Rattle.x25_handshakes.specs.laws.Stretch.{Packet, Stretch}
-use Rattle.x25_handshakes.specs.laws.Transfer.{d1}
-use Rattle.x25_handshakes.specs.laws.Calls.{Phase, Waiting, Crossed, Talking, Connection}
-use Rattle.x25_handshakes.specs.laws.Channel.{live}
-use Rattle.x25_handshakes.specs.laws.Layers.{LayerPacket, Channels, ready}
-use Rattle.x25_handshakes.proofs.HandshakeRelation.{before}
-use Rattle.x25_handshakes.proofs.HandshakeLemmas.{both_live}
-use Rattle.x25_handshakes.proofs.StretchRelation.{StretchesRelated}
-use Rattle.x25_handshakes.proofs.TransferRelation.{reset_mark, stretch_level, TransfersRelated}
-use Rattle.x25_handshakes.proofs.CallsRelation.{TalksRelated, Joint}
+use Rattle.x25_handshakes.specs.{laws.Handshake.{Live, At, live}, laws.Stretch.{Packet, Stretch}, laws.Calls.{Phase, Waiting, Crossed, Talking, Connection}}
+use Rattle.x25_handshakes.specs.laws.Layers.{LayerPacket, Channels}
+use Rattle.x25_bits.specs.{declared.role.Role.{Role}, declared.role.Role.TheVariants.{Dte, Dce}}
+use Rattle.x25_circuit.specs.{Params.{Terms}, Notice.{CallRequest}}
+use Rattle.x25_handshakes.proofs.{HandshakeRelation.{before}, HandshakeLemmas.{both_live}, StretchRelation.{StretchesRelated}}
+use Rattle.x25_handshakes.proofs.{TransferRelation.{reset_mark, stretch_level, TransfersRelated}, CallsRelation.{TalksRelated, Joint}}
 use Rattle.x25_handshakes.proofs.ChannelRelation.{clear_mark, Seen, connection_level, ChannelRelated}
-use Rattle.x25_handshakes.proofs.LayersRelation.{on, restart_mark, channels_level, EndsRelated}
-use Rattle.x25_handshakes.proofs.CallLemmas.{TalksRelated-flip}
+use Rattle.x25_handshakes.proofs.{LayersRelation.{on, restart_mark, channels_level, EndsRelated}, CallLemmas.{TalksRelated-flip}}
 
 -- both ends live at all levels, in one stretch, and nothing on the way from the first
 
@@ -27,17 +17,17 @@ Seen-p4 Dte t b t₂ b₂ m i n j x y u v h = h.0.related
 Seen-p4 Dce t b t₂ b₂ m i n j x y u v h = (TalksRelated-flip t₂ b₂ y v u t b x h.0).related
 
 pub open_stretch : (r : Role) (t b t₂ b₂ : Terms) (rs cs ss : ℕ) (x y : Channels) (h : ℕ) (m i n j : List CallRequest) (p q : Stretch) (K : List LayerPacket)
-    → x h ≡ live cs (record { phase = Talking t b (d1 ss p); made = m; indicated = i }) → y h ≡ live cs (record { phase = Talking t₂ b₂ (d1 ss q); made = n; indicated = j })
-    → EndsRelated r (Live (ready rs x)) [] K (Live (ready rs y)) → (v : List Packet) × StretchesRelated t b p [] v q
+    → x h ≡ live cs (record { phase = Talking t b (live ss p); made = m; indicated = i }) → y h ≡ live cs (record { phase = Talking t₂ b₂ (live ss q); made = n; indicated = j })
+    → EndsRelated r (Live (live rs x)) [] K (Live (live rs y)) → (v : List Packet) × StretchesRelated t b p [] v q
 open_stretch r t b t₂ b₂ rs cs ss x y h m i n j p q K is_x is_y top =
     let chans = both_live (channels_level r) rs x y [] K top.hand in
     let v : List Packet = on h (before restart_mark K) in
-    let a : Connection = record { phase = Talking t b (d1 ss p); made = m; indicated = i } in
-    let c : Connection = record { phase = Talking t₂ b₂ (d1 ss q); made = n; indicated = j } in
+    let a : Connection = record { phase = Talking t b (live ss p); made = m; indicated = i } in
+    let c : Connection = record { phase = Talking t₂ b₂ (live ss q); made = n; indicated = j } in
     let chan : ChannelRelated r (live cs a) [] v (live cs c) =
     subst (λ (z : At Connection). ChannelRelated r (live cs a) [] v z) is_y (subst (λ (z : At Connection). ChannelRelated r z [] v (y h)) is_x (chans.each h)) in
     let seen = both_live (connection_level r) cs a c [] v chan.hand in
-    let p4 : TransfersRelated t b (d1 ss p) [] (before clear_mark v) (d1 ss q) = Seen-p4 r t b t₂ b₂ m i n j (d1 ss p) (d1 ss q) [] (before clear_mark v) seen in
+    let p4 : TransfersRelated t b (live ss p) [] (before clear_mark v) (live ss q) = Seen-p4 r t b t₂ b₂ m i n j (live ss p) (live ss q) [] (before clear_mark v) seen in
     (before reset_mark (before clear_mark v), both_live (stretch_level t b) ss p q [] (before clear_mark v) p4.hand)
 
 -- where an end talks and takes a packet, the other one talks too

@@ -1,33 +1,18 @@
 -- Where nothing is on the way, a stretch that is open at one end is open at the other, and all that either told is known.
 use Rattle.std.proofs.Common.{◌≡◌, ◌⊎◌, inl, inr, ℕ, ◌+◌, ◌%◌, ◌≤◌, List, [], ◌∷◌, ◌++◌, length, Some, Bool, true, false, nat_lt, if◌then◌else◌, refl, sym, ap, subst, ◌∙◌, arith}
 use Rattle.std.proofs.lemmas.Bool.{true≢false, lt-ltb}
-use Rattle.x25_circuit.specs.Message.{Piece}
-use Rattle.x25_bits.specs.declared.role.Role.{Role}
-use Rattle.x25_bits.specs.declared.role.Role.TheVariants.{Dte, Dce}
-use Rattle.x25_circuit.specs.Params.{Terms}
-use Rattle.x25_circuit.specs.Notice.{CallRequest}
-use Rattle.x25_handshakes.specs.laws.Handshake.{Side, Live, Left, At, state_of}
-use Rattle.x25_handshakes.specs.laws.Stretch.{Data, Stretch, StretchStep, Pull, stretch_does, pulls}
-use Rattle.x25_handshakes.specs.laws.Transfer.{Inside, d1, lifted}
-use Rattle.x25_handshakes.specs.laws.Calls.{Phase, Waiting, Crossed, Talking, Connection, Talks, in_transfer}
-use Rattle.x25_handshakes.specs.laws.Channel.{Within, live, lifted_call, channel_acts}
-use Rattle.x25_handshakes.specs.laws.Layers.{LayerPacket, Channels, addressed, ready, Pair, turned, pair_run, pair_start}
-use Rattle.x25_handshakes.specs.laws.Names.{Name}
-use Rattle.x25_handshakes.specs.laws.Histories.{messages, resets_in, name_at}
-use Rattle.x25_handshakes.specs.laws.Arrivals.{open_in, open_phase, open_call, open_channel, open_at}
-use Rattle.x25_handshakes.specs.laws.Drained.{is_up, pulled_at, IsOpenThere, AllIsKnown}
-use Rattle.x25_handshakes.specs.laws.LawsBelow.{Laws}
-use Rattle.x25_handshakes.proofs.HandshakeRelation.{Level, Handshake}
-use Rattle.x25_handshakes.proofs.HandshakeLemmas.{cons≢nil}
-use Rattle.x25_handshakes.proofs.StretchRelation.{StretchesRelated}
-use Rattle.x25_handshakes.proofs.TransferRelation.{stretch_level}
-use Rattle.x25_handshakes.proofs.CallsRelation.{Joint}
-use Rattle.x25_handshakes.proofs.ChannelRelation.{Seen, connection_level, ChannelRelated}
-use Rattle.x25_handshakes.proofs.LayersRelation.{channels_level, EndsRelated}
-use Rattle.x25_handshakes.proofs.PartLemmas.{Line-le}
-use Rattle.x25_handshakes.proofs.CallLemmas.{TalksRelated-flip}
-use Rattle.x25_handshakes.proofs.LayerLemmas.{Stands, Stands-turned, Stands-run, Stands-start}
-use Rattle.x25_handshakes.proofs.ClaimLemmas.{BothTalk}
+use Rattle.x25_circuit.specs.{Message.{Piece}, Params.{Terms}, Notice.{CallRequest}}
+use Rattle.x25_bits.specs.{declared.role.Role.{Role}, declared.role.Role.TheVariants.{Dte, Dce}}
+use Rattle.x25_handshakes.specs.{laws.Handshake.{Side, Live, Left, At, state_of, Step, live}, laws.Stretch.{Data, Stretch, Pull, stretch_does, pulls, Packet}}
+use Rattle.x25_handshakes.specs.{laws.Transfer.{Inside, lifted}, laws.Calls.{Phase, Waiting, Crossed, Talking, Connection, Talks, in_transfer}}
+use Rattle.x25_handshakes.specs.laws.Channel.{Within, lifted_call, channel_acts}
+use Rattle.x25_handshakes.specs.{laws.Layers.{LayerPacket, Channels, addressed, Pair, turned, pair_run, pair_start}, laws.Names.{Name}}
+use Rattle.x25_handshakes.specs.{laws.Histories.{messages, resets_in, name_at}, laws.Arrivals.{open_in, open_phase, open_call, open_channel, open_at}}
+use Rattle.x25_handshakes.specs.{laws.Drained.{is_up, pulled_at, IsOpenThere, AllIsKnown}, laws.LawsBelow.{Laws}}
+use Rattle.x25_handshakes.proofs.{HandshakeRelation.{Level, Handshake}, HandshakeLemmas.{cons≢nil}, StretchRelation.{StretchesRelated}}
+use Rattle.x25_handshakes.proofs.{TransferRelation.{stretch_level}, CallsRelation.{Joint}, ChannelRelation.{Seen, connection_level, ChannelRelated}}
+use Rattle.x25_handshakes.proofs.{LayersRelation.{channels_level, EndsRelated}, PartLemmas.{Line-le}, CallLemmas.{TalksRelated-flip}}
+use Rattle.x25_handshakes.proofs.{LayerLemmas.{Stands, Stands-turned, Stands-run, Stands-start}, ClaimLemmas.{BothTalk}}
 use Rattle.x25_handshakes.proofs.ArrivalLemmas.{Opened, opened, name_opened}
 
 -- a live end of a handshake with nothing on the way: the other is live too, in the same epoch
@@ -61,14 +46,14 @@ rest_seen Dte t b m i x y h = rest_a t b x y.phase m i y.made y.indicated h
 rest_seen Dce t b m i x y h = rest_b t b y.phase x y.made y.indicated m i h
 
 -- what a pull sends in a stretch, on its channel
-abbrev sent_by : ℕ → ℕ → Terms → Terms → List CallRequest → List CallRequest → ℕ → StretchStep → List LayerPacket
+abbrev sent_by : ℕ → ℕ → Terms → Terms → List CallRequest → List CallRequest → ℕ → Step Stretch Packet → List LayerPacket
 sent_by k e t b m i s st = addressed k (lifted_call e (in_transfer t b m i (lifted s st st.error)) (in_transfer t b m i (lifted s st st.error)).error).out
 
 -- where all that was sent is acknowledged, a pull that sends none has none to send, or the other end isn't ready
 held_back : (k e : ℕ) (t b : Terms) (m i : List CallRequest) (s : ℕ) (x : Stretch) → 1 ≤ t.window → x.acked ≡ length x.sent → sent_by k e t b m i s (pulls t x x.rest) ≡ [] → (x.rest ≡ []) ⊎ (x.peer_ready ≡ false)
 held_back k e t b m i s x least acked none = by x.rest refl none
   where
-    next : Piece → List Piece → StretchStep
+    next : Piece → List Piece → Step Stretch Packet
     next p ps = stretch_does (record x { sent = x.sent ++ p ∷ []; rest = ps }) (Data (length x.sent % 8) (length x.taken % 8) p ∷ [])
 
     room : nat_lt (length x.sent) (x.acked + t.window) ≡ true
@@ -110,9 +95,9 @@ name_same a b c d e f p q r =
 
 known : (r : Role) (w : Pair) (k : ℕ) (x : Stretch) → Stands r w → (o : Opened w.near k x) → (z : At Channels) → w.far ≡ Live z → w.out ≡ [] → w.back ≡ [] → IsOpenThere k w.near w.far x
 known r w k x stands o z up out back =
-    let a : Connection = record { phase = Talking o.sends o.takes (d1 o.resets x); made = o.made; indicated = o.indicated } in
-    let top : EndsRelated r (Live (ready o.restarts o.channels)) [] [] (Live z) =
-    subst (λ (s : Side (At Channels)). EndsRelated r (Live (ready o.restarts o.channels)) [] [] s) up
+    let a : Connection = record { phase = Talking o.sends o.takes (live o.resets x); made = o.made; indicated = o.indicated } in
+    let top : EndsRelated r (Live (live o.restarts o.channels)) [] [] (Live z) =
+    subst (λ (s : Side (At Channels)). EndsRelated r (Live (live o.restarts o.channels)) [] [] s) up
     (subst (λ (s : Side (At Channels)). EndsRelated r s [] [] w.far) o.end
     (subst (λ (l : List LayerPacket). EndsRelated r w.near [] l w.far) back
     (subst (λ (l : List LayerPacket). EndsRelated r w.near l w.back w.far) out stands.top))) in
@@ -120,7 +105,7 @@ known r w k x stands o z up out back =
     let y : Channels = one.state in
     let chan : ChannelRelated r (live o.clears a) [] [] (y k) = subst (λ (c : At Connection). ChannelRelated r c [] [] (y k)) o.circuit (one.related.each k) in
     let two : AtRest (connection_level r) o.clears (y k).epoch a (y k).side = at_rest (connection_level r) o.clears (y k).epoch a (y k).side chan.hand in
-    let talk : BothTalk o.sends o.takes (d1 o.resets x) [] [] two.state.phase = rest_seen r o.sends o.takes o.made o.indicated (d1 o.resets x) two.state two.related in
+    let talk : BothTalk o.sends o.takes (live o.resets x) [] [] two.state.phase = rest_seen r o.sends o.takes o.made o.indicated (live o.resets x) two.state two.related in
     let at : At Stretch = talk.other in
     let three : AtRest (stretch_level o.sends o.takes) o.resets at.epoch x at.side = at_rest (stretch_level o.sends o.takes) o.resets at.epoch x at.side talk.talks.related.hand in
     let q : Stretch = three.state in

@@ -1,10 +1,7 @@
 -- Lawful histories are kept, where a step lets the name and what is held under it stay or grow.
-use Rattle.std.proofs.Common.{◌≡◌, ◌⊎◌, inl, inr, ℕ, ◌<◌, List, [], ◌++◌, false, refl, sym, ap, subst, ◌∙◌, append_assoc}
-use Rattle.std.proofs.lemmas.List.{append-nil}
+use Rattle.std.proofs.{Common.{◌≡◌, ◌⊎◌, inl, inr, ℕ, ◌<◌, List, [], ◌++◌, false, refl, sym, ap, subst, ◌∙◌, append_assoc}, lemmas.List.{append-nil}}
 use Rattle.std.proofs.lemmas.Bool.{cond_both}
-use Rattle.x25_handshakes.specs.laws.Handshake.{At}
-use Rattle.x25_handshakes.specs.laws.Layers.{Channels}
-use Rattle.x25_handshakes.specs.laws.Names.{Name, same_name, IsEarlier}
+use Rattle.x25_handshakes.specs.{laws.Handshake.{At}, laws.Layers.{Channels}, laws.Names.{Name, same_name, IsEarlier}}
 use Rattle.x25_handshakes.specs.laws.Histories.{Lists, none, Kind, name_at, held_at, ChannelView, written, channel_view, IsPrefix, IsLawful}
 use Rattle.x25_handshakes.proofs.NameLemmas.{name_eq, same_name-refl, same_name-is, earlier-trans, earlier-differs}
 

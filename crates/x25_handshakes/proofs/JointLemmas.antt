@@ -1,19 +1,11 @@
 -- What is so of two ends between two clears, of whatever kind, in every stage of a call: no CLEAR is on the way, what is indicated at the one was made at the other, and what is kept of p4.
-use Rattle.std.proofs.Common.{◌≡◌, inl, inr, List, [], ◌∷◌, ◌++◌, refl, ap, ◌∙◌}
-use Rattle.std.proofs.lemmas.List.{append-nil}
-use Rattle.x25_handshakes.specs.laws.Handshake.{Inner}
-use Rattle.x25_circuit.specs.declared.params.Params.{Params}
-use Rattle.x25_circuit.specs.Params.{Terms}
-use Rattle.x25_circuit.specs.Notice.{CallRequest}
-use Rattle.x25_handshakes.specs.laws.Stretch.{Packet, Call, Accept, Clear, ClearConf}
-use Rattle.x25_handshakes.specs.laws.Histories.{IsPrefix}
-use Rattle.x25_handshakes.specs.laws.PeerCalls.{Stage, Free, Calling, Called, Collided, InData}
-use Rattle.x25_handshakes.proofs.HandshakeRelation.{AllInner}
-use Rattle.x25_handshakes.proofs.TransferRelation.{InTransfer, AllInTransfer}
-use Rattle.x25_handshakes.proofs.CallsRelation.{Nil, OneCall, MaybeCall, Accepted, CallAccepted, TalksOf, JointOf}
-use Rattle.x25_handshakes.proofs.ChannelRelation.{clear_mark}
-use Rattle.x25_handshakes.proofs.OwnCallLemmas.{Accepted-some, CallAccepted-some}
-use Rattle.x25_handshakes.proofs.HandshakeLemmas.{each_map}
+use Rattle.std.proofs.{Common.{◌≡◌, inl, inr, List, [], ◌∷◌, ◌++◌, refl, ap, ◌∙◌}, lemmas.List.{append-nil}}
+use Rattle.x25_handshakes.specs.{laws.Handshake.{Inner}, laws.Stretch.{Packet, Call, Accept, Clear, ClearConf}, laws.Histories.{IsPrefix}}
+use Rattle.x25_handshakes.specs.{laws.Calls.{Stage, Unused, Waiting, Offered, Crossed, Talking}, laws.PeerClaims.{in_stage}}
+use Rattle.x25_circuit.specs.{declared.params.Params.{Params}, Params.{Terms}, Notice.{CallRequest}}
+use Rattle.x25_handshakes.proofs.{HandshakeRelation.{AllInner}, TransferRelation.{InTransfer, AllInTransfer}}
+use Rattle.x25_handshakes.proofs.{CallsRelation.{Nil, OneCall, MaybeCall, Accepted, CallAccepted, TalksOf, JointOf}, ChannelRelation.{clear_mark}}
+use Rattle.x25_handshakes.proofs.{OwnCallLemmas.{Accepted-some, CallAccepted-some}, HandshakeLemmas.{each_map}}
 
 -- ---- no CLEAR and no confirmation of it is on the way between two clears
 
@@ -52,26 +44,21 @@ quiet_call_accepted m mine t b R quiet u h = absurd h
 
 pub quiet_joint : {A B : Type 0} (R : TalksOf A B) (a : A) (b : B) → ((t k : Terms) (x : A) (u v : List Packet) (t₂ k₂ : Terms) (y : B) → R t k x u v t₂ k₂ y → Quiet u × Quiet v)
     → (one : Stage A) (two : Stage B) (ma ia mb ib : List CallRequest) (u v : List Packet) → JointOf R a b one two ma ia mb ib u v → Quiet u × Quiet v
-quiet_joint R a b quiet Free Free ma ia mb ib u v h = (quiet_nil u h.0, quiet_nil v h.1)
-quiet_joint R a b quiet Free (Calling q) ma ia mb ib u v h = (quiet_nil u h.0, quiet_one mb v h.1)
-quiet_joint R a b quiet (Calling p) Free ma ia mb ib u v h = (quiet_one ma u h.0, quiet_nil v h.1)
-quiet_joint R a b quiet (Calling p) (Calling q) ma ia mb ib u v h = (quiet_one ma u h.0, quiet_one mb v h.1)
-quiet_joint R a b quiet (Calling p) (Called q) ma ia mb ib u v h = (quiet_nil u h.0, quiet_maybe mb v h.1)
-quiet_joint R a b quiet (Collided p) (Calling q) ma ia mb ib u v h = (quiet_one ma u h.0, quiet_nil v h.1)
-quiet_joint R a b quiet (Collided p) (Called q) ma ia mb ib u v h = (quiet_nil u h.0, quiet_nil v h.1)
-quiet_joint R a b quiet (Calling p) (InData t k y) ma ia mb ib u v h = (quiet_nil u h.0, quiet_call_accepted mb p t k (λ w. R k t a [] w t k y) (λ w r. (quiet k t a [] w t k y r).1) v h.1)
-quiet_joint R a b quiet (Collided p) (InData t k y) ma ia mb ib u v h = (quiet_nil u h.0, quiet_accepted p t k (λ w. R k t a [] w t k y) (λ w r. (quiet k t a [] w t k y r).1) v h.1)
-quiet_joint R a b quiet (Called p) (Calling q) ma ia mb ib u v h = (quiet_nil u h.0, quiet_nil v h.1)
-quiet_joint R a b quiet (InData t k x) (Calling q) ma ia mb ib u v h = (quiet_accepted q t k (λ w. R t k x w [] k t b) (λ w r. (quiet t k x w [] k t b r).0) u h.0, quiet_nil v h.1)
-quiet_joint R a b quiet (InData t k x) (InData t₂ k₂ y) ma ia mb ib u v h = quiet t k x u v t₂ k₂ y h.0
+quiet_joint R a b quiet Unused Unused ma ia mb ib u v h = (quiet_nil u h.0, quiet_nil v h.1)
+quiet_joint R a b quiet Unused (Waiting q) ma ia mb ib u v h = (quiet_nil u h.0, quiet_one mb v h.1)
+quiet_joint R a b quiet (Waiting p) Unused ma ia mb ib u v h = (quiet_one ma u h.0, quiet_nil v h.1)
+quiet_joint R a b quiet (Waiting p) (Waiting q) ma ia mb ib u v h = (quiet_one ma u h.0, quiet_one mb v h.1)
+quiet_joint R a b quiet (Waiting p) (Offered q) ma ia mb ib u v h = (quiet_nil u h.0, quiet_maybe mb v h.1)
+quiet_joint R a b quiet (Crossed p) (Waiting q) ma ia mb ib u v h = (quiet_one ma u h.0, quiet_nil v h.1)
+quiet_joint R a b quiet (Crossed p) (Offered q) ma ia mb ib u v h = (quiet_nil u h.0, quiet_nil v h.1)
+quiet_joint R a b quiet (Waiting p) (Talking t k y) ma ia mb ib u v h = (quiet_nil u h.0, quiet_call_accepted mb p t k (λ w. R k t a [] w t k y) (λ w r. (quiet k t a [] w t k y r).1) v h.1)
+quiet_joint R a b quiet (Crossed p) (Talking t k y) ma ia mb ib u v h = (quiet_nil u h.0, quiet_accepted p t k (λ w. R k t a [] w t k y) (λ w r. (quiet k t a [] w t k y r).1) v h.1)
+quiet_joint R a b quiet (Offered p) (Waiting q) ma ia mb ib u v h = (quiet_nil u h.0, quiet_nil v h.1)
+quiet_joint R a b quiet (Talking t k x) (Waiting q) ma ia mb ib u v h = (quiet_accepted q t k (λ w. R t k x w [] k t b) (λ w r. (quiet t k x w [] k t b r).0) u h.0, quiet_nil v h.1)
+quiet_joint R a b quiet (Talking t k x) (Talking t₂ k₂ y) ma ia mb ib u v h = quiet t k x u v t₂ k₂ y h.0
 quiet_joint R a b quiet one other ma ia mb ib u v h = absurd h
 
 -- ---- what is indicated was made, and what an end is in p4
-
--- outside of p4, what it will be there
-abbrev pub in_stage : {A : Type 0} → A → Stage A → A
-in_stage a (InData t b at) = at
-in_stage a other = a
 
 none_begins : (xs ys : List CallRequest) → xs ≡ [] → IsPrefix xs ys
 none_begins xs ys e = (ys, ap (λ l. l ++ ys) e)
@@ -81,23 +68,23 @@ all_begins xs ys e = ([], append-nil xs ∙ e)
 
 pub joint_order : {A B : Type 0} (R : TalksOf A B) (a : A) (b : B) (Q : A → B → Type 0) → Q a b → ((t k : Terms) (x : A) (u v : List Packet) (t₂ k₂ : Terms) (y : B) → R t k x u v t₂ k₂ y → Q x y)
     → (one : Stage A) (two : Stage B) (ma ia mb ib : List CallRequest) (u v : List Packet) → JointOf R a b one two ma ia mb ib u v → IsPrefix ia mb × IsPrefix ib ma × Q (in_stage a one) (in_stage b two)
-joint_order R a b Q q talks Free Free ma ia mb ib u v h = (none_begins ia mb h.3, none_begins ib ma h.5, q)
-joint_order R a b Q q talks Free (Calling m) ma ia mb ib u v h = (none_begins ia mb h.3, none_begins ib ma h.4, q)
-joint_order R a b Q q talks (Calling n) Free ma ia mb ib u v h = (none_begins ia mb h.2, none_begins ib ma h.4, q)
-joint_order R a b Q q talks (Calling n) (Calling m) ma ia mb ib u v h = (none_begins ia mb h.2, none_begins ib ma h.3, q)
-joint_order R a b Q q talks (Calling n) (Called m) ma ia mb ib u v h = (none_begins ia mb h.2, all_begins ib ma h.3, q)
-joint_order R a b Q q talks (Collided n) (Calling m) ma ia mb ib u v h = (none_begins ia mb h.2, none_begins ib ma h.3, q)
-joint_order R a b Q q talks (Collided n) (Called m) ma ia mb ib u v h = (none_begins ia mb h.2, all_begins ib ma h.3, q)
-joint_order R a b Q q talks (Called n) (Calling m) ma ia mb ib u v h = (all_begins ia mb h.2, none_begins ib ma h.3, q)
-joint_order R a b Q q talks (Calling n) (InData t k y) ma ia mb ib u v h =
+joint_order R a b Q q talks Unused Unused ma ia mb ib u v h = (none_begins ia mb h.3, none_begins ib ma h.5, q)
+joint_order R a b Q q talks Unused (Waiting m) ma ia mb ib u v h = (none_begins ia mb h.3, none_begins ib ma h.4, q)
+joint_order R a b Q q talks (Waiting n) Unused ma ia mb ib u v h = (none_begins ia mb h.2, none_begins ib ma h.4, q)
+joint_order R a b Q q talks (Waiting n) (Waiting m) ma ia mb ib u v h = (none_begins ia mb h.2, none_begins ib ma h.3, q)
+joint_order R a b Q q talks (Waiting n) (Offered m) ma ia mb ib u v h = (none_begins ia mb h.2, all_begins ib ma h.3, q)
+joint_order R a b Q q talks (Crossed n) (Waiting m) ma ia mb ib u v h = (none_begins ia mb h.2, none_begins ib ma h.3, q)
+joint_order R a b Q q talks (Crossed n) (Offered m) ma ia mb ib u v h = (none_begins ia mb h.2, all_begins ib ma h.3, q)
+joint_order R a b Q q talks (Offered n) (Waiting m) ma ia mb ib u v h = (all_begins ia mb h.2, none_begins ib ma h.3, q)
+joint_order R a b Q q talks (Waiting n) (Talking t k y) ma ia mb ib u v h =
     let some = CallAccepted-some n t k (λ w. R k t a [] w t k y) mb v h.1 in
     (none_begins ia mb h.2, all_begins ib ma h.3, talks k t a [] some.0 t k y some.1)
-joint_order R a b Q q talks (Collided n) (InData t k y) ma ia mb ib u v h =
+joint_order R a b Q q talks (Crossed n) (Talking t k y) ma ia mb ib u v h =
     let some = Accepted-some n t k (λ w. R k t a [] w t k y) v h.1 in
     (none_begins ia mb h.2, all_begins ib ma h.3, talks k t a [] some.0 t k y some.1)
-joint_order R a b Q q talks (InData t k x) (Calling m) ma ia mb ib u v h =
+joint_order R a b Q q talks (Talking t k x) (Waiting m) ma ia mb ib u v h =
     let some = Accepted-some m t k (λ w. R t k x w [] k t b) u h.0 in
     (all_begins ia mb h.2, none_begins ib ma h.3, talks t k x some.0 [] k t b some.1)
-joint_order R a b Q q talks (InData t k x) (InData t₂ k₂ y) ma ia mb ib u v (talk, inl e) = (none_begins ia mb e.0, all_begins ib ma e.1, talks t k x u v t₂ k₂ y talk)
-joint_order R a b Q q talks (InData t k x) (InData t₂ k₂ y) ma ia mb ib u v (talk, inr e) = (all_begins ia mb e.0, none_begins ib ma e.1, talks t k x u v t₂ k₂ y talk)
+joint_order R a b Q q talks (Talking t k x) (Talking t₂ k₂ y) ma ia mb ib u v (talk, inl e) = (none_begins ia mb e.0, all_begins ib ma e.1, talks t k x u v t₂ k₂ y talk)
+joint_order R a b Q q talks (Talking t k x) (Talking t₂ k₂ y) ma ia mb ib u v (talk, inr e) = (all_begins ia mb e.0, none_begins ib ma e.1, talks t k x u v t₂ k₂ y talk)
 joint_order R a b Q q talks one two ma ia mb ib u v h = absurd h

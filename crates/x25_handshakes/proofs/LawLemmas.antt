@@ -1,16 +1,12 @@
 -- In every run, the histories of the two ends are lawful: for any kind of thing that is handled so within a call.
 use Rattle.std.proofs.Common.{ℕ, List, [], ◌∷◌, Option, Bool, true, false, if◌then◌else◌, refl, sym, subst}
-use Rattle.x25_bits.specs.declared.role.Role.{Role}
-use Rattle.x25_bits.specs.declared.role.Role.TheVariants.{Dte, Dce}
-use Rattle.x25_handshakes.specs.laws.Handshake.{Side, Live, Left, At, state_of}
-use Rattle.x25_handshakes.specs.laws.Calls.{call_takes}
-use Rattle.x25_handshakes.specs.laws.Layers.{LayerPacket, On, Channels, ready, Move, Acts, Takes, LinkDown, Event, pair_moves, layer_acts, layer_takes, layer_side_takes}
+use Rattle.x25_bits.specs.{declared.role.Role.{Role}, declared.role.Role.TheVariants.{Dte, Dce}}
+use Rattle.x25_handshakes.specs.{laws.Handshake.{Side, Live, Left, At, state_of, live}, laws.Calls.{call_takes}}
+use Rattle.x25_handshakes.specs.laws.Layers.{LayerPacket, On, Channels, Move, Acts, Takes, LinkDown, Event, pair_moves, layer_acts, layer_takes, layer_side_takes}
 use Rattle.x25_handshakes.specs.laws.Names.{Name}
 use Rattle.x25_handshakes.specs.laws.Histories.{Lists, Kind, name_at, held_at, channel_view, written, IsLawful, Histories, turned_histories, histories_moves, histories_happens, histories_run, histories_start, AreInOrder}
-use Rattle.x25_handshakes.specs.laws.PeerLayers.{other_role}
-use Rattle.x25_handshakes.specs.laws.LawsBelow.{Laws}
-use Rattle.x25_handshakes.proofs.LayersRelation.{EndsRelated}
-use Rattle.x25_handshakes.proofs.LayerLemmas.{Stands, Stands-moves, Stands-turned, Stands-start}
+use Rattle.x25_handshakes.specs.{laws.PeerLayers.{other_role}, laws.LawsBelow.{Laws}}
+use Rattle.x25_handshakes.proofs.{LayersRelation.{EndsRelated}, LayerLemmas.{Stands, Stands-moves, Stands-turned, Stands-start}}
 use Rattle.x25_handshakes.proofs.HistoryLemmas.{Turn, MayHandUp, lawful_turned, lawful_turn}
 use Rattle.x25_handshakes.proofs.TurnLemmas.{IsHandled, WithinCall, turn_still, turn_taken, turn_acted, taken_in_its_epoch}
 
@@ -20,8 +16,8 @@ taken : {M : Type 0} (kind : Kind M) → IsHandled kind → (r : Role) (e : ℕ)
 taken kind handled r e x k p L K far history top =
     turn_taken kind handled (MayHandUp (name_at kind (record { epoch = e; side = x }) k) (channel_view kind (state_of far) k history)) k r e x p
     (λ y q c is_x is_p side inner.
-    let top_y : EndsRelated r (Live (ready e y)) L (On k q ∷ K) far =
-    subst (λ (z : LayerPacket). EndsRelated r (Live (ready e y)) L (z ∷ K) far) is_p
+    let top_y : EndsRelated r (Live (live e y)) L (On k q ∷ K) far =
+    subst (λ (z : LayerPacket). EndsRelated r (Live (live e y)) L (z ∷ K) far) is_p
     (subst (λ (z : Side Channels). EndsRelated r (Live (record { epoch = e; side = z })) L (p ∷ K) far) is_x top) in
     subst (λ (z : Side Channels). WithinCall kind (MayHandUp (name_at kind (record { epoch = e; side = z }) k) (channel_view kind (state_of far) k history)) (y k).epoch c (call_takes r c q).next) (sym is_x)
     (taken_in_its_epoch kind handled r e y k c q L K far history inner side top_y))

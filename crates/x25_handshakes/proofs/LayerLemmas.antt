@@ -1,22 +1,14 @@
 -- Two channels of ours between two restarts, where no CLEAR comes in p1, and two layers keep their relation, and no run has a procedure error.
 use Rattle.std.proofs.Common.{ℕ, List, [], Option, refl, ◌≡◌, ◌∷◌, None, Bool, true, false, if◌then◌else◌, ap, ◌∙◌}
-use Rattle.x25_handshakes.specs.laws.Handshake.{At, Side, Live, Left}
-use Rattle.x25_bits.specs.declared.role.Role.{Role}
-use Rattle.x25_bits.specs.declared.role.Role.TheVariants.{Dte, Dce}
-use Rattle.x25_handshakes.specs.laws.Stretch.{Packet, Stretch}
-use Rattle.x25_handshakes.specs.laws.Calls.{Connection, fresh_call}
-use Rattle.x25_handshakes.specs.laws.Channel.{fresh_channel}
+use Rattle.x25_handshakes.specs.{laws.Handshake.{At, Side, Live, Left, first_error}, laws.Stretch.{Packet, Stretch}, laws.Calls.{Connection, fresh_call}}
+use Rattle.x25_handshakes.specs.{laws.Channel.{fresh_channel}, laws.Transfer.{fresh_transfer}, laws.LawsBelow.{Laws}, laws.PeerLayers.{other_role}}
+use Rattle.x25_handshakes.specs.laws.Layers.{LayerPacket, Restart, Channels, all_fresh, layer_takes, LayerAct, layer_acts, Pair, Move, Acts, Takes, LinkDown, turned, pair_moves, Event, pair_happens, pair_run, pair_start}
+use Rattle.x25_bits.specs.{declared.role.Role.{Role}, declared.role.Role.TheVariants.{Dte, Dce}}
 use Rattle.x25_circuit.specs.Params.{Terms}
-use Rattle.x25_handshakes.specs.laws.Transfer.{fresh_transfer}
-use Rattle.x25_handshakes.specs.laws.LawsBelow.{Laws}
-use Rattle.x25_handshakes.proofs.HandshakeLemmas.{hand_flip, both_fresh, hand_map, ext_step, both_requests}
-use Rattle.x25_handshakes.proofs.CallsRelation.{TalksRelated, stage_of, IsCalled}
-use Rattle.x25_handshakes.specs.laws.PeerLayers.{other_role}
+use Rattle.x25_handshakes.proofs.{HandshakeLemmas.{hand_flip, both_fresh, hand_map, ext_step, both_requests}, CallsRelation.{TalksRelated, IsCalled}}
 use Rattle.x25_handshakes.proofs.ChannelRelation.{clear_mark, Seen, connection_level, ChannelRelated}
-use Rattle.x25_handshakes.proofs.OwnChannelLemmas.{OwnCalls, not_p1, channel_takes_good, channel_acts_good}
-use Rattle.x25_handshakes.proofs.JointLemmas.{Quiet, quiet_transfer, quiet_joint}
+use Rattle.x25_handshakes.proofs.{OwnChannelLemmas.{OwnCalls, not_p1, channel_takes_good, channel_acts_good}, JointLemmas.{Quiet, quiet_transfer, quiet_joint}}
 use Rattle.x25_handshakes.proofs.CallLemmas.{Seen-takes, Seen-acts, Seen-fresh, Seen-free}
-use Rattle.x25_handshakes.specs.laws.Layers.{LayerPacket, Restart, Channels, all_fresh, layer_takes, LayerAct, layer_acts, Pair, Move, Acts, Takes, LinkDown, turned, first_error, pair_moves, Event, pair_happens, pair_run, pair_start}
 use Rattle.x25_handshakes.proofs.LayersRelation.{on, OnEach, restart_mark, channels_level, LayersRelated, GoodLayer, EndsRelated}
 use Rattle.x25_handshakes.proofs.OwnLayerLemmas.{OwnChannels, layer_takes_good, layer_acts_good}
 
@@ -28,9 +20,9 @@ talk_quiet : (t b : Terms) (x : At Stretch) (u v : List Packet) (t₂ b₂ : Ter
 talk_quiet t b x u v t₂ b₂ y h = (quiet_transfer u h.related.there, quiet_transfer v h.related.back)
 
 Seen-quiet : (r : Role) (x : Connection) (u v : List Packet) (y : Connection) → Seen r x u v y → Quiet u × Quiet v
-Seen-quiet Dte x u v y h = quiet_joint TalksRelated fresh_transfer fresh_transfer talk_quiet (stage_of x.phase) (stage_of y.phase) x.made x.indicated y.made y.indicated u v h
+Seen-quiet Dte x u v y h = quiet_joint TalksRelated fresh_transfer fresh_transfer talk_quiet x.phase y.phase x.made x.indicated y.made y.indicated u v h
 Seen-quiet Dce x u v y h =
-    let k = quiet_joint TalksRelated fresh_transfer fresh_transfer talk_quiet (stage_of y.phase) (stage_of x.phase) y.made y.indicated x.made x.indicated v u h in
+    let k = quiet_joint TalksRelated fresh_transfer fresh_transfer talk_quiet y.phase x.phase y.made y.indicated x.made x.indicated v u h in
     (k.1, k.0)
 
 pub ChannelRelated-flip : (r : Role) (x : At Connection) (L K : List Packet) (y : At Connection) → ChannelRelated r x L K y → ChannelRelated (other_role r) y K L x

@@ -1,24 +1,19 @@
 -- What our own circuit does is what a peer may do: calls and their clearing.
 use Rattle.std.proofs.Common.{◌≡◌, ℕ, ◌≤◌, List, [], ◌∷◌, ◌++◌, Option, Some, None, Bool, true, false, if◌then◌else◌, refl, sym, ap, subst}
 use Rattle.std.proofs.lemmas.Bool.{cond_both}
-use Rattle.x25_bits.specs.declared.role.Role.{Role}
-use Rattle.x25_bits.specs.declared.role.Role.TheVariants.{Dte, Dce}
-use Rattle.x25_circuit.specs.declared.params.Params.{Params}
-use Rattle.x25_circuit.specs.Params.{Proposal, may_propose, may_answer, field_for, said_in}
-use Rattle.x25_circuit.specs.Notice.{CallRequest}
-use Rattle.x25_handshakes.specs.laws.Handshake.{Side, Live, Left, At}
-use Rattle.x25_handshakes.specs.laws.Stretch.{Packet, Call, Accept, Clear, ClearConf}
+use Rattle.x25_bits.specs.{declared.role.Role.{Role}, declared.role.Role.TheVariants.{Dte, Dce}}
+use Rattle.x25_circuit.specs.{declared.params.Params.{Params}, Params.{Proposal, may_propose, may_answer, field_for, said_in}, Notice.{CallRequest}}
+use Rattle.x25_handshakes.specs.{laws.Handshake.{Side, Live, Left, At, Step, PeerStep, live}, laws.Stretch.{Packet, Call, Accept, Clear, ClearConf}}
 use Rattle.x25_handshakes.specs.laws.Transfer.{transfer_side_takes, transfer_side_acts}
-use Rattle.x25_handshakes.specs.laws.Calls.{Phase, Unused, Waiting, Offered, Crossed, Talking, Connection, CallStep, goes, unexpected, called_talk, calling_talk, is_answered, phase_takes, call_takes, CallAct, PlacesCall, AcceptsCall, Talks, accepts, phase_acts, call_acts}
-use Rattle.x25_handshakes.specs.laws.Channel.{live, lifted_call, channel_side_takes, ChannelAct, Within, SendsClear, clears, channel_side_acts}
+use Rattle.x25_handshakes.specs.laws.Calls.{Phase, Unused, Waiting, Offered, Crossed, Talking, Connection, goes, unexpected, called_talk, calling_talk, is_answered, phase_takes, call_takes, CallAct, PlacesCall, AcceptsCall, Talks, accepts, phase_acts, call_acts}
+use Rattle.x25_handshakes.specs.laws.Channel.{lifted_call, channel_side_takes, ChannelAct, Within, SendsClear, clears, channel_side_acts}
 use Rattle.x25_handshakes.specs.laws.PeerTransfer.{transfer_taking}
-use Rattle.x25_handshakes.specs.laws.PeerCalls.{InData, PeerCall, CallDeed, stands, InTransfer, MayDoCall, called_in_data, calling_in_data, does_call, call_packet_of, PeerCallStep, call_taking}
-use Rattle.x25_handshakes.specs.laws.PeerCalls as peer
-use Rattle.x25_handshakes.specs.laws.PeerChannel.{peer_live, ChannelDeed, InCall, Clears, MayDoChannel, does_channel, channel_packet_of, PeerChannelStep, channel_taking}
-use Rattle.x25_handshakes.specs.laws.LayerPeers.{as_peer_stretch, as_side, as_at, as_stage, as_peer_call}
-use Rattle.x25_handshakes.specs.laws.LawsBelow.{Laws}
+use Rattle.x25_handshakes.specs.laws.PeerCalls.{PeerCall, CallDeed, stands, InTransfer, MayDoCall, called_in_data, calling_in_data, does_call, call_packet_of, call_taking}
+use Rattle.x25_handshakes.specs.laws.PeerChannel.{ChannelDeed, InCall, Clears, MayDoChannel, does_channel, channel_packet_of, channel_taking}
+use Rattle.x25_handshakes.specs.{laws.LayerPeers.{as_peer_stretch, as_side, as_at, as_stage, as_peer_call}, laws.LawsBelow.{Laws}}
 use Rattle.x25_handshakes.proofs.TermsLemmas.{answer_read}
 use Rattle.x25_handshakes.proofs.LayerPeers.{Deeds, Did, Nothing, Something, Heard, at_once, did_above, transfer_deeds, TransferHeard, IsFit, transfer_did, transfer_heard}
+use Rattle.x25_handshakes.specs.laws.PeerCalls as peer
 
 -- ---- a call
 
@@ -28,7 +23,7 @@ call_deeds = record { may = λ y d. MayDoCall y.stage d; does = λ y d. does_cal
 abbrev pub CallDid : PeerCall → PeerCall → List Packet → Type 0
 CallDid y y₂ o = Did call_deeds y y₂ o
 
-abbrev pub CallHeard : PeerCallStep → PeerCall → List Packet → Type 0
+abbrev pub CallHeard : PeerStep PeerCall Packet → PeerCall → List Packet → Type 0
 CallHeard s y₂ o = Heard call_deeds s.next s.out y₂ o
 
 -- what is known of a call: it may be proposed, and what waits in p4 fits
@@ -37,12 +32,12 @@ IsKnown (Offered theirs) = may_propose theirs ≡ true
 IsKnown (Talking t b at) = (t.window ≤ 7) × IsFit t.size at.side
 IsKnown other = Unit {0}
 
-abbrev Did_to : Phase → List CallRequest → List CallRequest → CallStep → Type 0
+abbrev Did_to : Phase → List CallRequest → List CallRequest → Step Connection Packet → Type 0
 Did_to a m i s = CallDid (stands (as_stage a) m i) (as_peer_call s.next) s.out
 
 places_did : (m i : List CallRequest) (n : CallRequest) → Did_to Unused m i (phase_acts Unused m i (PlacesCall n))
 places_did m i n =
-    cond_both (may_propose n.params) (goes (Waiting n.params) (m ++ n ∷ []) i (Call n ∷ [])) (goes Unused m i []) (λ (s : CallStep). Did_to Unused m i s)
+    cond_both (may_propose n.params) (goes (Waiting n.params) (m ++ n ∷ []) i (Call n ∷ [])) (goes Unused m i []) (λ (s : Step Connection Packet). Did_to Unused m i s)
     (λ may. Something (peer.PlacesCall n) may refl refl)
     (λ _. Nothing refl refl)
 
@@ -51,7 +46,7 @@ accepts_did laws theirs proposed m i None =
     let same : said_in theirs [] ≡ theirs = laws.no_field theirs in
     Something (peer.AcceptsCall []) (subst (λ (q : Params). may_answer theirs q ≡ true) (sym same) (laws.proposal theirs)) (ap (λ (q : Params). stands (called_in_data q) m i) same) refl
 accepts_did laws theirs proposed m i (Some q) =
-    cond_both (may_answer theirs q.params) (goes (called_talk q.params) m i (Accept (field_for theirs q) ∷ [])) (goes (Offered theirs) m i []) (λ (s : CallStep). Did_to (Offered theirs) m i s)
+    cond_both (may_answer theirs q.params) (goes (called_talk q.params) m i (Accept (field_for theirs q) ∷ [])) (goes (Offered theirs) m i []) (λ (s : Step Connection Packet). Did_to (Offered theirs) m i s)
     (λ may. let same : said_in theirs (field_for theirs q) ≡ q.params = answer_read laws theirs q proposed may in
     Something (peer.AcceptsCall (field_for theirs q)) (subst (λ (q : Params). may_answer theirs q ≡ true) (sym same) may) (ap (λ (q : Params). stands (called_in_data q) m i) same) refl)
     (λ _. Nothing refl refl)
@@ -60,7 +55,7 @@ pub call_did : Laws → (a : Phase) → IsKnown a → (m i : List CallRequest) (
 call_did laws Unused known m i (PlacesCall n) quiet = places_did m i n
 call_did laws (Offered theirs) known m i (AcceptsCall answer) quiet = accepts_did laws theirs known m i answer
 call_did laws (Talking t b at) known m i (Talks act) quiet =
-    did_above (transfer_deeds t.size) call_deeds (λ y. stands (InData t b y) m i) (λ d. InTransfer d)
+    did_above (transfer_deeds t.size) call_deeds (λ y. stands (Talking t b y) m i) (λ d. InTransfer d)
     (as_at as_peer_stretch at) (as_at as_peer_stretch (transfer_side_acts t at.epoch at.side act).next) (transfer_side_acts t at.epoch at.side act).out (λ d may. may) (λ d. refl) (λ d. refl)
     (transfer_did t known.0 at.epoch at.side known.1 act quiet)
 call_did laws a known m i act_2 quiet = Nothing refl refl
@@ -88,7 +83,7 @@ call_heard r (Talking t b at) m i p quiet =
     record {
       rest = h.rest;
       split = h.split;
-      did = did_above (transfer_deeds t.size) call_deeds (λ y. stands (InData t b y) m i) (λ d. InTransfer d)
+      did = did_above (transfer_deeds t.size) call_deeds (λ y. stands (Talking t b y) m i) (λ d. InTransfer d)
           (transfer_taking at.epoch (as_side as_peer_stretch at.side) p).next (as_at as_peer_stretch (transfer_side_takes b.size at.epoch at.side p).next) h.rest (λ d may. may) (λ d. refl) (λ d. refl) h.did;
     }
 call_heard r a m i p_2 quiet = absurd (cc)
@@ -101,20 +96,20 @@ channel_deeds = record { may = λ y d. MayDoChannel y.side d; does = λ y d. doe
 abbrev pub ChannelDid : At PeerCall → At PeerCall → List Packet → Type 0
 ChannelDid y y₂ o = Did channel_deeds y y₂ o
 
-abbrev pub ChannelHeard : PeerChannelStep → At PeerCall → List Packet → Type 0
+abbrev pub ChannelHeard : PeerStep (At PeerCall) Packet → At PeerCall → List Packet → Type 0
 ChannelHeard s y₂ o = Heard channel_deeds s.next s.out y₂ o
 
 abbrev pub IsKnownSide : Side Connection → Type 0
 IsKnownSide (Live x) = IsKnown x.phase
 IsKnownSide (Left x) = Unit {0}
 
-in_call_did : (e : ℕ) (y : PeerCall) (s : CallStep) (n : Option ℕ) → (lifted_call e s n).error ≡ None → CallDid y (as_peer_call s.next) s.out
-    → ChannelDid (peer_live e y) (as_at as_peer_call (lifted_call e s n).next) (lifted_call e s n).out
+in_call_did : (e : ℕ) (y : PeerCall) (s : Step Connection Packet) (n : Option ℕ) → (lifted_call e s n).error ≡ None → CallDid y (as_peer_call s.next) s.out
+    → ChannelDid (live e y) (as_at as_peer_call (lifted_call e s n).next) (lifted_call e s n).out
 in_call_did e y s None quiet did =
-    did_above call_deeds channel_deeds (λ y. peer_live e y) (λ d. InCall d) y (as_peer_call s.next) s.out (λ d may. may) (λ d. refl) (λ d. refl) did
+    did_above call_deeds channel_deeds (λ y. live e y) (λ d. InCall d) y (as_peer_call s.next) s.out (λ d may. may) (λ d. refl) (λ d. refl) did
 in_call_did e y s (Some n) quiet did = absurd (cc)
 
-no_error : (e : ℕ) (s : CallStep) (n : Option ℕ) → (lifted_call e s n).error ≡ None → n ≡ None
+no_error : (e : ℕ) (s : Step Connection Packet) (n : Option ℕ) → (lifted_call e s n).error ≡ None → n ≡ None
 no_error e s None quiet = refl
 no_error e s (Some n) quiet = absurd (cc)
 
@@ -130,7 +125,7 @@ channel_did laws e (Live x) known SendsClear quiet = clears_did e x x.phase
 channel_did laws e (Left x) known a quiet = Nothing refl refl
 
 heard_in_call : (r : Role) (e : ℕ) (x : Connection) (p : Packet) → (lifted_call e (call_takes r x p) (call_takes r x p).error).error ≡ None
-    → ChannelHeard (record { next = peer_live e (call_taking r (as_stage x.phase) x.made x.indicated p).next; out = (call_taking r (as_stage x.phase) x.made x.indicated p).out })
+    → ChannelHeard (record { next = live e (call_taking r (as_stage x.phase) x.made x.indicated p).next; out = (call_taking r (as_stage x.phase) x.made x.indicated p).out })
     (as_at as_peer_call (lifted_call e (call_takes r x p) (call_takes r x p).error).next) (lifted_call e (call_takes r x p) (call_takes r x p).error).out
 heard_in_call r e x p quiet =
     let none : (call_takes r x p).error ≡ None = no_error e (call_takes r x p) (call_takes r x p).error quiet in
@@ -138,7 +133,7 @@ heard_in_call r e x p quiet =
     by (call_takes r x p).error quiet h
   where
     by : (n : Option ℕ) → (lifted_call e (call_takes r x p) n).error ≡ None → CallHeard (call_taking r (as_stage x.phase) x.made x.indicated p) (as_peer_call (call_takes r x p).next) (call_takes r x p).out
-        → ChannelHeard (record { next = peer_live e (call_taking r (as_stage x.phase) x.made x.indicated p).next; out = (call_taking r (as_stage x.phase) x.made x.indicated p).out })
+        → ChannelHeard (record { next = live e (call_taking r (as_stage x.phase) x.made x.indicated p).next; out = (call_taking r (as_stage x.phase) x.made x.indicated p).out })
         (as_at as_peer_call (lifted_call e (call_takes r x p) n).next) (lifted_call e (call_takes r x p) n).out
     by None q h = record {
       rest = h.rest;

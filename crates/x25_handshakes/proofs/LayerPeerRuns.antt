@@ -1,36 +1,23 @@
 -- Each of two of our own layers is a peer of the other, in every run.
 use Rattle.std.proofs.Common.{◌≡◌, ℕ, ◌≤◌, List, [], ◌∷◌, ◌++◌, Option, None, Bool, true, false, ◌==◌, if◌then◌else◌, refl, sym, ap, subst, ◌∙◌, eq-eqb, append_assoc}
-use Rattle.std.proofs.lemmas.List.{append-nil}
-use Rattle.std.proofs.lemmas.Bool.{eqb-true}
-use Rattle.std.proofs.Math.Path.{fun_ext}
-use Rattle.x25_bits.specs.declared.role.Role.{Role}
-use Rattle.x25_bits.specs.declared.role.Role.TheVariants.{Dte, Dce}
-use Rattle.x25_circuit.specs.Params.{Terms, may_propose}
-use Rattle.x25_circuit.specs.Notice.{CallRequest}
-use Rattle.x25_handshakes.specs.laws.Handshake.{Side, Live, Left, At}
-use Rattle.x25_handshakes.specs.laws.Stretch.{Packet, Stretch, Clear}
-use Rattle.x25_handshakes.specs.laws.Transfer.{fresh_transfer}
-use Rattle.x25_handshakes.specs.laws.Calls.{Phase, Waiting, Offered, Crossed, Talking, Connection}
-use Rattle.x25_handshakes.specs.laws.Channel.{ChannelStep, channel_takes, channel_acts}
-use Rattle.x25_handshakes.specs.laws.Layers.{LayerPacket, On, Restart, RestartConf, Channels, put, addressed, all_fresh, LayerStep, ready, restarting, layer_side_takes, layer_takes, LayerAct, OnChannel, SendsRestart, layer_side_acts, layer_acts, Pair, Move, Acts, Takes, LinkDown, turned, pair_moves, Event, pair_happens, pair_run, pair_start}
-use Rattle.x25_handshakes.specs.laws.PeerCalls.{PeerCall}
-use Rattle.x25_handshakes.specs.laws.PeerChannel.{MayDoChannel, does_channel, channel_packet_of, PeerChannelStep, channel_taking}
-use Rattle.x25_handshakes.specs.laws.PeerLayer.{PeerChannels, put_peer, peer_ready, LayerDeed, InChannel, Restarts, MayDoLayer, does_layer, layer_packet_of, PeerLayerStep, layer_taking}
+use Rattle.std.proofs.{lemmas.List.{append-nil}, lemmas.Bool.{eqb-true}, Math.Path.{fun_ext}}
+use Rattle.x25_bits.specs.{declared.role.Role.{Role}, declared.role.Role.TheVariants.{Dte, Dce}}
+use Rattle.x25_circuit.specs.{Params.{Terms, may_propose}, Notice.{CallRequest}}
+use Rattle.x25_handshakes.specs.{laws.Handshake.{Side, Live, Left, At, Step, PeerStep, live, left}, laws.Stretch.{Packet, Stretch, Clear}}
+use Rattle.x25_handshakes.specs.{laws.Transfer.{fresh_transfer}, laws.Calls.{Phase, Waiting, Offered, Crossed, Talking, Connection}}
+use Rattle.x25_handshakes.specs.laws.Channel.{channel_takes, channel_acts}
+use Rattle.x25_handshakes.specs.laws.Layers.{LayerPacket, On, Restart, RestartConf, Channels, put, addressed, all_fresh, layer_side_takes, layer_takes, LayerAct, OnChannel, SendsRestart, layer_side_acts, layer_acts, Pair, Move, Acts, Takes, LinkDown, turned, pair_moves, Event, pair_happens, pair_run, pair_start}
+use Rattle.x25_handshakes.specs.{laws.PeerCalls.{PeerCall}, laws.PeerChannel.{MayDoChannel, does_channel, channel_packet_of, channel_taking}}
+use Rattle.x25_handshakes.specs.laws.PeerLayer.{PeerChannels, put_peer, LayerDeed, InChannel, Restarts, MayDoLayer, does_layer, layer_packet_of, layer_taking}
 use Rattle.x25_handshakes.specs.laws.PeerLayers.{other_role, found, layer_found, IsReached}
-use Rattle.x25_handshakes.specs.laws.PeerLayers as joined
-use Rattle.x25_handshakes.specs.laws.LayerPeers.{as_side, as_at, as_peer_call, as_peer_channels, as_peer, IsPeerOf, LayersArePeers}
-use Rattle.x25_handshakes.specs.laws.LawsBelow.{Laws}
-use Rattle.x25_handshakes.proofs.HandshakeRelation.{Handshake}
-use Rattle.x25_handshakes.proofs.HandshakeLemmas.{inner_live}
-use Rattle.x25_handshakes.proofs.TransferRelation.{stretch_level}
-use Rattle.x25_handshakes.proofs.CallsRelation.{TalksRelated, Joint}
-use Rattle.x25_handshakes.proofs.CallLemmas.{TalksRelated-flip}
-use Rattle.x25_handshakes.proofs.OwnCallLemmas.{Accepted-some, CallAccepted-some}
-use Rattle.x25_handshakes.proofs.ChannelRelation.{Seen, connection_level}
-use Rattle.x25_handshakes.proofs.LayersRelation.{on, channels_level, LayersRelated, EndsRelated}
+use Rattle.x25_handshakes.specs.{laws.LayerPeers.{as_side, as_at, as_peer_call, as_peer_channels, as_peer, IsPeerOf, LayersArePeers}, laws.LawsBelow.{Laws}}
+use Rattle.x25_handshakes.proofs.{HandshakeRelation.{Handshake}, HandshakeLemmas.{inner_live}, TransferRelation.{stretch_level}}
+use Rattle.x25_handshakes.proofs.{CallsRelation.{TalksRelated, Joint}, CallLemmas.{TalksRelated-flip}, OwnCallLemmas.{Accepted-some, CallAccepted-some}}
+use Rattle.x25_handshakes.proofs.{ChannelRelation.{Seen, connection_level}, LayersRelation.{on, channels_level, LayersRelated, EndsRelated}}
 use Rattle.x25_handshakes.proofs.LayerLemmas.{GoodLayer-takes, GoodLayer-acts, Stands, Stands-turned, Stands-moves, Stands-start}
 use Rattle.x25_handshakes.proofs.LayerPeers.{Deeds, Did, Nothing, Something, Heard, at_once, IsFit}
 use Rattle.x25_handshakes.proofs.LayerPeerCalls.{IsKnown, IsKnownSide, ChannelDid, ChannelHeard, channel_did, channel_heard}
+use Rattle.x25_handshakes.specs.laws.PeerLayers as joined
 
 -- ---- what is known of our own end beside another
 
@@ -81,25 +68,25 @@ layer_deeds = record { may = λ y d. MayDoLayer y.side d; does = λ y d. does_la
 abbrev LayerDid : At PeerChannels → At PeerChannels → List LayerPacket → Type 0
 LayerDid y y₂ o = Did layer_deeds y y₂ o
 
-abbrev LayerHeard : PeerLayerStep → At PeerChannels → List LayerPacket → Type 0
+abbrev LayerHeard : PeerStep (At PeerChannels) LayerPacket → At PeerChannels → List LayerPacket → Type 0
 LayerHeard s y₂ o = Heard layer_deeds s.next s.out y₂ o
 
 -- one channel was put anew, as a peer's and as ours
-put_as : (e : ℕ) (x : Channels) (h : ℕ) (z : At PeerCall) (c : At Connection) → z ≡ as_at as_peer_call c → peer_ready e (put_peer (as_peer_channels x) h z) ≡ as_peer (ready e (put x h c))
-put_as e x h z c is = ap (λ (f : PeerChannels). peer_ready e f) (fun_ext (λ k. by k (k == h)))
+put_as : (e : ℕ) (x : Channels) (h : ℕ) (z : At PeerCall) (c : At Connection) → z ≡ as_at as_peer_call c → live e (put_peer (as_peer_channels x) h z) ≡ as_peer (live e (put x h c))
+put_as e x h z c is = ap (λ (f : PeerChannels). live e f) (fun_ext (λ k. by k (k == h)))
   where
     by : (k : ℕ) (b : Bool) → (if b then z else as_at as_peer_call (x k)) ≡ as_at as_peer_call (if b then c else x k)
     by k true = is
     by k false = refl
 
-put_same : (e : ℕ) (x : Channels) (h : ℕ) (c : At Connection) → as_at as_peer_call (x h) ≡ as_at as_peer_call c → as_peer (ready e x) ≡ as_peer (ready e (put x h c))
-put_same e x h c is = ap (λ (f : PeerChannels). peer_ready e f) (fun_ext (λ k. by k (k == h) refl))
+put_same : (e : ℕ) (x : Channels) (h : ℕ) (c : At Connection) → as_at as_peer_call (x h) ≡ as_at as_peer_call c → as_peer (live e x) ≡ as_peer (live e (put x h c))
+put_same e x h c is = ap (λ (f : PeerChannels). live e f) (fun_ext (λ k. by k (k == h) refl))
   where
     by : (k : ℕ) (b : Bool) → (k == h) ≡ b → as_at as_peer_call (x k) ≡ as_at as_peer_call (if b then c else x k)
     by k true at = ap (λ j. as_at as_peer_call (x j)) (eqb-true k h at) ∙ is
     by k false at = refl
 
-on_channel_did : (e : ℕ) (x : Channels) (h : ℕ) (s : ChannelStep) → ChannelDid (as_at as_peer_call (x h)) (as_at as_peer_call s.next) s.out → LayerDid (as_peer (ready e x)) (as_peer (ready e (put x h s.next))) (addressed h s.out)
+on_channel_did : (e : ℕ) (x : Channels) (h : ℕ) (s : Step (At Connection) Packet) → ChannelDid (as_at as_peer_call (x h)) (as_at as_peer_call s.next) s.out → LayerDid (as_peer (live e x)) (as_peer (live e (put x h s.next))) (addressed h s.out)
 on_channel_did e x h s (Nothing same none) = Nothing (put_same e x h s.next same) (ap (addressed h) none)
 on_channel_did e x h s (Something d may next out) = Something (InChannel h d) may (put_as e x h (does_channel (x h).epoch (as_side as_peer_call (x h).side) d) s.next next) (ap (addressed h) out)
 
@@ -122,7 +109,7 @@ there h z w = rw (eq-eqb h h refl) refl
 
 -- the channel did something behind what it heard
 behind_did : (e : ℕ) (x : Channels) (h : ℕ) (z : At PeerCall) (c : At Connection) (o : List Packet) → ChannelDid z (as_at as_peer_call c) o
-    → LayerDid (peer_ready e (put_peer (as_peer_channels x) h z)) (as_peer (ready e (put x h c))) (addressed h o)
+    → LayerDid (live e (put_peer (as_peer_channels x) h z)) (as_peer (live e (put x h c))) (addressed h o)
 behind_did e x h z c o (Nothing same none) = Nothing (put_as e x h z c same) (ap (addressed h) none)
 behind_did e x h z c o (Something d may next out) =
     let y : PeerChannels = put_peer (as_peer_channels x) h z in
@@ -132,10 +119,10 @@ behind_did e x h z c o (Something d may next out) =
     ∙ put_as e x h (does_channel z.epoch z.side d) c next)
     (ap (λ (w : At PeerCall). On h (channel_packet_of w.side d) ∷ []) at ∙ ap (addressed h) out)
   where
-    twice : (y : PeerChannels) → y h ≡ z → peer_ready e (put_peer (put_peer (as_peer_channels x) h z) h (does_channel (y h).epoch (y h).side d)) ≡ peer_ready e (put_peer (as_peer_channels x) h (does_channel z.epoch z.side d))
+    twice : (y : PeerChannels) → y h ≡ z → live e (put_peer (put_peer (as_peer_channels x) h z) h (does_channel (y h).epoch (y h).side d)) ≡ live e (put_peer (as_peer_channels x) h (does_channel z.epoch z.side d))
     twice y at =
-        ap (λ (w : At PeerCall). peer_ready e (put_peer (put_peer (as_peer_channels x) h z) h (does_channel w.epoch w.side d))) at
-        ∙ ap (λ (f : PeerChannels). peer_ready e f) (fun_ext (λ k. by k (k == h)))
+        ap (λ (w : At PeerCall). live e (put_peer (put_peer (as_peer_channels x) h z) h (does_channel w.epoch w.side d))) at
+        ∙ ap (λ (f : PeerChannels). live e f) (fun_ext (λ k. by k (k == h)))
       where
         by : (k : ℕ) (b : Bool) → (if b then does_channel z.epoch z.side d else (if b then z else as_at as_peer_call (x k))) ≡ (if b then does_channel z.epoch z.side d else as_at as_peer_call (x k))
         by k true = refl
@@ -144,8 +131,8 @@ behind_did e x h z c o (Something d may next out) =
 layer_heard : (r : Role) (e : ℕ) (x : Side Channels) (p : LayerPacket) → (layer_side_takes r e x p).error ≡ None
     → LayerHeard (layer_taking r e (as_side as_peer_channels x) p) (as_peer (layer_side_takes r e x p).next) (layer_side_takes r e x p).out
 layer_heard r e (Live x) (On h p) quiet =
-    let s : ChannelStep = channel_takes r (x h) p in
-    let t : PeerChannelStep = channel_taking r (x h).epoch (as_side as_peer_call (x h).side) p in
+    let s : Step (At Connection) Packet = channel_takes r (x h) p in
+    let t : PeerStep (At PeerCall) Packet = channel_taking r (x h).epoch (as_side as_peer_call (x h).side) p in
     let g : ChannelHeard t (as_at as_peer_call s.next) s.out = channel_heard r (x h).epoch (x h).side p quiet in
     record {
       rest = addressed h g.rest;
@@ -178,7 +165,7 @@ did_reached r x y y₂ u v o (Something d may next out) h =
 heard_reached : (r : Role) (x : At Channels) (y y₂ : At PeerChannels) (p : LayerPacket) (u v o : List LayerPacket) → LayerHeard (layer_taking (other_role r) y.epoch y.side p) y₂ o
     → IsReached r (record { near = x; peer = y; out = p ∷ u; back = v; error = None }) → IsReached r (record { near = x; peer = y₂; out = u; back = v ++ o; error = None })
 heard_reached r x y y₂ p u v o g h =
-    let s : PeerLayerStep = layer_taking (other_role r) y.epoch y.side p in
+    let s : PeerStep (At PeerChannels) LayerPacket = layer_taking (other_role r) y.epoch y.side p in
     reached_at r x y₂ y₂ u u ((v ++ s.out) ++ g.rest) (v ++ o) None None refl refl (append_assoc v s.out g.rest ∙ ap (λ l. v ++ l) g.split) refl
     (did_reached r x s.next y₂ u (v ++ s.out) g.rest g.did (joined.goes_on _ _ h (joined.Hears p u refl)))
 
@@ -211,7 +198,7 @@ both_far_out r near y out back = record { second = one_is_out r near y out back;
 acts_kept : Laws → (r : Role) (x y : At Channels) (out back : List LayerPacket) (a : LayerAct) → LayersRelated r x out back y → Both r (Live x) (Live y) out back
     → Both r (Live (layer_acts x a).next) (Live y) (out ++ (layer_acts x a).out) back
 acts_kept laws r x y out back a rel h =
-    let s : LayerStep = layer_acts x a in
+    let s : Step (At Channels) LayerPacket = layer_acts x a in
     let quiet : s.error ≡ None = (GoodLayer-acts laws r x out back y a rel).quiet in
     record {
       second = reached_at r s.next (as_peer y) (as_peer y) (out ++ s.out) (out ++ s.out) back back s.error None refl refl refl quiet (joined.goes_on _ _ h.second (joined.Acts a));
@@ -221,7 +208,7 @@ acts_kept laws r x y out back a rel h =
 takes_kept : Laws → (r : Role) (x y : At Channels) (out : List LayerPacket) (p : LayerPacket) (K : List LayerPacket) → LayersRelated r x out (p ∷ K) y → Both r (Live x) (Live y) out (p ∷ K)
     → Both r (Live (layer_takes r x p).next) (Live y) (out ++ (layer_takes r x p).out) K
 takes_kept laws r x y out p K rel h =
-    let s : LayerStep = layer_takes r x p in
+    let s : Step (At Channels) LayerPacket = layer_takes r x p in
     let quiet : s.error ≡ None = (GoodLayer-takes laws r x out p K y rel).quiet in
     record {
       second = reached_at r s.next (as_peer y) (as_peer y) (out ++ s.out) (out ++ s.out) K K (layer_found p s.error) None refl refl refl (found_none p s.error quiet)
@@ -276,7 +263,7 @@ run_kept laws [] w h = h
 run_kept laws (e ∷ events) w h = run_kept laws events (pair_happens w e) (happens_kept laws w e h)
 
 -- at the start both have sent RESTART: the peer did so at once
-start_reached : (r : Role) → IsReached r (record { near = restarting 0 all_fresh; peer = as_peer (restarting 0 all_fresh); out = Restart ∷ []; back = Restart ∷ []; error = None })
+start_reached : (r : Role) → IsReached r (record { near = left 0 all_fresh; peer = as_peer (left 0 all_fresh); out = Restart ∷ []; back = Restart ∷ []; error = None })
 start_reached r = joined.goes_on _ _ joined.at_start (joined.Does Restarts tt)
 
 start_kept : Kept pair_start

@@ -1,15 +1,13 @@
 -- What our own end does is what a peer may do.
 use Rattle.std.proofs.Common.{◌≡◌, ℕ, ◌+◌, ◌%◌, ◌≤◌, List, [], ◌∷◌, ◌++◌, length, Option, Some, None, Bool, true, false, nat_lt, nat_le, if◌then◌else◌, refl, sym, ap, subst, ◌∙◌, arith}
-use Rattle.std.proofs.lemmas.List.{length_push, append-nil}
-use Rattle.std.proofs.lemmas.Bool.{cond_both, ltb-true}
+use Rattle.std.proofs.{lemmas.List.{length_push, append-nil}, lemmas.Bool.{cond_both, ltb-true}}
 use Rattle.x25_packet.specs.declared.marks.Marks.{Marks}
-use Rattle.x25_circuit.specs.Message.{Piece, no_part, cut, wholes, AreSound}
-use Rattle.x25_circuit.specs.Params.{Terms}
-use Rattle.x25_handshakes.specs.laws.Stretch.{Packet, Data, Rr, Rnr, Int, IntConf, Reset, Call, Accept, Clear, ClearConf, Stretch, StretchStep, stretch_does, stretch_fails, StretchAct, Send, Pull, Ready, NotReady, Interrupt, sends, pulls, interrupts, stretch_acts, ack_ground, data_ground, by_ground, takes_data, takes_status, stretch_takes}
+use Rattle.x25_circuit.specs.{Message.{Piece, no_part, cut, wholes, AreSound}, Params.{Terms}}
+use Rattle.x25_handshakes.specs.laws.Stretch.{Packet, Data, Rr, Rnr, Int, IntConf, Reset, Call, Accept, Clear, ClearConf, Stretch, stretch_does, stretch_fails, StretchAct, Send, Pull, Ready, NotReady, Interrupt, sends, pulls, interrupts, stretch_acts, ack_ground, data_ground, by_ground, takes_data, takes_status, stretch_takes}
 use Rattle.x25_handshakes.specs.laws.PeerStretch.{PeerStretch, Deed, Sends, Says, Interrupts, Confirms, MayDo, does, packet_of, taking}
-use Rattle.x25_handshakes.specs.laws.Handshake.{Side, Live, Left, At}
-use Rattle.x25_handshakes.specs.laws.Transfer.{d1, lifted, TransferAct, Inside, SendsReset, transfer_side_takes, transfer_side_acts}
-use Rattle.x25_handshakes.specs.laws.PeerTransfer.{peer_d1, TransferDeed, InStretch, Resets, MayDoTransfer, does_transfer, transfer_packet_of, PeerStep, transfer_taking}
+use Rattle.x25_handshakes.specs.laws.Handshake.{Side, Live, Left, At, Step, PeerStep, live}
+use Rattle.x25_handshakes.specs.laws.Transfer.{lifted, TransferAct, Inside, SendsReset, transfer_side_takes, transfer_side_acts}
+use Rattle.x25_handshakes.specs.laws.PeerTransfer.{TransferDeed, InStretch, Resets, MayDoTransfer, does_transfer, transfer_packet_of, transfer_taking}
 use Rattle.x25_handshakes.specs.laws.LayerPeers.{as_peer_stretch, as_side, as_at}
 use Rattle.x25_handshakes.proofs.TextLemmas.{AreSound-back}
 
@@ -47,7 +45,7 @@ stretch_deeds size = record { may = MayDo size; does = does; packet = packet_of 
 abbrev pub StretchDid : ℕ → PeerStretch → PeerStretch → List Packet → Type 0
 StretchDid size y y₂ o = Did (stretch_deeds size) y y₂ o
 
-abbrev Does : ℕ → Stretch → StretchStep → Type 0
+abbrev Does : ℕ → Stretch → Step Stretch Packet → Type 0
 Does size x s = StretchDid size (as_peer_stretch x) (as_peer_stretch s.next) s.out
 
 does_still : (size : ℕ) (x : Stretch) → Does size x (stretch_does x [])
@@ -56,7 +54,7 @@ does_still size x = Nothing refl refl
 does_pull : (t : Terms) → t.window ≤ 7 → (x : Stretch) (ps : List Piece) → x.rest ≡ ps → AreSound t.size no_part (x.sent ++ x.rest) → Does t.size x (pulls t x ps)
 does_pull t small x [] is sound = does_still t.size x
 does_pull t small x (p ∷ ps) is sound =
-    let next : StretchStep = stretch_does (record x { sent = x.sent ++ p ∷ []; rest = ps }) (Data (length x.sent % 8) (length x.taken % 8) p ∷ []) in
+    let next : Step Stretch Packet = stretch_does (record x { sent = x.sent ++ p ∷ []; rest = ps }) (Data (length x.sent % 8) (length x.taken % 8) p ∷ []) in
     cond_both x.peer_ready (if nat_lt (length x.sent) (x.acked + t.window) then next else stretch_does x []) (stretch_does x []) (λ s. Does t.size x s)
     (λ _. cond_both (nat_lt (length x.sent) (x.acked + t.window)) next (stretch_does x []) (λ s. Does t.size x s)
     (λ room. let open_room = ltb-true (length x.sent) (x.acked + t.window) room in
@@ -70,7 +68,7 @@ does_pull t small x (p ∷ ps) is sound =
 
 does_interrupt : (size : ℕ) (x : Stretch) (xs : List ℕ) → Does size x (interrupts x xs)
 does_interrupt size x xs =
-    let next : StretchStep = stretch_does (record x { int_out = true; int_down = x.int_down ++ xs ∷ [] }) (Int xs ∷ []) in
+    let next : Step Stretch Packet = stretch_does (record x { int_out = true; int_down = x.int_down ++ xs ∷ [] }) (Int xs ∷ []) in
     cond_both (nat_le 1 (length xs)) (if nat_le (length xs) 32 then (if x.int_out then stretch_does x [] else next) else stretch_does x []) (stretch_does x []) (λ s. Does size x s)
     (λ _. cond_both (nat_le (length xs) 32) (if x.int_out then stretch_does x [] else next) (stretch_does x []) (λ s. Does size x s)
     (λ _. cond_both x.int_out (stretch_does x []) next (λ s. Does size x s) (λ _. does_still size x) (λ free. Something (Interrupts xs) free refl refl))
@@ -79,7 +77,7 @@ does_interrupt size x xs =
 
 does_send : (t : Terms) (x : Stretch) (q : Marks) (xs : List ℕ) → Does t.size x (sends t x q xs)
 does_send t x q xs =
-    let sent : StretchStep = stretch_does (record x { rest = x.rest ++ cut t.size q xs; down = x.down ++ record { marks = q; user = xs } ∷ [] }) [] in
+    let sent : Step Stretch Packet = stretch_does (record x { rest = x.rest ++ cut t.size q xs; down = x.down ++ record { marks = q; user = xs } ∷ [] }) [] in
     cond_both (nat_le (length xs) 65535) (if nat_lt (wholes x.rest) 8 then sent else stretch_does x []) (stretch_does x []) (λ s. Does t.size x s)
     (λ _. cond_both (nat_lt (wholes x.rest) 8) sent (stretch_does x []) (λ s. Does t.size x s) (λ _. Nothing refl refl) (λ _. does_still t.size x))
     (λ _. does_still t.size x)
@@ -92,7 +90,7 @@ stretch_did t small x sound NotReady = Something (Says false (length x.taken)) (
 stretch_did t small x sound (Interrupt xs) = does_interrupt t.size x xs
 
 -- what it makes of what comes: as the peer, and then what the peer may do
-abbrev Hears : ℕ → Stretch → Packet → StretchStep → Type 0
+abbrev Hears : ℕ → Stretch → Packet → Step Stretch Packet → Type 0
 Hears size x p s = StretchDid size (taking (as_peer_stretch x) p) (as_peer_stretch s.next) s.out
 
 hears_data : (size : ℕ) (x : Stretch) (s r : ℕ) (p : Piece) → Hears size x (Data s r p) (takes_data x r p)
@@ -101,7 +99,7 @@ hears_data size x s r p =
     Something (Says x.own_ready (length x.taken + 1)) (record { rising = omega arith; taken = omega (arith, n) })
     (ap (λ (k : ℕ). record (as_peer_stretch (takes_data x r p).next) { told = k }) (sym n)) refl
 
-by_none : (size : ℕ) (x : Stretch) (p : Packet) (g : Option ℕ) (good : StretchStep) → (by_ground g x good).error ≡ None → Hears size x p good → Hears size x p (by_ground g x good)
+by_none : (size : ℕ) (x : Stretch) (p : Packet) (g : Option ℕ) (good : Step Stretch Packet) → (by_ground g x good).error ≡ None → Hears size x p good → Hears size x p (by_ground g x good)
 by_none size x p None good quiet h = h
 by_none size x p (Some n) good quiet h = absurd (cc)
 
@@ -126,7 +124,7 @@ transfer_deeds size = record { may = λ y d. MayDoTransfer size y.side d; does =
 abbrev pub TransferDid : ℕ → At PeerStretch → At PeerStretch → List Packet → Type 0
 TransferDid size y y₂ o = Did (transfer_deeds size) y y₂ o
 
-abbrev pub TransferHeard : ℕ → PeerStep → At PeerStretch → List Packet → Type 0
+abbrev pub TransferHeard : ℕ → PeerStep (At PeerStretch) Packet → At PeerStretch → List Packet → Type 0
 TransferHeard size s y₂ o = Heard (transfer_deeds size) s.next s.out y₂ o
 
 -- what is known of what waits
@@ -134,13 +132,13 @@ abbrev pub IsFit : ℕ → Side Stretch → Type 0
 IsFit size (Live x) = AreSound size no_part (x.sent ++ x.rest)
 IsFit size (Left x) = Unit {0}
 
-lifted_did : (size e : ℕ) (x : Stretch) (s : StretchStep) → (lifted e s s.error).error ≡ None → StretchDid size (as_peer_stretch x) (as_peer_stretch s.next) s.out
-    → TransferDid size (as_at as_peer_stretch (d1 e x)) (as_at as_peer_stretch (lifted e s s.error).next) (lifted e s s.error).out
+lifted_did : (size e : ℕ) (x : Stretch) (s : Step Stretch Packet) → (lifted e s s.error).error ≡ None → StretchDid size (as_peer_stretch x) (as_peer_stretch s.next) s.out
+    → TransferDid size (as_at as_peer_stretch (live e x)) (as_at as_peer_stretch (lifted e s s.error).next) (lifted e s s.error).out
 lifted_did size e x s quiet did = by s.error quiet
   where
-    by : (n : Option ℕ) → (lifted e s n).error ≡ None → TransferDid size (as_at as_peer_stretch (d1 e x)) (as_at as_peer_stretch (lifted e s n).next) (lifted e s n).out
+    by : (n : Option ℕ) → (lifted e s n).error ≡ None → TransferDid size (as_at as_peer_stretch (live e x)) (as_at as_peer_stretch (lifted e s n).next) (lifted e s n).out
     by None q =
-        did_above (stretch_deeds size) (transfer_deeds size) (λ y. peer_d1 e y) (λ d. InStretch d) (as_peer_stretch x) (as_peer_stretch s.next) s.out (λ d may. may) (λ d. refl) (λ d. refl) did
+        did_above (stretch_deeds size) (transfer_deeds size) (λ y. live e y) (λ d. InStretch d) (as_peer_stretch x) (as_peer_stretch s.next) s.out (λ d may. may) (λ d. refl) (λ d. refl) did
     by (Some n) q = absurd (cc)
 
 pub transfer_did : (t : Terms) → t.window ≤ 7 → (e : ℕ) (x : Side Stretch) → IsFit t.size x → (a : TransferAct) → (transfer_side_acts t e x a).error ≡ None
@@ -150,15 +148,15 @@ transfer_did t small e (Live x) fit SendsReset quiet = Something Resets tt refl 
 transfer_did t small e (Left x) fit a quiet = Nothing refl refl
 
 lifted_heard : (size b e : ℕ) (x : Stretch) (p : Packet) → (lifted e (stretch_takes b x p) (stretch_takes b x p).error).error ≡ None
-    → TransferHeard size (record { next = peer_d1 e (taking (as_peer_stretch x) p); out = [] }) (as_at as_peer_stretch (lifted e (stretch_takes b x p) (stretch_takes b x p).error).next) (lifted e (stretch_takes b x p) (stretch_takes b x p).error).out
+    → TransferHeard size (record { next = live e (taking (as_peer_stretch x) p); out = [] }) (as_at as_peer_stretch (lifted e (stretch_takes b x p) (stretch_takes b x p).error).next) (lifted e (stretch_takes b x p) (stretch_takes b x p).error).out
 lifted_heard size b e x p quiet = by (stretch_takes b x p).error refl quiet
   where
     by : (n : Option ℕ) → (stretch_takes b x p).error ≡ n → (lifted e (stretch_takes b x p) n).error ≡ None
-        → TransferHeard size (record { next = peer_d1 e (taking (as_peer_stretch x) p); out = [] }) (as_at as_peer_stretch (lifted e (stretch_takes b x p) n).next) (lifted e (stretch_takes b x p) n).out
+        → TransferHeard size (record { next = live e (taking (as_peer_stretch x) p); out = [] }) (as_at as_peer_stretch (lifted e (stretch_takes b x p) n).next) (lifted e (stretch_takes b x p) n).out
     by None is q = record {
       rest = (stretch_takes b x p).out;
       split = refl;
-      did = did_above (stretch_deeds size) (transfer_deeds size) (λ y. peer_d1 e y) (λ d. InStretch d)
+      did = did_above (stretch_deeds size) (transfer_deeds size) (λ y. live e y) (λ d. InStretch d)
           (taking (as_peer_stretch x) p) (as_peer_stretch (stretch_takes b x p).next) (stretch_takes b x p).out (λ d may. may) (λ d. refl) (λ d. refl) (stretch_heard size b x p is);
     }
     by (Some n) is q = absurd (cc)

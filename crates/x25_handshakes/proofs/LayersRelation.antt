@@ -1,12 +1,9 @@
 -- What is kept of two layers, and of two ends of which each may be out.
 use Rattle.std.proofs.Common.{ℕ, List, [], ◌∷◌, Bool, true, false, ◌==◌}
-use Rattle.x25_handshakes.specs.laws.Handshake.{Mark, Inner, Request, Confirm, Side, At}
+use Rattle.x25_handshakes.specs.{laws.Handshake.{Mark, Inner, Request, Confirm, Side, At, Step}, laws.Stretch.{Packet}, laws.Calls.{Connection}}
+use Rattle.x25_handshakes.specs.laws.Layers.{LayerPacket, On, Restart, RestartConf, Channels, all_fresh}
 use Rattle.x25_bits.specs.declared.role.Role.{Role}
-use Rattle.x25_handshakes.specs.laws.Stretch.{Packet}
-use Rattle.x25_handshakes.specs.laws.Calls.{Connection}
-use Rattle.x25_handshakes.specs.laws.Layers.{LayerPacket, On, Restart, RestartConf, Channels, all_fresh, LayerStep}
-use Rattle.x25_handshakes.proofs.HandshakeRelation.{Extended, Level, Handshaken, GoodStep}
-use Rattle.x25_handshakes.proofs.ChannelRelation.{ChannelRelated}
+use Rattle.x25_handshakes.proofs.{HandshakeRelation.{Extended, Level, Handshaken, GoodStep}, ChannelRelation.{ChannelRelated}}
 
 abbrev pub kept_on : Bool → Packet → List Packet → List Packet
 kept_on true p rest = p ∷ rest
@@ -37,7 +34,7 @@ channels_level r = own_channels_level (ChannelRelated r) all_fresh
 abbrev pub LayersRelated : Role → At Channels → List LayerPacket → List LayerPacket → At Channels → Type 0
 LayersRelated r x L K y = Handshaken (channels_level r) x L K y
 
-abbrev pub GoodLayer : Role → LayerStep → List LayerPacket → List LayerPacket → At Channels → Type 0
+abbrev pub GoodLayer : Role → Step (At Channels) LayerPacket → List LayerPacket → List LayerPacket → At Channels → Type 0
 GoodLayer r s L K y = GoodStep (channels_level r) s.error s.next s.out L K y
 
 -- what is kept of the two ends

@@ -1,23 +1,16 @@
 -- What our own end does between two clears keeps what is kept of it and the other end, and finds no procedure error, whatever kind of end the other is.
 use Rattle.std.proofs.Common.{◌≡◌, inl, inr, ℕ, List, [], ◌∷◌, ◌++◌, Some, None, Bool, true, if◌then◌else◌, refl, sym, ap, subst, ◌∙◌}
-use Rattle.std.proofs.lemmas.List.{append-nil}
-use Rattle.std.proofs.lemmas.Bool.{cond_both}
-use Rattle.x25_bits.specs.declared.role.Role.{Role}
-use Rattle.x25_bits.specs.declared.role.Role.TheVariants.{Dte, Dce}
+use Rattle.std.proofs.{lemmas.List.{append-nil}, lemmas.Bool.{cond_both}}
+use Rattle.x25_bits.specs.{declared.role.Role.{Role}, declared.role.Role.TheVariants.{Dte, Dce}}
 use Rattle.x25_circuit.specs.declared.params.Params.{Params}
-use Rattle.x25_circuit.specs.Params.{Proposal, Terms, may_propose, may_answer, field_for, said_in, called_terms, calling_terms}
-use Rattle.x25_circuit.specs.Notice.{CallRequest}
-use Rattle.x25_handshakes.specs.laws.Handshake.{Live, At}
-use Rattle.x25_handshakes.specs.laws.Stretch.{Packet, Call, Accept, Stretch}
-use Rattle.x25_handshakes.specs.laws.Transfer.{TransferStep, fresh_transfer, transfer_takes, TransferAct, transfer_acts}
-use Rattle.x25_handshakes.specs.laws.Calls.{Phase, Unused, Waiting, Offered, Crossed, Talking, Connection, CallStep, goes, unexpected, called_talk, calling_talk, is_answered, phase_takes, call_takes, CallAct, PlacesCall, AcceptsCall, Talks, phase_acts, call_acts}
-use Rattle.x25_handshakes.specs.laws.PeerCalls.{Stage, Free, Calling, Called, Collided, InData}
+use Rattle.x25_circuit.specs.{Params.{Proposal, Terms, may_propose, may_answer, field_for, said_in, called_terms, calling_terms}, Notice.{CallRequest}}
+use Rattle.x25_handshakes.specs.{laws.Handshake.{Live, At, Step}, laws.Stretch.{Packet, Call, Accept, Stretch}}
+use Rattle.x25_handshakes.specs.laws.Transfer.{fresh_transfer, transfer_takes, TransferAct, transfer_acts}
+use Rattle.x25_handshakes.specs.laws.Calls.{Phase, Unused, Waiting, Offered, Crossed, Talking, Connection, goes, unexpected, called_talk, calling_talk, is_answered, phase_takes, call_takes, CallAct, PlacesCall, AcceptsCall, Talks, phase_acts, call_acts, Stage}
 use Rattle.x25_handshakes.specs.laws.LawsBelow.{Laws}
-use Rattle.x25_handshakes.proofs.TermsLemmas.{IsSound, AreSound, answer_sound, answer_read}
-use Rattle.x25_handshakes.proofs.HandshakeLemmas.{both_fresh}
-use Rattle.x25_handshakes.proofs.TransferRelation.{own_level}
+use Rattle.x25_handshakes.proofs.{TermsLemmas.{IsSound, AreSound, answer_sound, answer_read}, HandshakeLemmas.{both_fresh}, TransferRelation.{own_level}}
 use Rattle.x25_handshakes.proofs.OwnTransferLemmas.{OwnStretches, own_takes, own_acts}
-use Rattle.x25_handshakes.proofs.CallsRelation.{TalkOf, Nil, OneCall, MaybeCall, Proposes, IsProposal, IsAnswer, Accepted, CallAccepted, stage_of, TalksOf, JointOf}
+use Rattle.x25_handshakes.proofs.CallsRelation.{TalkOf, Nil, OneCall, MaybeCall, Proposes, IsProposal, IsAnswer, Accepted, CallAccepted, TalksOf, JointOf}
 
 -- proposals and answers
 
@@ -107,28 +100,28 @@ pub record Taken (S : Type 0) : Type 0 where
   pub out : List Packet
 
 abbrev pub crossed : {S : Type 0} → Role → Params → List CallRequest → List CallRequest → CallRequest → Taken S
-crossed Dte mine m i n = record { stage = Collided mine; made = m; indicated = i; out = [] }
-crossed Dce mine m i n = record { stage = Called n.params; made = m; indicated = i ++ n ∷ []; out = [] }
+crossed Dte mine m i n = record { stage = Crossed mine; made = m; indicated = i; out = [] }
+crossed Dce mine m i n = record { stage = Offered n.params; made = m; indicated = i ++ n ∷ []; out = [] }
 
 abbrev pub begun : {S : Type 0} → S → Params → List CallRequest → List CallRequest → Taken S
-begun s₀ q m i = record { stage = InData (calling_terms q) (called_terms q) s₀; made = m; indicated = i; out = [] }
+begun s₀ q m i = record { stage = Talking (calling_terms q) (called_terms q) s₀; made = m; indicated = i; out = [] }
 
 -- by what it is in p4 after a packet, and what it puts then
 abbrev pub taken : {S : Type 0} → S → (Terms → Terms → S → Packet → S) → (Terms → Terms → S → Packet → List Packet) → Role → Stage S → List CallRequest → List CallRequest → Packet → Taken S
-taken s₀ next out r Free m i (Call n) = record { stage = Called n.params; made = m; indicated = i ++ n ∷ []; out = [] }
-taken s₀ next out r (Calling mine) m i (Call n) = crossed r mine m i n
-taken s₀ next out r (Calling mine) m i (Accept field) = begun s₀ (said_in mine field) m i
-taken s₀ next out r (Collided mine) m i (Accept field) = begun s₀ (said_in mine field) m i
-taken s₀ next out r (InData t b s) m i p = record { stage = InData t b (next t b s p); made = m; indicated = i; out = out t b s p }
+taken s₀ next out r Unused m i (Call n) = record { stage = Offered n.params; made = m; indicated = i ++ n ∷ []; out = [] }
+taken s₀ next out r (Waiting mine) m i (Call n) = crossed r mine m i n
+taken s₀ next out r (Waiting mine) m i (Accept field) = begun s₀ (said_in mine field) m i
+taken s₀ next out r (Crossed mine) m i (Accept field) = begun s₀ (said_in mine field) m i
+taken s₀ next out r (Talking t b s) m i p = record { stage = Talking t b (next t b s p); made = m; indicated = i; out = out t b s p }
 taken s₀ next out r stage m i p = record { stage = stage; made = m; indicated = i; out = [] }
 
 -- what may come to it
 abbrev pub MayCome : {S : Type 0} → (Terms → Terms → S → Packet → Type 0) → Stage S → Packet → Type 0
-MayCome Fine Free (Call n) = Unit {0}
-MayCome Fine (Calling mine) (Call n) = Unit {0}
-MayCome Fine (Calling mine) (Accept field) = may_answer mine (said_in mine field) ≡ true
-MayCome Fine (Collided mine) (Accept field) = may_answer mine (said_in mine field) ≡ true
-MayCome Fine (InData t b s) p = Fine t b s p
+MayCome Fine Unused (Call n) = Unit {0}
+MayCome Fine (Waiting mine) (Call n) = Unit {0}
+MayCome Fine (Waiting mine) (Accept field) = may_answer mine (said_in mine field) ≡ true
+MayCome Fine (Crossed mine) (Accept field) = may_answer mine (said_in mine field) ≡ true
+MayCome Fine (Talking t b s) p = Fine t b s p
 MayCome Fine stage p = ⊥
 
 -- ---- it is the DTE
@@ -141,10 +134,10 @@ module _ {S B : Type 0} (R : TalksOf S B) (s₀ : S) (y₀ : B) where
   dte_still a b ma ia mb ib u v h = subst (λ (w : List Packet). DteIs a b ma ia mb ib w v) (sym (append-nil u)) h
 
   dte_answered : (p : Params) (field : List ℕ) (ma ia mb ib : List CallRequest) (u v : List Packet) (t b : Terms) (y : B) → IsAnswer p field t b → Nil u
-      → R b t s₀ [] v t b y → ia ≡ [] → ib ≡ ma → (let q = said_in p field in DteIs (InData (calling_terms q) (called_terms q) s₀) (InData t b y) ma ia mb ib (u ++ []) v)
+      → R b t s₀ [] v t b y → ia ≡ [] → ib ≡ ma → (let q = said_in p field in DteIs (Talking (calling_terms q) (called_terms q) s₀) (Talking t b y) ma ia mb ib (u ++ []) v)
   dte_answered p field ma ia mb ib u v t b y answer none talk indicated there =
       let q : Params = said_in p field in
-      dte_still (InData (calling_terms q) (called_terms q) s₀) (InData t b y) ma ia mb ib u v (
+      dte_still (Talking (calling_terms q) (called_terms q) s₀) (Talking t b y) ma ia mb ib u v (
         subst (λ (s : Terms). R s (called_terms q) s₀ u v t b y) answer.calling (subst (λ (s : Terms). R b s s₀ u v t b y) answer.called
             (subst (λ (w : List Packet). R b t s₀ w v t b y) (sym (nil_is u none)) talk)),
         inl (indicated, there),
@@ -154,42 +147,42 @@ module _ {S B : Type 0} (R : TalksOf S B) (s₀ : S) (y₀ : B) where
       (takes : (t b : Terms) (x : S) (u : List Packet) (p : Packet) (v : List Packet) (t₂ b₂ : Terms) (y : B) → R t b x u (p ∷ v) t₂ b₂ y → Fine t b x p × R t b (next t b x p) (u ++ out t b x p) v t₂ b₂ y) where
     pub dte_taken : (a : Stage S) (b : Stage B) (ma ia mb ib : List CallRequest) (u : List Packet) (p : Packet) (v : List Packet) → DteIs a b ma ia mb ib u (p ∷ v)
         → (let s = taken s₀ next out Dte a ma ia p in MayCome Fine a p × DteIs s.stage b s.made s.indicated mb ib (u ++ s.out) v)
-    dte_taken Free Free ma ia mb ib u p v h = absurd h.1
-    dte_taken Free (Calling q) ma ia mb ib u (Call n) v h =
-        (tt, dte_still (Called n.params) (Calling q) ma (ia ++ n ∷ []) mb ib u v (h.0, h.1.1, push_first ia n mb h.3 h.1.0, h.4, said mb n q h.1.0 h.5))
-    dte_taken Free (Calling q) ma ia mb ib u other v h = absurd h.1
-    dte_taken Free other ma ia mb ib u p v h = absurd h
-    dte_taken (Calling mine) Free ma ia mb ib u p v h = absurd h.1
-    dte_taken (Calling mine) (Calling q) ma ia mb ib u (Call n) v h = (tt, dte_still (Collided mine) (Calling q) ma ia mb ib u v (h.0, h.1.1, h.2, h.3, h.4))
-    dte_taken (Calling mine) (Calling q) ma ia mb ib u other v h = absurd h.1
-    dte_taken (Calling mine) (Called q) ma ia mb ib u (Call n) v h = (tt, dte_still (Collided mine) (Called q) ma ia mb ib u v (h.0, h.1.1, h.2, h.3, h.4))
-    dte_taken (Calling mine) (Called q) ma ia mb ib u other v h = absurd h.1
-    dte_taken (Calling mine) (Collided q) ma ia mb ib u p v h = absurd h
-    dte_taken (Calling mine) (InData t b y) ma ia mb ib u (Call n) v h = (tt, dte_still (Collided mine) (InData t b y) ma ia mb ib u v (h.0, h.1.1, h.2, h.3))
-    dte_taken (Calling mine) (InData t b y) ma ia mb ib u (Accept field) v h = (h.1.1.allowed, dte_answered mine field ma ia mb ib u v t b y h.1.1 h.0 h.1.2 h.2 h.3)
-    dte_taken (Calling mine) (InData t b y) ma ia mb ib u other v h = absurd h.1
-    dte_taken (Called theirs) (Calling q) ma ia mb ib u p v h = absurd h.1
-    dte_taken (Called theirs) other ma ia mb ib u p v h = absurd h
-    dte_taken (Collided mine) Free ma ia mb ib u p v h = absurd h
-    dte_taken (Collided mine) (Calling q) ma ia mb ib u p v h = absurd h.1
-    dte_taken (Collided mine) (Called q) ma ia mb ib u p v h = absurd h.1
-    dte_taken (Collided mine) (Collided q) ma ia mb ib u p v h = absurd h
-    dte_taken (Collided mine) (InData t b y) ma ia mb ib u (Accept field) v h = (h.1.0.allowed, dte_answered mine field ma ia mb ib u v t b y h.1.0 h.0 h.1.1 h.2 h.3)
-    dte_taken (Collided mine) (InData t b y) ma ia mb ib u other v h = absurd h.1
-    dte_taken (InData t b x) (Calling q) ma ia mb ib u p v h = absurd h.1
-    dte_taken (InData t b x) (InData t₂ b₂ y) ma ia mb ib u p v h = (let k = takes t b x u p v t₂ b₂ y h.0 in (k.0, (k.1, h.1)))
-    dte_taken (InData t b x) other ma ia mb ib u p v h = absurd h
+    dte_taken Unused Unused ma ia mb ib u p v h = absurd h.1
+    dte_taken Unused (Waiting q) ma ia mb ib u (Call n) v h =
+        (tt, dte_still (Offered n.params) (Waiting q) ma (ia ++ n ∷ []) mb ib u v (h.0, h.1.1, push_first ia n mb h.3 h.1.0, h.4, said mb n q h.1.0 h.5))
+    dte_taken Unused (Waiting q) ma ia mb ib u other v h = absurd h.1
+    dte_taken Unused other ma ia mb ib u p v h = absurd h
+    dte_taken (Waiting mine) Unused ma ia mb ib u p v h = absurd h.1
+    dte_taken (Waiting mine) (Waiting q) ma ia mb ib u (Call n) v h = (tt, dte_still (Crossed mine) (Waiting q) ma ia mb ib u v (h.0, h.1.1, h.2, h.3, h.4))
+    dte_taken (Waiting mine) (Waiting q) ma ia mb ib u other v h = absurd h.1
+    dte_taken (Waiting mine) (Offered q) ma ia mb ib u (Call n) v h = (tt, dte_still (Crossed mine) (Offered q) ma ia mb ib u v (h.0, h.1.1, h.2, h.3, h.4))
+    dte_taken (Waiting mine) (Offered q) ma ia mb ib u other v h = absurd h.1
+    dte_taken (Waiting mine) (Crossed q) ma ia mb ib u p v h = absurd h
+    dte_taken (Waiting mine) (Talking t b y) ma ia mb ib u (Call n) v h = (tt, dte_still (Crossed mine) (Talking t b y) ma ia mb ib u v (h.0, h.1.1, h.2, h.3))
+    dte_taken (Waiting mine) (Talking t b y) ma ia mb ib u (Accept field) v h = (h.1.1.allowed, dte_answered mine field ma ia mb ib u v t b y h.1.1 h.0 h.1.2 h.2 h.3)
+    dte_taken (Waiting mine) (Talking t b y) ma ia mb ib u other v h = absurd h.1
+    dte_taken (Offered theirs) (Waiting q) ma ia mb ib u p v h = absurd h.1
+    dte_taken (Offered theirs) other ma ia mb ib u p v h = absurd h
+    dte_taken (Crossed mine) Unused ma ia mb ib u p v h = absurd h
+    dte_taken (Crossed mine) (Waiting q) ma ia mb ib u p v h = absurd h.1
+    dte_taken (Crossed mine) (Offered q) ma ia mb ib u p v h = absurd h.1
+    dte_taken (Crossed mine) (Crossed q) ma ia mb ib u p v h = absurd h
+    dte_taken (Crossed mine) (Talking t b y) ma ia mb ib u (Accept field) v h = (h.1.0.allowed, dte_answered mine field ma ia mb ib u v t b y h.1.0 h.0 h.1.1 h.2 h.3)
+    dte_taken (Crossed mine) (Talking t b y) ma ia mb ib u other v h = absurd h.1
+    dte_taken (Talking t b x) (Waiting q) ma ia mb ib u p v h = absurd h.1
+    dte_taken (Talking t b x) (Talking t₂ b₂ y) ma ia mb ib u p v h = (let k = takes t b x u p v t₂ b₂ y h.0 in (k.0, (k.1, h.1)))
+    dte_taken (Talking t b x) other ma ia mb ib u p v h = absurd h
 
   -- it calls
-  pub dte_calls : (b : Stage B) (n : CallRequest) (ma ia mb ib : List CallRequest) (u v : List Packet) → may_propose n.params ≡ true → DteIs Free b ma ia mb ib u v → DteIs (Calling n.params) b (ma ++ n ∷ []) ia mb ib (u ++ Call n ∷ []) v
-  dte_calls Free n ma ia mb ib u v may h = (call_first ma n u h.0 h.2, h.1, h.3, h.4, h.5, proposes ma n h.2 may)
-  dte_calls (Calling q) n ma ia mb ib u v may h = (call_first ma n u h.0 h.2, h.1, h.3, h.4, proposes ma n h.2 may)
+  pub dte_calls : (b : Stage B) (n : CallRequest) (ma ia mb ib : List CallRequest) (u v : List Packet) → may_propose n.params ≡ true → DteIs Unused b ma ia mb ib u v → DteIs (Waiting n.params) b (ma ++ n ∷ []) ia mb ib (u ++ Call n ∷ []) v
+  dte_calls Unused n ma ia mb ib u v may h = (call_first ma n u h.0 h.2, h.1, h.3, h.4, h.5, proposes ma n h.2 may)
+  dte_calls (Waiting q) n ma ia mb ib u v may h = (call_first ma n u h.0 h.2, h.1, h.3, h.4, proposes ma n h.2 may)
   dte_calls other n ma ia mb ib u v may h = absurd h
 
   -- it accepts, with an answer to what is proposed
   pub dte_answers : (b : Stage B) (theirs q : Params) (field : List ℕ) (ma ia mb ib : List CallRequest) (u v : List Packet) → ((mine : Params) → IsProposal mine theirs → Agreed mine q field)
-      → ((t k : Terms) → IsSound t → IsSound k → R t k s₀ [] [] k t y₀) → DteIs (Called theirs) b ma ia mb ib u v → DteIs (InData (called_terms q) (calling_terms q) s₀) b ma ia mb ib (u ++ Accept field ∷ []) v
-  dte_answers (Calling mine) theirs q field ma ia mb ib u v agrees fresh h =
+      → ((t k : Terms) → IsSound t → IsSound k → R t k s₀ [] [] k t y₀) → DteIs (Offered theirs) b ma ia mb ib u v → DteIs (Talking (called_terms q) (calling_terms q) s₀) b ma ia mb ib (u ++ Accept field ∷ []) v
+  dte_answers (Waiting mine) theirs q field ma ia mb ib u v agrees fresh h =
       let may = agrees mine h.4 in (
         accept_first mine (called_terms q) (calling_terms q) (λ w. R (called_terms q) (calling_terms q) s₀ w [] (calling_terms q) (called_terms q) y₀) field u h.0 may.fits
             (fresh (called_terms q) (calling_terms q) may.terms.called may.terms.calling),
@@ -202,16 +195,16 @@ module _ {S B : Type 0} (R : TalksOf S B) (s₀ : S) (y₀ : B) where
   -- it goes on in p4, and puts these packets
   module _ (t k : Terms) (x : S) where
     pub dte_moves : (b : Stage B) (x₂ : S) (o : List Packet) (ma ia mb ib : List CallRequest) (u v : List Packet) → ((w z : List Packet) (t₂ k₂ : Terms) (y : B) → R t k x w z t₂ k₂ y → R t k x₂ (w ++ o) z t₂ k₂ y)
-        → DteIs (InData t k x) b ma ia mb ib u v → DteIs (InData t k x₂) b ma ia mb ib (u ++ o) v
-    dte_moves (Calling q) x₂ o ma ia mb ib u v goes h =
+        → DteIs (Talking t k x) b ma ia mb ib u v → DteIs (Talking t k x₂) b ma ia mb ib (u ++ o) v
+    dte_moves (Waiting q) x₂ o ma ia mb ib u v goes h =
         (Accepted-map q t k (λ w. R t k x w [] k t y₀) (λ w. R t k x₂ w [] k t y₀) o (λ w r. goes w [] k t y₀ r) u h.0, h.1, h.2, h.3)
-    dte_moves (InData t₂ k₂ y) x₂ o ma ia mb ib u v goes h = (goes u v t₂ k₂ y h.0, h.1)
+    dte_moves (Talking t₂ k₂ y) x₂ o ma ia mb ib u v goes h = (goes u v t₂ k₂ y h.0, h.1)
     dte_moves other x₂ o ma ia mb ib u v goes h = absurd h
 
     -- where that says so
-    pub dte_some : (P : Type 0) (b : Stage B) (ma ia mb ib : List CallRequest) (u v : List Packet) → ((w z : List Packet) (t₂ k₂ : Terms) (y : B) → R t k x w z t₂ k₂ y → P) → DteIs (InData t k x) b ma ia mb ib u v → P
-    dte_some P (Calling q) ma ia mb ib u v so h = (let some = Accepted-some q t k (λ w. R t k x w [] k t y₀) u h.0 in so some.0 [] k t y₀ some.1)
-    dte_some P (InData t₂ k₂ y) ma ia mb ib u v so h = so u v t₂ k₂ y h.0
+    pub dte_some : (P : Type 0) (b : Stage B) (ma ia mb ib : List CallRequest) (u v : List Packet) → ((w z : List Packet) (t₂ k₂ : Terms) (y : B) → R t k x w z t₂ k₂ y → P) → DteIs (Talking t k x) b ma ia mb ib u v → P
+    dte_some P (Waiting q) ma ia mb ib u v so h = (let some = Accepted-some q t k (λ w. R t k x w [] k t y₀) u h.0 in so some.0 [] k t y₀ some.1)
+    dte_some P (Talking t₂ k₂ y) ma ia mb ib u v so h = so u v t₂ k₂ y h.0
     dte_some P other ma ia mb ib u v so h = absurd h
 
 -- ---- it is the DCE
@@ -224,10 +217,10 @@ module _ {A S : Type 0} (R : TalksOf A S) (x₀ : A) (s₀ : S) where
   dce_still a b ma ia mb ib u v h = subst (λ (w : List Packet). DceIs a b ma ia mb ib u w) (sym (append-nil v)) h
 
   dce_answered : (q : Params) (field : List ℕ) (ma ia mb ib : List CallRequest) (u v : List Packet) (t b : Terms) (x : A) → IsAnswer q field t b → Nil v
-      → R t b x u [] b t s₀ → ia ≡ mb → ib ≡ [] → (let p = said_in q field in DceIs (InData t b x) (InData (calling_terms p) (called_terms p) s₀) ma ia mb ib u (v ++ []))
+      → R t b x u [] b t s₀ → ia ≡ mb → ib ≡ [] → (let p = said_in q field in DceIs (Talking t b x) (Talking (calling_terms p) (called_terms p) s₀) ma ia mb ib u (v ++ []))
   dce_answered q field ma ia mb ib u v t b x answer none talk there indicated =
       let p : Params = said_in q field in
-      dce_still (InData t b x) (InData (calling_terms p) (called_terms p) s₀) ma ia mb ib u v (
+      dce_still (Talking t b x) (Talking (calling_terms p) (called_terms p) s₀) ma ia mb ib u v (
         subst (λ (s : Terms). R t b x u v s (called_terms p) s₀) answer.calling (subst (λ (s : Terms). R t b x u v b s s₀) answer.called
             (subst (λ (w : List Packet). R t b x u w b t s₀) (sym (nil_is v none)) talk)),
         inr (there, indicated),
@@ -237,45 +230,45 @@ module _ {A S : Type 0} (R : TalksOf A S) (x₀ : A) (s₀ : S) where
       (takes : (t b : Terms) (x : A) (u : List Packet) (p : Packet) (v : List Packet) (t₂ b₂ : Terms) (y : S) → R t b x (p ∷ u) v t₂ b₂ y → Fine t₂ b₂ y p × R t b x u (v ++ out t₂ b₂ y p) t₂ b₂ (next t₂ b₂ y p)) where
     pub dce_taken : (a : Stage A) (b : Stage S) (ma ia mb ib : List CallRequest) (u : List Packet) (p : Packet) (v : List Packet) → DceIs a b ma ia mb ib (p ∷ u) v
         → (let s = taken s₀ next out Dce b mb ib p in MayCome Fine b p × DceIs a s.stage ma ia s.made s.indicated u (v ++ s.out))
-    dce_taken (Calling mine) Free ma ia mb ib u (Call n) v h = (
+    dce_taken (Waiting mine) Unused ma ia mb ib u (Call n) v h = (
       tt,
-      dce_still (Calling mine) (Called n.params) ma ia mb (ib ++ n ∷ []) u v
+      dce_still (Waiting mine) (Offered n.params) ma ia mb (ib ++ n ∷ []) u v
           (h.0.1, subst (λ (w : List Packet). MaybeCall mb w) (sym (nil_is v h.1)) h.3, h.2, push_first ib n ma h.4 h.0.0, said ma n mine h.0.0 h.5),
     )
-    dce_taken (Calling mine) Free ma ia mb ib u other v h = absurd h.0
-    dce_taken (Calling mine) (Calling q) ma ia mb ib u (Call n) v h =
-        (tt, dce_still (Calling mine) (Called n.params) ma ia mb (ib ++ n ∷ []) u v (h.0.1, maybe_call mb v h.1, h.2, push_first ib n ma h.3 h.0.0, said ma n mine h.0.0 h.4))
-    dce_taken (Calling mine) (Calling q) ma ia mb ib u other v h = absurd h.0
-    dce_taken (Collided mine) (Calling q) ma ia mb ib u (Call n) v h =
-        (tt, dce_still (Collided mine) (Called n.params) ma ia mb (ib ++ n ∷ []) u v (h.0.1, h.1, h.2, push_first ib n ma h.3 h.0.0, said ma n mine h.0.0 h.4))
-    dce_taken (Collided mine) (Calling q) ma ia mb ib u other v h = absurd h.0
-    dce_taken (InData t b x) (Calling q) ma ia mb ib u (Accept field) v h = (h.0.0.allowed, dce_answered q field ma ia mb ib u v t b x h.0.0 h.1 h.0.1 h.2 h.3)
-    dce_taken (InData t b x) (Calling q) ma ia mb ib u other v h = absurd h.0
-    dce_taken (InData t b x) (InData t₂ b₂ y) ma ia mb ib u p v h = (let k = takes t b x u p v t₂ b₂ y h.0 in (k.0, (k.1, h.1)))
-    dce_taken Free Free ma ia mb ib u p v h = absurd h.0
-    dce_taken Free (Calling q) ma ia mb ib u p v h = absurd h.0
-    dce_taken Free other ma ia mb ib u p v h = absurd h
-    dce_taken (Calling mine) (Called q) ma ia mb ib u p v h = absurd h.0
-    dce_taken (Calling mine) (Collided q) ma ia mb ib u p v h = absurd h
-    dce_taken (Calling mine) (InData t b y) ma ia mb ib u p v h = absurd h.0
-    dce_taken (Called theirs) (Calling q) ma ia mb ib u p v h = absurd h.0
-    dce_taken (Called theirs) other ma ia mb ib u p v h = absurd h
-    dce_taken (Collided mine) Free ma ia mb ib u p v h = absurd h
-    dce_taken (Collided mine) (Called q) ma ia mb ib u p v h = absurd h.0
-    dce_taken (Collided mine) (Collided q) ma ia mb ib u p v h = absurd h
-    dce_taken (Collided mine) (InData t b y) ma ia mb ib u p v h = absurd h.0
-    dce_taken (InData t b x) other ma ia mb ib u p v h = absurd h
+    dce_taken (Waiting mine) Unused ma ia mb ib u other v h = absurd h.0
+    dce_taken (Waiting mine) (Waiting q) ma ia mb ib u (Call n) v h =
+        (tt, dce_still (Waiting mine) (Offered n.params) ma ia mb (ib ++ n ∷ []) u v (h.0.1, maybe_call mb v h.1, h.2, push_first ib n ma h.3 h.0.0, said ma n mine h.0.0 h.4))
+    dce_taken (Waiting mine) (Waiting q) ma ia mb ib u other v h = absurd h.0
+    dce_taken (Crossed mine) (Waiting q) ma ia mb ib u (Call n) v h =
+        (tt, dce_still (Crossed mine) (Offered n.params) ma ia mb (ib ++ n ∷ []) u v (h.0.1, h.1, h.2, push_first ib n ma h.3 h.0.0, said ma n mine h.0.0 h.4))
+    dce_taken (Crossed mine) (Waiting q) ma ia mb ib u other v h = absurd h.0
+    dce_taken (Talking t b x) (Waiting q) ma ia mb ib u (Accept field) v h = (h.0.0.allowed, dce_answered q field ma ia mb ib u v t b x h.0.0 h.1 h.0.1 h.2 h.3)
+    dce_taken (Talking t b x) (Waiting q) ma ia mb ib u other v h = absurd h.0
+    dce_taken (Talking t b x) (Talking t₂ b₂ y) ma ia mb ib u p v h = (let k = takes t b x u p v t₂ b₂ y h.0 in (k.0, (k.1, h.1)))
+    dce_taken Unused Unused ma ia mb ib u p v h = absurd h.0
+    dce_taken Unused (Waiting q) ma ia mb ib u p v h = absurd h.0
+    dce_taken Unused other ma ia mb ib u p v h = absurd h
+    dce_taken (Waiting mine) (Offered q) ma ia mb ib u p v h = absurd h.0
+    dce_taken (Waiting mine) (Crossed q) ma ia mb ib u p v h = absurd h
+    dce_taken (Waiting mine) (Talking t b y) ma ia mb ib u p v h = absurd h.0
+    dce_taken (Offered theirs) (Waiting q) ma ia mb ib u p v h = absurd h.0
+    dce_taken (Offered theirs) other ma ia mb ib u p v h = absurd h
+    dce_taken (Crossed mine) Unused ma ia mb ib u p v h = absurd h
+    dce_taken (Crossed mine) (Offered q) ma ia mb ib u p v h = absurd h.0
+    dce_taken (Crossed mine) (Crossed q) ma ia mb ib u p v h = absurd h
+    dce_taken (Crossed mine) (Talking t b y) ma ia mb ib u p v h = absurd h.0
+    dce_taken (Talking t b x) other ma ia mb ib u p v h = absurd h
 
   -- it calls
-  pub dce_calls : (a : Stage A) (n : CallRequest) (ma ia mb ib : List CallRequest) (u v : List Packet) → may_propose n.params ≡ true → DceIs a Free ma ia mb ib u v → DceIs a (Calling n.params) ma ia (mb ++ n ∷ []) ib u (v ++ Call n ∷ [])
-  dce_calls Free n ma ia mb ib u v may h = (h.0, call_first mb n v h.1 h.4, h.2, h.3, h.5, proposes mb n h.4 may)
-  dce_calls (Calling p) n ma ia mb ib u v may h = (h.0, call_first mb n v h.1 h.3, h.2, h.4, h.5)
+  pub dce_calls : (a : Stage A) (n : CallRequest) (ma ia mb ib : List CallRequest) (u v : List Packet) → may_propose n.params ≡ true → DceIs a Unused ma ia mb ib u v → DceIs a (Waiting n.params) ma ia (mb ++ n ∷ []) ib u (v ++ Call n ∷ [])
+  dce_calls Unused n ma ia mb ib u v may h = (h.0, call_first mb n v h.1 h.4, h.2, h.3, h.5, proposes mb n h.4 may)
+  dce_calls (Waiting p) n ma ia mb ib u v may h = (h.0, call_first mb n v h.1 h.3, h.2, h.4, h.5)
   dce_calls other n ma ia mb ib u v may h = absurd h
 
   -- it accepts, with an answer to what is proposed
   pub dce_answers : (a : Stage A) (theirs q : Params) (field : List ℕ) (ma ia mb ib : List CallRequest) (u v : List Packet) → ((mine : Params) → IsProposal mine theirs → Agreed mine q field)
-      → ((t k : Terms) → IsSound t → IsSound k → R t k x₀ [] [] k t s₀) → DceIs a (Called theirs) ma ia mb ib u v → DceIs a (InData (called_terms q) (calling_terms q) s₀) ma ia mb ib u (v ++ Accept field ∷ [])
-  dce_answers (Calling mine) theirs q field ma ia mb ib u v agrees fresh h =
+      → ((t k : Terms) → IsSound t → IsSound k → R t k x₀ [] [] k t s₀) → DceIs a (Offered theirs) ma ia mb ib u v → DceIs a (Talking (called_terms q) (calling_terms q) s₀) ma ia mb ib u (v ++ Accept field ∷ [])
+  dce_answers (Waiting mine) theirs q field ma ia mb ib u v agrees fresh h =
       let may = agrees mine h.4 in (
         h.0,
         accept_behind mb mine (called_terms q) (calling_terms q) (λ w. R (calling_terms q) (called_terms q) x₀ [] w (called_terms q) (calling_terms q) s₀) field v h.1 may.fits
@@ -283,7 +276,7 @@ module _ {A S : Type 0} (R : TalksOf A S) (x₀ : A) (s₀ : S) where
         h.2,
         h.3,
       )
-  dce_answers (Collided mine) theirs q field ma ia mb ib u v agrees fresh h =
+  dce_answers (Crossed mine) theirs q field ma ia mb ib u v agrees fresh h =
       let may = agrees mine h.4 in (
         h.0,
         accept_first mine (called_terms q) (calling_terms q) (λ w. R (calling_terms q) (called_terms q) x₀ [] w (called_terms q) (calling_terms q) s₀) field v h.1 may.fits
@@ -296,19 +289,19 @@ module _ {A S : Type 0} (R : TalksOf A S) (x₀ : A) (s₀ : S) where
   -- it goes on in p4, and puts these packets
   module _ (t k : Terms) (y : S) where
     pub dce_moves : (a : Stage A) (y₂ : S) (o : List Packet) (ma ia mb ib : List CallRequest) (u v : List Packet) → ((w z : List Packet) (t₁ k₁ : Terms) (x : A) → R t₁ k₁ x w z t k y → R t₁ k₁ x w (z ++ o) t k y₂)
-        → DceIs a (InData t k y) ma ia mb ib u v → DceIs a (InData t k y₂) ma ia mb ib u (v ++ o)
-    dce_moves (Calling p) y₂ o ma ia mb ib u v goes h =
+        → DceIs a (Talking t k y) ma ia mb ib u v → DceIs a (Talking t k y₂) ma ia mb ib u (v ++ o)
+    dce_moves (Waiting p) y₂ o ma ia mb ib u v goes h =
         (h.0, CallAccepted-map p t k (λ w. R k t x₀ [] w t k y) (λ w. R k t x₀ [] w t k y₂) o (λ w r. goes [] w k t x₀ r) mb v h.1, h.2, h.3)
-    dce_moves (Collided p) y₂ o ma ia mb ib u v goes h =
+    dce_moves (Crossed p) y₂ o ma ia mb ib u v goes h =
         (h.0, Accepted-map p t k (λ w. R k t x₀ [] w t k y) (λ w. R k t x₀ [] w t k y₂) o (λ w r. goes [] w k t x₀ r) v h.1, h.2, h.3)
-    dce_moves (InData t₁ k₁ x) y₂ o ma ia mb ib u v goes h = (goes u v t₁ k₁ x h.0, h.1)
+    dce_moves (Talking t₁ k₁ x) y₂ o ma ia mb ib u v goes h = (goes u v t₁ k₁ x h.0, h.1)
     dce_moves other y₂ o ma ia mb ib u v goes h = absurd h
 
     -- where that says so
-    pub dce_some : (P : Type 0) (a : Stage A) (ma ia mb ib : List CallRequest) (u v : List Packet) → ((w z : List Packet) (t₁ k₁ : Terms) (x : A) → R t₁ k₁ x w z t k y → P) → DceIs a (InData t k y) ma ia mb ib u v → P
-    dce_some P (Calling p) ma ia mb ib u v so h = (let some = CallAccepted-some p t k (λ w. R k t x₀ [] w t k y) mb v h.1 in so [] some.0 k t x₀ some.1)
-    dce_some P (Collided p) ma ia mb ib u v so h = (let some = Accepted-some p t k (λ w. R k t x₀ [] w t k y) v h.1 in so [] some.0 k t x₀ some.1)
-    dce_some P (InData t₁ k₁ x) ma ia mb ib u v so h = so u v t₁ k₁ x h.0
+    pub dce_some : (P : Type 0) (a : Stage A) (ma ia mb ib : List CallRequest) (u v : List Packet) → ((w z : List Packet) (t₁ k₁ : Terms) (x : A) → R t₁ k₁ x w z t k y → P) → DceIs a (Talking t k y) ma ia mb ib u v → P
+    dce_some P (Waiting p) ma ia mb ib u v so h = (let some = CallAccepted-some p t k (λ w. R k t x₀ [] w t k y) mb v h.1 in so [] some.0 k t x₀ some.1)
+    dce_some P (Crossed p) ma ia mb ib u v so h = (let some = Accepted-some p t k (λ w. R k t x₀ [] w t k y) v h.1 in so [] some.0 k t x₀ some.1)
+    dce_some P (Talking t₁ k₁ x) ma ia mb ib u v so h = so u v t₁ k₁ x h.0
     dce_some P other ma ia mb ib u v so h = absurd h
 
 -- ---- our own end, of either role
@@ -323,15 +316,15 @@ abbrev OwnFine : Terms → Terms → At Stretch → Packet → Type 0
 OwnFine t b x p = (transfer_takes b.size x p).error ≡ None
 
 -- a step that is no error, and leads to this
-abbrev IsGood : (Stage (At Stretch) → List CallRequest → List CallRequest → List Packet → Type 0) → CallStep → Type 0
-IsGood K s = (s.error ≡ None) × K (stage_of s.next.phase) s.next.made s.next.indicated s.out
+abbrev IsGood : (Stage (At Stretch) → List CallRequest → List CallRequest → List Packet → Type 0) → Step Connection Packet → Type 0
+IsGood K s = (s.error ≡ None) × K s.next.phase s.next.made s.next.indicated s.out
 
 module _ (K : Stage (At Stretch) → List CallRequest → List CallRequest → List Packet → Type 0) (m i : List CallRequest) where
-  own_answered : (a : Phase) (mine : Params) (field : List ℕ) → may_answer mine (said_in mine field) ≡ true → (let q = said_in mine field in K (InData (calling_terms q) (called_terms q) fresh_transfer) m i [])
+  own_answered : (a : Phase) (mine : Params) (field : List ℕ) → may_answer mine (said_in mine field) ≡ true → (let q = said_in mine field in K (Talking (calling_terms q) (called_terms q) fresh_transfer) m i [])
       → IsGood K (is_answered a mine m i (said_in mine field))
   own_answered a mine field may k = (let q = said_in mine field in subst (λ (c : Bool). IsGood K (if c then goes (calling_talk q) m i [] else unexpected a m i)) (sym may) (refl, k))
 
-  own_taken : (r : Role) (a : Phase) (p : Packet) → MayCome OwnFine (stage_of a) p → (let s = taken fresh_transfer own_next own_out r (stage_of a) m i p in K s.stage s.made s.indicated s.out) → IsGood K (phase_takes r a m i p)
+  own_taken : (r : Role) (a : Phase) (p : Packet) → MayCome OwnFine a p → (let s = taken fresh_transfer own_next own_out r a m i p in K s.stage s.made s.indicated s.out) → IsGood K (phase_takes r a m i p)
   own_taken r Unused (Call n) may k = (refl, k)
   own_taken r Unused other may k = absurd may
   own_taken Dte (Waiting mine) (Call n) may k = (refl, k)
@@ -344,9 +337,9 @@ module _ (K : Stage (At Stretch) → List CallRequest → List CallRequest → L
   own_taken r (Talking t b x) p may k = (may, k)
 
   -- where it may stay, call, accept and go on so
-  own_done : Laws → (a : Phase) (act : CallAct) → K (stage_of a) m i [] → (stage_of a ≡ Free → (n : CallRequest) → may_propose n.params ≡ true → K (Calling n.params) (m ++ n ∷ []) i (Call n ∷ []))
-      → ((theirs : Params) → stage_of a ≡ Called theirs → (q : Params) (field : List ℕ) → ((mine : Params) → IsProposal mine theirs → Agreed mine q field) → K (InData (called_terms q) (calling_terms q) fresh_transfer) m i (Accept field ∷ []))
-      → ((t b : Terms) (x : At Stretch) → stage_of a ≡ InData t b x → (act : TransferAct) → (let s = transfer_acts t x act in (s.error ≡ None) × K (InData t b s.next) m i s.out)) → IsGood K (phase_acts a m i act)
+  own_done : Laws → (a : Phase) (act : CallAct) → K a m i [] → (a ≡ Unused → (n : CallRequest) → may_propose n.params ≡ true → K (Waiting n.params) (m ++ n ∷ []) i (Call n ∷ []))
+      → ((theirs : Params) → a ≡ Offered theirs → (q : Params) (field : List ℕ) → ((mine : Params) → IsProposal mine theirs → Agreed mine q field) → K (Talking (called_terms q) (calling_terms q) fresh_transfer) m i (Accept field ∷ []))
+      → ((t b : Terms) (x : At Stretch) → a ≡ Talking t b x → (act : TransferAct) → (let s = transfer_acts t x act in (s.error ≡ None) × K (Talking t b s.next) m i s.out)) → IsGood K (phase_acts a m i act)
   own_done laws Unused (PlacesCall n) stays calls answers moves =
       cond_both (may_propose n.params) (goes (Waiting n.params) (m ++ n ∷ []) i (Call n ∷ [])) (goes Unused m i []) (IsGood K) (λ may. (refl, calls refl n may)) (λ _. (refl, stays))
   own_done laws Unused act stays calls answers moves = (refl, stays)
@@ -361,7 +354,7 @@ module _ (K : Stage (At Stretch) → List CallRequest → List CallRequest → L
   own_done laws (Talking t b x) act stays calls answers moves = (refl, stays)
 
 -- a step in p4 that is no error, and keeps what is kept there
-pub record OwnTalk {B : Type 0} (R : TalksOf (At Stretch) B) (t b : Terms) (s : TransferStep) (u v : List Packet) (t₂ b₂ : Terms) (y : B) : Type 0 where
+pub record OwnTalk {B : Type 0} (R : TalksOf (At Stretch) B) (t b : Terms) (s : Step (At Stretch) Packet) (u v : List Packet) (t₂ b₂ : Terms) (y : B) : Type 0 where
   pub quiet : s.error ≡ None
   pub kept : R t b s.next (u ++ s.out) v t₂ b₂ y
 
@@ -380,24 +373,24 @@ module _ {B : Type 0} (R : TalksOf (At Stretch) B) (y₀ : B) (talks : DteTalks 
   abbrev OwnDteNow : List Packet → Stage (At Stretch) → Type 0
   OwnDteNow v a = JointOf R fresh_transfer y₀ a b x.made x.indicated mb ib u v
 
-  pub dte_takes : (p : Packet) (v : List Packet) → OwnDteNow (p ∷ v) (stage_of x.phase) → IsGood (OwnDte v) (call_takes Dte x p)
+  pub dte_takes : (p : Packet) (v : List Packet) → OwnDteNow (p ∷ v) x.phase → IsGood (OwnDte v) (call_takes Dte x p)
   dte_takes p v h =
-      let g = dte_taken R fresh_transfer y₀ own_next own_out OwnFine (λ t k s w q z t₂ k₂ y r. (let good = talks.takes t k s w q z t₂ k₂ y r in (good.quiet, good.kept))) (stage_of x.phase) b x.made x.indicated mb ib u p v h in
+      let g = dte_taken R fresh_transfer y₀ own_next own_out OwnFine (λ t k s w q z t₂ k₂ y r. (let good = talks.takes t k s w q z t₂ k₂ y r in (good.quiet, good.kept))) x.phase b x.made x.indicated mb ib u p v h in
       own_taken (OwnDte v) x.made x.indicated Dte x.phase p g.0 g.1
 
-  pub dte_acts : Laws → (v : List Packet) (act : CallAct) → OwnDteNow v (stage_of x.phase) → IsGood (OwnDte v) (call_acts x act)
+  pub dte_acts : Laws → (v : List Packet) (act : CallAct) → OwnDteNow v x.phase → IsGood (OwnDte v) (call_acts x act)
   dte_acts laws v act h =
-      own_done (OwnDte v) x.made x.indicated laws x.phase act (dte_still R fresh_transfer y₀ (stage_of x.phase) b x.made x.indicated mb ib u v h)
+      own_done (OwnDte v) x.made x.indicated laws x.phase act (dte_still R fresh_transfer y₀ x.phase b x.made x.indicated mb ib u v h)
       (λ is n may. dte_calls R fresh_transfer y₀ b n x.made x.indicated mb ib u v may (subst (OwnDteNow v) is h))
       (λ theirs is q field agrees. dte_answers R fresh_transfer y₀ b theirs q field x.made x.indicated mb ib u v agrees talks.fresh (subst (OwnDteNow v) is h))
       (λ t k s is act. (
-      let now : OwnDteNow v (InData t k s) = subst (OwnDteNow v) is h in
+      let now : OwnDteNow v (Talking t k s) = subst (OwnDteNow v) is h in
       let does = transfer_acts t s act in (
         dte_some R fresh_transfer y₀ t k s (does.error ≡ None) b x.made x.indicated mb ib u v (λ w z t₂ k₂ y r. (talks.acts t k s w z t₂ k₂ y act r).quiet) now,
         dte_moves R fresh_transfer y₀ t k s b does.next does.out x.made x.indicated mb ib u v (λ w z t₂ k₂ y r. (talks.acts t k s w z t₂ k₂ y act r).kept) now,
       )))
 
-pub record OwnTalkBack {A : Type 0} (R : TalksOf A (At Stretch)) (t b : Terms) (x : A) (u v : List Packet) (t₂ b₂ : Terms) (s : TransferStep) : Type 0 where
+pub record OwnTalkBack {A : Type 0} (R : TalksOf A (At Stretch)) (t b : Terms) (x : A) (u v : List Packet) (t₂ b₂ : Terms) (s : Step (At Stretch) Packet) : Type 0 where
   pub quiet : s.error ≡ None
   pub kept : R t b x u (v ++ s.out) t₂ b₂ s.next
 
@@ -415,18 +408,18 @@ module _ {A : Type 0} (R : TalksOf A (At Stretch)) (x₀ : A) (talks : DceTalks 
   abbrev OwnDceNow : List Packet → Stage (At Stretch) → Type 0
   OwnDceNow u b = JointOf R x₀ fresh_transfer a b ma ia y.made y.indicated u v
 
-  pub dce_takes : (p : Packet) (u : List Packet) → OwnDceNow (p ∷ u) (stage_of y.phase) → IsGood (OwnDce u) (call_takes Dce y p)
+  pub dce_takes : (p : Packet) (u : List Packet) → OwnDceNow (p ∷ u) y.phase → IsGood (OwnDce u) (call_takes Dce y p)
   dce_takes p u h =
-      let g = dce_taken R x₀ fresh_transfer own_next own_out OwnFine (λ t k s w q z t₂ k₂ e r. (let good = talks.takes t k s w q z t₂ k₂ e r in (good.quiet, good.kept))) a (stage_of y.phase) ma ia y.made y.indicated u p v h in
+      let g = dce_taken R x₀ fresh_transfer own_next own_out OwnFine (λ t k s w q z t₂ k₂ e r. (let good = talks.takes t k s w q z t₂ k₂ e r in (good.quiet, good.kept))) a y.phase ma ia y.made y.indicated u p v h in
       own_taken (OwnDce u) y.made y.indicated Dce y.phase p g.0 g.1
 
-  pub dce_acts : Laws → (u : List Packet) (act : CallAct) → OwnDceNow u (stage_of y.phase) → IsGood (OwnDce u) (call_acts y act)
+  pub dce_acts : Laws → (u : List Packet) (act : CallAct) → OwnDceNow u y.phase → IsGood (OwnDce u) (call_acts y act)
   dce_acts laws u act h =
-      own_done (OwnDce u) y.made y.indicated laws y.phase act (dce_still R x₀ fresh_transfer a (stage_of y.phase) ma ia y.made y.indicated u v h)
+      own_done (OwnDce u) y.made y.indicated laws y.phase act (dce_still R x₀ fresh_transfer a y.phase ma ia y.made y.indicated u v h)
       (λ is n may. dce_calls R x₀ fresh_transfer a n ma ia y.made y.indicated u v may (subst (OwnDceNow u) is h))
       (λ theirs is q field agrees. dce_answers R x₀ fresh_transfer a theirs q field ma ia y.made y.indicated u v agrees talks.fresh (subst (OwnDceNow u) is h))
       (λ t k s is act. (
-      let now : OwnDceNow u (InData t k s) = subst (OwnDceNow u) is h in
+      let now : OwnDceNow u (Talking t k s) = subst (OwnDceNow u) is h in
       let does = transfer_acts t s act in (
         dce_some R x₀ fresh_transfer t k s (does.error ≡ None) a ma ia y.made y.indicated u v (λ w z t₁ k₁ e r. (talks.acts t₁ k₁ e w z t k s act r).quiet) now,
         dce_moves R x₀ fresh_transfer t k s a does.next does.out ma ia y.made y.indicated u v (λ w z t₁ k₁ e r. (talks.acts t₁ k₁ e w z t k s act r).kept) now,

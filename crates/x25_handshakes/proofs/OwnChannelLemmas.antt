@@ -1,40 +1,36 @@
 -- What our own circuit does between two restarts keeps what is kept of it and the other end, whatever kind of end that is.
 use Rattle.std.proofs.Common.{◌≡◌, ℕ, List, [], ◌∷◌, ◌++◌, Option, None, refl, sym, subst, ◌∙◌}
-use Rattle.x25_handshakes.specs.laws.Handshake.{Inner, Side, Live, Left, At}
+use Rattle.x25_handshakes.specs.{laws.Handshake.{Inner, Side, Live, Left, At, Step, live, left}, laws.Stretch.{Packet, Clear, ClearConf}}
+use Rattle.x25_handshakes.specs.laws.Calls.{Phase, Unused, Connection, call_takes, CallAct, call_acts, fresh_call}
+use Rattle.x25_handshakes.specs.laws.Channel.{lifted_call, in_p1, channel_side_takes, channel_takes, ChannelAct, Within, SendsClear, clears, channel_side_acts, channel_acts}
 use Rattle.x25_bits.specs.declared.role.Role.{Role}
-use Rattle.x25_handshakes.specs.laws.Stretch.{Packet, Clear, ClearConf}
-use Rattle.x25_handshakes.specs.laws.Calls.{Phase, Unused, Connection, CallStep, call_takes, CallAct, call_acts, fresh_call}
-use Rattle.x25_handshakes.specs.laws.Channel.{ChannelStep, live, clr, lifted_call, in_p1, channel_side_takes, channel_takes, ChannelAct, Within, SendsClear, clears, channel_side_acts, channel_acts}
 use Rattle.x25_handshakes.proofs.HandshakeRelation.{Level, Handshaken, GoodStep}
-use Rattle.x25_handshakes.proofs.HandshakeSteps.{Any, Goes, Inside, Answers, acts_inside, leaves, stays, answered}
-use Rattle.x25_handshakes.proofs.CallsRelation.{GoodCall, IsCalled}
-use Rattle.x25_handshakes.proofs.JointLemmas.{Quiet}
-use Rattle.x25_handshakes.proofs.ChannelRelation.{clear_mark, own_call_level}
-use Rattle.x25_handshakes.proofs.HandshakeLemmas.{each_back}
+use Rattle.x25_handshakes.proofs.{HandshakeSteps.{Any, Goes, Inside, Answers, acts_inside, leaves, stays, answered}, CallsRelation.{GoodCall, IsCalled}}
+use Rattle.x25_handshakes.proofs.{JointLemmas.{Quiet}, ChannelRelation.{clear_mark, own_call_level}, HandshakeLemmas.{each_back}}
 
 pub not_p1 : (a : Phase) → (a ≡ Unused → ⊥) → in_p1 a ≡ None
 not_p1 Unused h = absurd (h refl)
 not_p1 other h = refl
 
 -- what has to be known of a call; `finds` says what of an error is counted as a packet is taken
-pub record OwnCalls {T : Type 0} (left : Connection → Type 0) (left_there : T → Type 0) (R : Connection → List Packet → List Packet → T → Type 0) (y₀ : T) (r : Role) (finds : Packet → Option ℕ → Option ℕ) : Type 0 where
+pub record OwnCalls {T : Type 0} (gone : Connection → Type 0) (gone_there : T → Type 0) (R : Connection → List Packet → List Packet → T → Type 0) (y₀ : T) (r : Role) (finds : Packet → Option ℕ → Option ℕ) : Type 0 where
   pub empty : R fresh_call [] [] y₀
   pub quiet : (x : Connection) (u v : List Packet) (y : T) → R x u v y → Quiet u × Quiet v
   pub acts : (x : Connection) (u v : List Packet) (y : T) (a : CallAct) → R x u v y → GoodCall R (call_acts x a) u v y
   pub takes : (x : Connection) (u : List Packet) (p : Packet) (v : List Packet) (y : T) → R x u (p ∷ v) y → GoodCall R (call_takes r x p) u v y
-  pub called : (x : Connection) → IsCalled x → left x
+  pub called : (x : Connection) → IsCalled x → gone x
   pub none : (p : Packet) → finds p None ≡ None
-  pub clear : (x : Connection) (u : List Packet) (y : T) → left_there y → R x u [] y → finds Clear (in_p1 x.phase) ≡ None
+  pub clear : (x : Connection) (u : List Packet) (y : T) → gone_there y → R x u [] y → finds Clear (in_p1 x.phase) ≡ None
 
-module _ {T : Type 0} (left : Connection → Type 0) (left_there : T → Type 0) (R : Connection → List Packet → List Packet → T → Type 0) (y₀ : T) (r : Role) (finds : Packet → Option ℕ → Option ℕ) (own : OwnCalls left left_there R y₀ r finds) where
+module _ {T : Type 0} (gone : Connection → Type 0) (gone_there : T → Type 0) (R : Connection → List Packet → List Packet → T → Type 0) (y₀ : T) (r : Role) (finds : Packet → Option ℕ → Option ℕ) (own : OwnCalls gone gone_there R y₀ r finds) where
   abbrev level : Level Connection T Packet
-  level = own_call_level left left_there R y₀
+  level = own_call_level gone gone_there R y₀
 
-  abbrev Good : Option ℕ → ChannelStep → List Packet → List Packet → At T → Type 0
+  abbrev Good : Option ℕ → Step (At Connection) Packet → List Packet → List Packet → At T → Type 0
   Good e s L K y = GoodStep level e s.next s.out L K y
 
   -- a step in a call that is no error, with these packets taken, one or none
-  inside : (f : Option ℕ → Option ℕ) → f None ≡ None → (e : ℕ) (x : Connection) (s : CallStep) (taken : List Packet) → ((u v : List Packet) (y : T) → R x u (taken ++ v) y → GoodCall R s u v y)
+  inside : (f : Option ℕ → Option ℕ) → f None ≡ None → (e : ℕ) (x : Connection) (s : Step Connection Packet) (taken : List Packet) → ((u v : List Packet) (y : T) → R x u (taken ++ v) y → GoodCall R s u v y)
       → (let k = lifted_call e s s.error in Inside level Any e x taken k.next k.out (f k.error))
   inside f none e x s taken good = record { after = s.next; goes = λ u v y h. at u v y (good u v y h) }
     where
@@ -52,7 +48,7 @@ module _ {T : Type 0} (left : Connection → Type 0) (left_there : T → Type 0)
 
   pub channel_takes_good : (x : At Connection) (L : List Packet) (p : Packet) (K : List Packet) (y : At T) → Handshaken level x L (p ∷ K) y → Good (finds p (channel_takes r x p).error) (channel_takes r x p) L K y
   channel_takes_good x L p K y h =
-      let s : ChannelStep = channel_takes r x p in
+      let s : Step (At Connection) Packet = channel_takes r x p in
       (answered level Any tt own.empty x.epoch x.side p s.next s.out (finds p s.error) (answers x.epoch x.side p) L K y h).0
 
   own_clears : (e : ℕ) (x : Connection) (a : Phase) (L K : List Packet) (y : At T) → x.phase ≡ a → Handshaken level (live e x) L K y → Good (clears e x a).error (clears e x a) L K y
@@ -62,7 +58,7 @@ module _ {T : Type 0} (left : Connection → Type 0) (left_there : T → Type 0)
   own_side_acts : (e : ℕ) (x : Side Connection) (L K : List Packet) (y : At T) (a : ChannelAct) → Handshaken level (record { epoch = e; side = x }) L K y → Good (channel_side_acts e x a).error (channel_side_acts e x a) L K y
   own_side_acts e (Live x) L K y (Within a) h = (acts_inside level Any e x _ _ _ (inside (λ n. n) refl e x (call_acts x a) [] (λ u v y h. own.acts x u v y a h)) L K y h).0
   own_side_acts e (Live x) L K y SendsClear h = own_clears e x x.phase L K y refl h
-  own_side_acts e (Left x) L K y a h = stays level Any (clr e x) L K y h
+  own_side_acts e (Left x) L K y a h = stays level Any (left e x) L K y h
 
   pub channel_acts_good : (x : At Connection) (L K : List Packet) (y : At T) (a : ChannelAct) → Handshaken level x L K y → Good (channel_acts x a).error (channel_acts x a) L K y
   channel_acts_good x L K y a h = own_side_acts x.epoch x.side L K y a h

@@ -1,13 +1,10 @@
 -- What our own layer does keeps what is kept of it and the other end, whatever kind of end that is.
 use Rattle.std.proofs.Common.{◌≡◌, ℕ, List, [], ◌∷◌, ◌++◌, Option, None, Bool, true, false, if◌then◌else◌, refl, sym, ap, subst, ◌∙◌, ◌==◌, eq-eqb}
-use Rattle.std.proofs.lemmas.Bool.{eqb-true}
-use Rattle.std.proofs.lemmas.List.{append-nil}
-use Rattle.x25_handshakes.specs.laws.Handshake.{Side, Live, Left, At}
+use Rattle.std.proofs.{lemmas.Bool.{eqb-true}, lemmas.List.{append-nil}}
+use Rattle.x25_handshakes.specs.{laws.Handshake.{Side, Live, Left, At, Step, live, left}, laws.Stretch.{Packet}, laws.Calls.{Connection}}
+use Rattle.x25_handshakes.specs.laws.Channel.{fresh_channel, channel_takes, ChannelAct, channel_acts}
+use Rattle.x25_handshakes.specs.laws.Layers.{LayerPacket, On, Restart, RestartConf, Channels, put, addressed, layer_side_takes, layer_takes, LayerAct, OnChannel, SendsRestart, layer_side_acts, layer_acts}
 use Rattle.x25_bits.specs.declared.role.Role.{Role}
-use Rattle.x25_handshakes.specs.laws.Stretch.{Packet}
-use Rattle.x25_handshakes.specs.laws.Calls.{Connection}
-use Rattle.x25_handshakes.specs.laws.Channel.{ChannelStep, fresh_channel, channel_takes, ChannelAct, channel_acts}
-use Rattle.x25_handshakes.specs.laws.Layers.{LayerPacket, On, Restart, RestartConf, Channels, put, addressed, LayerStep, ready, restarting, layer_side_takes, layer_takes, LayerAct, OnChannel, SendsRestart, layer_side_acts, layer_acts}
 use Rattle.x25_handshakes.proofs.HandshakeRelation.{Level, Handshaken, GoodStep, AllInner}
 use Rattle.x25_handshakes.proofs.HandshakeSteps.{Any, Inside, Answers, acts_inside, leaves, stays, answered}
 use Rattle.x25_handshakes.proofs.LayersRelation.{kept_on, on, OnEach, restart_mark, own_channels_level}
@@ -68,13 +65,13 @@ module _ {Z : Type 0} (R : At Connection → List Packet → List Packet → Z �
   abbrev level : Level Channels (ℕ → Z) LayerPacket
   level = own_channels_level R y₀
 
-  abbrev Good : Option ℕ → LayerStep → List LayerPacket → List LayerPacket → At (ℕ → Z) → Type 0
+  abbrev Good : Option ℕ → Step (At Channels) LayerPacket → List LayerPacket → List LayerPacket → At (ℕ → Z) → Type 0
   Good e s L K y = GoodStep level e s.next s.out L K y
 
   -- a step of channel h that is no error, with these packets taken
-  inside : (e : ℕ) (x : Channels) (h : ℕ) (s : ChannelStep) (taken : List LayerPacket) (error : Option ℕ) → ((k : ℕ) (K : List LayerPacket) → (k == h) ≡ false → on k (taken ++ K) ≡ on k K)
+  inside : (e : ℕ) (x : Channels) (h : ℕ) (s : Step (At Connection) Packet) (taken : List LayerPacket) (error : Option ℕ) → ((k : ℕ) (K : List LayerPacket) → (k == h) ≡ false → on k (taken ++ K) ≡ on k K)
       → ((L K : List LayerPacket) (y : ℕ → Z) → OnEach R x L (taken ++ K) y → (error ≡ None) × R s.next (on h L ++ s.out) (on h K) (y h))
-      → Inside level Any e x taken (ready e (put x h s.next)) (addressed h s.out) error
+      → Inside level Any e x taken (live e (put x h s.next)) (addressed h s.out) error
   inside e x h s taken error others good = record {
     after = put x h s.next;
     goes = λ L K y all. record {
@@ -97,14 +94,14 @@ module _ {Z : Type 0} (R : At Connection → List Packet → List Packet → Z �
 
   pub layer_takes_good : (x : At Channels) (L : List LayerPacket) (p : LayerPacket) (K : List LayerPacket) (y : At (ℕ → Z)) → Handshaken level x L (p ∷ K) y → Good (finds p (layer_takes r x p).error) (layer_takes r x p) L K y
   layer_takes_good x L p K y h =
-      let s : LayerStep = layer_takes r x p in
+      let s : Step (At Channels) LayerPacket = layer_takes r x p in
       (answered level Any tt (record { each = own.empty }) x.epoch x.side p s.next s.out (finds p s.error) (answers x.epoch x.side p) L K y h).0
 
   own_side_acts : (e : ℕ) (x : Side Channels) (L K : List LayerPacket) (y : At (ℕ → Z)) (a : LayerAct) → Handshaken level (record { epoch = e; side = x }) L K y → Good (layer_side_acts e x a).error (layer_side_acts e x a) L K y
   own_side_acts e (Live x) L K y (OnChannel h a) k =
       (acts_inside level Any e x _ _ _ (inside e x h (channel_acts (x h) a) [] _ (λ k K not. refl) (λ L K y all. own.acts (x h) (on h L) (on h K) (y h) a (all.each h))) L K y k).0
   own_side_acts e (Live x) L K y SendsRestart k = leaves level Any Restart refl e x tt L K y k
-  own_side_acts e (Left x) L K y a k = stays level Any (restarting e x) L K y k
+  own_side_acts e (Left x) L K y a k = stays level Any (left e x) L K y k
 
   pub layer_acts_good : (x : At Channels) (L K : List LayerPacket) (y : At (ℕ → Z)) (a : LayerAct) → Handshaken level x L K y → Good (layer_acts x a).error (layer_acts x a) L K y
   layer_acts_good x L K y a h = own_side_acts x.epoch x.side L K y a h

@@ -1,15 +1,14 @@
 -- What our own circuit does in p4 keeps what is kept of it and the other end, and is no procedure error, whatever kind of end the other is.
 use Rattle.std.proofs.Common.{◌≡◌, ℕ, List, [], ◌∷◌, ◌++◌, Option, refl, sym, subst}
-use Rattle.x25_handshakes.specs.laws.Handshake.{Inner, Side, Live, Left, At}
+use Rattle.x25_handshakes.specs.laws.Handshake.{Inner, Side, Live, Left, At, Step, left}
+use Rattle.x25_handshakes.specs.laws.Stretch.{Packet, Data, Rr, Rnr, Int, IntConf, Reset, ResetConf, Call, Accept, Clear, ClearConf, Stretch, fresh, StretchAct, stretch_acts, stretch_takes}
+use Rattle.x25_handshakes.specs.laws.Transfer.{lifted, transfer_side_takes, transfer_takes, TransferAct, Inside, SendsReset, transfer_side_acts, transfer_acts}
 use Rattle.x25_circuit.specs.Params.{Terms}
-use Rattle.x25_handshakes.specs.laws.Stretch.{Packet, Data, Rr, Rnr, Int, IntConf, Reset, ResetConf, Call, Accept, Clear, ClearConf, Stretch, fresh, StretchStep, StretchAct, stretch_acts, stretch_takes}
-use Rattle.x25_handshakes.specs.laws.Transfer.{rst, lifted, TransferStep, transfer_side_takes, transfer_takes, TransferAct, Inside, SendsReset, transfer_side_acts, transfer_acts}
-use Rattle.x25_handshakes.proofs.HandshakeRelation.{Level, Handshaken, GoodStep}
-use Rattle.x25_handshakes.proofs.HandshakeSteps as hand
-use Rattle.x25_handshakes.proofs.HandshakeSteps.{Goes, Answers, acts_inside, leaves, stays, answered}
+use Rattle.x25_handshakes.proofs.{HandshakeRelation.{Level, Handshaken, GoodStep}, HandshakeSteps.{Goes, Answers, acts_inside, leaves, stays, answered}}
 use Rattle.x25_handshakes.proofs.StretchRelation.{InFlowControl, AllInFlowControl, GoodStretch}
 use Rattle.x25_handshakes.proofs.TransferRelation.{reset_mark, InTransfer, AllInTransfer, own_level, OwnTransfer, GoodOwnTransfer}
 use Rattle.x25_handshakes.proofs.HandshakeLemmas.{each_append, each_back, each_map}
+use Rattle.x25_handshakes.proofs.HandshakeSteps as hand
 
 pub inner_mark : (p : Packet) → InFlowControl p → reset_mark p ≡ Inner
 inner_mark (Data s r p) is = refl
@@ -39,7 +38,7 @@ module _ {T : Type 0} (R : Stretch → List Packet → List Packet → T → Typ
   level = own_level R y₀
 
   -- a step in d1 that is no error, with these packets taken, one or none
-  inside : (e : ℕ) (x : Stretch) (s : StretchStep) (taken : List Packet) → ((u v : List Packet) (y : T) → R x u (taken ++ v) y → GoodStretch R s u v y)
+  inside : (e : ℕ) (x : Stretch) (s : Step Stretch Packet) (taken : List Packet) → ((u v : List Packet) (y : T) → R x u (taken ++ v) y → GoodStretch R s u v y)
       → (let k = lifted e s s.error in hand.Inside level AllInTransfer e x taken k.next k.out k.error)
   inside e x s taken good = record { after = s.next; goes = λ u v y h. at u v y (good u v y h) }
     where
@@ -60,12 +59,12 @@ module _ {T : Type 0} (R : Stretch → List Packet → List Packet → T → Typ
   answers e (Left x) p is = (refl, refl, refl)
 
   -- with the kinds of packets on both lines
-  kinds : (x : At Stretch) (L K K₂ : List Packet) (y : At T) (s : TransferStep) → OwnTransfer R y₀ x L K y → AllInTransfer K₂ → GoodStep level s.error s.next s.out L K₂ y × AllInTransfer s.out → GoodOwnTransfer R y₀ s L K₂ y
+  kinds : (x : At Stretch) (L K K₂ : List Packet) (y : At T) (s : Step (At Stretch) Packet) → OwnTransfer R y₀ x L K y → AllInTransfer K₂ → GoodStep level s.error s.next s.out L K₂ y × AllInTransfer s.out → GoodOwnTransfer R y₀ s L K₂ y
   kinds x L K K₂ y s h back g = record { quiet = g.0.quiet; kept = record { hand = g.0.kept.hand; there = each_append InTransfer L s.out h.there g.1; back = back } }
 
   pub own_takes : (x : At Stretch) (L : List Packet) (p : Packet) (K : List Packet) (y : At T) → OwnTransfer R y₀ x L (p ∷ K) y → GoodOwnTransfer R y₀ (transfer_takes size x p) L K y
   own_takes x L p K y h =
-      let s : TransferStep = transfer_takes size x p in
+      let s : Step (At Stretch) Packet = transfer_takes size x p in
       kinds x L (p ∷ K) K y s h h.back.1
       (answered level AllInTransfer tt own.empty x.epoch x.side p s.next s.out s.error (answers x.epoch x.side p h.back.0) L K y (record { hand = h.hand }))
 
@@ -73,7 +72,7 @@ module _ {T : Type 0} (R : Stretch → List Packet → List Packet → T → Typ
       → (let s = transfer_side_acts t e x a in GoodStep level s.error s.next s.out L K y × AllInTransfer s.out)
   own_side_acts e (Live x) L K y (Inside a) h = acts_inside level AllInTransfer e x _ _ _ (inside e x (stretch_acts t x a) [] (λ u v y h. own.acts x u v y a h)) L K y h
   own_side_acts e (Live x) L K y SendsReset h = (leaves level AllInTransfer Reset refl e x tt L K y h, (tt, tt))
-  own_side_acts e (Left x) L K y a h = (stays level AllInTransfer (rst e x) L K y h, tt)
+  own_side_acts e (Left x) L K y a h = (stays level AllInTransfer (left e x) L K y h, tt)
 
   pub own_acts : (x : At Stretch) (L K : List Packet) (y : At T) (a : TransferAct) → OwnTransfer R y₀ x L K y → GoodOwnTransfer R y₀ (transfer_acts t x a) L K y
   own_acts x L K y a h = kinds x L K K y (transfer_acts t x a) h h.back (own_side_acts x.epoch x.side L K y a (record { hand = h.hand }))

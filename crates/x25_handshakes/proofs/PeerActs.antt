@@ -1,20 +1,18 @@
 -- What our circuit does keeps what is kept of it and a peer, and what comes to it is no procedure error.
 use Rattle.std.proofs.Common.{◌≡◌, ℕ, ◌+◌, ◌%◌, ◌<◌, ◌≤◌, List, [], ◌∷◌, ◌++◌, length, Option, Some, None, Bool, true, false, nat_lt, nat_le, if◌then◌else◌, refl, sym, ap, subst, eq-eqb, arith}
-use Rattle.std.proofs.lemmas.List.{length_push, append-nil}
-use Rattle.std.proofs.lemmas.Bool.{le-leb, leb-true, ltb-true, cond_both}
+use Rattle.std.proofs.{lemmas.List.{length_push, append-nil}, lemmas.Bool.{le-leb, leb-true, ltb-true, cond_both}}
 use Rattle.x25_packet.specs.declared.marks.Marks.{Marks}
-use Rattle.x25_circuit.specs.Message.{Piece, no_part, joining, piece_ground, cut, wholes, AreSound}
+use Rattle.x25_circuit.specs.{Message.{Piece, no_part, joining, piece_ground, cut, wholes, AreSound}, Params.{Terms}}
 use Rattle.x25_window.specs.code.Modulo.{resolved}
-use Rattle.x25_circuit.specs.Params.{Terms}
-use Rattle.x25_handshakes.specs.laws.Stretch.{Packet, Data, Rr, Rnr, Int, IntConf, Stretch, StretchStep, stretch_does, stretch_fails, StretchAct, Send, Pull, Ready, NotReady, Interrupt, status, sends, pulls, interrupts, stretch_acts, ack_ground, data_ground, by_ground, takes_data, takes_status, stretch_takes}
+use Rattle.x25_handshakes.specs.laws.Stretch.{Packet, Data, Rr, Rnr, Int, IntConf, Stretch, stretch_does, stretch_fails, StretchAct, Send, Pull, Ready, NotReady, Interrupt, status, sends, pulls, interrupts, stretch_acts, ack_ground, data_ground, by_ground, takes_data, takes_status, stretch_takes}
+use Rattle.x25_handshakes.specs.{laws.PeerStretch.{PeerStretch}, laws.Handshake.{Step}}
 use Rattle.x25_handshakes.proofs.StretchRelation.{numbering, ack_in, int_in, conf_in, InFlowControl, pieces, hears, heard, Ints, Text, GoodStretch}
 use Rattle.x25_handshakes.proofs.TextLemmas.{AreSound-back}
 use Rattle.x25_handshakes.proofs.PartLemmas.{Line-le, Line-send, Line-push, Line-take, Line-skip, Acks-push, Acks-pass, Acks-more, Acks-taken, Acks-hear, heard_below, Ints-there, Ints-back, Ints-send, Ints-take, Ints-confirm, Ints-past, Ints-skip, Ints-out, Ints-conf, Text-send, Text-pull, up-take}
-use Rattle.x25_handshakes.specs.laws.PeerStretch.{PeerStretch}
 use Rattle.x25_handshakes.proofs.PeerRelation.{Theirs, Kept}
 
 -- a step of ours that is no error, and keeps both
-abbrev pub Good : Terms → ℕ → StretchStep → List Packet → List Packet → PeerStretch → Type 0
+abbrev pub Good : Terms → ℕ → Step Stretch Packet → List Packet → List Packet → PeerStretch → Type 0
 Good t size s u v y = GoodStretch (Kept t size) s u v y
 
 -- an answer of no packet
@@ -83,7 +81,7 @@ Kept-pull t size x u v y p ps is room h =
 Good-pulls : (t : Terms) (size : ℕ) (x : Stretch) (u v : List Packet) (y : PeerStretch) (ps : List Piece) → x.rest ≡ ps → Kept t size x u v y → Good t size (pulls t x ps) u v y
 Good-pulls t size x u v y [] is h = Good-still t size x u v y h
 Good-pulls t size x u v y (p ∷ ps) is h =
-    let next : StretchStep = stretch_does (record x { sent = x.sent ++ p ∷ []; rest = ps }) (Data (length x.sent % 8) (length x.taken % 8) p ∷ []) in
+    let next : Step Stretch Packet = stretch_does (record x { sent = x.sent ++ p ∷ []; rest = ps }) (Data (length x.sent % 8) (length x.taken % 8) p ∷ []) in
     cond_both x.peer_ready (if nat_lt (length x.sent) (x.acked + t.window) then next else stretch_does x []) (stretch_does x []) (λ s. Good t size s u v y)
     (λ _. cond_both (nat_lt (length x.sent) (x.acked + t.window)) next (stretch_does x []) (λ s. Good t size s u v y)
     (λ room. record { quiet = refl; kept = Kept-pull t size x u v y p ps is (ltb-true (length x.sent) (x.acked + t.window) room) h })
@@ -109,7 +107,7 @@ Kept-interrupt t size x u v y xs is h = record {
 
 Good-interrupts : (t : Terms) (size : ℕ) (x : Stretch) (u v : List Packet) (y : PeerStretch) (xs : List ℕ) → Kept t size x u v y → Good t size (interrupts x xs) u v y
 Good-interrupts t size x u v y xs h =
-    let next : StretchStep = stretch_does (record x { int_out = true; int_down = x.int_down ++ xs ∷ [] }) (Int xs ∷ []) in
+    let next : Step Stretch Packet = stretch_does (record x { int_out = true; int_down = x.int_down ++ xs ∷ [] }) (Int xs ∷ []) in
     cond_both (nat_le 1 (length xs)) (if nat_le (length xs) 32 then (if x.int_out then stretch_does x [] else next) else stretch_does x []) (stretch_does x []) (λ s. Good t size s u v y)
     (λ _. cond_both (nat_le (length xs) 32) (if x.int_out then stretch_does x [] else next) (stretch_does x []) (λ s. Good t size s u v y)
     (λ _. cond_both x.int_out (stretch_does x []) next (λ s. Good t size s u v y)

@@ -1,21 +1,15 @@
 -- What our circuit and a peer do between two clears keeps what is kept of them, and our circuit finds no procedure error.
 use Rattle.std.proofs.Common.{List, ◌≡◌, ℕ, [], ◌∷◌, ◌++◌, true, refl, sym, subst}
-use Rattle.x25_bits.specs.declared.role.Role.{Role}
-use Rattle.x25_bits.specs.declared.role.Role.TheVariants.{Dte, Dce}
-use Rattle.x25_circuit.specs.Params.{Terms, may_propose, may_answer, said_in, called_terms, calling_terms}
-use Rattle.x25_handshakes.specs.laws.Handshake.{At}
-use Rattle.x25_handshakes.specs.laws.Stretch.{Packet, Stretch, Call, Accept}
-use Rattle.x25_handshakes.specs.laws.Transfer.{fresh_transfer}
-use Rattle.x25_handshakes.specs.laws.Calls.{Connection, call_takes, CallAct, call_acts, fresh_call}
+use Rattle.x25_bits.specs.{declared.role.Role.{Role}, declared.role.Role.TheVariants.{Dte, Dce}}
+use Rattle.x25_circuit.specs.{Params.{Terms, may_propose, may_answer, said_in, called_terms, calling_terms}, declared.params.Params.{Params}}
+use Rattle.x25_circuit.specs.Notice.{CallRequest}
+use Rattle.x25_handshakes.specs.{laws.Handshake.{At}, laws.Stretch.{Packet, Stretch, Call, Accept}, laws.Transfer.{fresh_transfer}}
+use Rattle.x25_handshakes.specs.laws.Calls.{Connection, call_takes, CallAct, call_acts, fresh_call, Stage, Unused, Waiting, Offered, Crossed, Talking}
 use Rattle.x25_handshakes.specs.laws.PeerStretch.{PeerStretch, fresh_peer}
 use Rattle.x25_handshakes.specs.laws.PeerTransfer.{fresh_peer_transfer, TransferDeed, MayDoTransfer, does_transfer, transfer_packet_of, transfer_taking}
-use Rattle.x25_handshakes.specs.laws.PeerCalls.{PeerCall, Stage, Free, Calling, Called, Collided, InData, fresh_peer_call, CallDeed, PlacesCall, AcceptsCall, InTransfer, MayDoCall, does_call, call_packet_of, call_taking}
-use Rattle.x25_handshakes.proofs.CallsRelation.{TalkOf, stage_of, TalksOf, JointOf, IsProposal, GoodCall}
-use Rattle.x25_handshakes.proofs.PeerRelation.{Kept}
-use Rattle.x25_circuit.specs.declared.params.Params.{Params}
-use Rattle.x25_circuit.specs.Notice.{CallRequest}
-use Rattle.x25_handshakes.specs.laws.LawsBelow.{Laws}
-use Rattle.x25_handshakes.specs.laws.PeerLayers.{other_role}
+use Rattle.x25_handshakes.specs.laws.PeerCalls.{PeerCall, fresh_peer_call, CallDeed, PlacesCall, AcceptsCall, InTransfer, MayDoCall, does_call, call_packet_of, call_taking}
+use Rattle.x25_handshakes.specs.{laws.LawsBelow.{Laws}, laws.PeerLayers.{other_role}}
+use Rattle.x25_handshakes.proofs.{CallsRelation.{TalkOf, TalksOf, JointOf, IsProposal, GoodCall}, PeerRelation.{Kept}}
 use Rattle.x25_handshakes.proofs.OwnCallLemmas.{own_dte_talks, own_dce_talks, Agreed, agreed, taken, dte_taken, dte_calls, dte_answers, dte_moves, dce_taken, dce_calls, dce_answers, dce_moves, DteTalks, dte_takes, dte_acts, DceTalks, dce_takes, dce_acts}
 use Rattle.x25_handshakes.proofs.PeerTransferLemmas.{KeptTransfer, own_stretches, done_kept, takes_kept}
 
@@ -29,8 +23,8 @@ TalksPeer t b y u v t₂ b₂ x = PeerTalks t₂ b₂ x v u t b y
 
 -- seen from our end, of this role
 abbrev pub PeerSeen : Role → Connection → List Packet → List Packet → PeerCall → Type 0
-PeerSeen Dte x u v y = JointOf PeerTalks fresh_transfer fresh_peer_transfer (stage_of x.phase) y.stage x.made x.indicated y.made y.indicated u v
-PeerSeen Dce x u v y = JointOf TalksPeer fresh_peer_transfer fresh_transfer y.stage (stage_of x.phase) y.made y.indicated x.made x.indicated v u
+PeerSeen Dte x u v y = JointOf PeerTalks fresh_transfer fresh_peer_transfer x.phase y.stage x.made x.indicated y.made y.indicated u v
+PeerSeen Dce x u v y = JointOf TalksPeer fresh_peer_transfer fresh_transfer y.stage x.phase y.made y.indicated x.made x.indicated v u
 
 -- ---- in p4
 
@@ -74,30 +68,30 @@ peer_fine t b y p = Unit {0}
 module _ (K : Stage (At PeerStretch) → List CallRequest → List CallRequest → List Packet → Type 0) (m i : List CallRequest) where
   peer_taken : (r : Role) (b : Stage (At PeerStretch)) (p : Packet) → (let s = taken fresh_peer_transfer peer_next peer_out r b m i p in K s.stage s.made s.indicated s.out)
       → (let s = call_taking r b m i p in K s.next.stage s.next.made s.next.indicated s.out)
-  peer_taken r Free (Call n) k = k
-  peer_taken r Free other k = k
-  peer_taken Dte (Calling mine) (Call n) k = k
-  peer_taken Dce (Calling mine) (Call n) k = k
-  peer_taken r (Calling mine) (Accept field) k = k
-  peer_taken r (Calling mine) other k = k
-  peer_taken r (Called theirs) p k = k
-  peer_taken r (Collided mine) (Accept field) k = k
-  peer_taken r (Collided mine) other k = k
-  peer_taken r (InData t b y) p k = k
+  peer_taken r Unused (Call n) k = k
+  peer_taken r Unused other k = k
+  peer_taken Dte (Waiting mine) (Call n) k = k
+  peer_taken Dce (Waiting mine) (Call n) k = k
+  peer_taken r (Waiting mine) (Accept field) k = k
+  peer_taken r (Waiting mine) other k = k
+  peer_taken r (Offered theirs) p k = k
+  peer_taken r (Crossed mine) (Accept field) k = k
+  peer_taken r (Crossed mine) other k = k
+  peer_taken r (Talking t b y) p k = k
 
   -- where it may call, accept and go on so
-  peer_done : Laws → (b : Stage (At PeerStretch)) (d : CallDeed) → MayDoCall b d → (b ≡ Free → (n : CallRequest) → may_propose n.params ≡ true → K (Calling n.params) (m ++ n ∷ []) i (Call n ∷ []))
-      → ((theirs : Params) → b ≡ Called theirs → (q : Params) (field : List ℕ) → ((mine : Params) → IsProposal mine theirs → Agreed mine q field) → K (InData (called_terms q) (calling_terms q) fresh_peer_transfer) m i (Accept field ∷ []))
-      → ((t k : Terms) (y : At PeerStretch) → b ≡ InData t k y → (d : TransferDeed) → MayDoTransfer t.size y.side d → K (InData t k (does_transfer y.epoch y.side d)) m i (transfer_packet_of y.side d ∷ []))
+  peer_done : Laws → (b : Stage (At PeerStretch)) (d : CallDeed) → MayDoCall b d → (b ≡ Unused → (n : CallRequest) → may_propose n.params ≡ true → K (Waiting n.params) (m ++ n ∷ []) i (Call n ∷ []))
+      → ((theirs : Params) → b ≡ Offered theirs → (q : Params) (field : List ℕ) → ((mine : Params) → IsProposal mine theirs → Agreed mine q field) → K (Talking (called_terms q) (calling_terms q) fresh_peer_transfer) m i (Accept field ∷ []))
+      → ((t k : Terms) (y : At PeerStretch) → b ≡ Talking t k y → (d : TransferDeed) → MayDoTransfer t.size y.side d → K (Talking t k (does_transfer y.epoch y.side d)) m i (transfer_packet_of y.side d ∷ []))
       → (let c = does_call b m i d in K c.stage c.made c.indicated (call_packet_of b d ∷ []))
-  peer_done laws Free (PlacesCall n) may calls answers moves = calls refl n may
-  peer_done laws Free d may calls answers moves = absurd may
-  peer_done laws (Calling mine) d may calls answers moves = absurd may
-  peer_done laws (Called theirs) (AcceptsCall field) may calls answers moves = answers theirs refl (said_in theirs field) field (λ mine is. as_said laws mine theirs field is may)
-  peer_done laws (Called theirs) d may calls answers moves = absurd may
-  peer_done laws (Collided mine) d may calls answers moves = absurd may
-  peer_done laws (InData t k y) (InTransfer d) may calls answers moves = moves t k y refl d may
-  peer_done laws (InData t k y) d may calls answers moves = absurd may
+  peer_done laws Unused (PlacesCall n) may calls answers moves = calls refl n may
+  peer_done laws Unused d may calls answers moves = absurd may
+  peer_done laws (Waiting mine) d may calls answers moves = absurd may
+  peer_done laws (Offered theirs) (AcceptsCall field) may calls answers moves = answers theirs refl (said_in theirs field) field (λ mine is. as_said laws mine theirs field is may)
+  peer_done laws (Offered theirs) d may calls answers moves = absurd may
+  peer_done laws (Crossed mine) d may calls answers moves = absurd may
+  peer_done laws (Talking t k y) (InTransfer d) may calls answers moves = moves t k y refl d may
+  peer_done laws (Talking t k y) d may calls answers moves = absurd may
 
 -- ---- the two roles at once, seen from our end
 
@@ -118,25 +112,25 @@ pub PeerSeen-taking : (r : Role) (x : Connection) (u : List Packet) (p : Packet)
     → PeerSeen r x u (v ++ (call_taking (other_role r) y.stage y.made y.indicated p).out) (call_taking (other_role r) y.stage y.made y.indicated p).next
 PeerSeen-taking Dte x u p v y h =
     peer_taken (Beside Dte x u v) y.made y.indicated Dce y.stage p
-    (dce_taken PeerTalks fresh_transfer fresh_peer_transfer peer_next peer_out peer_fine (λ t b e w q z t₂ b₂ f k. (tt, talks_takes t b e w q z t₂ b₂ f k)) (stage_of x.phase) y.stage x.made x.indicated y.made y.indicated u p v h).1
+    (dce_taken PeerTalks fresh_transfer fresh_peer_transfer peer_next peer_out peer_fine (λ t b e w q z t₂ b₂ f k. (tt, talks_takes t b e w q z t₂ b₂ f k)) x.phase y.stage x.made x.indicated y.made y.indicated u p v h).1
 PeerSeen-taking Dce x u p v y h =
     peer_taken (Beside Dce x u v) y.made y.indicated Dte y.stage p
-    (dte_taken TalksPeer fresh_peer_transfer fresh_transfer peer_next peer_out peer_fine (λ t b f w q z t₂ b₂ e k. (tt, talks_takes t₂ b₂ e z q w t b f k)) y.stage (stage_of x.phase) y.made y.indicated x.made x.indicated v p u h).1
+    (dte_taken TalksPeer fresh_peer_transfer fresh_transfer peer_next peer_out peer_fine (λ t b f w q z t₂ b₂ e k. (tt, talks_takes t₂ b₂ e z q w t b f k)) y.stage x.phase y.made y.indicated x.made x.indicated v p u h).1
 
 pub PeerSeen-does : Laws → (r : Role) (x : Connection) (u v : List Packet) (y : PeerCall) (d : CallDeed) → MayDoCall y.stage d → PeerSeen r x u v y
     → PeerSeen r x u (v ++ call_packet_of y.stage d ∷ []) (does_call y.stage y.made y.indicated d)
 PeerSeen-does laws Dte x u v y d may h =
-    let now : Stage (At PeerStretch) → Type 0 = λ b. JointOf PeerTalks fresh_transfer fresh_peer_transfer (stage_of x.phase) b x.made x.indicated y.made y.indicated u v in
+    let now : Stage (At PeerStretch) → Type 0 = λ b. JointOf PeerTalks fresh_transfer fresh_peer_transfer x.phase b x.made x.indicated y.made y.indicated u v in
     peer_done (Beside Dte x u v) y.made y.indicated laws y.stage d may
-    (λ is n may. dce_calls PeerTalks fresh_transfer fresh_peer_transfer (stage_of x.phase) n x.made x.indicated y.made y.indicated u v may (subst now is h))
-    (λ theirs is q field agrees. dce_answers PeerTalks fresh_transfer fresh_peer_transfer (stage_of x.phase) theirs q field x.made x.indicated y.made y.indicated u v agrees dte_talks.fresh (subst now is h))
-    (λ t k s is d may. dce_moves PeerTalks fresh_transfer fresh_peer_transfer t k s (stage_of x.phase) (does_transfer s.epoch s.side d) (transfer_packet_of s.side d ∷ []) x.made x.indicated y.made y.indicated u v (λ w z t₁ k₁ e r. talks_does t₁ k₁ e w z t k s d may r) (subst now is h))
+    (λ is n may. dce_calls PeerTalks fresh_transfer fresh_peer_transfer x.phase n x.made x.indicated y.made y.indicated u v may (subst now is h))
+    (λ theirs is q field agrees. dce_answers PeerTalks fresh_transfer fresh_peer_transfer x.phase theirs q field x.made x.indicated y.made y.indicated u v agrees dte_talks.fresh (subst now is h))
+    (λ t k s is d may. dce_moves PeerTalks fresh_transfer fresh_peer_transfer t k s x.phase (does_transfer s.epoch s.side d) (transfer_packet_of s.side d ∷ []) x.made x.indicated y.made y.indicated u v (λ w z t₁ k₁ e r. talks_does t₁ k₁ e w z t k s d may r) (subst now is h))
 PeerSeen-does laws Dce x u v y d may h =
-    let now : Stage (At PeerStretch) → Type 0 = λ b. JointOf TalksPeer fresh_peer_transfer fresh_transfer b (stage_of x.phase) y.made y.indicated x.made x.indicated v u in
+    let now : Stage (At PeerStretch) → Type 0 = λ b. JointOf TalksPeer fresh_peer_transfer fresh_transfer b x.phase y.made y.indicated x.made x.indicated v u in
     peer_done (Beside Dce x u v) y.made y.indicated laws y.stage d may
-    (λ is n may. dte_calls TalksPeer fresh_peer_transfer fresh_transfer (stage_of x.phase) n y.made y.indicated x.made x.indicated v u may (subst now is h))
-    (λ theirs is q field agrees. dte_answers TalksPeer fresh_peer_transfer fresh_transfer (stage_of x.phase) theirs q field y.made y.indicated x.made x.indicated v u agrees dce_talks.fresh (subst now is h))
-    (λ t k s is d may. dte_moves TalksPeer fresh_peer_transfer fresh_transfer t k s (stage_of x.phase) (does_transfer s.epoch s.side d) (transfer_packet_of s.side d ∷ []) y.made y.indicated x.made x.indicated v u (λ w z t₂ k₂ e r. talks_does t₂ k₂ e z w t k s d may r) (subst now is h))
+    (λ is n may. dte_calls TalksPeer fresh_peer_transfer fresh_transfer x.phase n y.made y.indicated x.made x.indicated v u may (subst now is h))
+    (λ theirs is q field agrees. dte_answers TalksPeer fresh_peer_transfer fresh_transfer x.phase theirs q field y.made y.indicated x.made x.indicated v u agrees dce_talks.fresh (subst now is h))
+    (λ t k s is d may. dte_moves TalksPeer fresh_peer_transfer fresh_transfer t k s x.phase (does_transfer s.epoch s.side d) (transfer_packet_of s.side d ∷ []) y.made y.indicated x.made x.indicated v u (λ w z t₂ k₂ e r. talks_does t₂ k₂ e z w t k s d may r) (subst now is h))
 
 pub PeerSeen-fresh : (r : Role) → PeerSeen r fresh_call [] [] fresh_peer_call
 PeerSeen-fresh Dte = (tt, tt, refl, refl, refl, refl)

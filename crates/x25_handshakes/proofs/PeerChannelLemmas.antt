@@ -1,24 +1,14 @@
 -- What is kept of a channel of ours and a peer between two restarts, and that each step keeps it and is no procedure error.
 use Rattle.std.proofs.Common.{◌≡◌, ℕ, List, [], ◌∷◌, ◌++◌, None, refl}
-use Rattle.x25_handshakes.specs.laws.Handshake.{Inner, Side, Live, Left, At}
-use Rattle.x25_bits.specs.declared.role.Role.{Role}
-use Rattle.x25_bits.specs.declared.role.Role.TheVariants.{Dte, Dce}
-use Rattle.x25_handshakes.specs.laws.Stretch.{Packet, Clear, ClearConf}
-use Rattle.x25_handshakes.specs.laws.Calls.{Connection}
-use Rattle.x25_handshakes.specs.laws.Channel.{fresh_channel}
-use Rattle.x25_handshakes.specs.laws.PeerCalls.{PeerCall, fresh_peer_call, does_call, call_packet_of, PeerCallStep, call_taking}
-use Rattle.x25_handshakes.specs.laws.PeerChannel.{fresh_peer_channel, ChannelDeed, InCall, Clears, MayDoChannel, does_channel, channel_packet_of, PeerChannelStep, channel_taking}
-use Rattle.x25_handshakes.specs.laws.PeerLayers.{other_role, found}
-use Rattle.x25_handshakes.specs.laws.LawsBelow.{Laws}
-use Rattle.x25_handshakes.proofs.HandshakeRelation.{Level, Handshaken, GoodStep}
-use Rattle.x25_handshakes.proofs.HandshakeLemmas.{each_back, flip, both_fresh}
-use Rattle.x25_handshakes.proofs.HandshakeSteps.{Any, Answers, acts_inside, leaves, answered, there}
-use Rattle.x25_handshakes.proofs.ChannelRelation.{clear_mark, own_call_level}
-use Rattle.x25_handshakes.proofs.OwnChannelLemmas.{OwnCalls}
-use Rattle.x25_handshakes.proofs.JointLemmas.{Quiet, quiet_transfer, quiet_joint}
-use Rattle.x25_handshakes.specs.laws.Transfer.{fresh_transfer}
+use Rattle.x25_handshakes.specs.{laws.Handshake.{Inner, Side, Live, Left, At, PeerStep}, laws.Stretch.{Packet, Clear, ClearConf}, laws.Calls.{Connection}}
+use Rattle.x25_handshakes.specs.{laws.Channel.{fresh_channel}, laws.PeerCalls.{PeerCall, fresh_peer_call, does_call, call_packet_of, call_taking}}
+use Rattle.x25_handshakes.specs.laws.PeerChannel.{fresh_peer_channel, ChannelDeed, InCall, Clears, MayDoChannel, does_channel, channel_packet_of, channel_taking}
+use Rattle.x25_handshakes.specs.{laws.PeerLayers.{other_role, found}, laws.LawsBelow.{Laws}, laws.Transfer.{fresh_transfer}}
 use Rattle.x25_handshakes.specs.laws.PeerTransfer.{fresh_peer_transfer}
-use Rattle.x25_handshakes.proofs.CallsRelation.{stage_of}
+use Rattle.x25_bits.specs.{declared.role.Role.{Role}, declared.role.Role.TheVariants.{Dte, Dce}}
+use Rattle.x25_handshakes.proofs.{HandshakeRelation.{Level, Handshaken, GoodStep}, HandshakeLemmas.{each_back, flip, both_fresh}}
+use Rattle.x25_handshakes.proofs.{HandshakeSteps.{Any, Answers, acts_inside, leaves, answered, there}, ChannelRelation.{clear_mark, own_call_level}}
+use Rattle.x25_handshakes.proofs.{OwnChannelLemmas.{OwnCalls}, JointLemmas.{Quiet, quiet_transfer, quiet_joint}}
 use Rattle.x25_handshakes.proofs.PeerCallLemmas.{PeerTalks, TalksPeer, PeerSeen, PeerSeen-takes, PeerSeen-acts, PeerSeen-taking, PeerSeen-does, PeerSeen-fresh}
 
 abbrev pub peer_call_level : Role → Level Connection PeerCall Packet
@@ -32,9 +22,9 @@ pub PeerChannelRelated-fresh : (r : Role) → PeerChannelRelated r fresh_channel
 PeerChannelRelated-fresh r = record { hand = both_fresh (peer_call_level r) (PeerSeen-fresh r) 0 }
 
 quiet : (r : Role) (x : Connection) (u v : List Packet) (y : PeerCall) → PeerSeen r x u v y → Quiet u × Quiet v
-quiet Dte x u v y h = quiet_joint PeerTalks fresh_transfer fresh_peer_transfer (λ t b x u v t₂ b₂ y h. (quiet_transfer u h.related.there, quiet_transfer v h.related.back)) (stage_of x.phase) y.stage x.made x.indicated y.made y.indicated u v h
+quiet Dte x u v y h = quiet_joint PeerTalks fresh_transfer fresh_peer_transfer (λ t b x u v t₂ b₂ y h. (quiet_transfer u h.related.there, quiet_transfer v h.related.back)) x.phase y.stage x.made x.indicated y.made y.indicated u v h
 quiet Dce x u v y h =
-    let k = quiet_joint TalksPeer fresh_peer_transfer fresh_transfer (λ t b y u v t₂ b₂ x h. (quiet_transfer u h.related.back, quiet_transfer v h.related.there)) y.stage (stage_of x.phase) y.made y.indicated x.made x.indicated v u h in
+    let k = quiet_joint TalksPeer fresh_peer_transfer fresh_transfer (λ t b y u v t₂ b₂ x h. (quiet_transfer u h.related.back, quiet_transfer v h.related.there)) y.stage x.phase y.made y.indicated x.made x.indicated v u h in
     (k.1, k.0)
 
 -- ---- our end
@@ -65,7 +55,7 @@ module _ (r : Role) where
   answers e (Live y) Clear = record { confirm = ClearConf; is = refl; at = refl; sent = refl; passes = tt; quiet = λ w z gone h. refl }
   answers e (Live y) ClearConf = tt
   answers e (Live y) p =
-      let s : PeerCallStep = call_taking (other_role r) y.stage y.made y.indicated p in
+      let s : PeerStep PeerCall Packet = call_taking (other_role r) y.stage y.made y.indicated p in
       record {
         after = s.next;
         goes = λ w v z k. (let kept = PeerSeen-taking r z v p w y k in record { quiet = refl; at = refl; inner = each_back (λ p. clear_mark p ≡ Inner) w s.out (quiet r z v (w ++ s.out) s.next kept).1; passes = tt; kept = kept });
@@ -76,7 +66,7 @@ module _ (r : Role) where
   pub channel_taking_kept : (x : At Connection) (p : Packet) (L K : List Packet) (e : ℕ) (y : Side PeerCall) → PeerChannelRelated r x (p ∷ L) K (record { epoch = e; side = y })
       → (let s = channel_taking (other_role r) e y p in PeerChannelRelated r x L (K ++ s.out) s.next)
   channel_taking_kept x p L K e y h =
-      let s : PeerChannelStep = channel_taking (other_role r) e y p in
+      let s : PeerStep (At PeerCall) Packet = channel_taking (other_role r) e y p in
       there (peer_call_level r) x (p ∷ L) L K s.out (record { epoch = e; side = y }) s.next (λ k. (answered level Any tt (PeerSeen-fresh r) e y p s.next s.out None (answers e y p) K L x k).0) h
 
   does_good : Laws → (x : At Connection) (L K : List Packet) (e : ℕ) (y : Side PeerCall) (d : ChannelDeed) → MayDoChannel y d → Handshaken level (record { epoch = e; side = y }) K L x

@@ -1,14 +1,12 @@
 -- What the peer does keeps what is kept of our circuit and it.
 use Rattle.std.proofs.Common.{◌≡◌, ℕ, ◌+◌, ◌%◌, ◌≤◌, List, [], ◌∷◌, ◌++◌, length, Option, Some, None, Bool, true, false, refl, subst, arith}
 use Rattle.std.proofs.lemmas.List.{length_push}
-use Rattle.x25_circuit.specs.Message.{Piece, no_part}
+use Rattle.x25_circuit.specs.{Message.{Piece, no_part}, Params.{Terms}}
 use Rattle.x25_window.specs.code.Modulo.{resolved}
-use Rattle.x25_circuit.specs.Params.{Terms}
 use Rattle.x25_handshakes.specs.laws.Stretch.{Packet, Data, Rr, Rnr, Int, IntConf, Stretch}
-use Rattle.x25_handshakes.proofs.StretchRelation.{numbering, ack_in, int_in, conf_in, InFlowControl, pieces, hears, heard, Ints}
-use Rattle.x25_handshakes.proofs.TextLemmas.{AreSound-append}
-use Rattle.x25_handshakes.proofs.PartLemmas.{Line-le, Line-send, Line-push, Line-take, Line-skip, Acks-pass, Acks-more, Acks-told, Acks-hear, Ints-there, Ints-back, Ints-send, Ints-take, Ints-confirm, Ints-past, Ints-skip, Ints-out, Ints-conf}
 use Rattle.x25_handshakes.specs.laws.PeerStretch.{PeerStretch, Deed, Sends, Says, Interrupts, Confirms, MayAcknowledge, MayDo, does, packet_of, taking}
+use Rattle.x25_handshakes.proofs.{StretchRelation.{numbering, ack_in, int_in, conf_in, InFlowControl, pieces, hears, heard, Ints}, TextLemmas.{AreSound-append}}
+use Rattle.x25_handshakes.proofs.PartLemmas.{Line-le, Line-send, Line-push, Line-take, Line-skip, Acks-pass, Acks-more, Acks-told, Acks-hear, Ints-there, Ints-back, Ints-send, Ints-take, Ints-confirm, Ints-past, Ints-skip, Ints-out, Ints-conf}
 use Rattle.x25_handshakes.proofs.PeerRelation.{Ours, Kept}
 
 -- it acknowledges so many, whatever it has sent

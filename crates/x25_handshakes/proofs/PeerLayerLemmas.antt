@@ -1,27 +1,20 @@
 -- What is kept of a packet layer of ours and a peer: all that happens keeps it and is no procedure error, and it says the claims.
-use Rattle.std.proofs.Common.{◌≡◌, ℕ, List, [], ◌∷◌, ◌++◌, Option, None, false, ◌==◌, refl, sym, ap, subst, ◌∙◌, inl, Some, true}
-use Rattle.x25_handshakes.specs.laws.Handshake.{Side, Live, Left, At}
-use Rattle.x25_bits.specs.declared.role.Role.{Role}
-use Rattle.x25_bits.specs.declared.role.Role.TheVariants.{Dte, Dce}
-use Rattle.x25_handshakes.specs.laws.Stretch.{Packet}
-use Rattle.x25_handshakes.specs.laws.Layers.{LayerPacket, On, Restart, RestartConf, Channels, addressed, all_fresh, LayerStep, layer_takes, LayerAct, layer_acts, first_error}
-use Rattle.x25_handshakes.specs.laws.PeerCalls.{PeerCall, fresh_peer_call}
-use Rattle.x25_handshakes.specs.laws.PeerChannel.{does_channel, channel_packet_of, PeerChannelStep, channel_taking}
-use Rattle.x25_handshakes.specs.laws.PeerLayer.{PeerChannels, put_peer, peer_fresh, peer_ready, LayerDeed, InChannel, Restarts, MayDoLayer, does_layer, layer_packet_of, PeerLayerStep, ready_taking, layer_taking}
-use Rattle.x25_handshakes.specs.laws.PeerLayers.{other_role, found, layer_found, AreElsewhere, JoinedLayers, near_stepped, Happens, Acts, Takes, Does, Hears, HearsChannel, IsReached, at_start, goes_on}
-use Rattle.x25_handshakes.specs.laws.LawsBelow.{Laws}
-use Rattle.x25_handshakes.proofs.HandshakeRelation.{Level, Handshaken, GoodStep, AllInner, Handshake}
-use Rattle.x25_handshakes.proofs.HandshakeLemmas.{inner_take_behind, flip}
+use Rattle.std.proofs.{Common.{◌≡◌, ℕ, List, [], ◌∷◌, ◌++◌, Option, None, false, ◌==◌, refl, sym, ap, subst, ◌∙◌, inl, Some, true}, lemmas.Bool.{true≢false}}
+use Rattle.std.proofs.lemmas.Option.{none-some}
+use Rattle.x25_handshakes.specs.{laws.Handshake.{Side, Live, Left, At, Step, PeerStep, live, first_error, near_stepped}, laws.Stretch.{Packet}}
+use Rattle.x25_handshakes.specs.laws.Layers.{LayerPacket, On, Restart, RestartConf, Channels, addressed, all_fresh, layer_takes, LayerAct, layer_acts}
+use Rattle.x25_handshakes.specs.{laws.PeerCalls.{PeerCall, fresh_peer_call}, laws.PeerChannel.{does_channel, channel_packet_of, channel_taking}}
+use Rattle.x25_handshakes.specs.laws.PeerLayer.{PeerChannels, put_peer, peer_fresh, LayerDeed, InChannel, Restarts, MayDoLayer, does_layer, layer_packet_of, ready_taking, layer_taking}
+use Rattle.x25_handshakes.specs.laws.PeerLayers.{other_role, found, layer_found, AreElsewhere, JoinedLayers, Happens, Acts, Takes, Does, Hears, HearsChannel, IsReached, at_start, goes_on}
+use Rattle.x25_handshakes.specs.{laws.LawsBelow.{Laws}, laws.Arrivals.{open_channel}}
+use Rattle.x25_handshakes.specs.laws.PeerClaims.{ChannelsAreInOrder, is_open_there, TookLayer, WithAnyPeerLayer, KeepsLayers, LayerFindsNoError, LayerHasArrived}
+use Rattle.x25_bits.specs.{declared.role.Role.{Role}, declared.role.Role.TheVariants.{Dte, Dce}}
+use Rattle.x25_handshakes.proofs.{HandshakeRelation.{Level, Handshaken, GoodStep, AllInner, Handshake}, HandshakeLemmas.{inner_take_behind, flip}}
 use Rattle.x25_handshakes.proofs.HandshakeSteps.{Any, Answers, acts_inside, leaves, answered, there}
 use Rattle.x25_handshakes.proofs.LayersRelation.{kept_on, on, OnEach, restart_mark, own_channels_level}
 use Rattle.x25_handshakes.proofs.OwnLayerLemmas.{put_kept, on-append, inner_addressed, on-front, on-past, OwnChannels, layer_takes_good, layer_acts_good}
-use Rattle.x25_handshakes.proofs.OwnChannelLemmas.{channel_takes_good, channel_acts_good}
-use Rattle.x25_handshakes.proofs.PeerCallLemmas.{PeerSeen}
+use Rattle.x25_handshakes.proofs.{OwnChannelLemmas.{channel_takes_good, channel_acts_good}, PeerCallLemmas.{PeerSeen}}
 use Rattle.x25_handshakes.proofs.PeerChannelLemmas.{PeerChannelRelated, PeerChannelRelated-fresh, found_none, peer_calls, channel_taking_kept, channel_does_kept}
-use Rattle.std.proofs.lemmas.Bool.{true≢false}
-use Rattle.std.proofs.lemmas.Option.{none-some}
-use Rattle.x25_handshakes.specs.laws.Arrivals.{open_channel}
-use Rattle.x25_handshakes.specs.laws.PeerClaims.{ChannelsAreInOrder, is_open_there, TookLayer, WithAnyPeerLayer, KeepsLayers, LayerFindsNoError, LayerHasArrived}
 use Rattle.x25_handshakes.proofs.PeerOrder.{in_epochs, channel_order, meet, took_channel}
 
 abbrev pub peer_channels_level : Role → Level Channels PeerChannels LayerPacket
@@ -31,7 +24,7 @@ peer_channels_level r = own_channels_level (PeerChannelRelated r) peer_fresh
 abbrev pub PeerLayersRelated : Role → At Channels → List LayerPacket → List LayerPacket → At PeerChannels → Type 0
 PeerLayersRelated r x L K y = Handshaken (peer_channels_level r) x L K y
 
-abbrev pub GoodPeerLayer : Role → Option ℕ → LayerStep → List LayerPacket → List LayerPacket → At PeerChannels → Type 0
+abbrev pub GoodPeerLayer : Role → Option ℕ → Step (At Channels) LayerPacket → List LayerPacket → List LayerPacket → At PeerChannels → Type 0
 GoodPeerLayer r e s L K y = GoodStep (peer_channels_level r) e s.next s.out L K y
 
 pub PeerChannelsRelated-fresh : (r : Role) → OnEach (PeerChannelRelated r) all_fresh [] [] peer_fresh
@@ -86,7 +79,7 @@ module _ (r : Role) where
   taken_at : (x : Channels) (j : List LayerPacket) (h : ℕ) (p : Packet) (L K : List LayerPacket) (y : PeerChannels) → AreElsewhere h j → OnEach (PeerChannelRelated r) x (j ++ On h p ∷ L) K y
       → OnEach (PeerChannelRelated r) x (j ++ L) (K ++ addressed h (channel_taking (other_role r) (y h).epoch (y h).side p).out) (put_peer y h (channel_taking (other_role r) (y h).epoch (y h).side p).next)
   taken_at x j h p L K y apart all =
-      let s : PeerChannelStep = channel_taking (other_role r) (y h).epoch (y h).side p in
+      let s : PeerStep (At PeerCall) Packet = channel_taking (other_role r) (y h).epoch (y h).side p in
       let none : on h j ≡ [] = elsewhere_none h j apart in
       let front : on h (j ++ On h p ∷ L) ≡ p ∷ on h L = on-append h j (On h p ∷ L) ∙ ap (λ l. l ++ on h (On h p ∷ L)) none ∙ on-front h p L in
       let rest : on h (j ++ L) ≡ on h L = on-append h j L ∙ ap (λ l. l ++ on h L) none in
@@ -103,11 +96,11 @@ module _ (r : Role) where
 
   -- the first packet of channel h is taken, before those of other channels in front of it
   pub hears_channel_kept : (x : At Channels) (j : List LayerPacket) (h : ℕ) (p : Packet) (L K : List LayerPacket) (e : ℕ) (y : PeerChannels) → AreElsewhere h j
-      → PeerLayersRelated r x (j ++ On h p ∷ L) K (peer_ready e y)
+      → PeerLayersRelated r x (j ++ On h p ∷ L) K (live e y)
       → PeerLayersRelated r x (j ++ L) (K ++ (ready_taking (other_role r) e y (On h p)).out) (ready_taking (other_role r) e y (On h p)).next
   hears_channel_kept x j h p L K e y apart all =
-      let s : PeerChannelStep = channel_taking (other_role r) (y h).epoch (y h).side p in
-      there (peer_channels_level r) x (j ++ On h p ∷ L) (j ++ L) K (addressed h s.out) (peer_ready e y) (peer_ready e (put_peer y h s.next))
+      let s : PeerStep (At PeerCall) Packet = channel_taking (other_role r) (y h).epoch (y h).side p in
+      there (peer_channels_level r) x (j ++ On h p ∷ L) (j ++ L) K (addressed h s.out) (live e y) (live e (put_peer y h s.next))
       (λ k. record {
         quiet = refl;
         kept = record {
@@ -126,7 +119,7 @@ module _ (r : Role) where
   pub hears_kept : (x : At Channels) (p : LayerPacket) (L K : List LayerPacket) (e : ℕ) (y : Side PeerChannels) → PeerLayersRelated r x (p ∷ L) K (record { epoch = e; side = y })
       → PeerLayersRelated r x L (K ++ (layer_taking (other_role r) e y p).out) (layer_taking (other_role r) e y p).next
   hears_kept x p L K e y h =
-      let s : PeerLayerStep = layer_taking (other_role r) e y p in
+      let s : PeerStep (At PeerChannels) LayerPacket = layer_taking (other_role r) e y p in
       there (peer_channels_level r) x (p ∷ L) L K s.out (record { epoch = e; side = y }) s.next (λ k. (answered level Any tt (PeerChannelsRelated-fresh r) e y p s.next s.out None (answers e y p) K L x k).0) h
 
   does_good : Laws → (x : At Channels) (L K : List LayerPacket) (e : ℕ) (y : Side PeerChannels) (d : LayerDeed) → MayDoLayer y d → Handshaken level (record { epoch = e; side = y }) K L x
@@ -155,7 +148,7 @@ record Holds (r : Role) (w : JoinedLayers) : Type 0 where
   pub quiet : w.error ≡ None
   pub kept : PeerLayersRelated r w.near w.out w.back w.peer
 
-stepped_holds : (r : Role) (w : JoinedLayers) (back : List LayerPacket) (s : LayerStep) (e : Option ℕ) → w.error ≡ None → GoodPeerLayer r e s w.out back w.peer → Holds r (near_stepped w back s e)
+stepped_holds : (r : Role) (w : JoinedLayers) (back : List LayerPacket) (s : Step (At Channels) LayerPacket) (e : Option ℕ) → w.error ≡ None → GoodPeerLayer r e s w.out back w.peer → Holds r (near_stepped w back s e)
 stepped_holds r w back s e none good = record { quiet = ap (λ (f : Option ℕ). first_error f e) none ∙ good.quiet; kept = good.kept }
 
 happens_holds : Laws → (r : Role) (w v : JoinedLayers) → Happens r w v → Holds r w → Holds r v

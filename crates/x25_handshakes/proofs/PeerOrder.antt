@@ -1,33 +1,16 @@
 -- What is kept of our end and a peer says that all is in order, and that all was taken where nothing is on the way.
 use Rattle.std.proofs.Common.{◌≡◌, inl, inr, ℕ, suc, ◌+◌, ◌≤◌, List, [], ◌∷◌, ◌++◌, length, Some, Bool, true, false, refl, sym, ap, subst, ◌∙◌, arith, append_assoc, length-append}
-use Rattle.std.proofs.lemmas.Bool.{true≢false}
-use Rattle.std.proofs.lemmas.List.{append-nil}
-use Rattle.std.proofs.lemmas.Option.{same_Some, none-some}
-use Rattle.x25_bits.specs.declared.role.Role.{Role}
-use Rattle.x25_bits.specs.declared.role.Role.TheVariants.{Dte, Dce}
-use Rattle.x25_circuit.specs.Message.{no_part, joining, carried, carried_from}
-use Rattle.x25_circuit.specs.Params.{Terms}
-use Rattle.x25_circuit.specs.Notice.{CallRequest}
-use Rattle.x25_handshakes.specs.laws.Handshake.{Side, Live, Left, At, state_of}
-use Rattle.x25_handshakes.specs.laws.Stretch.{Packet, Stretch}
-use Rattle.x25_handshakes.specs.laws.Transfer.{fresh_transfer}
-use Rattle.x25_handshakes.specs.laws.Calls.{Phase, Talking, Connection}
-use Rattle.x25_handshakes.specs.laws.PeerStretch.{PeerStretch}
-use Rattle.x25_handshakes.specs.laws.PeerTransfer.{fresh_peer_transfer}
-use Rattle.x25_handshakes.specs.laws.PeerCalls.{Stage, InData, PeerCall}
-use Rattle.x25_handshakes.specs.laws.Arrivals.{open_in, open_phase, open_call}
-use Rattle.x25_handshakes.specs.laws.PeerClaims.{InEpochs, AreInOrder, StretchesAreInOrder, transfer_of, peer_transfer_of, CallIsInOrder, ChannelIsInOrder, is_open_stage, is_open_call, TookAll, TookCall, TookChannel}
-use Rattle.x25_handshakes.proofs.StretchRelation.{pieces, ints, confs, one_if}
-use Rattle.x25_handshakes.proofs.TextLemmas.{carried-append}
-use Rattle.x25_handshakes.proofs.LineLemmas.{heard_least}
-use Rattle.x25_handshakes.proofs.HandshakeRelation.{before, past, Extended, Level, Handshake}
-use Rattle.x25_handshakes.proofs.HandshakeLemmas.{both_fresh}
-use Rattle.x25_handshakes.proofs.CallsRelation.{stage_of, JointOf}
-use Rattle.x25_handshakes.proofs.ArrivalLemmas.{nothing_waits}
-use Rattle.x25_handshakes.proofs.PeerRelation.{Kept, Kept-start}
-use Rattle.x25_handshakes.proofs.PeerTransferLemmas.{peer_level}
-use Rattle.x25_handshakes.proofs.PeerCallLemmas.{PeerTalks, TalksPeer, PeerSeen}
-use Rattle.x25_handshakes.proofs.JointLemmas.{in_stage, joint_order}
+use Rattle.std.proofs.{lemmas.Bool.{true≢false}, lemmas.List.{append-nil}, lemmas.Option.{same_Some, none-some}}
+use Rattle.x25_bits.specs.{declared.role.Role.{Role}, declared.role.Role.TheVariants.{Dte, Dce}}
+use Rattle.x25_circuit.specs.{Message.{no_part, joining, carried, carried_from}, Params.{Terms}, Notice.{CallRequest}}
+use Rattle.x25_handshakes.specs.{laws.Handshake.{Side, Live, Left, At, state_of}, laws.Stretch.{Packet, Stretch}, laws.Transfer.{fresh_transfer}}
+use Rattle.x25_handshakes.specs.{laws.Calls.{Phase, Talking, Connection, Stage}, laws.PeerStretch.{PeerStretch}, laws.PeerTransfer.{fresh_peer_transfer}}
+use Rattle.x25_handshakes.specs.{laws.PeerCalls.{PeerCall}, laws.Arrivals.{open_in, open_phase, open_call}}
+use Rattle.x25_handshakes.specs.laws.PeerClaims.{InEpochs, AreInOrder, StretchesAreInOrder, CallIsInOrder, ChannelIsInOrder, is_open_stage, is_open_call, TookAll, TookCall, TookChannel}
+use Rattle.x25_handshakes.proofs.{StretchRelation.{pieces, ints, confs, one_if}, TextLemmas.{carried-append}, LineLemmas.{heard_least}}
+use Rattle.x25_handshakes.proofs.{HandshakeRelation.{before, past, Extended, Level, Handshake}, HandshakeLemmas.{both_fresh}, CallsRelation.{JointOf}}
+use Rattle.x25_handshakes.proofs.{ArrivalLemmas.{nothing_waits}, PeerRelation.{Kept, Kept-start}, PeerTransferLemmas.{peer_level}}
+use Rattle.x25_handshakes.proofs.{PeerCallLemmas.{PeerTalks, TalksPeer, PeerSeen}, JointLemmas.{joint_order}}
 use Rattle.x25_handshakes.proofs.PeerChannelLemmas.{peer_call_level, PeerChannelRelated}
 
 -- ---- a handshake
@@ -118,21 +101,13 @@ talks_order t b x u v t₂ b₂ y h = stretches_order t b.size x u v y h.related
 
 -- ---- calls
 
-pub ours : (p : Phase) → in_stage fresh_transfer (stage_of p) ≡ transfer_of p
-ours (Talking t b at) = refl
-ours other = refl
-
-theirs : (s : Stage (At PeerStretch)) → in_stage fresh_peer_transfer s ≡ peer_transfer_of s
-theirs (InData t b at) = refl
-theirs other = refl
-
 call_order : (r : Role) (x : Connection) (u v : List Packet) (y : PeerCall) → PeerSeen r x u v y → CallIsInOrder x y
 call_order Dte x u v y h =
-    let o = joint_order PeerTalks fresh_transfer fresh_peer_transfer StretchesAreInOrder fresh_order talks_order (stage_of x.phase) y.stage x.made x.indicated y.made y.indicated u v h in
-    record { up = o.0; there = o.1; stretches = subst (λ (a : At Stretch). StretchesAreInOrder a (peer_transfer_of y.stage)) (ours x.phase) (subst (StretchesAreInOrder (in_stage fresh_transfer (stage_of x.phase))) (theirs y.stage) o.2) }
+    let o = joint_order PeerTalks fresh_transfer fresh_peer_transfer StretchesAreInOrder fresh_order talks_order x.phase y.stage x.made x.indicated y.made y.indicated u v h in
+    record { up = o.0; there = o.1; stretches = o.2 }
 call_order Dce x u v y h =
-    let o = joint_order TalksPeer fresh_peer_transfer fresh_transfer (λ b a. StretchesAreInOrder a b) fresh_order (λ t b y u v t₂ b₂ x h. talks_order t₂ b₂ x v u t b y h) y.stage (stage_of x.phase) y.made y.indicated x.made x.indicated v u h in
-    record { up = o.1; there = o.0; stretches = subst (λ (a : At Stretch). StretchesAreInOrder a (peer_transfer_of y.stage)) (ours x.phase) (subst (StretchesAreInOrder (in_stage fresh_transfer (stage_of x.phase))) (theirs y.stage) o.2) }
+    let o = joint_order TalksPeer fresh_peer_transfer fresh_transfer (λ b a. StretchesAreInOrder a b) fresh_order (λ t b y u v t₂ b₂ x h. talks_order t₂ b₂ x v u t b y h) y.stage x.phase y.made y.indicated x.made x.indicated v u h in
+    record { up = o.1; there = o.0; stretches = o.2 }
 
 pub channel_order : (r : Role) (x : At Connection) (L K : List Packet) (y : At PeerCall) → PeerChannelRelated r x L K y → ChannelIsInOrder x y
 channel_order r x L K y h = in_epochs (peer_call_level r) CallIsInOrder (call_order r) x L K y h.hand
@@ -164,7 +139,7 @@ record TookStretch (ex ey : ℕ) (y : Side PeerStretch) (a : Stretch) : Type 0 w
   all : TookAll a (state_of y)
 
 took_stretch : (t : Terms) (size : ℕ) (ex ey : ℕ) (x : Side Stretch) (y : Side PeerStretch) (K : List Packet) (a : Stretch) → Handshake (peer_level t size) ex ey x y [] K
-    → open_in x ≡ Some a → is_open_stage (InData t t (record { epoch = ey; side = y })) ≡ true → TookStretch ex ey y a
+    → open_in x ≡ Some a → is_open_stage (Talking t t (record { epoch = ey; side = y })) ≡ true → TookStretch ex ey y a
 took_stretch t size ex ey (Live x) (Live y) K a h is there =
     let m = meet (peer_level t size) ex ey x y K h in
     record { epochs = m.epochs; all = subst (λ (z : Stretch). TookAll z y) (same_Some x a is) (took_all t size x m.back y m.related) }
@@ -172,21 +147,21 @@ took_stretch t size ex ey (Left x) y K a h is there = absurd (none-some a is)
 took_stretch t size ex ey (Live x) (Left y) K a h is there = absurd (true≢false (sym there))
 
 took_talk : (t b : Terms) (x : At Stretch) (v : List Packet) (t₂ b₂ : Terms) (y : At PeerStretch) (m i : List CallRequest) (a : Stretch) → PeerTalks t b x [] v t₂ b₂ y → open_in x.side ≡ Some a
-    → is_open_stage (InData t₂ b₂ y) ≡ true → TookCall (Talking t b x) (record { stage = InData t₂ b₂ y; made = m; indicated = i }) a
+    → is_open_stage (Talking t₂ b₂ y) ≡ true → TookCall (Talking t b x) (record { stage = Talking t₂ b₂ y; made = m; indicated = i }) a
 took_talk t b x v t₂ b₂ y m i a h is there =
     let s = took_stretch t b.size x.epoch y.epoch x.side y.side v a h.related.hand is there in
     record { resets = s.epochs; all = s.all }
 
-dte_took : (p : Phase) (c : Stage (At PeerStretch)) (ma ia mb ib : List CallRequest) (v : List Packet) (a : Stretch) → JointOf PeerTalks fresh_transfer fresh_peer_transfer (stage_of p) c ma ia mb ib [] v
+dte_took : (p : Phase) (c : Stage (At PeerStretch)) (ma ia mb ib : List CallRequest) (v : List Packet) (a : Stretch) → JointOf PeerTalks fresh_transfer fresh_peer_transfer p c ma ia mb ib [] v
     → open_phase p ≡ Some a → is_open_stage c ≡ true → TookCall p (record { stage = c; made = mb; indicated = ib }) a
-dte_took (Talking t k x) (InData t₂ k₂ y) ma ia mb ib v a h is there = took_talk t k x v t₂ k₂ y mb ib a h.0 is there
+dte_took (Talking t k x) (Talking t₂ k₂ y) ma ia mb ib v a h is there = took_talk t k x v t₂ k₂ y mb ib a h.0 is there
 dte_took (Talking t k x) other ma ia mb ib v a h is there = absurd (true≢false (sym there))
 dte_took other c ma ia mb ib v a h is there = absurd (none-some a is)
 
-dce_took : (c : Stage (At PeerStretch)) (p : Phase) (ma ia mb ib : List CallRequest) (v : List Packet) (a : Stretch) → JointOf TalksPeer fresh_peer_transfer fresh_transfer c (stage_of p) ma ia mb ib v []
+dce_took : (c : Stage (At PeerStretch)) (p : Phase) (ma ia mb ib : List CallRequest) (v : List Packet) (a : Stretch) → JointOf TalksPeer fresh_peer_transfer fresh_transfer c p ma ia mb ib v []
     → open_phase p ≡ Some a → is_open_stage c ≡ true → TookCall p (record { stage = c; made = ma; indicated = ia }) a
-dce_took (InData t k y) (Talking t₂ k₂ x) ma ia mb ib v a h is there = took_talk t₂ k₂ x v t k y ma ia a h.0 is there
-dce_took (InData t k y) other ma ia mb ib v a h is there = absurd (none-some a is)
+dce_took (Talking t k y) (Talking t₂ k₂ x) ma ia mb ib v a h is there = took_talk t₂ k₂ x v t k y ma ia a h.0 is there
+dce_took (Talking t k y) other ma ia mb ib v a h is there = absurd (none-some a is)
 dce_took other p ma ia mb ib v a h is there = absurd (true≢false (sym there))
 
 took_call : (r : Role) (x : Connection) (v : List Packet) (y : PeerCall) (a : Stretch) → PeerSeen r x [] v y → open_phase x.phase ≡ Some a → is_open_stage y.stage ≡ true → TookCall x.phase y a

@@ -2,23 +2,14 @@
 use Rattle.std.proofs.Common.{◌≡◌, false, true, [], ◌∷◌, None, refl, sym, subst, arith}
 use Rattle.x25_bits.specs.declared.role.Role.TheVariants.{Dte}
 use Rattle.x25_packet.specs.Marks.{with_q}
-use Rattle.x25_circuit.specs.declared.params.Params.{Params}
-use Rattle.x25_circuit.specs.Params.{default_params, calling_terms}
-use Rattle.x25_circuit.specs.laws.ParamsLaws.{NoFieldIsKnown}
+use Rattle.x25_circuit.specs.{declared.params.Params.{Params}, Params.{default_params, calling_terms}, laws.ParamsLaws.{NoFieldIsKnown}}
 use Rattle.x25_circuit.specs.Message.{Last, no_part, piece_ground}
-use Rattle.x25_handshakes.specs.laws.Stretch.{Data, Call, Accept, Send, Pull}
-use Rattle.x25_handshakes.specs.laws.Transfer.{Inside}
-use Rattle.x25_handshakes.specs.laws.PeerStretch.{Sends, Says}
-use Rattle.x25_handshakes.specs.laws.PeerTransfer.{InStretch}
-use Rattle.x25_handshakes.specs.laws.PeerJoined.{start, Acts, Takes, Does, Hears, IsReached, at_start, goes_on}
-use Rattle.x25_handshakes.specs.laws.Calls.{AcceptsCall}
-use Rattle.x25_handshakes.specs.laws.Channel.{Within}
-use Rattle.x25_handshakes.specs.laws.Layers.{On, Restart, RestartConf, OnChannel}
-use Rattle.x25_handshakes.specs.laws.PeerCalls.{PlacesCall}
-use Rattle.x25_handshakes.specs.laws.PeerChannel.{InCall}
-use Rattle.x25_handshakes.specs.laws.PeerLayer.{InChannel}
-use Rattle.x25_handshakes.specs.laws.PeerLayers as layers
+use Rattle.x25_handshakes.specs.{laws.Stretch.{Data, Call, Accept, Send, Pull}, laws.Transfer.{Inside}, laws.PeerStretch.{Sends, Says}}
+use Rattle.x25_handshakes.specs.{laws.PeerTransfer.{InStretch}, laws.PeerJoined.{start, Acts, Takes, Does, Hears, IsReached, at_start, goes_on}}
+use Rattle.x25_handshakes.specs.{laws.Calls.{AcceptsCall}, laws.Channel.{Within}, laws.Layers.{On, Restart, RestartConf, OnChannel}}
+use Rattle.x25_handshakes.specs.{laws.PeerCalls.{PlacesCall}, laws.PeerChannel.{InCall}, laws.PeerLayer.{InChannel}}
 use Rattle.x25_handshakes.specs.rows.PeerRows.{terms, handed_down, pulled, heard, answered, taken, acknowledged, LatePeerMoves, proposal, layer_does, peer_hears, layer_does_itself, restarted, called, accepted, message, came, PeerLayerMoves}
+use Rattle.x25_handshakes.specs.laws.PeerLayers as layers
 
 pub late_peer_moves : LatePeerMoves
 late_peer_moves =

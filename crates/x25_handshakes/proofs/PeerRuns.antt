@@ -1,13 +1,10 @@
 -- All that happens to a circuit of ours in p4 and a peer keeps what is kept of them.
 use Rattle.std.proofs.Common.{◌≡◌, ℕ, ◌≤◌, List, Option, None, refl, ap, subst, ◌∙◌}
 use Rattle.x25_circuit.specs.Params.{Terms}
-use Rattle.x25_handshakes.specs.laws.Stretch.{Packet}
-use Rattle.x25_handshakes.specs.laws.Transfer.{TransferStep, transfer_acts, transfer_takes}
-use Rattle.x25_handshakes.specs.laws.Layers.{first_error}
-use Rattle.x25_handshakes.specs.laws.PeerJoined.{Joined, near_stepped, Happens, Acts, Takes, Does, Hears, Skips, IsReached, at_start, goes_on}
-use Rattle.x25_handshakes.specs.laws.PeerClaims.{WithAnyPeer, KeepsStretches, FindsNoError}
-use Rattle.x25_handshakes.proofs.HandshakeLemmas.{both_fresh}
-use Rattle.x25_handshakes.proofs.PeerRelation.{Kept-start}
+use Rattle.x25_handshakes.specs.{laws.Stretch.{Packet, Stretch}, laws.Transfer.{transfer_acts, transfer_takes}}
+use Rattle.x25_handshakes.specs.laws.PeerJoined.{Joined, Happens, Acts, Takes, Does, Hears, Skips, IsReached, at_start, goes_on}
+use Rattle.x25_handshakes.specs.{laws.PeerClaims.{WithAnyPeer, KeepsStretches, FindsNoError}, laws.Handshake.{Step, At, first_error, near_stepped}}
+use Rattle.x25_handshakes.proofs.{HandshakeLemmas.{both_fresh}, PeerRelation.{Kept-start}}
 use Rattle.x25_handshakes.proofs.PeerTransferLemmas.{peer_level, KeptTransfer, GoodTransfer, GoodTransfer-acts, GoodTransfer-takes, done_kept, takes_kept, skips_kept}
 use Rattle.x25_handshakes.proofs.PeerOrder.{stretches_order}
 
@@ -15,7 +12,7 @@ record Holds (t : Terms) (size : ℕ) (w : Joined) : Type 0 where
   pub quiet : w.error ≡ None
   pub kept : KeptTransfer t size w.near w.out w.back w.peer
 
-stepped_holds : (t : Terms) (size : ℕ) (w : Joined) (back : List Packet) (s : TransferStep) → w.error ≡ None → GoodTransfer t size s w.out back w.peer → Holds t size (near_stepped w back s)
+stepped_holds : (t : Terms) (size : ℕ) (w : Joined) (back : List Packet) (s : Step (At Stretch) Packet) → w.error ≡ None → GoodTransfer t size s w.out back w.peer → Holds t size (near_stepped w back s s.error)
 stepped_holds t size w back s none good = record { quiet = ap (λ (e : Option ℕ). first_error e s.error) none ∙ good.quiet; kept = good.kept }
 
 happens_holds : (t : Terms) (size : ℕ) → t.window ≤ 7 → 1 ≤ t.size → (w v : Joined) → Happens t size w v → Holds t size w → Holds t size v

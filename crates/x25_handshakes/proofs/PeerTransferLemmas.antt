@@ -1,21 +1,17 @@
 -- What our circuit and a peer do in p4 keeps what is kept of them, and what comes to our circuit is no procedure error.
-use Rattle.std.proofs.Common.{ℕ, ◌≤◌, List, ◌∷◌, ◌≡◌, suc, [], ◌++◌, None, true, false, refl, sym, subst}
+use Rattle.std.proofs.{Common.{ℕ, ◌≤◌, List, ◌∷◌, ◌≡◌, suc, [], ◌++◌, None, true, false, refl, sym, subst}, lemmas.List.{append-nil}}
 use Rattle.x25_circuit.specs.Params.{Terms}
-use Rattle.x25_handshakes.specs.laws.Handshake.{At, Inner, Side, Live, Left}
+use Rattle.x25_handshakes.specs.laws.Handshake.{At, Inner, Side, Live, Left, Step, PeerStep, live}
 use Rattle.x25_handshakes.specs.laws.Stretch.{Packet, Stretch, Reset, ResetConf, Call, Accept, Clear, ClearConf}
-use Rattle.x25_handshakes.specs.laws.Transfer.{TransferStep, transfer_takes, TransferAct, transfer_acts}
+use Rattle.x25_handshakes.specs.laws.Transfer.{transfer_takes, TransferAct, transfer_acts}
 use Rattle.x25_handshakes.specs.laws.PeerStretch.{PeerStretch, fresh_peer, Deed, Sends, Says, Interrupts, Confirms, does, packet_of, taking}
+use Rattle.x25_handshakes.specs.laws.PeerTransfer.{TransferDeed, InStretch, Resets, MayDoTransfer, does_transfer, transfer_packet_of, transfer_taking, IsNoReset, AreNoResets}
 use Rattle.x25_handshakes.proofs.HandshakeRelation.{Level, Handshaken, GoodStep, AllInner}
 use Rattle.x25_handshakes.proofs.TransferRelation.{own_level, OwnTransfer, GoodOwnTransfer, reset_mark, InTransfer, AllInTransfer}
-use Rattle.x25_handshakes.proofs.OwnTransferLemmas.{OwnStretches, own_takes, own_acts, inner_mark, in_transfer}
-use Rattle.x25_handshakes.proofs.PeerRelation.{Kept, Kept-start}
-use Rattle.x25_handshakes.proofs.PeerActs.{Good-acts, Good-takes}
-use Rattle.std.proofs.lemmas.List.{append-nil}
-use Rattle.x25_handshakes.proofs.StretchRelation.{InFlowControl}
-use Rattle.x25_handshakes.specs.laws.PeerTransfer.{peer_d1, TransferDeed, InStretch, Resets, MayDoTransfer, does_transfer, transfer_packet_of, PeerStep, transfer_taking, IsNoReset, AreNoResets}
+use Rattle.x25_handshakes.proofs.{OwnTransferLemmas.{OwnStretches, own_takes, own_acts, inner_mark, in_transfer}, PeerRelation.{Kept, Kept-start}}
+use Rattle.x25_handshakes.proofs.{PeerActs.{Good-acts, Good-takes}, StretchRelation.{InFlowControl}}
 use Rattle.x25_handshakes.proofs.HandshakeLemmas.{each_append, each_back, request_skips, flip, turned}
-use Rattle.x25_handshakes.proofs.HandshakeSteps.{Answers, acts_inside, leaves, answered}
-use Rattle.x25_handshakes.proofs.PeerDeeds.{does_kept, taking_kept}
+use Rattle.x25_handshakes.proofs.{HandshakeSteps.{Answers, acts_inside, leaves, answered}, PeerDeeds.{does_kept, taking_kept}}
 
 abbrev pub peer_level : Terms → ℕ → Level Stretch PeerStretch Packet
 peer_level t size = own_level (Kept t size) fresh_peer
@@ -23,7 +19,7 @@ peer_level t size = own_level (Kept t size) fresh_peer
 abbrev pub KeptTransfer : Terms → ℕ → At Stretch → List Packet → List Packet → At PeerStretch → Type 0
 KeptTransfer t size x L K y = OwnTransfer (Kept t size) fresh_peer x L K y
 
-abbrev pub GoodTransfer : Terms → ℕ → TransferStep → List Packet → List Packet → At PeerStretch → Type 0
+abbrev pub GoodTransfer : Terms → ℕ → Step (At Stretch) Packet → List Packet → List Packet → At PeerStretch → Type 0
 GoodTransfer t size s L K y = GoodOwnTransfer (Kept t size) fresh_peer s L K y
 
 pub own_stretches : (t : Terms) (size : ℕ) → 1 ≤ t.size → OwnStretches (Kept t size) fresh_peer t size
@@ -99,14 +95,14 @@ module _ (t : Terms) (size : ℕ) where
   pub takes_kept : (x : At Stretch) (p : Packet) (L K : List Packet) (e : ℕ) (y : Side PeerStretch) → KeptTransfer t size x (p ∷ L) K (record { epoch = e; side = y })
       → (let s = transfer_taking e y p in KeptTransfer t size x L (K ++ s.out) s.next)
   takes_kept x p L K e y h =
-      let s : PeerStep = transfer_taking e y p in
+      let s : PeerStep (At PeerStretch) Packet = transfer_taking e y p in
       unseen x L K s.out s.next h.there.1 h.back (answered level AllInTransfer tt (Kept-start t size) e y p s.next s.out None (answers e y p h.there.0) K L x (seen x (p ∷ L) K _ h))
 
   pub skips_kept : (x : At Stretch) (j L K : List Packet) (e : ℕ) (side : Side PeerStretch) (y : PeerStretch) → AreNoResets j → side ≡ Live y → KeptTransfer t size x (j ++ Reset ∷ L) K (record { epoch = e; side = side })
-      → KeptTransfer t size x L (K ++ ResetConf ∷ []) (peer_d1 (suc e) fresh_peer)
+      → KeptTransfer t size x L (K ++ ResetConf ∷ []) (live (suc e) fresh_peer)
   skips_kept x j L K e side y none is h =
-      let h2 : KeptTransfer t size x (j ++ Reset ∷ L) K (peer_d1 e y) = subst (λ (z : Side PeerStretch). KeptTransfer t size x (j ++ Reset ∷ L) K (record { epoch = e; side = z })) is h in
-      unseen x L K (ResetConf ∷ []) (peer_d1 (suc e) fresh_peer) (each_back InTransfer j (Reset ∷ L) h2.there).1 h2.back (
-        record { quiet = refl; kept = record { hand = request_skips level (Kept-start t size) ResetConf Reset j (no_resets_inner j none) refl refl e x.epoch y x.side K L (seen x (j ++ Reset ∷ L) K (peer_d1 e y) h2).hand } },
+      let h2 : KeptTransfer t size x (j ++ Reset ∷ L) K (live e y) = subst (λ (z : Side PeerStretch). KeptTransfer t size x (j ++ Reset ∷ L) K (record { epoch = e; side = z })) is h in
+      unseen x L K (ResetConf ∷ []) (live (suc e) fresh_peer) (each_back InTransfer j (Reset ∷ L) h2.there).1 h2.back (
+        record { quiet = refl; kept = record { hand = request_skips level (Kept-start t size) ResetConf Reset j (no_resets_inner j none) refl refl e x.epoch y x.side K L (seen x (j ++ Reset ∷ L) K (live e y) h2).hand } },
         (tt, tt),
       )

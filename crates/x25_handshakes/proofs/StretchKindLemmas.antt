@@ -1,27 +1,18 @@
 -- Messages and interrupts: what belongs to a stretch is handed up as the other end handed it down in that stretch.
 use Rattle.std.proofs.Common.{◌≡◌, inl, inr, ℕ, ◌+◌, List, [], ◌∷◌, ◌++◌, length, Option, Some, None, Bool, true, false, nat_lt, nat_le, if◌then◌else◌, refl, sym, ap, subst, ◌∙◌, arith}
-use Rattle.std.proofs.lemmas.List.{append-nil}
-use Rattle.std.proofs.lemmas.Bool.{cond_both}
-use Rattle.x25_circuit.specs.Message.{Piece, wholes}
-use Rattle.x25_bits.specs.declared.role.Role.{Role}
-use Rattle.x25_bits.specs.declared.role.Role.TheVariants.{Dte, Dce}
-use Rattle.x25_circuit.specs.declared.params.Params.{Params}
-use Rattle.x25_circuit.specs.Params.{Proposal, Terms, may_propose, may_answer, field_for, said_in}
+use Rattle.std.proofs.{lemmas.List.{append-nil}, lemmas.Bool.{cond_both}}
+use Rattle.x25_circuit.specs.{Message.{Piece, wholes}, declared.params.Params.{Params}, Params.{Proposal, Terms, may_propose, may_answer, field_for, said_in}}
 use Rattle.x25_circuit.specs.Notice.{CallRequest}
-use Rattle.x25_handshakes.proofs.TermsLemmas.{IsSound}
-use Rattle.x25_handshakes.specs.laws.Handshake.{Inner, Side, Live, Left, At, state_of}
-use Rattle.x25_handshakes.specs.laws.Stretch.{Packet, Data, Rr, Rnr, IntConf, Reset, ResetConf, Call, Accept, Clear, ClearConf, Stretch, fresh, StretchStep, stretch_does, stretch_fails, StretchAct, Send, Pull, Interrupt, pulls, stretch_acts, by_ground, data_ground, ack_ground, takes_data, takes_status, stretch_takes}
-use Rattle.x25_handshakes.specs.laws.Transfer.{d1, rst, fresh_transfer, lifted, transfer_side_takes, transfer_takes, TransferAct, Inside, SendsReset, transfer_side_acts}
-use Rattle.x25_handshakes.specs.laws.Calls.{Phase, Unused, Waiting, Offered, Crossed, Talking, Connection, CallStep, goes, unexpected, calling_talk, called_talk, is_answered, accepts, phase_takes, call_takes, CallAct, PlacesCall, AcceptsCall, Talks, phase_acts}
+use Rattle.x25_bits.specs.{declared.role.Role.{Role}, declared.role.Role.TheVariants.{Dte, Dce}}
+use Rattle.x25_handshakes.proofs.{TermsLemmas.{IsSound}, HandshakeLemmas.{meets}, StretchRelation.{InFlowControl, StretchesRelated, FollowsFrom, GoodStretch}}
+use Rattle.x25_handshakes.proofs.{TransferRelation.{reset_mark, stretch_level, TransfersRelated}, ChannelRelation.{clear_mark, Seen}}
+use Rattle.x25_handshakes.proofs.{StretchLemmas.{GoodStretch-takes, FollowsFrom-from_Dir}, ClaimLemmas.{BothTalk, Seen-joint}}
+use Rattle.x25_handshakes.proofs.{HistoryLemmas.{Change, Stays, MoreResets, alike}, TurnLemmas.{MayIndicate, WithinCall, IsHandled}}
+use Rattle.x25_handshakes.specs.laws.Handshake.{Inner, Side, Live, Left, At, state_of, Step, live, left}
+use Rattle.x25_handshakes.specs.laws.Stretch.{Packet, Data, Rr, Rnr, IntConf, Reset, ResetConf, Call, Accept, Clear, ClearConf, Stretch, fresh, stretch_does, stretch_fails, StretchAct, Send, Pull, Interrupt, pulls, stretch_acts, by_ground, data_ground, ack_ground, takes_data, takes_status, stretch_takes}
+use Rattle.x25_handshakes.specs.laws.Transfer.{fresh_transfer, lifted, transfer_side_takes, transfer_takes, TransferAct, Inside, SendsReset, transfer_side_acts}
+use Rattle.x25_handshakes.specs.laws.Calls.{Phase, Unused, Waiting, Offered, Crossed, Talking, Connection, goes, unexpected, calling_talk, called_talk, is_answered, accepts, phase_takes, call_takes, CallAct, PlacesCall, AcceptsCall, Talks, phase_acts}
 use Rattle.x25_handshakes.specs.laws.Histories.{Lists, none, resets_in, held_in, of_stretch, messages, interrupts, IsPrefix}
-use Rattle.x25_handshakes.proofs.HandshakeLemmas.{meets}
-use Rattle.x25_handshakes.proofs.StretchRelation.{InFlowControl, StretchesRelated, FollowsFrom, GoodStretch}
-use Rattle.x25_handshakes.proofs.TransferRelation.{reset_mark, stretch_level, TransfersRelated}
-use Rattle.x25_handshakes.proofs.ChannelRelation.{clear_mark, Seen}
-use Rattle.x25_handshakes.proofs.StretchLemmas.{GoodStretch-takes, FollowsFrom-from_Dir}
-use Rattle.x25_handshakes.proofs.ClaimLemmas.{BothTalk, Seen-joint}
-use Rattle.x25_handshakes.proofs.HistoryLemmas.{Change, Stays, MoreResets, alike}
-use Rattle.x25_handshakes.proofs.TurnLemmas.{MayIndicate, WithinCall, IsHandled}
 
 -- what has to be known of two lists of a stretch
 pub record IsKept {M : Type 0} (down up : Stretch → List M) : Type 0 where
@@ -47,27 +38,27 @@ TransferChange down up A e x y = Change A e x.epoch (held_of down up x) e y.epoc
 still : {M : Type 0} (down up : Stretch → List M) (A : List M → Type 0) (e : ℕ) (x : At Stretch) → TransferChange down up A e x x
 still down up A e x = Stays refl refl (alike (down (state_of x.side))) (inl refl)
 
-lifted_taken : {M : Type 0} (down up : Stretch → List M) (A : List M → Type 0) (e s : ℕ) (x : Stretch) (st : StretchStep) (n : Option ℕ) → down st.next ≡ down x → A (up st.next)
-    → TransferChange down up A e (d1 s x) (lifted s st n).next
+lifted_taken : {M : Type 0} (down up : Stretch → List M) (A : List M → Type 0) (e s : ℕ) (x : Stretch) (st : Step Stretch Packet) (n : Option ℕ) → down st.next ≡ down x → A (up st.next)
+    → TransferChange down up A e (live s x) (lifted s st n).next
 lifted_taken down up A e s x st None same may = Stays refl refl ([], append-nil (down x) ∙ sym same) (inr may)
 lifted_taken down up A e s x st (Some n) same may = Stays refl refl ([], append-nil (down x) ∙ sym same) (inr may)
 
 transfer_taken : {M : Type 0} (down up : Stretch → List M) → IsKept down up → (A : List M → Type 0) (size e s : ℕ) (x : Side Stretch) (p : Packet)
     → ((a : Stretch) → x ≡ Live a → InFlowControl p → A (up (stretch_takes size a p).next)) → TransferChange down up A e (record { epoch = s; side = x }) (transfer_side_takes size s x p).next
 transfer_taken down up k A size e s (Live x) Reset f = MoreResets refl (omega arith) (held_fresh down up k)
-transfer_taken down up k A size e s (Live x) ResetConf f = still down up A e (d1 s x)
-transfer_taken down up k A size e s (Live x) (Call i) f = still down up A e (d1 s x)
-transfer_taken down up k A size e s (Live x) (Accept field) f = still down up A e (d1 s x)
-transfer_taken down up k A size e s (Live x) Clear f = still down up A e (d1 s x)
-transfer_taken down up k A size e s (Live x) ClearConf f = still down up A e (d1 s x)
+transfer_taken down up k A size e s (Live x) ResetConf f = still down up A e (live s x)
+transfer_taken down up k A size e s (Live x) (Call i) f = still down up A e (live s x)
+transfer_taken down up k A size e s (Live x) (Accept field) f = still down up A e (live s x)
+transfer_taken down up k A size e s (Live x) Clear f = still down up A e (live s x)
+transfer_taken down up k A size e s (Live x) ClearConf f = still down up A e (live s x)
 transfer_taken down up k A size e s (Live x) other f = lifted_taken down up A e s x (stretch_takes size x other) (stretch_takes size x other).error (k.takes size x other) (f x refl tt)
 transfer_taken down up k A size e s (Left x) Reset f = MoreResets refl (omega arith) (held_fresh down up k)
 transfer_taken down up k A size e s (Left x) ResetConf f = MoreResets refl (omega arith) (held_fresh down up k)
-transfer_taken down up k A size e s (Left x) (Call i) f = still down up A e (rst s x)
-transfer_taken down up k A size e s (Left x) (Accept field) f = still down up A e (rst s x)
-transfer_taken down up k A size e s (Left x) Clear f = still down up A e (rst s x)
-transfer_taken down up k A size e s (Left x) ClearConf f = still down up A e (rst s x)
-transfer_taken down up k A size e s (Left x) other f = still down up A e (rst s x)
+transfer_taken down up k A size e s (Left x) (Call i) f = still down up A e (left s x)
+transfer_taken down up k A size e s (Left x) (Accept field) f = still down up A e (left s x)
+transfer_taken down up k A size e s (Left x) Clear f = still down up A e (left s x)
+transfer_taken down up k A size e s (Left x) ClearConf f = still down up A e (left s x)
+transfer_taken down up k A size e s (Left x) other f = still down up A e (left s x)
 
 reset_inner : (p : Packet) → InFlowControl p → reset_mark p ≡ Inner
 reset_inner Reset is = absurd is
@@ -99,7 +90,7 @@ connects down up k A e = Stays refl refl (down fresh, refl) (inl k.up_fresh)
 answered : {M : Type 0} (down up : Stretch → List M) → IsKept down up → (A : List M → Type 0) (e : ℕ) (a : Phase) (mine : Params) (m i : List CallRequest) (q : Params) → resets_in a ≡ 0 → held_in down up a ≡ none
     → Change A e 0 none e (resets_in (is_answered a mine m i q).next.phase) (held_in down up (is_answered a mine m i q).next.phase)
 answered {M} down up k A e a mine m i q resets held =
-    cond_both (may_answer mine q) (goes (calling_talk q) m i []) (unexpected a m i) (λ (s : CallStep). Change A e 0 none e (resets_in s.next.phase) (held_in down up s.next.phase))
+    cond_both (may_answer mine q) (goes (calling_talk q) m i []) (unexpected a m i) (λ (s : Step Connection Packet). Change A e 0 none e (resets_in s.next.phase) (held_in down up s.next.phase))
     (λ _. connects down up k A e)
     (λ _. subst (λ (n : ℕ). Change A e 0 none e n (held_in down up a)) (sym resets) (subst (λ (l : Lists M). Change A e 0 none e 0 l) (sym held) (idle down up A e)))
 
@@ -129,8 +120,8 @@ call_taken down up k r e c u p v y inner h = phase_taken down up k r e c.phase c
 abbrev Acted : {M : Type 0} → (Stretch → List M) → (Stretch → List M) → Phase → Phase → Type 0
 Acted down up a z = (resets_in z ≡ resets_in a) × IsPrefix (held_in down up a).down (held_in down up z).down × ((held_in down up z).up ≡ (held_in down up a).up)
 
-lifted_acted : {M : Type 0} (down up : Stretch → List M) (t b : Terms) (s : ℕ) (x : Stretch) (st : StretchStep) (n : Option ℕ) → IsPrefix (down x) (down st.next) × (up st.next ≡ up x)
-    → Acted down up (Talking t b (d1 s x)) (Talking t b (lifted s st n).next)
+lifted_acted : {M : Type 0} (down up : Stretch → List M) (t b : Terms) (s : ℕ) (x : Stretch) (st : Step Stretch Packet) (n : Option ℕ) → IsPrefix (down x) (down st.next) × (up st.next ≡ up x)
+    → Acted down up (Talking t b (live s x)) (Talking t b (lifted s st n).next)
 lifted_acted down up t b s x st None h = (refl, h.0, h.1)
 lifted_acted down up t b s x st (Some n) h = (refl, h.0, h.1)
 
@@ -146,13 +137,13 @@ unmoved down up a = (refl, alike (held_in down up a).down, refl)
 accepted : {M : Type 0} (down up : Stretch → List M) → IsKept down up → (theirs : Params) (m i : List CallRequest) (answer : Option Proposal) → Acted down up (Offered theirs) (accepts theirs m i answer).next.phase
 accepted down up k theirs m i None = (refl, (down fresh, refl), k.up_fresh)
 accepted down up k theirs m i (Some q) =
-    cond_both (may_answer theirs q.params) (goes (called_talk q.params) m i (Accept (field_for theirs q) ∷ [])) (goes (Offered theirs) m i []) (λ (s : CallStep). Acted down up (Offered theirs) s.next.phase)
+    cond_both (may_answer theirs q.params) (goes (called_talk q.params) m i (Accept (field_for theirs q) ∷ [])) (goes (Offered theirs) m i []) (λ (s : Step Connection Packet). Acted down up (Offered theirs) s.next.phase)
     (λ _. (refl, (down fresh, refl), k.up_fresh))
     (λ _. unmoved down up (Offered theirs))
 
 phase_acted : {M : Type 0} (down up : Stretch → List M) → IsKept down up → (a : Phase) (m i : List CallRequest) (act : CallAct) → Acted down up a (phase_acts a m i act).next.phase
 phase_acted down up k Unused m i (PlacesCall n) =
-    cond_both (may_propose n.params) (goes (Waiting n.params) (m ++ n ∷ []) i (Call n ∷ [])) (goes Unused m i []) (λ (s : CallStep). Acted down up Unused s.next.phase)
+    cond_both (may_propose n.params) (goes (Waiting n.params) (m ++ n ∷ []) i (Call n ∷ [])) (goes Unused m i []) (λ (s : Step Connection Packet). Acted down up Unused s.next.phase)
     (λ _. (refl, ([], refl), refl))
     (λ _. unmoved down up Unused)
 phase_acted down up k Unused m i other = unmoved down up Unused
@@ -168,10 +159,10 @@ handled down up k = record { fresh = refl; takes = call_taken down up k; acts = 
 
 -- messages and interrupts are such lists
 
-abbrev Same : Stretch → StretchStep → Type 0
+abbrev Same : Stretch → Step Stretch Packet → Type 0
 Same x s = (s.next.down ≡ x.down) × (s.next.int_down ≡ x.int_down)
 
-same_by : (x : Stretch) (g : Option ℕ) (good : StretchStep) → Same x good → Same x (by_ground g x good)
+same_by : (x : Stretch) (g : Option ℕ) (good : Step Stretch Packet) → Same x good → Same x (by_ground g x good)
 same_by x None good is = is
 same_by x (Some n) good is = (refl, refl)
 
@@ -186,11 +177,11 @@ taken size x IntConf = test x.int_out
     test false = (refl, refl)
 taken size x p = (refl, refl)
 
-record Quiet (x : Stretch) (s : StretchStep) : Type 0 where
+record Quiet (x : Stretch) (s : Step Stretch Packet) : Type 0 where
   messages : IsPrefix x.down s.next.down × (s.next.up ≡ x.up)
   interrupts : IsPrefix x.int_down s.next.int_down × (s.next.int_up ≡ x.int_up)
 
-if_quiet : (x : Stretch) (b : Bool) (u v : StretchStep) → Quiet x u → Quiet x v → Quiet x (if b then u else v)
+if_quiet : (x : Stretch) (b : Bool) (u v : Step Stretch Packet) → Quiet x u → Quiet x v → Quiet x (if b then u else v)
 if_quiet x true u v h g = h
 if_quiet x false u v h g = g
 

@@ -1,16 +1,11 @@
 -- Each step in d1 keeps the relation of the two stretches, and is no procedure error: each end is a peer of the other.
-use Rattle.std.proofs.Common.{◌≡◌, List, [], ◌∷◌, ◌++◌, refl, sym, ap, ◌∙◌, arith, append_assoc}
-use Rattle.std.proofs.lemmas.List.{append-nil}
-use Rattle.x25_circuit.specs.Message.{no_part, joining, carried_from, carried}
-use Rattle.x25_circuit.specs.Params.{Terms}
-use Rattle.x25_handshakes.proofs.TermsLemmas.{IsSound}
-use Rattle.x25_handshakes.specs.laws.Stretch.{Packet, Stretch, fresh, StretchStep, StretchAct, stretch_acts, stretch_takes}
-use Rattle.x25_handshakes.specs.laws.LayerPeers.{as_peer_stretch}
-use Rattle.x25_handshakes.proofs.PeerRelation.{Kept}
-use Rattle.x25_handshakes.proofs.PeerActs.{Good, Good-acts, Good-takes}
+use Rattle.std.proofs.{Common.{◌≡◌, List, [], ◌∷◌, ◌++◌, refl, sym, ap, ◌∙◌, arith, append_assoc}, lemmas.List.{append-nil}}
+use Rattle.x25_circuit.specs.{Message.{no_part, joining, carried_from, carried}, Params.{Terms}}
+use Rattle.x25_handshakes.proofs.{TermsLemmas.{IsSound}, PeerRelation.{Kept}, PeerActs.{Good, Good-acts, Good-takes}}
 use Rattle.x25_handshakes.proofs.StretchRelation.{pieces, ints, Direction, Told, StretchesRelated, GoodStretch, FollowsFrom}
-use Rattle.x25_handshakes.proofs.ToldLemmas.{tells_act, tells_take}
-use Rattle.x25_handshakes.proofs.TextLemmas.{carried-append, AreSound-front}
+use Rattle.x25_handshakes.proofs.{ToldLemmas.{tells_act, tells_take}, TextLemmas.{carried-append, AreSound-front}}
+use Rattle.x25_handshakes.specs.{laws.Stretch.{Packet, Stretch, fresh, StretchAct, stretch_acts, stretch_takes}, laws.LayerPeers.{as_peer_stretch}}
+use Rattle.x25_handshakes.specs.laws.Handshake.{Step}
 
 pub StretchesRelated-flip : (t b : Terms) (x : Stretch) (u v : List Packet) (y : Stretch) → StretchesRelated t b x u v y → StretchesRelated b t y v u x
 StretchesRelated-flip t b x u v y h = record { there = h.back; back = h.there; told = h.told_back; told_back = h.told }
@@ -45,7 +40,7 @@ kept t b x u v y sound h =
     }
 
 -- it stays as it was
-goes_on : (t b : Terms) (x : Stretch) (u v : List Packet) (y : Stretch) (s : StretchStep) (w : List Packet) → StretchesRelated t b x u v y → Good t b.size s u w (as_peer_stretch y) → Told s.next w y → Told y (u ++ s.out) s.next
+goes_on : (t b : Terms) (x : Stretch) (u v : List Packet) (y : Stretch) (s : Step Stretch Packet) (w : List Packet) → StretchesRelated t b x u v y → Good t b.size s u w (as_peer_stretch y) → Told s.next w y → Told y (u ++ s.out) s.next
     → GoodStretch (StretchesRelated t b) s u w y
 goes_on t b x u v y s w h good told told_back =
     let there = good.kept.there in

@@ -1,11 +1,8 @@
 -- What is kept of two circuits in d1 of one stretch, and the lines between them.
 use Rattle.std.proofs.Common.{◌≡◌, ℕ, ◌+◌, ◌%◌, ◌≤◌, List, [], ◌∷◌, ◌++◌, length, Option, Some, None, Bool, true, false}
-use Rattle.x25_circuit.specs.declared.message.Message.{Message}
-use Rattle.x25_circuit.specs.Message.{Piece, no_part, joining, carried, AreSound}
+use Rattle.x25_circuit.specs.{declared.message.Message.{Message}, Message.{Piece, no_part, joining, carried, AreSound}, Params.{Terms}}
 use Rattle.x25_window.specs.code.Modulo.{resolved}
-use Rattle.x25_circuit.specs.Params.{Terms}
-use Rattle.x25_handshakes.specs.laws.Stretch.{Packet, Data, Rr, Rnr, Int, IntConf, Stretch, StretchStep}
-use Rattle.x25_handshakes.specs.laws.Histories.{IsPrefix}
+use Rattle.x25_handshakes.specs.{laws.Stretch.{Packet, Data, Rr, Rnr, Int, IntConf, Stretch}, laws.Histories.{IsPrefix}, laws.Handshake.{Step}}
 use Rattle.x25_handshakes.proofs.HandshakeRelation.{Each}
 
 -- a data packet's number and what it carries
@@ -137,7 +134,7 @@ pub record StretchesRelated (t b : Terms) (x : Stretch) (u v : List Packet) (y :
   pub told_back : Told y u x
 
 -- a step that is no error, and keeps the relation to the other end, of whatever kind
-pub record GoodStretch {T : Type 0} (R : Stretch → List Packet → List Packet → T → Type 0) (s : StretchStep) (u v : List Packet) (y : T) : Type 0 where
+pub record GoodStretch {T : Type 0} (R : Stretch → List Packet → List Packet → T → Type 0) (s : Step Stretch Packet) (u v : List Packet) (y : T) : Type 0 where
   pub quiet : s.error ≡ None
   pub kept : R s.next (u ++ s.out) v y
 

@@ -1,8 +1,7 @@
 -- Proposals and answers give sound terms.
 use Rattle.std.proofs.Common.{◌≡◌, ◌≤◌, true, arith}
 use Rattle.x25_circuit.specs.declared.params.Params.{Params}
-use Rattle.x25_circuit.specs.Params.{Proposal, Terms, may_propose, may_answer, field_for, said_in, called_terms, calling_terms}
-use Rattle.x25_circuit.specs.laws.ParamsLaws.{AreTerms}
+use Rattle.x25_circuit.specs.{Params.{Proposal, Terms, may_propose, may_answer, field_for, said_in, called_terms, calling_terms}, laws.ParamsLaws.{AreTerms}}
 use Rattle.x25_handshakes.specs.laws.LawsBelow.{Laws}
 
 -- of one direction: one to seven packets unacknowledged, and at least one octet in a packet

@@ -1,21 +1,18 @@
 -- Each step in d1 tells how far this end has taken and whether it is ready, as soon as that changes; and what the other end told is heard in order.
 use Rattle.std.proofs.Common.{◌≡◌, ℕ, ◌+◌, ◌%◌, ◌<◌, List, [], ◌∷◌, ◌++◌, length, Option, Some, None, Bool, true, false, nat_lt, nat_le, if◌then◌else◌, refl, sym, ap, subst, ◌∙◌, arith}
-use Rattle.std.proofs.lemmas.List.{length_push, append-nil}
-use Rattle.std.proofs.lemmas.Bool.{cond_both}
-use Rattle.std.proofs.lemmas.Option.{none-some}
+use Rattle.std.proofs.{lemmas.List.{length_push, append-nil}, lemmas.Bool.{cond_both}, lemmas.Option.{none-some}}
 use Rattle.x25_packet.specs.declared.marks.Marks.{Marks}
-use Rattle.x25_circuit.specs.Message.{Piece, cut, wholes}
-use Rattle.x25_circuit.specs.Params.{Terms}
-use Rattle.x25_handshakes.specs.laws.Stretch.{Packet, Data, Rr, Rnr, Int, IntConf, Stretch, StretchStep, stretch_does, stretch_fails, StretchAct, Send, Pull, Ready, NotReady, Interrupt, status, sends, pulls, interrupts, stretch_acts, ack_ground, data_ground, by_ground, takes_data, takes_status, stretch_takes}
-use Rattle.x25_handshakes.proofs.StretchRelation.{ack_in, hears, heard, readied, all_readied, Told}
-use Rattle.x25_handshakes.proofs.LineLemmas.{resolved_is, heard_push}
+use Rattle.x25_circuit.specs.{Message.{Piece, cut, wholes}, Params.{Terms}}
+use Rattle.x25_handshakes.specs.laws.Stretch.{Packet, Data, Rr, Rnr, Int, IntConf, Stretch, stretch_does, stretch_fails, StretchAct, Send, Pull, Ready, NotReady, Interrupt, status, sends, pulls, interrupts, stretch_acts, ack_ground, data_ground, by_ground, takes_data, takes_status, stretch_takes}
+use Rattle.x25_handshakes.specs.laws.Handshake.{Step}
+use Rattle.x25_handshakes.proofs.{StretchRelation.{ack_in, hears, heard, readied, all_readied, Told}, LineLemmas.{resolved_is, heard_push}}
 
 readied_push : (b : Bool) (u : List Packet) (p : Packet) → all_readied b (u ++ p ∷ []) ≡ readied (all_readied b u) p
 readied_push b [] p = refl
 readied_push b (q ∷ u) p = readied_push (readied b q) u p
 
 -- what a step leaves of what both ends tell: x has gone to another stretch, and has sent these
-abbrev BothTold : StretchStep → List Packet → List Packet → Stretch → Type 0
+abbrev BothTold : Step Stretch Packet → List Packet → List Packet → Stretch → Type 0
 BothTold s u v y = Told s.next v y × Told y (u ++ s.out) s.next
 
 -- a step that sends nothing
@@ -71,7 +68,7 @@ told_pulls t x u v y (p ∷ ps) told told_back =
 told_interrupts : (x : Stretch) (u v : List Packet) (y : Stretch) (xs : List ℕ) → Told x v y → Told y u x → BothTold (interrupts x xs) u v y
 told_interrupts x u v y xs told told_back =
     let after : Stretch = record x { int_out = true; int_down = x.int_down ++ xs ∷ [] } in
-    let next : StretchStep = stretch_does after (Int xs ∷ []) in
+    let next : Step Stretch Packet = stretch_does after (Int xs ∷ []) in
     cond_both (nat_le 1 (length xs)) (if nat_le (length xs) 32 then (if x.int_out then stretch_does x [] else next) else stretch_does x []) (stretch_does x []) (λ s. BothTold s u v y)
     (λ _. cond_both (nat_le (length xs) 32) (if x.int_out then stretch_does x [] else next) (stretch_does x []) (λ s. BothTold s u v y)
     (λ _. cond_both x.int_out (stretch_does x []) next (λ s. BothTold s u v y)
@@ -98,7 +95,7 @@ tells_act t x u v y (Interrupt xs) told told_back = told_interrupts x u v y xs t
 
 -- ---- takes: of a packet that is no error
 
-no_ground : (g : Option ℕ) (x : Stretch) (good : StretchStep) (P : StretchStep → Type 0) → (by_ground g x good).error ≡ None → P good → P (by_ground g x good)
+no_ground : (g : Option ℕ) (x : Stretch) (good : Step Stretch Packet) (P : Step Stretch Packet → Type 0) → (by_ground g x good).error ≡ None → P good → P (by_ground g x good)
 no_ground None x good P quiet h = h
 no_ground (Some n) x good P quiet h = absurd (none-some n (sym quiet))
 

@@ -1,11 +1,9 @@
 -- What is kept of two circuits in p4.
 use Rattle.std.proofs.Common.{◌≡◌, List, ◌++◌, None}
-use Rattle.x25_handshakes.specs.laws.Handshake.{Mark, Inner, Request, Confirm, At}
-use Rattle.x25_circuit.specs.Params.{Terms}
+use Rattle.x25_handshakes.specs.laws.Handshake.{Mark, Inner, Request, Confirm, At, Step}
 use Rattle.x25_handshakes.specs.laws.Stretch.{Packet, Reset, ResetConf, Call, Accept, Clear, ClearConf, Stretch, fresh}
-use Rattle.x25_handshakes.specs.laws.Transfer.{TransferStep}
-use Rattle.x25_handshakes.proofs.HandshakeRelation.{Level, Handshake, Each}
-use Rattle.x25_handshakes.proofs.StretchRelation.{StretchesRelated}
+use Rattle.x25_circuit.specs.Params.{Terms}
+use Rattle.x25_handshakes.proofs.{HandshakeRelation.{Level, Handshake, Each}, StretchRelation.{StretchesRelated}}
 
 abbrev pub reset_mark : Packet → Mark
 reset_mark Reset = Request
@@ -35,7 +33,7 @@ pub record OwnTransfer {T : Type 0} (R : Stretch → List Packet → List Packet
   pub there : AllInTransfer L
   pub back : AllInTransfer K
 
-pub record GoodOwnTransfer {T : Type 0} (R : Stretch → List Packet → List Packet → T → Type 0) (y₀ : T) (s : TransferStep) (L K : List Packet) (y : At T) : Type 0 where
+pub record GoodOwnTransfer {T : Type 0} (R : Stretch → List Packet → List Packet → T → Type 0) (y₀ : T) (s : Step (At Stretch) Packet) (L K : List Packet) (y : At T) : Type 0 where
   pub quiet : s.error ≡ None
   pub kept : OwnTransfer R y₀ s.next (L ++ s.out) K y
 

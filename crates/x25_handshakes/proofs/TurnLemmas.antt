@@ -2,18 +2,13 @@
 use Rattle.std.proofs.Common.{◌≡◌, inl, inr, ℕ, List, ◌∷◌, Option, Some, None, Bool, true, false, ◌==◌, if◌then◌else◌, refl, sym, ap, subst, ◌∙◌, arith}
 use Rattle.std.proofs.lemmas.Bool.{eqb-true}
 use Rattle.x25_bits.specs.declared.role.Role.{Role}
-use Rattle.x25_handshakes.specs.laws.Handshake.{Inner, Side, Live, Left, At, state_of}
-use Rattle.x25_handshakes.specs.laws.Stretch.{Packet, Clear, ClearConf}
-use Rattle.x25_handshakes.specs.laws.Calls.{Phase, Unused, Connection, CallStep, call_takes, CallAct, call_acts, fresh_call}
-use Rattle.x25_handshakes.specs.laws.Channel.{live, lifted_call, channel_side_takes, channel_takes, ChannelAct, Within, SendsClear, clears, channel_side_acts, channel_acts}
-use Rattle.x25_handshakes.specs.laws.Layers.{LayerPacket, On, RestartConf, Channels, put, ready, layer_side_takes, LayerAct, OnChannel, SendsRestart, layer_side_acts}
-use Rattle.x25_handshakes.specs.laws.Names.{Name}
-use Rattle.x25_handshakes.specs.laws.Histories.{Lists, none, Kind, circuit_at, name_at, channel_view, IsPrefix}
-use Rattle.x25_handshakes.proofs.HandshakeLemmas.{meets}
-use Rattle.x25_handshakes.proofs.ChannelRelation.{clear_mark, Seen, connection_level, ChannelRelated}
-use Rattle.x25_handshakes.proofs.LayersRelation.{on, channels_level, LayersRelated, EndsRelated}
-use Rattle.x25_handshakes.proofs.OwnLayerLemmas.{on-front}
-use Rattle.x25_handshakes.proofs.NameLemmas.{name_eq}
+use Rattle.x25_handshakes.specs.{laws.Handshake.{Inner, Side, Live, Left, At, state_of, Step, live}, laws.Stretch.{Packet, Clear, ClearConf}}
+use Rattle.x25_handshakes.specs.laws.Calls.{Phase, Unused, Connection, call_takes, CallAct, call_acts, fresh_call}
+use Rattle.x25_handshakes.specs.laws.Channel.{lifted_call, channel_side_takes, channel_takes, ChannelAct, Within, SendsClear, clears, channel_side_acts, channel_acts}
+use Rattle.x25_handshakes.specs.laws.Layers.{LayerPacket, On, RestartConf, Channels, put, layer_side_takes, LayerAct, OnChannel, SendsRestart, layer_side_acts}
+use Rattle.x25_handshakes.specs.{laws.Names.{Name}, laws.Histories.{Lists, none, Kind, circuit_at, name_at, channel_view, IsPrefix}}
+use Rattle.x25_handshakes.proofs.{HandshakeLemmas.{meets}, ChannelRelation.{clear_mark, Seen, connection_level, ChannelRelated}}
+use Rattle.x25_handshakes.proofs.{LayersRelation.{on, channels_level, LayersRelated, EndsRelated}, OwnLayerLemmas.{on-front}, NameLemmas.{name_eq}}
 use Rattle.x25_handshakes.proofs.HistoryLemmas.{Change, Stays, MoreResets, MoreClears, Turn, Remained, Restarted, MayHandUp, alike}
 
 -- what may be handed up in a call, where the other end stands in y
@@ -43,7 +38,7 @@ change_map A B c s l c₂ s₂ l₂ f (Stays p q down (inr new)) = Stays p q dow
 change_map A B c s l c₂ s₂ l₂ f (MoreResets p q empty) = MoreResets p q empty
 change_map A B c s l c₂ s₂ l₂ f (MoreClears p empty) = MoreClears p empty
 
-lifted : {M : Type 0} (kind : Kind M) (A : List M → Type 0) (e : ℕ) (c : Connection) (s : CallStep) (n : Option ℕ) → WithinCall kind A e c s.next → ChannelChange kind A (live e c) (lifted_call e s n).next
+lifted : {M : Type 0} (kind : Kind M) (A : List M → Type 0) (e : ℕ) (c : Connection) (s : Step Connection Packet) (n : Option ℕ) → WithinCall kind A e c s.next → ChannelChange kind A (live e c) (lifted_call e s n).next
 lifted kind A e c s None h = h
 lifted kind A e c s (Some n) h = h
 
@@ -103,10 +98,10 @@ Ends-meet r x L K (Left z) h = (h.0, h.2)
 
 -- A packet of a call is taken only in the epochs of the other end, live or stopped; so what it has this end hand up, the other end handed down under the same name.
 pub taken_in_its_epoch : {M : Type 0} (kind : Kind M) → IsHandled kind → (r : Role) (rs : ℕ) (x : Channels) (k : ℕ) (c : Connection) (p : Packet) (L K : List LayerPacket)
-    (far : Side (At Channels)) (history : Name → Lists M) → clear_mark p ≡ Inner → (x k).side ≡ Live c → EndsRelated r (Live (ready rs x)) L (On k p ∷ K) far
-    → WithinCall kind (MayHandUp (name_at kind (ready rs x) k) (channel_view kind (state_of far) k history)) (x k).epoch c (call_takes r c p).next
+    (far : Side (At Channels)) (history : Name → Lists M) → clear_mark p ≡ Inner → (x k).side ≡ Live c → EndsRelated r (Live (live rs x)) L (On k p ∷ K) far
+    → WithinCall kind (MayHandUp (name_at kind (live rs x) k) (channel_view kind (state_of far) k history)) (x k).epoch c (call_takes r c p).next
 taken_in_its_epoch kind handled r rs x k c p L K far history inner side top =
-    let layers = Ends-meet r (ready rs x) L (On k p ∷ K) far top in
+    let layers = Ends-meet r (live rs x) L (On k p ∷ K) far top in
     let y : At Channels = state_of far in
     let channels = meets (channels_level r) (On k p) refl rs y.epoch x y.side layers.0 K layers.1.hand in
     let v : List Packet = on k channels.2 in
@@ -118,7 +113,7 @@ taken_in_its_epoch kind handled r rs x k c p L K far history inner side top =
     let call = meets (connection_level r) p inner (x k).epoch z.epoch c z.side u v channel.hand in
     let counted : kind.resets c ≡ kind.resets (state_of (x k).side) = ap (λ (s : Side Connection). kind.resets (state_of s)) (sym side) in
     let n : Connection = (call_takes r c p).next in
-    change_map (MayIndicate kind c (state_of z.side)) (MayHandUp (name_at kind (ready rs x) k) (channel_view kind (state_of far) k history))
+    change_map (MayIndicate kind c (state_of z.side)) (MayHandUp (name_at kind (live rs x) k) (channel_view kind (state_of far) k history))
     (x k).epoch (kind.resets c) (kind.held c) (x k).epoch (kind.resets n) (kind.held n)
-    (λ may. (name_eq (name_at kind y k) (name_at kind (ready rs x) k) (sym channels.0) (sym call.0) (may.0 ∙ counted), may.1))
+    (λ may. (name_eq (name_at kind y k) (name_at kind (live rs x) k) (sym channels.0) (sym call.0) (may.0 ∙ counted), may.1))
     (handled.takes r (x k).epoch c call.1 p call.2 (state_of z.side) inner call.3)

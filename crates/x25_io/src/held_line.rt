@@ -71,7 +71,6 @@ impl HeldLine {
     }
 
     /// Whether the part is a line by itself: none has begun, and the part isn't too long.
-    #[inline]
     pub(crate) fn is_whole(&self, part: &[u8]) -> bool
         ensures { (begun : List ℕ) → HoldsLine begun self.now → IsTrue result → (begun ≡ [])
             × (length part.now ≤ most_line) }

@@ -8,7 +8,6 @@ use std::simd::prelude::*;
 use x25_text::lowest_set;
 
 /// The place of the first line feed of sixteen octets, 16 where there is none.
-#[inline(always)]
 fn first_line_feed(octets: u8x16) -> usize
     ensures { result ≡ prefix_len (λ octet. not (is_byte 10 octet)) octets }
 {
@@ -16,7 +15,6 @@ fn first_line_feed(octets: u8x16) -> usize
 }
 
 /// The place of the first line feed. Where one stands in the first sixteen octets it is found by these alone.
-#[inline(always)]
 fn line_end(octets: &[u8]) -> Option<usize>
     ensures { IsFirstByte (is_byte 10) octets.now result }
 {
@@ -30,7 +28,6 @@ fn line_end(octets: &[u8]) -> Option<usize>
 }
 
 /// The octets before the first line feed and those behind it, where there is one.
-#[inline(always)]
 pub fn split_line(octets: &[u8]) -> Option<(&[u8], &[u8])>
     ensures parts { MatchOption result (IsOpen octets.now)
         (λ parts. IsOpen parts.0.now × (octets.now ≡ parts.0.now ++ 10 ∷ parts.1.now)) }

@@ -48,7 +48,6 @@ impl Output {
 
     /// Writes what waits, where else so many characters have no room behind it. Err: a call of the writer failed, and
     /// the writer is marked.
-    #[inline]
     pub fn make_room<W: Sink>(&mut self, count: usize, writer: &mut W) -> Result<(), Failed>
         requires few { count ≤ ROOM }
         ensures kept { OnOk result (W.is_marked writer.new ≡ W.is_marked writer.old) }
@@ -90,7 +89,6 @@ impl Output {
     }
 
     /// What waits, to be appended to.
-    #[inline]
     pub fn text(&mut self) -> &mut Text
         ensures* lends { sem 𝓛 (LendsText self.entry result) }
         ensures value { result.now ≡ self.old }

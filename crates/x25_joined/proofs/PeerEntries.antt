@@ -12,7 +12,7 @@ use Rattle.x25_layer.specs.Layer.{LayerSettings, Layer, LayerNotice, LayerAnswer
 use Rattle.x25_layer.specs.Calls as asked
 use Rattle.x25_layer.specs.Calls.{LayerRequest, LayerOutcome, Accepted, Declined, layer_outcome}
 use Rattle.x25_station.specs.Confirming.{named_by}
-use Rattle.x25_layer.specs.Rounds.{LinkView, Answered, Went, Refuses, calls}
+use Rattle.x25_layer.specs.laws.Rounds.{LinkView, Answered, Went, Refuses, calls}
 use Rattle.x25_layer.specs.laws.Transcript.{Entry}
 use Rattle.x25_layer.specs.laws.TwoLayers.{entries_asked}
 use Rattle.x25_station.specs.declared.error.StationError.{StationError}

@@ -298,12 +298,7 @@ module _ (c : Settings) (p : Program) (k : Kept c p) where
   elsewhere v (beside.Abandons e rest front full) there = absurd there
   elsewhere v (beside.Loses place) there = passes (record w { back = v.back }) (beside.Loses place) refl refl refl
   elsewhere v (beside.Damages place octets visible) there = passes (record w { back = v.back }) (beside.Damages place octets visible) refl refl refl
-  elsewhere v (beside.LosesThere place) there = passes (record w { out = v.out }) (beside.LosesThere place) refl refl refl
-  elsewhere v (beside.DamagesThere place octets visible) there = passes (record w { out = v.out }) (beside.DamagesThere place octets visible) refl refl refl
-  elsewhere v beside.Leaves there = passes (record w { peer = v.peer }) beside.Leaves refl refl refl
-  elsewhere v (beside.Sends octets q may) there = passes (record w { peer = v.peer; back = v.back }) (beside.Sends octets q may) refl refl refl
-  elsewhere v (beside.Hears e rest q front may) there = passes (record w { peer = v.peer; out = v.out; met = v.met }) (beside.Hears e rest q front may) refl refl refl
-  elsewhere v (beside.AnswersByUa e rest octets f q front is may) there = passes (record w { peer = v.peer; out = v.out; back = v.back }) (beside.AnswersByUa e rest octets f q front is may) refl refl refl
+  elsewhere v (beside.Links links happens) there = passes (record w { peer = v.peer; out = v.out; back = v.back; met = v.met }) (beside.Links links happens) refl refl refl
   elsewhere v (beside.LayerDoes deed packet octets stand may is configured reads) there =
       passes (record w { theirs = v.theirs; peer = v.peer }) (beside.LayerDoes deed packet octets stand may is configured reads) refl refl refl
   elsewhere v (beside.LayerHears packet read behind packets all stand reads waits answered read_all) there =

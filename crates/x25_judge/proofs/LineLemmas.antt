@@ -1,5 +1,5 @@
 -- The answers to lines, one after another.
-use Rattle.std.proofs.Common.{◌≡◌, ◌∙◌, ◌<◌, ◌||◌, ℕ, Bool, true, false, List, [], ◌∷◌, ◌++◌, Option, None, Result, length, codes, append_assoc, ap, sym, subst, refl}
+use Rattle.std.proofs.Common.{◌≡◌, ◌∙◌, ◌<◌, ◌||◌, ℕ, Bool, false, List, [], ◌∷◌, ◌++◌, Option, None, Result, length, append_assoc, ap, sym, subst, refl}
 use Rattle.std.specs.Prelude.{MatchResult}
 use Rattle.x25_decode.specs.Decoding.{gap_in, sent_in}
 use Rattle.x25_io.specs.HeldLine.{most_line}
@@ -41,13 +41,10 @@ module _ (loose : Bool) (j : Judge) where
   reply_counts line o found = ap (λ x. (reply_to j x).counts) found
 
   -- a line that is too long is answered as it stands
-  pub long_reply : (line : List ℕ) → most_line < length line → reply loose j line ≡ answer_to j line
-  unfolding reply
-  long_reply line long = rw (long_asked loose line long, long_carried loose line long) refl
-
-pub long_answer : (j : Judge) (line : List ℕ) → sent_in line ≡ None → gap_in line ≡ None → answer_to j line ≡ gap_of j None
-unfolding answer_to
-long_answer j line none gap = ap (sent_of j (gap_in line)) none ∙ ap (gap_of j) gap
+  pub long_reply : (line : List ℕ) → most_line < length line → sent_in line ≡ None → gap_in line ≡ None → reply loose j line ≡ gap_of j None
+  unfolding reply answer_to
+  long_reply line long none gap =
+      rw (long_asked loose line long, long_carried loose line long) (ap (sent_of j (gap_in line)) none ∙ ap (gap_of j) gap)
 
 -- the second part behind the first
 pub told_behind : {T E : Type 0} (r : Result T E) (old next : Option (List ℕ)) (waits told head more all : List ℕ) → all ≡ head ++ more

@@ -5,6 +5,8 @@ use Rattle.std.specs.List.{flat_map}
 use Rattle.x25_bits.specs.declared.role.Role.{Role}
 use Rattle.x25_bits.specs.declared.role.Role.TheVariants.{Dte, Dce}
 use Rattle.x25_judge.specs.declared.counts.Count.{Count}
+use Rattle.x25_judge.specs.declared.counts.Line.{Line}
+use Rattle.x25_judge.specs.declared.counts.Line.TheVariants.{Frames, Packets, Told}
 use Rattle.x25_judge.specs.declared.counts.Tally.{Tally}
 
 abbrev pub none : Count
@@ -43,12 +45,9 @@ tallied in_doubt is_rule is_manners t = if in_doubt then record t { doubts = gro
 
 -- ---- text
 
-abbrev pub number_text : ℕ → List ℕ
-number_text count = decimal count
-
 abbrev pub counted_text : Count → List ℕ → List ℕ
-counted_text c what = number_text c.seen ++ what ++ number_text c.judged ++ codes " judged, "
-    ++ number_text (c.seen - c.judged) ++ codes " not judged\n"
+counted_text c what = decimal c.seen ++ what ++ decimal c.judged ++ codes " judged, "
+    ++ decimal (c.seen - c.judged) ++ codes " not judged\n"
 
 abbrev pub frames_line : Role → Count → List ℕ
 frames_line Dte c = codes "# dte: " ++ counted_text c (codes " frames, ")
@@ -66,9 +65,14 @@ abbrev pub end_text : Role → Count → List Count → List ℕ
 end_text from frames packets = frames_line from frames ++ flat_map (packets_line from) packets
 
 abbrev pub doubts_text : ℕ → List ℕ
-doubts_text count = if count == 0 then [] else codes ", " ++ number_text count ++ codes " in doubt"
+doubts_text count = if count == 0 then [] else codes ", " ++ decimal count ++ codes " in doubt"
 
 -- the line on all that was told
 abbrev pub tally_line : Tally → List ℕ
-tally_line t = codes "# told: " ++ number_text t.rules ++ codes " rules, " ++ number_text t.manners
+tally_line t = codes "# told: " ++ decimal t.rules ++ codes " rules, " ++ decimal t.manners
     ++ codes " manners" ++ doubts_text t.doubts ++ codes "\n"
+
+abbrev pub line_text : Line → List ℕ
+line_text (Frames from c) = frames_line from c
+line_text (Packets from c) = packets_line from c
+line_text (Told t) = tally_line t

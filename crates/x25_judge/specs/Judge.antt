@@ -1,7 +1,7 @@
 -- What `judge` writes, as a function of what it reads (profile): for each line what `decode` writes, and the rule or
 -- manners that its frame breaks.
 use Rattle.std.specs.Prelude.{ℕ, Bool, true, false, not, ◌&&◌, ◌||◌, List, [], ◌++◌, codes, if◌then◌else◌, Option}
-use Rattle.std.specs.Prelude.{Some, None, is_some, Result, Ok, Err}
+use Rattle.std.specs.Prelude.{Some, None, is_some, Result, Ok, Err, unwrap_or}
 use Rattle.x25_bits.specs.declared.role.Role.{Role}
 use Rattle.x25_bits.specs.declared.role.Role.TheVariants.{Dte, Dce}
 use Rattle.x25_decode.specs.Decoding.{gap_in, gap_text, line_text, mark_of, n1, sent_in}
@@ -24,7 +24,6 @@ use Rattle.x25_packet.specs.Reading.{channel_in}
 use Rattle.x25_possible_links.specs.code.Steps.{is_followed, is_known, unknown}
 use Rattle.x25_packet_judge.specs.declared.book.Book.{Book}
 use Rattle.x25_packet_judge.specs.declared.book.Verdict.{Verdict}
-use Rattle.x25_judge.specs.declared.counts.Count.{Count}
 use Rattle.x25_judge.specs.declared.doubt.At.{At}
 use Rattle.x25_judge.specs.declared.doubt.At.TheVariants.{Line}
 use Rattle.x25_judge.specs.declared.doubt.Lack.{Lack}
@@ -78,14 +77,6 @@ behind Dce own other b j = record j { dte = other; dce = own; book = b }
 
 -- ---- what was judged
 
-abbrev pub frames_of : Role → Judge → Count
-frames_of Dte j = j.dte_frames
-frames_of Dce j = j.dce_frames
-
-abbrev pub packets_of : Role → Judge → List Count
-packets_of Dte j = j.dte_packets
-packets_of Dce j = j.dce_packets
-
 abbrev pub counts_frame : Role → Bool → Judge → Judge
 counts_frame Dte is_judged j = record j { dte_frames = more 0 is_judged j.dte_frames }
 counts_frame Dce is_judged j = record j { dce_frames = more 0 is_judged j.dce_frames }
@@ -94,15 +85,11 @@ abbrev pub counts_packet : Role → ℕ → Bool → Judge → Judge
 counts_packet Dte channel is_judged j = record j { dte_packets = counted channel is_judged j.dte_packets }
 counts_packet Dce channel is_judged j = record j { dce_packets = counted channel is_judged j.dce_packets }
 
-abbrev pub counts_on : Role → Option ℕ → Bool → Judge → Judge
-counts_on from (Some channel) is_judged j = counts_packet from channel is_judged j
-counts_on from None is_judged j = counts_packet from 0 is_judged j
-
 -- A packet counts where its I frame wasn't sent before. Information that is too short to name a channel counts on
 -- channel 0.
 unfoldable pub counts_carried : Role → PlainFrame → Bool → Bool → Judge → Judge
 counts_carried from (info ns nr p octets) is_again is_judged j = if is_again then j
-    else counts_on from (channel_in octets) is_judged j
+    else counts_packet from (unwrap_or (channel_in octets) 0) is_judged j
 counts_carried from frame is_again is_judged j = j
 
 -- no packet of the frame goes unjudged
@@ -149,16 +136,13 @@ abbrev pub end_of : Role → List ℕ
 end_of Dte = codes "dte: "
 end_of Dce = codes "dce: "
 
-abbrev pub noted_text : Option Note → List ℕ
-noted_text None = []
-noted_text (Some note) = codes " ~ note: " ++ note_text note
-
 abbrev pub broken_text : Role → Bool → Rule → List ℕ
 broken_text from in_doubt rule = sign_of in_doubt rule ++ end_of from ++ rule_text rule ++ doubt_text in_doubt
 
 -- what is noted is told where no rule is broken
 abbrev pub remark_text : Role → Bool → Option Rule → Option Note → List ℕ
-remark_text from in_doubt None note = noted_text note
+remark_text from in_doubt None None = []
+remark_text from in_doubt None (Some note) = codes " ~ note: " ++ note_text note
 remark_text from in_doubt (Some rule) _ = broken_text from in_doubt rule
 
 -- octets that aren't damaged and spell no frame count against their sender
@@ -270,8 +254,6 @@ answer_to j line = sent_of j (gap_in line) (sent_in line)
 -- ---- lines
 
 -- behind the last one, how much was judged, and what was told
-abbrev pub ends_text : Judge → List ℕ
-ends_text j = end_text Dte j.dte_frames j.dte_packets ++ end_text Dce j.dce_frames j.dce_packets
-
 abbrev pub counts_text : Judge → List ℕ
-counts_text j = ends_text j ++ tally_line j.told
+counts_text j = end_text Dte j.dte_frames j.dte_packets
+    ++ (end_text Dce j.dce_frames j.dce_packets ++ tally_line j.told)

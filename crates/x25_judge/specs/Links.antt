@@ -55,12 +55,10 @@ invalid_by least most nr k =
 abbrev pub invalid : Numbers → ℕ → Rule
 invalid k nr = invalid_by (k.told % 8) (k.taken % 8) nr k
 
-abbrev pub strays : Numbers → ℕ → Bool
-strays k nr = nat_lt (k.taken - k.told) (apart nr (k.told % 8))
-
 abbrev pub broken_up : Numbers → Frame → Rule
 broken_up k (Info ns nr differs) =
-    if strays k nr then invalid k nr else if differs then Differs else OverWindow 7
+    if nat_lt (k.taken - k.told) (apart nr (k.told % 8)) then invalid k nr
+    else if differs then Differs else OverWindow 7
 broken_up k (Ready nr) = invalid k nr
 broken_up k x = NotUp
 
@@ -148,9 +146,6 @@ abbrev pub with_minded : Minded → Seen → Seen
 with_minded m t =
     record t { rule = first t.rule m.rule; note = first_note t.note m.note; is_again = t.is_again || m.is_again }
 
-abbrev pub with_note : Option Note → Seen → Seen
-with_note note t = record t { note = first_note t.note note }
-
 -- ---- manners, with what is said
 
 abbrev pub by_own : Minded → Minding → Minding
@@ -196,9 +191,6 @@ abbrev pub counts_in : Stand → ℕ → Sent → ℕ → Bool → Minding → M
 counts_in (Up k) window t ns p b = by_own (minded_by window k t ns p (is_differing b.seen.rule) b.own) b
 counts_in s window t ns p b = skipped_by t.told window s ns p b
 
-abbrev pub counts : ℕ → Sent → ℕ → Bool → Minding → Minding
-counts window t ns p b = counts_in t.facts.stand window t ns p b
-
 abbrev pub is_above : Stand → ℕ → Bool
 is_above (Up k) nr = not (nr == k.told % 8)
 is_above s nr = true
@@ -217,7 +209,7 @@ abbrev pub hears : Sent → LinkSet → ℕ → Minding → Minding
 hears t to nr b = record {
   own = manners.hears (is_above t.facts.stand nr) b.own;
   other = manners.heard b.other;
-  seen = with_note (heard_note t to nr) b.seen;
+  seen = record b.seen { note = first_note b.seen.note (heard_note t to nr) };
 }
 
 abbrev pub sends_back : LinkSet → ℕ → Minding → Minding
@@ -239,7 +231,7 @@ abbrev pub accepts : Bool → Bool → Minding → Minding
 accepts f is_shown b = if is_some b.seen.rule then b else answers f is_shown (begins b)
 
 unfoldable pub minds : ℕ → Sent → LinkSet → PlainFrame → Minding → Minding
-minds window t to (info ns nr p octets) b = hears t to nr (counts window t ns p (asks p b))
+minds window t to (info ns nr p octets) b = hears t to nr (counts_in t.facts.stand window t ns p (asks p b))
 minds window t to (rr command nr pf) b = ready_minded t to command nr pf b
 minds window t to (rnr command nr pf) b = ready_minded t to command nr pf b
 minds window t to (rej command nr pf) b = reject_minded t to command nr pf b

@@ -84,11 +84,12 @@ rejects is_sure m =
     if is_sure && m.is_rejecting then breaks RejectAgain false (record m { is_rejecting = true })
     else quiet (record m { is_rejecting = true })
 
-abbrev pub farther : ℕ → Manners → ℕ
-farther far m = if nat_lt 0 m.causes && nat_lt far m.farthest then m.farthest else far
-
 abbrev pub sent_back : ℕ → Manners → Manners
-sent_back far m = record m { causes = more m.causes; reach = far; farthest = farther far m }
+sent_back far m = record m {
+  causes = more m.causes;
+  reach = far;
+  farthest = if nat_lt 0 m.causes && nat_lt far m.farthest then m.farthest else far;
+}
 
 -- ---- octets that spell no frame
 

@@ -6,7 +6,7 @@ use crate::judge::{Judge, MOST_ANSWER, Strictness};
 use std::alloc::{AllocError, Global};
 use x25_decode::{Reading, long_lines_send_nothing};
 use x25_io::{Failed, Fault, LineTaker, Output, Sink, split_loose};
-use x25_text::{MOST_OCTETS, ROOM};
+use x25_text::MOST_OCTETS;
 
 /// The octets of the last line, the answers that wait to be written, and the judge.
 ///
@@ -27,6 +27,7 @@ impl Answerer {
     ghost use Rattle.x25_io.specs.code.Written.{AppendsPrefix, Tells, TellsMore};
     ghost use Rattle.x25_judge.specs.Answerer.{reply};
     ghost use Rattle.x25_judge.specs.Judge.{answer_to, begins_at, counts_text};
+    ghost use Rattle.x25_judge.specs.code.Stream.{Replies};
 
     /// Nothing waits.
     pub(crate) fn new(
@@ -53,56 +54,21 @@ impl Answerer {
         })
     }
 
-    /// The answer to a line, `None` where it is too long; whether it counts is answered.
-    fn judge_line(&mut self, line: Option<&[u8]>) -> bool
-        requires room { length self.old.output + MOST_ANSWER ≤ ROOM }
-        ensures text { (first : List ℕ) → MatchOption line.entry (most_line < length first) (λ held. (held.now ≡ first)
-            × (length first ≤ most_line))
-            → self.new.output ≡ self.old.output ++ (answer_to self.old.judge first).text }
-        ensures next { (first : List ℕ) → MatchOption line.entry (most_line < length first) (λ held. (held.now ≡ first)
-            × (length first ≤ most_line))
-            → self.new.judge ≡ (answer_to self.old.judge first).next }
-        ensures counts { (first : List ℕ)
-            → MatchOption line.entry (most_line < length first) (λ held. (held.now ≡ first)
-            × (length first ≤ most_line))
-            → result ≡ (answer_to self.old.judge first).counts }
-        ensures before { self.new.is_faulty ≡ self.old.is_faulty }
-        ensures loose { self.new.loose ≡ self.old.loose }
-    {
-        match line {
-            Some(line) => self
-                .judge
-                .answer(line, &mut self.octets, self.output.text()),
-            None => {
-                long_lines_send_nothing();
-                self.output.text().push(b"? 60\n");
-                true
-            }
-        }
-    }
-
-    /// Answers what a line asks, `None` where it is too long.
-    fn answer_asked<W: Sink>(&mut self, line: Option<&[u8]>, writer: &mut W) -> Result<(), Failed>
+    /// Answers what a line asks.
+    fn answer_asked<W: Sink>(&mut self, line: &[u8], writer: &mut W) -> Result<(), Failed>
         ensures kept { OnOk result (W.is_marked writer.new ≡ W.is_marked writer.old) }
-        ensures tells { (old : Option (List ℕ)) (told first : List ℕ)
-            → MatchOption line.entry (most_line < length first) (λ held. (held.now ≡ first)
-            × (length first ≤ most_line))
-            → Tells old (W.contents writer.old) self.old.output told
-            → MatchResult result (λ _. Tells old (W.contents writer.new) self.new.output (told
-            ++ (answer_to self.old.judge first).text))
-            (λ _. AppendsPrefix old (W.contents writer.new) (told ++ (answer_to self.old.judge first).text)) }
-        ensures next { (first : List ℕ) → MatchOption line.entry (most_line < length first) (λ held. (held.now ≡ first)
-            × (length first ≤ most_line))
-            → OnOk result (self.new.judge ≡ (answer_to self.old.judge first).next) }
-        ensures is_faulty { (first : List ℕ)
-            → MatchOption line.entry (most_line < length first) (λ held. (held.now ≡ first)
-            × (length first ≤ most_line)) → OnOk result (self.new.is_faulty ≡ (self.old.is_faulty
-            || (answer_to self.old.judge first).counts)) }
+        ensures tells { TellsMore result (W.contents writer.old) (W.contents writer.new) self.old.output self.new.output
+            (answer_to self.old.judge line.now).text }
+        ensures next { OnOk result (self.new.judge ≡ (answer_to self.old.judge line.now).next) }
+        ensures is_faulty { OnOk result (self.new.is_faulty
+            ≡ (self.old.is_faulty || (answer_to self.old.judge line.now).counts)) }
         ensures loose { self.new.loose ≡ self.old.loose }
         ensures marked { OnErr result (W.is_marked writer.new ≡ true) }
     {
         self.output.make_room(MOST_ANSWER, writer)?;
-        let counts = self.judge_line(line);
+        let counts = self
+            .judge
+            .answer(line, &mut self.octets, self.output.text());
         self.is_faulty |= counts;
         Ok(())
     }
@@ -110,19 +76,14 @@ impl Answerer {
     /// Answers a line, and before that tells what stands beside what it asks.
     fn answer_parts<W: Sink>(&mut self, line: &[u8], writer: &mut W) -> Result<(), Failed>
         ensures kept { OnOk result (W.is_marked writer.new ≡ W.is_marked writer.old) }
-        ensures tells { length line.now ≤ most_line → TellsMore result (W.contents writer.old) (W.contents writer.new)
-            self.old.output self.new.output (reply self.old.loose self.old.judge line.now).text }
-        ensures next { length line.now ≤ most_line
-            → OnOk result (self.new.judge ≡ (reply self.old.loose self.old.judge line.now).next) }
-        ensures is_faulty { length line.now ≤ most_line → OnOk result (self.new.is_faulty ≡ (self.old.is_faulty
-            || (reply self.old.loose self.old.judge line.now).counts)) }
-        ensures loose { self.new.loose ≡ self.old.loose }
+        ensures replies { length line.now ≤ most_line → Replies result (W.contents writer.old) (W.contents writer.new)
+            self.old self.new (reply self.old.loose self.old.judge line.now) }
         ensures marked { OnErr result (W.is_marked writer.new ≡ true) }
     {
         let (carried, asked) = split_loose(self.loose, line);
         self.output.tell(carried, writer)?;
         match asked {
-            Some(line) => self.answer_asked(Some(line), writer),
+            Some(line) => self.answer_asked(line, writer),
             None => self.output.tell(b"\n", writer),
         }
     }
@@ -130,23 +91,19 @@ impl Answerer {
     /// Answers a line, `None` where it is too long.
     fn answer_line<W: Sink>(&mut self, line: Option<&[u8]>, writer: &mut W) -> Result<(), Failed>
         ensures kept { OnOk result (W.is_marked writer.new ≡ W.is_marked writer.old) }
-        ensures tells { (first : List ℕ) → MatchOption line.entry (most_line < length first) (λ held. (held.now ≡ first)
-            × (length first ≤ most_line))
-            → TellsMore result (W.contents writer.old) (W.contents writer.new) self.old.output self.new.output
-            (reply self.old.loose self.old.judge first).text }
-        ensures next { (first : List ℕ) → MatchOption line.entry (most_line < length first) (λ held. (held.now ≡ first)
-            × (length first ≤ most_line))
-            → OnOk result (self.new.judge ≡ (reply self.old.loose self.old.judge first).next) }
-        ensures is_faulty { (first : List ℕ)
-            → MatchOption line.entry (most_line < length first) (λ held. (held.now ≡ first)
-            × (length first ≤ most_line)) → OnOk result (self.new.is_faulty ≡ (self.old.is_faulty
-            || (reply self.old.loose self.old.judge first).counts)) }
-        ensures loose { self.new.loose ≡ self.old.loose }
+        ensures replies { (first : List ℕ) → MatchOption line.entry (most_line < length first) (λ held.
+            (held.now ≡ first) × (length first ≤ most_line))
+            → Replies result (W.contents writer.old) (W.contents writer.new) self.old self.new
+            (reply self.old.loose self.old.judge first) }
         ensures marked { OnErr result (W.is_marked writer.new ≡ true) }
     {
         match line {
             Some(line) => self.answer_parts(line, writer),
-            None => self.answer_asked(None, writer),
+            None => {
+                long_lines_send_nothing();
+                self.is_faulty = true;
+                self.output.tell(b"? 60\n", writer)
+            }
         }
     }
 

@@ -1,6 +1,6 @@
 //! How many frames and packets were seen, how many of them were judged, and what was told.
 ghost use Rattle.std.specs.Prelude.{◌≡◌, ◌+◌, ◌≤◌, ◌%◌, ◌++◌, [], true, ℕ, IfOk, List, OnOk, OnErr, Option};
-ghost use Rattle.std.specs.Prelude.{MatchResult, length, slice_index_or, vec_capacity};
+ghost use Rattle.std.specs.Prelude.{MatchResult, decimal, length, slice_index_or, vec_capacity};
 ghost use Rattle.std.specs.List.{flat_map};
 ghost use Rattle.x25_io.specs.code.Written.{AppendsPrefix, Tells, TellsMore};
 ghost use Rattle.x25_judge.specs.Counts as definition;
@@ -62,17 +62,6 @@ pub(crate) struct Tally {
 }
 
 impl Tally {
-    /// None.
-    pub(crate) fn none() -> Tally
-        ensures { result ≡ definition.no_tally }
-    {
-        Tally {
-            rules: 0,
-            manners: 0,
-            doubts: 0,
-        }
-    }
-
     /// One more of each that is broken, or one more that is in doubt.
     pub(crate) fn more(self, in_doubt: bool, is_rule: bool, is_manners: bool) -> Tally
         ensures { result ≡ definition.tallied in_doubt is_rule is_manners self }
@@ -158,7 +147,7 @@ const MOST_COUNT: usize = 160;
 /// Appends a number.
 fn push_count(count: u64, text: &mut Text)
     requires { length text.old + 20 ≤ ROOM }
-    ensures text { text.new ≡ text.old ++ definition.number_text count }
+    ensures text { text.new ≡ text.old ++ decimal count }
     ensures size { length text.new ≤ length text.old + 20 }
 {
     let mut buffer = Buffer::new();
@@ -208,75 +197,6 @@ fn push_packets(from: Role, count: Count, text: &mut Text)
     push_counted(count, b" packets, ", text);
 }
 
-/// Tells how many frames of an end there are.
-fn tell_frames<W: Sink>(
-    from: Role,
-    count: Count,
-    output: &mut Output,
-    writer: &mut W,
-) -> Result<(), Failed>
-    ensures kept { OnOk result (W.is_marked writer.new ≡ W.is_marked writer.old) }
-    ensures tells { TellsMore result (W.contents writer.old) (W.contents writer.new) output.old output.new
-        (definition.frames_line from count) }
-    ensures marked { OnErr result (W.is_marked writer.new ≡ true) }
-{
-    output.make_room(MOST_COUNT, writer)?;
-    push_frames(from, count, output.text());
-    Ok(())
-}
-
-/// Tells how many packets of an end there are on a channel.
-fn tell_channel<W: Sink>(
-    from: Role,
-    count: &Count,
-    output: &mut Output,
-    writer: &mut W,
-) -> Result<(), Failed>
-    ensures kept { OnOk result (W.is_marked writer.new ≡ W.is_marked writer.old) }
-    ensures tells { TellsMore result (W.contents writer.old) (W.contents writer.new) output.old output.new
-        (definition.packets_line from count.now) }
-    ensures marked { OnErr result (W.is_marked writer.new ≡ true) }
-{
-    output.make_room(MOST_COUNT, writer)?;
-    push_packets(from, *count, output.text());
-    Ok(())
-}
-
-/// How many packets on each channel there were, and how many were judged.
-fn tell_packets<W: Sink>(
-    from: Role,
-    counts: &[Count],
-    output: &mut Output,
-    writer: &mut W,
-) -> Result<(), Failed>
-    ensures kept { OnOk result (W.is_marked writer.new ≡ W.is_marked writer.old) }
-    ensures tells { TellsMore result (W.contents writer.old) (W.contents writer.new) output.old output.new
-        (flat_map (definition.packets_line from) counts.now) }
-    ensures marked { OnErr result (W.is_marked writer.new ≡ true) }
-{
-    for count in counts {
-        tell_channel(from, count, output, writer)?;
-    }
-    Ok(())
-}
-
-/// Tells how much of an end was judged.
-pub(crate) fn tell_end<W: Sink>(
-    from: Role,
-    frames: Count,
-    packets: &Counts,
-    output: &mut Output,
-    writer: &mut W,
-) -> Result<(), Failed>
-    ensures kept { OnOk result (W.is_marked writer.new ≡ W.is_marked writer.old) }
-    ensures tells { TellsMore result (W.contents writer.old) (W.contents writer.new) output.old output.new
-        (definition.end_text from frames packets.now) }
-    ensures marked { OnErr result (W.is_marked writer.new ≡ true) }
-{
-    tell_frames(from, frames, output, writer)?;
-    tell_packets(from, packets.as_slice(), output, writer)
-}
-
 /// Appends how much is in doubt, where anything is.
 fn push_doubts(count: u64, text: &mut Text)
     requires { length text.old + 40 ≤ ROOM }
@@ -305,18 +225,73 @@ fn push_tally(tally: Tally, text: &mut Text)
     text.push(b"\n");
 }
 
-/// Tells how many rules were broken, and how many manners.
-pub(crate) fn tell_tally<W: Sink>(
-    tally: Tally,
+/// A line on frames of an end, on its packets on a channel, or on what was told.
+#[derive(Clone, Copy)]
+pub(crate) enum Line {
+    Frames(Role, Count),
+    Packets(Role, Count),
+    Told(Tally),
+}
+
+/// Appends it.
+fn push_line(line: Line, text: &mut Text)
+    requires { length text.old + MOST_COUNT ≤ ROOM }
+    ensures { text.new ≡ text.old ++ definition.line_text line }
+{
+    match line {
+        Line::Frames(from, count) => push_frames(from, count, text),
+        Line::Packets(from, count) => push_packets(from, count, text),
+        Line::Told(tally) => push_tally(tally, text),
+    }
+}
+
+/// Tells a line.
+pub(crate) fn tell_line<W: Sink>(
+    line: Line,
     output: &mut Output,
     writer: &mut W,
 ) -> Result<(), Failed>
     ensures kept { OnOk result (W.is_marked writer.new ≡ W.is_marked writer.old) }
     ensures tells { TellsMore result (W.contents writer.old) (W.contents writer.new) output.old output.new
-        (definition.tally_line tally) }
+        (definition.line_text line) }
     ensures marked { OnErr result (W.is_marked writer.new ≡ true) }
 {
     output.make_room(MOST_COUNT, writer)?;
-    push_tally(tally, output.text());
+    push_line(line, output.text());
     Ok(())
+}
+
+/// How many packets on each channel there were, and how many were judged.
+fn tell_packets<W: Sink>(
+    from: Role,
+    counts: &[Count],
+    output: &mut Output,
+    writer: &mut W,
+) -> Result<(), Failed>
+    ensures kept { OnOk result (W.is_marked writer.new ≡ W.is_marked writer.old) }
+    ensures tells { TellsMore result (W.contents writer.old) (W.contents writer.new) output.old output.new
+        (flat_map (definition.packets_line from) counts.now) }
+    ensures marked { OnErr result (W.is_marked writer.new ≡ true) }
+{
+    for count in counts {
+        tell_line(Line::Packets(from, *count), output, writer)?;
+    }
+    Ok(())
+}
+
+/// Tells how much of an end was judged.
+pub(crate) fn tell_end<W: Sink>(
+    from: Role,
+    frames: Count,
+    packets: &Counts,
+    output: &mut Output,
+    writer: &mut W,
+) -> Result<(), Failed>
+    ensures kept { OnOk result (W.is_marked writer.new ≡ W.is_marked writer.old) }
+    ensures tells { TellsMore result (W.contents writer.old) (W.contents writer.new) output.old output.new
+        (definition.end_text from frames packets.now) }
+    ensures marked { OnErr result (W.is_marked writer.new ≡ true) }
+{
+    tell_line(Line::Frames(from, frames), output, writer)?;
+    tell_packets(from, packets.as_slice(), output, writer)
 }

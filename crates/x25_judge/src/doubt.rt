@@ -28,49 +28,33 @@ pub(crate) enum Lack {
     Any,
 }
 
-/// Of the far end; where SABM or DISC waits for it, its UA may have been lost.
-fn lost(far: &LinkSet) -> Lack
-    ensures { result ≡ definition.lost far.now }
-{
-    if far.has_request() {
-        Lack::Any
-    } else {
-        Lack::Lost
-    }
-}
-
 impl At {
-    /// Which frames of an end may be missing, with the places in which that may be.
+    /// Which frames of an end may be missing, with the places in which that may be. Where SABM or DISC waits for the
+    /// far end, its UA may have been lost.
     pub(crate) fn lack(self, from: Role, own: &LinkSet) -> Lack
         ensures { result ≡ definition.lack self from own.now }
     {
         match (self, from) {
             (At::Line, _) | (At::Dte, Role::Dte) | (At::Dce, Role::Dce) => Lack::Nothing,
-            (At::Dte, Role::Dce) | (At::Dce, Role::Dte) => lost(own),
+            (At::Dte, Role::Dce) | (At::Dce, Role::Dte) => if own.has_request() {
+                Lack::Any
+            } else {
+                Lack::Lost
+            },
             (At::Either, _) => Lack::Any,
         }
     }
 }
 
 impl Lack {
-    /// Whether they would explain that a rule is told.
-    fn explains(self, rule: Rule) -> bool
-        ensures { result ≡ definition.explains self rule }
-    {
-        match (self, rule) {
-            (Lack::Nothing, _) | (Lack::Any, Rule::NoFrame) => false,
-            (Lack::Any, _) | (Lack::Lost, Rule::Differs) => true,
-            (Lack::Lost, _) => rule.is_of_manners(),
-        }
-    }
-
-    /// The same, where one is told.
+    /// Whether they would explain that a rule is told, where one is.
     pub(crate) fn explains_told(self, rule: Option<Rule>) -> bool
         ensures { result ≡ definition.explains_told self rule }
     {
-        match rule {
-            Some(rule) => self.explains(rule),
-            None => false,
+        match (self, rule) {
+            (_, None) | (Lack::Nothing, Some(_)) | (Lack::Any, Some(Rule::NoFrame)) => false,
+            (Lack::Any, Some(_)) | (Lack::Lost, Some(Rule::Differs)) => true,
+            (Lack::Lost, Some(rule)) => rule.is_of_manners(),
         }
     }
 }

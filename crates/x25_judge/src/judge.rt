@@ -9,14 +9,14 @@ ghost use Rattle.x25_frame.specs.Reading.{frame_of};
 ghost use Rattle.x25_text.specs.FrameText.{frame_text, reading_text};
 ghost use Rattle.x25_text.specs.WideFrameText.{wide_frame_text, wide_reading_text};
 ghost use Rattle.x25_frame.specs.Frame.{plain};
-ghost use Rattle.x25_judge.specs.Judge.{all_told, answer_to, begins_at, behind, breaks_by, broken_text};
+ghost use Rattle.x25_judge.specs.Judge.{all_told, answer_to, begins_at, behind, broken_text};
 ghost use Rattle.x25_judge.specs.Judge.{counts_carried, doubt_text, is_settled, lack_of};
-ghost use Rattle.x25_judge.specs.Judge.{counts_frame, end_of, ends_text, forgotten, gap_of, past_gap};
+ghost use Rattle.x25_judge.specs.Judge.{counts_frame, end_of, forgotten, gap_of};
 ghost use Rattle.x25_judge.specs.Judge.{book_by, counts_by, counts_packet, counts_text, covers, missed_by, next_by};
-ghost use Rattle.x25_judge.specs.Judge.{next_missed, no_frame, read_of, noted_text, remark_missed, remark_of};
+ghost use Rattle.x25_judge.specs.Judge.{next_missed, no_frame, read_of, remark_missed, remark_of};
 ghost use Rattle.x25_judge.specs.Judge.{remark_text, seen_by, sign_of, tallies};
 
-use crate::counts::{Count, Counts, Tally, tell_end, tell_tally};
+use crate::counts::{Count, Counts, Line, Tally, tell_end, tell_line};
 use crate::doubt::{At, Lack};
 use crate::links::{End, Seen, misses, sees};
 use crate::manners::Manners;
@@ -104,14 +104,7 @@ fn covers(frame: &Frame, is_again: bool, is_judged: bool) -> bool
 {
     match frame {
         Frame::I { .. } => is_again || is_judged,
-        Frame::Rr { .. }
-        | Frame::Rnr { .. }
-        | Frame::Rej { .. }
-        | Frame::Sabm { .. }
-        | Frame::Disc { .. }
-        | Frame::Ua { .. }
-        | Frame::Dm { .. }
-        | Frame::Frmr { .. } => true,
+        _ => true,
     }
 }
 
@@ -146,13 +139,6 @@ fn push_missed(reading: Reading, from: Role, octets: &[u8], error: FrameError, t
     }
 }
 
-/// Whether a broken rule counts.
-fn breaks(strictness: Strictness, rule: Option<Rule>) -> bool
-    ensures { result ≡ breaks_by strictness rule }
-{
-    breaks_order(rule) || (strictness.manners && breaks_manners(rule))
-}
-
 /// Appends the rule that was broken, where one was, or what is noted, and a line feed; whether that counts is answered.
 fn tell(from: Role, strictness: Strictness, in_doubt: bool, remark: Remark, text: &mut Text) -> bool
     requires { length text.old + (MOST_REMARK + 1) ≤ ROOM }
@@ -161,8 +147,8 @@ fn tell(from: Role, strictness: Strictness, in_doubt: bool, remark: Remark, text
 {
     push_remark(from, in_doubt, remark, text);
     text.push(b"\n");
-    ((!in_doubt || strictness.unjudged) && breaks(strictness, remark.rule))
-        || (strictness.unjudged && !remark.is_judged)
+    let breaks = breaks_order(remark.rule) || (strictness.manners && breaks_manners(remark.rule));
+    ((!in_doubt || strictness.unjudged) && breaks) || (strictness.unjudged && !remark.is_judged)
 }
 
 /// Appends what stands before the end that broke a rule.
@@ -220,23 +206,14 @@ fn push_remark(from: Role, in_doubt: bool, remark: Remark, text: &mut Text)
     ensures text { text.new ≡ text.old ++ remark_text from in_doubt remark.rule remark.note }
     ensures size { length text.new ≤ length text.old + MOST_REMARK }
 {
-    match remark.rule {
-        Some(rule) => push_broken(from, in_doubt, rule, text),
-        None => push_noted(remark.note, text),
+    match (remark.rule, remark.note) {
+        (Some(rule), _) => push_broken(from, in_doubt, rule, text),
+        (None, Some(note)) => {
+            text.push(b" ~ note: ");
+            push_note(note, text);
+        }
+        (None, None) => {}
     }
-}
-
-/// Appends what is noted.
-fn push_noted(note: Option<Note>, text: &mut Text)
-    requires { length text.old + (MOST_NOTE + 9) ≤ ROOM }
-    ensures text { text.new ≡ text.old ++ noted_text note }
-    ensures size { length text.new ≤ length text.old + (MOST_NOTE + 9) }
-{
-    let Some(note) = note else {
-        return;
-    };
-    text.push(b" ~ note: ");
-    push_note(note, text);
 }
 
 /// Whether it is known where an end stands, and nothing of before may come to it.
@@ -282,7 +259,11 @@ impl Judge {
             dce_frames: Count::none(),
             dte_packets,
             dce_packets,
-            told: Tally::none(),
+            told: Tally {
+                rules: 0,
+                manners: 0,
+                doubts: 0,
+            },
             at,
             has_gap: false,
         })
@@ -319,10 +300,7 @@ impl Judge {
         if is_again {
             return;
         }
-        match channel(info) {
-            Some(channel) => self.count_packet(from, channel, is_judged),
-            None => self.count_packet(from, 0, is_judged),
-        }
+        self.count_packet(from, channel(info).unwrap_or(0), is_judged);
     }
 
     /// Counts what is told.
@@ -420,32 +398,19 @@ impl Judge {
             Role::Dte => text.push(b"> "),
             Role::Dce => text.push(b"< "),
         }
-        match decode(from, N1, octets) {
+        let remark = match decode(from, N1, octets) {
             Ok(frame) => {
                 push_seen(self.reading, &frame, text);
-                let remark = self.sees(from, &frame);
-                let in_doubt = lack.explains_told(remark.rule);
-                self.tally(in_doubt, remark.rule);
-                tell(from, strictness, in_doubt, remark, text)
+                self.sees(from, &frame)
             }
             Err(error) => {
                 push_missed(self.reading, from, octets, error, text);
-                let remark = self.misses(from, error);
-                let in_doubt = lack.explains_told(remark.rule);
-                self.tally(in_doubt, remark.rule);
-                tell(from, strictness, in_doubt, remark, text)
+                self.misses(from, error)
             }
-        }
-    }
-
-    /// Any number of frames may be missing.
-    fn forget(&mut self)
-        ensures { self.new ≡ past_gap self.old }
-    {
-        forget(&mut self.dte);
-        forget(&mut self.dce);
-        self.book.passes_gap();
-        self.has_gap = true;
+        };
+        let in_doubt = lack.explains_told(remark.rule);
+        self.tally(in_doubt, remark.rule);
+        tell(from, strictness, in_doubt, remark, text)
     }
 
     /// Appends the line that answers one without octets, a gap or none of a trace; whether it counts is answered.
@@ -459,17 +424,24 @@ impl Judge {
         match gap {
             None => true,
             Some(_) => {
-                self.forget();
+                forget(&mut self.dte);
+                forget(&mut self.dce);
+                self.book.passes_gap();
+                self.has_gap = true;
                 self.strictness.unjudged
             }
         }
     }
 
-    /// Tells how much was judged.
-    fn tell_ends<W: Sink>(&self, output: &mut Output, writer: &mut W) -> Result<(), Failed>
+    /// Tells how much was judged, and what was told.
+    pub(crate) fn tell_counts<W: Sink>(
+        &self,
+        output: &mut Output,
+        writer: &mut W,
+    ) -> Result<(), Failed>
         ensures kept { OnOk result (W.is_marked writer.new ≡ W.is_marked writer.old) }
         ensures tells { TellsMore result (W.contents writer.old) (W.contents writer.new) output.old output.new
-            (ends_text self.now) }
+            (counts_text self.now) }
         ensures marked { OnErr result (W.is_marked writer.new ≡ true) }
     {
         tell_end(
@@ -485,22 +457,8 @@ impl Judge {
             &self.dce_packets,
             output,
             writer,
-        )
-    }
-
-    /// Tells how much was judged, and what was told.
-    pub(crate) fn tell_counts<W: Sink>(
-        &self,
-        output: &mut Output,
-        writer: &mut W,
-    ) -> Result<(), Failed>
-        ensures kept { OnOk result (W.is_marked writer.new ≡ W.is_marked writer.old) }
-        ensures tells { TellsMore result (W.contents writer.old) (W.contents writer.new) output.old output.new
-            (counts_text self.now) }
-        ensures marked { OnErr result (W.is_marked writer.new ≡ true) }
-    {
-        self.tell_ends(output, writer)?;
-        tell_tally(self.told, output, writer)
+        )?;
+        tell_line(Line::Told(self.told), output, writer)
     }
 
     /// Appends the line that answers a line; whether it counts is answered. `octets` is overwritten.

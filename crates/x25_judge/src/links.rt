@@ -5,7 +5,7 @@ ghost use Rattle.x25_judge.specs.Held.{keeps};
 ghost use Rattle.x25_judge.specs.Links as definition;
 
 use crate::held::Held;
-use crate::manners::{Manners, Minded, Place, again, notes, place_of, quiet};
+use crate::manners::{Manners, Minded, Place, place_of, says};
 use crate::note::{Note, first_note};
 use crate::rule::{Rule, first};
 use std::alloc::{AllocError, Global};
@@ -93,15 +93,6 @@ impl Seen {
             ..self
         }
     }
-
-    fn notes(self, note: Option<Note>) -> Seen
-        ensures { result ≡ definition.with_note note self }
-    {
-        Seen {
-            note: first_note(self.note, note),
-            ..self
-        }
-    }
 }
 
 /// What the rules of a link look at of a frame.
@@ -142,19 +133,13 @@ fn invalid(k: Numbers, nr: u8) -> Rule
     }
 }
 
-/// Whether an N(R) acknowledges more than it took.
-fn strays(k: Numbers, nr: u8) -> bool
-    ensures { result ≡ definition.strays k nr }
-{
-    let ahead = u64::from(apart(nr, (k.told % 8) as u8));
-    k.taken.saturating_sub(k.told) < ahead
-}
-
 fn broken_up(k: Numbers, frame: Shown) -> Rule
     ensures { result ≡ definition.broken_up k frame }
 {
     match frame {
-        Shown::Info { nr, differs, .. } => if strays(k, nr) {
+        Shown::Info { nr, differs, .. } => if k.taken.saturating_sub(k.told)
+            < u64::from(apart(nr, (k.told % 8) as u8))
+        {
             invalid(k, nr)
         } else if differs {
             Rule::Differs
@@ -344,12 +329,6 @@ fn is_above(stand: Stand, nr: u8) -> bool
     }
 }
 
-fn is_differing(rule: Option<Rule>) -> bool
-    ensures { result ≡ definition.is_differing rule }
-{
-    matches!(rule, Some(Rule::Differs))
-}
-
 /// An I frame with numbers of an end in a session; whether its number is told to have other octets.
 fn minded(
     window: u8,
@@ -363,14 +342,14 @@ fn minded(
     ensures { result ≡ definition.minded_by window k sent.now ns p differs manners }
 {
     match sent.told {
-        Told::Broken(_) => again(sent.is_same || differs, manners),
+        Told::Broken(_) => says(None, None, sent.is_same || differs, manners),
         Told::Skips(_) => manners.sends(window, place_of(k), ns, p, true),
         Told::Nothing => if sent.facts.is_counted {
             manners.sends(window, place_of(k), ns, p, false)
         } else if ns as u64 == k.sent % 8 {
-            quiet(manners)
+            says(None, None, false, manners)
         } else {
-            notes(Note::SentBehindDamage, sent.is_same, manners)
+            says(None, Some(Note::SentBehindDamage), sent.is_same, manners)
         },
     }
 }
@@ -381,16 +360,6 @@ impl Minding {
     {
         Minding {
             own: minded.manners,
-            seen: self.seen.with(minded),
-            ..self
-        }
-    }
-
-    fn by_other(self, minded: Minded) -> Minding
-        ensures { result ≡ definition.by_other minded self }
-    {
-        Minding {
-            other: minded.manners,
             seen: self.seen.with(minded),
             ..self
         }
@@ -414,7 +383,12 @@ impl Minding {
         ensures { result ≡ definition.answers f is_shown self }
     {
         if f {
-            self.by_other(self.other.answered(is_shown))
+            let minded = self.other.answered(is_shown);
+            Minding {
+                other: minded.manners,
+                seen: self.seen.with(minded),
+                ..self
+            }
         } else {
             self
         }
@@ -453,7 +427,7 @@ impl Minding {
 
     /// The N(S) of an I frame.
     fn counts(self, window: u8, sent: &Sent, ns: u8, p: bool) -> Minding
-        ensures { result ≡ definition.counts window sent.now ns p self }
+        ensures { result ≡ definition.counts_in sent.now.facts.stand window sent.now ns p self }
     {
         match sent.facts.stand {
             Stand::Up(k) => self.by_own(minded(
@@ -462,7 +436,7 @@ impl Minding {
                 sent,
                 ns,
                 p,
-                is_differing(self.seen.rule),
+                matches!(self.seen.rule, Some(Rule::Differs)),
                 self.own,
             )),
             stand => self.skips(window, stand, sent.told, ns, p),
@@ -481,7 +455,10 @@ impl Minding {
         Minding {
             own: self.own.hears(is_above(sent.facts.stand, nr)),
             other: self.other.heard(),
-            seen: self.seen.notes(note),
+            seen: Seen {
+                note: first_note(self.seen.note, note),
+                ..self.seen
+            },
         }
     }
 
@@ -509,19 +486,14 @@ impl Minding {
         }
     }
 
-    fn rejects(self, is_sure: bool) -> Minding
-        ensures { result ≡ definition.rejects is_sure self }
-    {
-        self.by_own(self.own.rejects(is_sure))
-    }
-
     /// REJ.
     fn reject(self, sent: &Sent, to: &LinkSet, command: bool, nr: u8, pf: bool) -> Minding
         ensures { result ≡ definition.reject_minded sent.now to.now command nr pf self }
     {
-        self.bits(command, pf, sent.facts.is_known)
-            .hears(sent, to, nr)
-            .rejects(sent.facts.is_sure)
+        let both = self
+            .bits(command, pf, sent.facts.is_known)
+            .hears(sent, to, nr);
+        both.by_own(both.own.rejects(sent.facts.is_sure))
             .sends_back(to, nr)
     }
 

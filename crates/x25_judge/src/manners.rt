@@ -58,42 +58,19 @@ pub(crate) fn place_of(k: Numbers) -> Place
     }
 }
 
-/// Nothing is said of a frame, but whether it was sent before.
-pub(crate) fn again(is_again: bool, manners: Manners) -> Minded
-    ensures { result ≡ definition.again is_again manners }
+/// What is told and noted of a frame.
+pub(crate) fn says(
+    rule: Option<Rule>,
+    note: Option<Note>,
+    is_again: bool,
+    manners: Manners,
+) -> Minded
+    ensures { result ≡ record { manners = manners; rule = rule; note = note; is_again = is_again } }
 {
     Minded {
         manners,
-        rule: None,
-        note: None,
-        is_again,
-    }
-}
-
-pub(crate) fn quiet(manners: Manners) -> Minded
-    ensures { result ≡ definition.quiet manners }
-{
-    again(false, manners)
-}
-
-fn breaks(rule: Rule, is_again: bool, manners: Manners) -> Minded
-    ensures { result ≡ definition.breaks rule is_again manners }
-{
-    Minded {
-        manners,
-        rule: Some(rule),
-        note: None,
-        is_again,
-    }
-}
-
-pub(crate) fn notes(note: Note, is_again: bool, manners: Manners) -> Minded
-    ensures { result ≡ definition.notes note is_again manners }
-{
-    Minded {
-        manners,
-        rule: None,
-        note: Some(note),
+        rule,
+        note,
         is_again,
     }
 }
@@ -154,9 +131,9 @@ impl Manners {
         ensures { result ≡ definition.asks self }
     {
         if self.is_polling {
-            notes(Note::PollAgain, false, self.asks_on(true))
+            says(None, Some(Note::PollAgain), false, self.asks_on(true))
         } else {
-            quiet(self.asks_on(true))
+            says(None, None, false, self.asks_on(true))
         }
     }
 
@@ -170,11 +147,11 @@ impl Manners {
             ..self
         };
         if self.polls != 0 {
-            quiet(next)
+            says(None, None, false, next)
         } else if is_shown {
-            breaks(Rule::NoPoll, false, next)
+            says(Some(Rule::NoPoll), None, false, next)
         } else {
-            notes(Note::PollUnseen, false, next)
+            says(None, Some(Note::PollUnseen), false, next)
         }
     }
 
@@ -209,9 +186,9 @@ impl Manners {
             ..self
         };
         if is_sure && self.is_rejecting {
-            breaks(Rule::RejectAgain, false, next)
+            says(Some(Rule::RejectAgain), None, false, next)
         } else {
-            quiet(next)
+            says(None, None, false, next)
         }
     }
 
@@ -312,9 +289,14 @@ impl Manners {
         ensures { result ≡ definition.sent_new window at self }
     {
         if window < 7 && window <= at.pending {
-            breaks(Rule::OverWindow { window }, false, self.grown(1))
+            says(
+                Some(Rule::OverWindow { window }),
+                None,
+                false,
+                self.grown(1),
+            )
         } else {
-            quiet(self.grown(1))
+            says(None, None, false, self.grown(1))
         }
     }
 
@@ -323,13 +305,23 @@ impl Manners {
         ensures { result ≡ definition.sent_again at next is_poll back self }
     {
         if self.goes_on(at, back) {
-            notes(Note::SentAgain, true, self.repeated(back))
+            says(None, Some(Note::SentAgain), true, self.repeated(back))
         } else if self.may_go_back(at, is_poll, back) {
-            notes(Note::SentAgain, true, self.gone_back(is_poll, back))
+            says(
+                None,
+                Some(Note::SentAgain),
+                true,
+                self.gone_back(is_poll, back),
+            )
         } else if back < self.behind {
-            breaks(Rule::Skips { next }, true, self.repeated(back))
+            says(Some(Rule::Skips { next }), None, true, self.repeated(back))
         } else {
-            breaks(Rule::Repeats { next }, true, self.repeated(back))
+            says(
+                Some(Rule::Repeats { next }),
+                None,
+                true,
+                self.repeated(back),
+            )
         }
     }
 
@@ -352,8 +344,9 @@ impl Manners {
         let back = apart(at.next, number);
         let next = apart(at.next, self.behind);
         if skips {
-            breaks(
-                Rule::Skips { next },
+            says(
+                Some(Rule::Skips { next }),
+                None,
                 false,
                 self.grown(9u8.saturating_sub(back)),
             )
@@ -362,7 +355,7 @@ impl Manners {
         } else if self.behind == 0 || at.pending == 0 {
             self.sent_new(window, at)
         } else {
-            breaks(Rule::Skips { next }, false, self.grown(1))
+            says(Some(Rule::Skips { next }), None, false, self.grown(1))
         }
     }
 }

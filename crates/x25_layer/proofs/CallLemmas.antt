@@ -1,9 +1,9 @@
 -- The calls of the user: the circuit of a channel is asked, and its packet goes on that channel.
-use Rattle.std.proofs.Common.{◌≡◌, ◌≢◌, ℕ, suc, ◌-◌, ◌<◌, ◌≤◌, List, [], length, Option, Some, None, Bool, true, false, nat_le, ◌==◌, if◌then◌else◌, get_or, set, refl, sym, ap, subst, ◌∙◌, arith, Result, Ok, Err, IsErrAnd}
+use Rattle.std.proofs.Common.{◌≡◌, ◌≢◌, ◌⊎◌, inl, inr, OnOk, ℕ, suc, ◌-◌, ◌<◌, ◌≤◌, List, [], length, Option, Some, None, Bool, true, false, nat_le, ◌==◌, if◌then◌else◌, get_or, set, refl, sym, ap, subst, ◌∙◌, arith, Result, Ok, Err, IsErrAnd}
 use Rattle.std.proofs.Math.ListN.{length-set}
 use Rattle.std.proofs.lemmas.Bool.{leb-true, and_parts}
 use Rattle.x25_packet.specs.declared.packet.Packet.{Packet}
-use Rattle.x25_packet.specs.Packet.{PlainPacket}
+use Rattle.x25_packet.specs.Packet.{PlainPacket, restart}
 use Rattle.x25_circuit.specs.Params.{Proposal}
 use Rattle.x25_circuit.specs.declared.circuit.Circuit as circuit_code
 use Rattle.x25_circuit.specs.declared.error.CircuitError.{CircuitError}
@@ -11,24 +11,22 @@ use Rattle.x25_circuit.specs.declared.error.CircuitError.TheVariants as circuit_
 use Rattle.x25_circuit.specs.Circuit.{Circuit}
 use Rattle.x25_circuit.specs.Calling.{Outcome, Done, Refused, Request, Calls, Accepts, Clears, Sends, Interrupts, Resets, SaysReady, SaysNotReady, outcome}
 use Rattle.x25_circuit.specs.code.Replies.{plain_sent}
-use Rattle.x25_circuit.specs.Request.{refusal_of, asks_memory, may_ask_memory, AnswersRequest}
+use Rattle.x25_circuit.specs.Request.{refusal_of, asks_memory, may_ask_memory, AnswersRequest, MayPut}
 use Rattle.x25_circuit.specs.code.FitsCircuit.{FitsCircuit}
 use Rattle.x25_layer.specs.Ranges.{is_number}
 use Rattle.x25_layer.specs.declared.layer.Layer as code
 use Rattle.x25_layer.specs.declared.error.LayerError.{LayerError}
 use Rattle.x25_layer.specs.declared.error.LayerError.TheVariants as error
 use Rattle.x25_layer.specs.Error.{of_circuit}
-use Rattle.x25_layer.specs.Layer.{LayerSettings, Layer, is_channel, put_at, packet_on, is_ready}
-use Rattle.x25_layer.specs.Calls.{Asks, Dials, LayerOutcome, Accepted, Declined, free_channel, puts_at_once, where_room, if_at_once, dialled, outcome_in, layer_outcome, outcome_on}
-use Rattle.x25_layer.specs.Rounds.{LinkView, Answered, Went, Refuses, went, calls}
-use Rattle.x25_layer.specs.Rounds.{refusal_of as answered_refusal}
+use Rattle.x25_layer.specs.Layer.{LayerSettings, Layer, is_channel, put_at, packet_on, is_ready, restarting_from}
+use Rattle.x25_layer.specs.Calls.{LayerRequest, Asks, Dials, Restarts, LayerOutcome, Accepted, Declined, free_channel, puts_at_once, where_room, if_at_once, dialled, restarted_for, outcome_in, layer_outcome, outcome_on, asked_where, declined_for}
+use Rattle.x25_circuit.specs.Cause.{may_restart_for}
 use Rattle.x25_layer.specs.code.FitsLayer.{FitsCircuits, FitsLayer}
-use Rattle.x25_link.specs.declared.ordered_link.OrderedLink.{Ghosts}
-use Rattle.x25_layer.specs.code.OverLink.{LayerGives, LinkGives, MayLack, Does, view_of}
-use Rattle.x25_layer.specs.Asking.{with_circuit, AsksCircuit, error_without_memory, refusal_on}
+use Rattle.x25_layer.specs.code.Answering.{spelled, Gives, Does, Answers}
+use Rattle.x25_layer.specs.declared.link_state.LinkState.{LinkState}
+use Rattle.x25_layer.specs.Asking.{with_circuit, AsksCircuit, refusal_on}
 use Rattle.x25_layer.proofs.FitLemmas.{read_at}
 use Rattle.x25_layer.proofs.PullLemmas.{fits_put, fits_same}
-use Rattle.x25_layer.proofs.SettleLemmas.{not_same}
 
 pub configured : (n h : ℕ) → is_number n h ≡ true → (1 ≤ h) × (h ≤ n)
 configured n h is = (leb-true 1 h (and_parts (nat_le 1 h) (nat_le h n) is).0, leb-true h n (and_parts (nat_le 1 h) (nat_le h n) is).1)
@@ -141,18 +139,42 @@ is_accepted c v l h packet (Done next p) ready a = record {
 }
 is_accepted c v l h packet (Refused e) ready a = cc
 
--- a refusal of the circuit is one of the layer, as it is handed on
-pub declined_layer : {T : Type 0} (r : Result T LayerError) (c : LayerSettings) (view : LinkView) (v v₂ : code.Layer) (l : Layer) (h : ℕ) (e : LayerError) (o : Outcome) → AsksCircuit c v (Err e) l h o → IsErrAnd r (λ f. f ≡ e)
-    → LayerGives c v₂ r (went view c (outcome_on l.restarts l.circuits h o))
-declined_layer (Ok x) c view v v₂ l h e o a is = absurd is
-declined_layer (Err f) c view v v₂ l h e (Done next p) a is = is ∙ a
-declined_layer (Err f) c view v v₂ l h e (Refused d) a is = cc
+-- what an accepted call of the circuit leaves, with its packet to be put
+pub accepted : (T : Type 0) (u : T) (c : LayerSettings) (v v₂ : code.Layer) (l : Layer) (h : ℕ) (packet : Option Packet) (o : Outcome) → IsAccepted c v l h packet o → IsLike v v₂ → v₂.circuits.items ≡ v.circuits.items
+    → v₂.sheet ≡ spelled (packet_on h (plain_sent packet)) → Gives c v₂ (Ok u) (outcome_on l.restarts l.circuits h o)
+accepted T u c v v₂ l h packet o a like items put =
+    subst (λ (r : LayerOutcome). Gives c v₂ (Ok u) r) (sym a.accepted) (layer_same c v v₂ a.next like items a.fits, put)
 
-pub declined_link : {T X : Type 0} (r : Result T LayerError) (fits : X → Type 0) (after : X → List ℕ → X) (x : X) (c : LayerSettings) (view : LinkView) (v : code.Layer) (l : Layer) (h : ℕ) (e : LayerError) (o : Outcome) → AsksCircuit c v (Err e) l h o
-    → IsErrAnd r (λ f. f ≡ e) → LinkGives fits after x r (went view c (outcome_on l.restarts l.circuits h o))
-declined_link (Ok y) fits after x c view v l h e o a is = absurd is
-declined_link (Err f) fits after x c view v l h e (Done next p) a is = tt
-declined_link (Err f) fits after x c view v l h e (Refused d) a is = cc
+-- a message puts none at once
+pub put_later : (request : Request) (h : ℕ) (packet : Option Packet) (octets : List ℕ) → MayPut request packet → octets ≡ spelled (packet_on h (plain_sent packet)) → puts_at_once request ≡ false → octets ≡ []
+put_later (Sends marks user) h packet octets none put later = put ∙ ap (λ (o : Option Packet). spelled (packet_on h (plain_sent o))) none
+put_later (Calls called calling user proposal) h packet octets may put later = absurd (cc)
+put_later (Accepts answer) h packet octets may put later = absurd (cc)
+put_later (Clears cause diagnostic) h packet octets may put later = absurd (cc)
+put_later (Interrupts user) h packet octets may put later = absurd (cc)
+put_later (Resets cause diagnostic) h packet octets may put later = absurd (cc)
+put_later SaysReady h packet octets may put later = absurd (cc)
+put_later SaysNotReady h packet octets may put later = absurd (cc)
+
+-- so that a link that is full only for what is put at once takes what is to be put
+pub takes_it : (b full : Bool) (octets : List ℕ) → (b ≡ true → full ≡ false) → (b ≡ false → octets ≡ []) → (octets ≡ []) ⊎ (full ≡ false)
+takes_it true full octets free later = inr (free refl)
+takes_it false full octets free later = inl (later refl)
+
+pub on_ok : {T E : Type 0} (r : Result T E) {P : Type 0} → P → OnOk r P
+on_ok (Ok x) p = p
+on_ok (Err e) p = tt
+
+pub on_ok_then : {T E : Type 0} (r : Result T E) {P Q : Type 0} → (P → Q) → OnOk r P → OnOk r Q
+on_ok_then (Ok x) by p = by p
+on_ok_then (Err e) by p = tt
+
+-- a refusal of the circuit is one of the layer, as it is handed on
+pub declined : {T : Type 0} (r : Result T LayerError) (c : LayerSettings) (v v₂ : code.Layer) (l : Layer) (h : ℕ) (e : LayerError) (o : Outcome) → AsksCircuit c v (Err e) l h o → IsErrAnd r (λ f. f ≡ e)
+    → Gives c v₂ r (outcome_on l.restarts l.circuits h o)
+declined (Ok x) c v v₂ l h e o a is = absurd is
+declined (Err f) c v v₂ l h e (Done next p) a is = is ∙ a
+declined (Err f) c v v₂ l h e (Refused d) a is = cc
 
 -- a refusal of the circuit, as one of the layer
 pub refused_on : (o : Outcome) (e : CircuitError) → Some e ≡ refusal_of o → Some (error.Circuit e) ≡ refusal_on o
@@ -164,63 +186,68 @@ accepted_on (Done next p) is = refl
 accepted_on (Refused f) is = cc
 
 -- what the circuit refuses the layer does
-pub refusal_goes : (view : LinkView) (c : LayerSettings) (restarts : ℕ) (circuits : ℕ → Circuit) (h : ℕ) (o : Outcome) → refusal_on o ≡ answered_refusal (went view c (outcome_on restarts circuits h o))
-refusal_goes view c restarts circuits h (Done next p) = refl
-refusal_goes view c restarts circuits h (Refused e) = refl
-
-pub short_layer : (T : Type 0) (c : LayerSettings) (view : LinkView) (v : code.Layer) (l : Layer) (h : ℕ) (e : LayerError) (o : Outcome) → e ≡ error_without_memory o → LayerGives {T = T} c v (Err e) (went view c (outcome_on l.restarts l.circuits h o))
-short_layer t c view v l h e (Done next p) is = is
-short_layer t c view v l h e (Refused f) is = ap (λ (x : LayerError). Err x) is
-
-pub short_link : (T : Type 0) {X : Type 0} (fits : X → Type 0) (after : X → List ℕ → X) (x : X) (c : LayerSettings) (view : LinkView) (l : Layer) (h : ℕ) (e : LayerError) (o : Outcome) → e ≡ error_without_memory o
-    → LinkGives {T = T} fits after x (Err e) (went view c (outcome_on l.restarts l.circuits h o))
-short_link t fits after x c view l h e (Done next p) is = tt
-short_link t fits after x c view l h e (Refused f) is = ap (λ (x : LayerError). Err x) is
+pub refusal_goes : (restarts : ℕ) (circuits : ℕ → Circuit) (h : ℕ) (o : Outcome) → refusal_on o ≡ declined_for (outcome_on restarts circuits h o)
+refusal_goes restarts circuits h (Done next p) = refl
+refusal_goes restarts circuits h (Refused e) = refl
 
 -- ---- a call with a channel
 
 -- where nothing of the link or layer refuses it, the circuit of the channel is asked
-pub asked_goes : (view : LinkView) (c : LayerSettings) (l : Layer) (h : ℕ) (request : Request) → view.is_up ≡ true → l.restarting ≡ false → is_channel c.channels h ≡ true → (puts_at_once request ≡ true → view.waits [] ≡ 256 → ⊥)
-    → calls view c l (Asks h request) ≡ went view c (outcome_on l.restarts l.circuits h (outcome c.circuit (l.circuits h) request))
-asked_goes view c l h request up ready is free =
-    ap (λ (b : Bool). if b then went view c (layer_outcome c full l (Asks h request)) else Refuses error.NotUp) up
-    ∙ ap (λ (b : Bool). went view c (outcome_in c full b l.restarts l.circuits (Asks h request))) ready
-    ∙ ap (λ (b : Bool). went view c (if b then if_at_once (puts_at_once request) full good else Declined error.NoSuchChannel)) is
+pub asked_goes : (c : LayerSettings) (is_up is_full : Bool) (l : Layer) (h : ℕ) (request : Request) → is_up ≡ true → l.restarting ≡ false → is_channel c.channels h ≡ true → (puts_at_once request ≡ true → is_full ≡ false)
+    → asked_where c is_up is_full l (Asks h request) ≡ outcome_on l.restarts l.circuits h (outcome c.circuit (l.circuits h) request)
+asked_goes c is_up is_full l h request up ready is free =
+    ap (λ (b : Bool). if b then layer_outcome c is_full l (Asks h request) else Declined error.NotUp) up
+    ∙ ap (λ (b : Bool). outcome_in c is_full b l.restarts l.circuits (Asks h request)) ready
+    ∙ ap (λ (b : Bool). if b then if_at_once (puts_at_once request) is_full good else Declined error.NoSuchChannel) is
     ∙ at_once (puts_at_once request) refl
   where
-    full : Bool
-    full = view.waits [] == 256
-
     good : LayerOutcome
     good = outcome_on l.restarts l.circuits h (outcome c.circuit (l.circuits h) request)
 
-    at_once : (b : Bool) → puts_at_once request ≡ b → went view c (if_at_once b full good) ≡ went view c good
-    at_once true puts = ap (λ (b : Bool). went view c (where_room b good)) (not_same (view.waits []) 256 (free puts))
+    at_once : (b : Bool) → puts_at_once request ≡ b → if_at_once b is_full good ≡ good
+    at_once true puts = ap (λ (b : Bool). where_room b good) (free puts)
     at_once false puts = refl
 
 -- ---- a new call
 
 -- where nothing of the link or layer refuses it, the circuit of the free channel is asked
-pub dial_goes : (view : LinkView) (c : LayerSettings) (l : Layer) (called calling user : List ℕ) (proposal : Proposal) (h : ℕ) → view.is_up ≡ true → l.restarting ≡ false → free_channel c.circuit.role l.circuits c.channels ≡ Some h
-    → (view.waits [] ≡ 256 → ⊥) → calls view c l (Dials called calling user proposal) ≡ went view c (outcome_on l.restarts l.circuits h (outcome c.circuit (l.circuits h) (Calls called calling user proposal)))
-dial_goes view c l called calling user proposal h up ready is free =
-    let f : Bool = view.waits [] == 256 in
-    ap (λ (b : Bool). if b then went view c (layer_outcome c f l (Dials called calling user proposal)) else Refuses error.NotUp) up
-    ∙ ap (λ (b : Bool). went view c (outcome_in c f b l.restarts l.circuits (Dials called calling user proposal))) ready
-    ∙ ap (λ (o : Option ℕ). went view c (dialled c f l.restarts l.circuits o called calling user proposal)) is
-    ∙ ap (λ (b : Bool). went view c (where_room b (outcome_on l.restarts l.circuits h (outcome c.circuit (l.circuits h) (Calls called calling user proposal))))) (not_same (view.waits []) 256 free)
+pub dial_goes : (c : LayerSettings) (is_up is_full : Bool) (l : Layer) (called calling user : List ℕ) (proposal : Proposal) (h : ℕ) → is_up ≡ true → l.restarting ≡ false → free_channel c.circuit.role l.circuits c.channels ≡ Some h
+    → is_full ≡ false → asked_where c is_up is_full l (Dials called calling user proposal) ≡ outcome_on l.restarts l.circuits h (outcome c.circuit (l.circuits h) (Calls called calling user proposal))
+dial_goes c is_up is_full l called calling user proposal h up ready is free =
+    ap (λ (b : Bool). if b then layer_outcome c is_full l (Dials called calling user proposal) else Declined error.NotUp) up
+    ∙ ap (λ (b : Bool). outcome_in c is_full b l.restarts l.circuits (Dials called calling user proposal)) ready
+    ∙ ap (λ (o : Option ℕ). dialled c is_full l.restarts l.circuits o called calling user proposal) is
+    ∙ ap (λ (b : Bool). where_room b (outcome_on l.restarts l.circuits h (outcome c.circuit (l.circuits h) (Calls called calling user proposal)))) free
+
+-- ---- a restart
+
+pub restart_goes : (c : LayerSettings) (is_up is_full : Bool) (l : Layer) (cause diagnostic : ℕ) (b : Bool) → is_up ≡ true → l.restarting ≡ false → is_full ≡ false → may_restart_for c.circuit.role cause ≡ b
+    → asked_where c is_up is_full l (Restarts cause diagnostic)
+    ≡ (if b then Accepted (restarting_from l.restarts l.circuits) (Some (restart cause diagnostic)) else Declined (error.Circuit circuit_error.BadParameter))
+restart_goes c is_up is_full l cause diagnostic b up ready free given =
+    ap (λ (a : Bool). if a then layer_outcome c is_full l (Restarts cause diagnostic) else Declined error.NotUp) up
+    ∙ ap (λ (a : Bool). outcome_in c is_full a l.restarts l.circuits (Restarts cause diagnostic)) ready
+    ∙ ap (λ (a : Bool). where_room a (restarted_for c.circuit.role l.restarts l.circuits cause diagnostic)) free
+    ∙ ap (λ (a : Bool). if a then Accepted (restarting_from l.restarts l.circuits) (Some (restart cause diagnostic)) else Declined (error.Circuit circuit_error.BadParameter)) given
+
+pub restart_full : (c : LayerSettings) (is_up is_full : Bool) (l : Layer) (cause diagnostic : ℕ) → is_up ≡ true → l.restarting ≡ false → is_full ≡ true → asked_where c is_up is_full l (Restarts cause diagnostic) ≡ Declined error.QueueFull
+restart_full c is_up is_full l cause diagnostic up ready full =
+    ap (λ (a : Bool). if a then layer_outcome c is_full l (Restarts cause diagnostic) else Declined error.NotUp) up
+    ∙ ap (λ (a : Bool). outcome_in c is_full a l.restarts l.circuits (Restarts cause diagnostic)) ready
+    ∙ ap (λ (a : Bool). where_room a (restarted_for c.circuit.role l.restarts l.circuits cause diagnostic)) full
 
 pub err_is : {T : Type 0} (e f : LayerError) → ◌≡◌ {A = Result T LayerError} (Err e) (Err f) → e ≡ f
 err_is e f same = cc
 
 -- a refusal answers no channel either
-pub dial_err_layer : (c : LayerSettings) (v : code.Layer) (e : LayerError) (a : Answered) → LayerGives {T = Unit {0}} c v (Err e) a → LayerGives {T = ℕ} c v (Err e) a
-dial_err_layer c v e (Went s) g = g
-dial_err_layer c v e (Refuses f) g = ap (λ (x : LayerError). Err x) (err_is e f g)
+pub dial_err : (c : LayerSettings) (v : code.Layer) (e : LayerError) (o : LayerOutcome) → Gives {T = Unit {0}} c v (Err e) o → Gives {T = ℕ} c v (Err e) o
+dial_err c v e (Accepted next packet) g = g
+dial_err c v e (Declined f) g = ap (λ (x : LayerError). Err x) (err_is e f g)
 
-pub dial_err_link : {X : Type 0} (fits : X → Type 0) (after : X → List ℕ → X) (x : X) (e : LayerError) (a : Answered) → LinkGives {T = Unit {0}} fits after x (Err e) a → LinkGives {T = ℕ} fits after x (Err e) a
-dial_err_link fits after x e (Went s) g = g
-dial_err_link fits after x e (Refuses f) g = ap (λ (x : LayerError). Err x) (err_is e f g)
+-- nor an acceptance what it is
+pub dial_ok : (c : LayerSettings) (v : code.Layer) (h : ℕ) (o : LayerOutcome) → Gives {T = Unit {0}} c v (Ok tt) o → Gives {T = ℕ} c v (Ok h) o
+dial_ok c v h (Accepted next packet) g = g
+dial_ok c v h (Declined f) g = cc
 
 -- an error that is handed on
 pub same_err : {T : Type 0} (r : Result T LayerError) (e f : LayerError) → IsErrAnd r (λ x. x ≡ e) → r ≡ Err f → e ≡ f
@@ -228,14 +255,6 @@ same_err (Ok x) e f is same = absurd is
 same_err (Err g) e f is same = sym is ∙ err_is g f same
 
 -- ---- where memory may be missing
-
-pub may_lack : (b : Bool) (count n : ℕ) → n < count → MayLack b count n
-may_lack true count n lacks = tt
-may_lack false count n lacks = lacks
-
-pub may_ask : (b : Bool) (count n : ℕ) → b ≡ true → MayLack b count n
-may_ask true count n asks = tt
-may_ask false count n asks = absurd (cc)
 
 -- what one circuit asks memory for
 pub asks_some : (v : circuit_code.Circuit) (request : Request) → asks_memory v request ≡ true → may_ask_memory request ≡ true
@@ -250,13 +269,15 @@ asks_some v SaysNotReady asks = absurd (cc)
 
 -- ---- a refusal that is known before anything is done
 
-pub refuses_all : {D : Type 0} (T : Type 0) (g : Ghosts D) (v : code.Layer) (below : D) (e : LayerError) (count : ℕ) (copied : Bool) (said : LinkView → LayerSettings → Layer → Answered) → e ≢ error.NoMemory
-    → ((c : LayerSettings) (l : Layer) (x : g.State) → FitsLayer c v l → g.fits below x → said (view_of g.up_in g.waits_in g.after_put x) c l ≡ Refuses e) → Does {T = T} g v below v below (Err e) count copied said
-refuses_all T g v below e count copied said named is = record {
-  layer = λ c l x fits link. subst (λ (a : Answered). LayerGives {T = T} c v (Err e) a) (sym (is c l x fits link)) refl;
-  link = λ c l x fits link. subst (λ (a : Answered). LinkGives {T = T} (g.fits below) g.after_put x (Err e) a) (sym (is c l x fits link)) refl;
-  layer_stays = λ c l fits. fits;
-  link_stays = λ x fits. fits;
-  longest = refl;
+pub refuses_all : (T : Type 0) (v : code.Layer) (e : LayerError) (asks : Bool) (said : LayerSettings → Layer → LayerOutcome) → e ≢ error.NoMemory → ((c : LayerSettings) (l : Layer) → FitsLayer c v l → said c l ≡ Declined e)
+    → Does {T = T} v v (Err e) asks said
+refuses_all T v e asks said named is = record {
+  gives = λ c l fits. subst (λ (o : LayerOutcome). Gives {T = T} c v (Err e) o) (sym (is c l fits)) refl;
+  stays = λ c l fits. fits;
+  short = tt;
   missing = λ none. absurd (named (err_is e error.NoMemory none));
 }
+
+pub refuses : (T : Type 0) (v : code.Layer) (e : LayerError) (link : LinkState) (request : LayerRequest) → e ≢ error.NoMemory → ((c : LayerSettings) (l : Layer) → FitsLayer c v l → asked_where c link.is_up link.is_full l request ≡ Declined e)
+    → Answers {T = T} v v (Err e) link request
+refuses T v e link request named is = record { does = refuses_all T v e _ _ named is; up = tt; free = tt }

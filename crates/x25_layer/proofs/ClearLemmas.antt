@@ -4,11 +4,11 @@ use Rattle.x25_bits.specs.declared.role.Role.{Role}
 use Rattle.x25_bits.specs.declared.role.Role.TheVariants.{Dte, Dce}
 use Rattle.x25_packet.specs.Packet.{PlainPacket, clear}
 use Rattle.x25_circuit.specs.Circuit.{Circuit, is_free, is_free_in}
-use Rattle.x25_handshakes.specs.laws.Handshake.{Side, Live, Left, has_left, At}
+use Rattle.x25_handshakes.specs.laws.Handshake.{Side, Live, Left, has_left, At, Step}
 use Rattle.x25_handshakes.specs.laws.Stretch.{Stretch, Clear}
 use Rattle.x25_handshakes.specs.laws.Calls.{Phase, Unused, Waiting, Offered, Crossed, Talking, Connection}
 use Rattle.x25_handshakes.specs.laws.Channel.{in_p1, channel_takes, channel_side_takes}
-use Rattle.x25_handshakes.specs.laws.Layers.{LayerPacket, On, Channels, LayerStep, Pair, Takes, pair_moves, pair_run, pair_start, layer_takes, layer_side_takes}
+use Rattle.x25_handshakes.specs.laws.Layers.{LayerPacket, On, Channels, Pair, Takes, pair_moves, pair_run, pair_start, layer_takes, layer_side_takes}
 use Rattle.x25_layer.specs.declared.ranges.Ranges.{Ranges}
 use Rattle.x25_layer.specs.laws.Bare.{bare_layer, bare_layers}
 use Rattle.x25_layer.specs.laws.TwoLayers.{End, TwoLayers, turned, run, start}
@@ -60,7 +60,7 @@ front_is r channels w near far out back error sees quiet [] front = tt
 front_is r channels w (Left z) far out back error sees quiet (p ∷ K) front = out_takes_none w.near p sees.near.0
 front_is r channels w (Live z) far out back error sees quiet (p ∷ K) front =
     let same : bare_layer p ∷ bare_layers K ≡ back = ap bare_layers (sym front) ∙ sees.back in
-    let s : LayerStep = layer_takes r z (bare_layer p) in
+    let s : Step (At Channels) LayerPacket = layer_takes r z (bare_layer p) in
     at_end r w.near z p sees.near.1
     (second error s.error (subst (λ (l : List LayerPacket). (pair_moves r (record { near = Live z; far = far; out = out; back = l; error = error }) (Live z) Takes).error ≡ None) (sym same) quiet))
 

@@ -1,5 +1,5 @@
 -- What octets are read as, and the channel that they name.
-use Rattle.std.proofs.Common.{◌≡◌, ℕ, suc, ◌-◌, ◌<◌, ◌∙◌, All, List, [], ◌∷◌, length, Option, Some, None, Bool, true, false, Result, Ok, Err, if◌then◌else◌, IfOk, slice_get, get_or, option_to_list, refl, sym, ap, subst, arith}
+use Rattle.std.proofs.Common.{◌≡◌, ℕ, suc, ◌-◌, ◌<◌, ◌∙◌, All, List, [], ◌∷◌, length, Option, Some, None, Bool, true, false, Result, Ok, Err, if◌then◌else◌, IfOk, slice_get, get_or, refl, sym, ap, subst, arith}
 use Rattle.std.proofs.lemmas.Option.{same_Some}
 use Rattle.x25_packet.specs.declared.packet.Packet.{Packet}
 use Rattle.x25_packet.specs.declared.error.PacketError.{PacketError}
@@ -11,14 +11,12 @@ use Rattle.x25_packet.specs.Taking.{read_in}
 use Rattle.x25_packet.specs.laws.TakingLaw.{TakesOnItsChannel, TakesWithoutMemory}
 use Rattle.x25_layer.specs.Ranges.{is_number}
 use Rattle.x25_layer.specs.Layer.{LayerSettings, Layer, LayerAnswer, answers_in, undecoded_in, is_channel, put_at, drops}
-use Rattle.x25_layer.specs.Rounds.{answer_to, undecoded_at}
 use Rattle.x25_layer.specs.Asking.{with_circuit}
-use Rattle.x25_layer.specs.Receiving.{plain_read, IsOfChannel, circuit_hears, channel_hears, hears_on}
-use Rattle.x25_link.specs.declared.ordered_link.OrderedLink.{Ghosts}
+use Rattle.x25_layer.specs.Receiving.{plain_read, IsOfChannel, circuit_hears, channel_hears, hears_on, answer_to, undecoded_at}
 use Rattle.x25_layer.specs.declared.layer.Layer as code
 use Rattle.x25_layer.specs.declared.report.Report.{Report}
 use Rattle.x25_layer.specs.code.FitsLayer.{FitsLayer}
-use Rattle.x25_layer.specs.code.OverLink.{after_all, Hears}
+use Rattle.x25_layer.specs.code.Answering.{Hears, spelled}
 use Rattle.x25_layer.proofs.FitLemmas.{read_at}
 use Rattle.x25_layer.proofs.CallLemmas.{configured}
 use Rattle.x25_circuit.specs.declared.circuit.Circuit as circuit_code
@@ -78,15 +76,15 @@ hears_read law wide most c l octets h (Ok packet) bytes exact has at =
     ap (λ (r : Result PlainPacket PacketError). answer_to c l octets r) exact ∙ hears_packet c l octets h (plain packet) has (law wide most (plain packet) octets bytes exact has) at
 hears_read law wide most c l octets h (Err e) bytes exact has at = ap (λ (r : Result PlainPacket PacketError). answer_to c l octets r) exact ∙ hears_error c l octets h e at
 
--- what was heard, by the same answer
-pub heard_same : {D : Type 0} (g : Ghosts D) (old : code.Layer) (below : D) (new : code.Layer) (below₂ : D) (told : Report) (left : ℕ) (f h : LayerSettings → Layer → LayerAnswer) → ((c : LayerSettings) (l : Layer) → f c l ≡ h c l)
-    → Hears g old below new below₂ told left f → Hears g old below new below₂ told left h
-heard_same g old below new below₂ told left f h same by = record {
-  layer = λ c l fits. subst (λ (a : LayerAnswer). FitsLayer c new a.next) (same c l) (by.layer c l fits);
-  link = λ c l x fits link. subst (λ (a : LayerAnswer). g.fits below₂ (after_all g.after_put x (option_to_list a.owed))) (same c l) (by.link c l x fits link);
-  told = λ c l fits. by.told c l fits ∙ ap (λ (a : LayerAnswer). a.notices) (same c l);
+-- what was heard, by a layer that stands for the same and by the same answer
+pub heard_from : (old mid new : code.Layer) (told : Report) (left : ℕ) (f h : LayerSettings → Layer → LayerAnswer) → ((c : LayerSettings) (l : Layer) → FitsLayer c old l → FitsLayer c mid l)
+    → ((c : LayerSettings) (l : Layer) → FitsLayer c old l → f c l ≡ h c l) → Hears mid new told left f → Hears old new told left h
+heard_from old mid new told left f h still same by = record {
+  layer = λ c l fits. subst (λ (a : LayerAnswer). FitsLayer c new a.next) (same c l fits) (by.layer c l (still c l fits));
+  put = λ c l fits. by.put c l (still c l fits) ∙ ap (λ (a : LayerAnswer). spelled a.owed) (same c l fits);
+  told = λ c l fits. by.told c l (still c l fits) ∙ ap (λ (a : LayerAnswer). a.notices) (same c l fits);
   nothing = by.nothing;
-  takes = by.takes;
+  short = by.short;
   spare = by.spare;
 }
 

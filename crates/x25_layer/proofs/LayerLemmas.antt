@@ -13,10 +13,10 @@ use Rattle.x25_circuit.specs.Circuit.{Circuit, begun, forgotten, is_free}
 use Rattle.x25_circuit.specs.Notice.{PlainNotice}
 use Rattle.x25_circuit.specs.Hearing.{Answer, answers}
 use Rattle.x25_circuit.specs.Calling.{Outcome, Done, Refused, Request, Calls, Accepts, outcome, Pulled, pulled}
-use Rattle.x25_handshakes.specs.laws.Handshake.{Side, Live, Left, has_left, At}
+use Rattle.x25_handshakes.specs.laws.Handshake.{Side, Live, Left, has_left, At, Step, live, left}
 use Rattle.x25_handshakes.specs.laws.Calls.{Connection}
-use Rattle.x25_handshakes.specs.laws.Channel.{ChannelStep, channel_takes, channel_acts, fresh_channel}
-use Rattle.x25_handshakes.specs.laws.Layers.{LayerPacket, On, Restart, Channels, put, addressed, on_channel, ready, restarting, all_fresh, LayerStep, layer_takes, layer_side_takes, layer_acts, layer_side_acts, OnChannel}
+use Rattle.x25_handshakes.specs.laws.Channel.{channel_takes, channel_acts, fresh_channel}
+use Rattle.x25_handshakes.specs.laws.Layers.{LayerPacket, On, Restart, Channels, put, addressed, on_channel, all_fresh, layer_takes, layer_side_takes, layer_acts, layer_side_acts, OnChannel}
 use Rattle.x25_handshakes.specs.laws.Names.{both, same_name}
 use Rattle.x25_layer.specs.Ranges.{is_number, may_call}
 use Rattle.x25_layer.specs.declared.ranges.Ranges.{Ranges}
@@ -35,6 +35,7 @@ use Rattle.x25_layer.proofs.ViewLemmas.{some_none, follows, heeds, pulls_as}
 use Rattle.x25_layer.proofs.NoteLemmas.{still, notes_taken, notes_asked, notes_pulled}
 use Rattle.x25_layer.proofs.LayerSees.{ShowsAt, SeesLayer, StepOf, FollowsLayer, DoesLayer, dial_act, layer_act, DoesItself, HeedsLayer}
 use Rattle.x25_layer.proofs.StepLemmas.{quiet_step, restart_step, step_on, under_one, told_under}
+use Rattle.x25_handshakes.specs.laws.Stretch.{Packet}
 
 pub true≢false : true ≡ false → ⊥
 true≢false e = subst (λ (b : Bool). elim b as (λ _. Type 0) [ true ↦ Unit {0} | false ↦ ⊥ ]) e tt
@@ -75,15 +76,15 @@ put_same : (b : Bool) (c d : Circuit) (s z : At Connection) → Shows c s → Sh
 put_same true c d s z p q = p
 put_same false c d s z p q = q
 
-sees_put : (e : ℕ) (f : ℕ → Circuit) (x : Channels) (h : ℕ) (c : Circuit) (s : At Connection) → ((k : ℕ) → Shows (f k) (x k)) → Shows c s → SeesLayer (is_ready e (put_at f h c)) (ready e (put x h s))
+sees_put : (e : ℕ) (f : ℕ → Circuit) (x : Channels) (h : ℕ) (c : Circuit) (s : At Connection) → ((k : ℕ) → Shows (f k) (x k)) → Shows c s → SeesLayer (is_ready e (put_at f h c)) (live e (put x h s))
 sees_put e f x h c s each is = record { restarting = refl; restarts = refl; circuits = λ k. put_same (k == h) c (f k) s (x k) is (each k) }
 
 -- ---- packets handed up
 
-answers_follow : (channels : Ranges) (e : ℕ) (f : ℕ → Circuit) (x : Channels) (h : ℕ) (a : Answer) (s : ChannelStep) → is_channel channels h ≡ true → ((k : ℕ) → Shows (f k) (x k)) → Follows a s
-    → Notes (x h) s.next (told_by_all a.notices) → FollowsLayer channels (answers_on e f h a) (ready e x) (on_channel e x h s)
+answers_follow : (channels : Ranges) (e : ℕ) (f : ℕ → Circuit) (x : Channels) (h : ℕ) (a : Answer) (s : Step (At Connection) Packet) → is_channel channels h ≡ true → ((k : ℕ) → Shows (f k) (x k)) → Follows a s
+    → Notes (x h) s.next (told_by_all a.notices) → FollowsLayer channels (answers_on e f h a) (live e x) (on_channel e x h s)
 answers_follow channels e f x h a s is each g notes =
-    let sees : SeesLayer (is_ready e (put_at f h a.next)) (ready e (put x h s.next)) = sees_put e f x h a.next s.next each g.next in
+    let sees : SeesLayer (is_ready e (put_at f h a.next)) (live e (put x h s.next)) = sees_put e f x h a.next s.next each g.next in
     record {
       next = sees;
       owed = on_bare h a.owed g.quiet ∙ ap (λ o. addressed h o) g.owed;
@@ -93,27 +94,27 @@ answers_follow channels e f x h a s is each g notes =
           (λ k m. told_under (is_ready e (put_at f h a.next)) h a.notices k m);
     }
 
-if_channel : (channels : Ranges) (b : Bool) (u v : LayerAnswer) (z : At Channels) (s : LayerStep) → b ≡ true → FollowsLayer channels u z s → FollowsLayer channels (if b then u else v) z s
+if_channel : (channels : Ranges) (b : Bool) (u v : LayerAnswer) (z : At Channels) (s : Step (At Channels) LayerPacket) → b ≡ true → FollowsLayer channels u z s → FollowsLayer channels (if b then u else v) z s
 if_channel channels true u v z s is g = g
 if_channel channels false u v z s is g = absurd (true≢false (sym is))
 
 on_its_channel : ParamsLaws → (c : LayerSettings) (e : ℕ) (f : ℕ → Circuit) (x : Channels) (p : PlainPacket) (has : HasChannel p) → ((k : ℕ) → Shows (f k) (x k)) → IsConfigured c.channels p
     → found (bare p) (channel_takes c.circuit.role (x (channel_of p)) (bare p)).error ≡ None
-    → FollowsLayer c.channels (if is_channel c.channels (channel_of p) then answers_on e f (channel_of p) (answers c.circuit (f (channel_of p)) p) else drops false e f) (ready e x)
+    → FollowsLayer c.channels (if is_channel c.channels (channel_of p) then answers_on e f (channel_of p) (answers c.circuit (f (channel_of p)) p) else drops false e f) (live e x)
     (on_channel e x (channel_of p) (channel_takes c.circuit.role (x (channel_of p)) (bare p)))
 on_its_channel laws c e f x p has each ok q =
     let h : ℕ = channel_of p in
-    let s : ChannelStep = channel_takes c.circuit.role (x h) (bare p) in
-    if_channel c.channels (is_channel c.channels h) (answers_on e f h (answers c.circuit (f h) p)) (drops false e f) (ready e x) (on_channel e x h s) (ok has)
+    let s : Step (At Connection) Packet = channel_takes c.circuit.role (x h) (bare p) in
+    if_channel c.channels (is_channel c.channels h) (answers_on e f h (answers c.circuit (f h) p)) (drops false e f) (live e x) (on_channel e x h s) (ok has)
     (answers_follow c.channels e f x h (answers c.circuit (f h) p) s (ok has) each
     (subst (λ (y : Circuit). Follows (answers c.circuit y p) s) (sym (each h).is) (follows laws c.circuit (each h).agreed (x h) p (each h).fits has q))
     (subst (λ (y : Circuit). Notes (x h) s.next (told_by_all (answers c.circuit y p).notices)) (sym (each h).is) (notes_taken c.circuit (each h).agreed (x h) p (each h).fits has q)))
 
-abbrev Taken : LayerSettings → ℕ → Side Channels → PlainPacket → LayerStep
+abbrev Taken : LayerSettings → ℕ → Side Channels → PlainPacket → Step (At Channels) LayerPacket
 Taken c e z p = layer_side_takes c.circuit.role e z (bare_layer p)
 
 row_ready : ParamsLaws → (c : LayerSettings) (e : ℕ) (f : ℕ → Circuit) (x : Channels) (p : PlainPacket) → ((k : ℕ) → Shows (f k) (x k)) → IsConfigured c.channels p → layer_found (bare_layer p) (Taken c e (Live x) p).error ≡ None
-    → FollowsLayer c.channels (answers_ready c e f p) (ready e x) (Taken c e (Live x) p)
+    → FollowsLayer c.channels (answers_ready c e f p) (live e x) (Taken c e (Live x) p)
 row_ready laws c e f x (restart cause diagnostic) each ok q =
     record { next = record { restarting = refl; restarts = refl; circuits = λ k. begun_shown }; owed = refl; quiet = ((tt, λ no. absurd no), tt); no_fault = (tt, tt); step = restart_step e (Live x) }
 row_ready laws c e f x restart_conf each ok q = absurd (some_none 17 q)
@@ -130,27 +131,27 @@ row_ready laws c e f x (reset h cause diagnostic) each ok q = on_its_channel law
 row_ready laws c e f x (reset_conf h) each ok q = on_its_channel laws c e f x (reset_conf h) tt each ok q
 
 restarted : (channels : Ranges) (e : ℕ) (x : Side Channels) (notices : List flat.LayerNotice) → AreNoFaults notices → entries_told (is_ready (suc e) (λ k. begun)) notices ≡ []
-    → FollowsLayer channels (flat.restarts_to e None notices) (record { epoch = e; side = x }) (record { next = ready (suc e) all_fresh; out = []; error = None })
+    → FollowsLayer channels (flat.restarts_to e None notices) (record { epoch = e; side = x }) (record { next = live (suc e) all_fresh; out = []; error = None })
 restarted channels e x notices clean none = record {
   next = record { restarting = refl; restarts = refl; circuits = λ k. begun_shown };
   owed = refl;
   quiet = tt;
   no_fault = clean;
-  step = subst (λ (es : List Entry). StepOf (record { epoch = e; side = x }) (ready (suc e) all_fresh) es) (sym none) (restart_step e x);
+  step = subst (λ (es : List Entry). StepOf (record { epoch = e; side = x }) (live (suc e) all_fresh) es) (sym none) (restart_step e x);
 }
 
 dropped : (channels : Ranges) (e : ℕ) (f : ℕ → Circuit) (x : Channels) → ((k : ℕ) → f k ≡ forgotten (view unagreed (x k)))
-    → FollowsLayer channels (drops true e f) (restarting e x) (record { next = restarting e x; out = []; error = None })
+    → FollowsLayer channels (drops true e f) (left e x) (record { next = left e x; out = []; error = None })
 dropped channels e f x each = record {
   next = record { restarting = refl; restarts = refl; circuits = each };
   owed = refl;
   quiet = tt;
   no_fault = tt;
-  step = quiet_step (restarting e x) (restarting e x) refl (λ k. still (x k));
+  step = quiet_step (left e x) (left e x) refl (λ k. still (x k));
 }
 
 row_restarting : (c : LayerSettings) (e : ℕ) (f : ℕ → Circuit) (x : Channels) (p : PlainPacket) → ((k : ℕ) → f k ≡ forgotten (view unagreed (x k)))
-    → FollowsLayer c.channels (answers_restarting e f p) (restarting e x) (Taken c e (Left x) p)
+    → FollowsLayer c.channels (answers_restarting e f p) (left e x) (Taken c e (Left x) p)
 row_restarting c e f x (restart cause diagnostic) each = restarted c.channels e (Left x) (flat.restarted cause diagnostic ∷ []) (tt, tt) refl
 row_restarting c e f x restart_conf each = restarted c.channels e (Left x) (flat.restart_done ∷ []) (tt, tt) refl
 row_restarting c e f x other each = dropped c.channels e f x each
@@ -158,9 +159,9 @@ row_restarting c e f x other each = dropped c.channels e f x each
 row_side : ParamsLaws → (c : LayerSettings) (b : Bool) (e g : ℕ) (f : ℕ → Circuit) (z : Side Channels) (p : PlainPacket) → b ≡ has_left z → e ≡ g → ((k : ℕ) → ShowsAt z k (f k)) → IsConfigured c.channels p
     → layer_found (bare_layer p) (Taken c g z p).error ≡ None → FollowsLayer c.channels (answers_in c b e f p) (record { epoch = g; side = z }) (Taken c g z p)
 row_side laws c false e g f (Live x) p is same each ok q =
-    subst (λ (m : ℕ). FollowsLayer c.channels (answers_in c false m f p) (ready g x) (Taken c g (Live x) p)) (sym same) (row_ready laws c g f x p each ok q)
+    subst (λ (m : ℕ). FollowsLayer c.channels (answers_in c false m f p) (live g x) (Taken c g (Live x) p)) (sym same) (row_ready laws c g f x p each ok q)
 row_side laws c true e g f (Left x) p is same each ok q =
-    subst (λ (m : ℕ). FollowsLayer c.channels (answers_in c true m f p) (restarting g x) (Taken c g (Left x) p)) (sym same) (row_restarting c g f x p each)
+    subst (λ (m : ℕ). FollowsLayer c.channels (answers_in c true m f p) (left g x) (Taken c g (Left x) p)) (sym same) (row_restarting c g f x p each)
 row_side laws c true e g f (Live x) p is same each ok q = absurd (true≢false is)
 row_side laws c false e g f (Left x) p is same each ok q = absurd (true≢false (sym is))
 
@@ -176,32 +177,32 @@ asked_shown : (x : Circuit) (request : Request) → asked_by (shown x request) �
 asked_shown x (Accepts answer) = refl
 asked_shown x other = refl
 
-asked_on : (c : LayerSettings) (e : ℕ) (f : ℕ → Circuit) (x : Channels) (h : ℕ) (request : Request) (d : Outcome) (s : ChannelStep) → is_channel c.channels h ≡ true → ((k : ℕ) → Shows (f k) (x k)) → Heeds d s
+asked_on : (c : LayerSettings) (e : ℕ) (f : ℕ → Circuit) (x : Channels) (h : ℕ) (request : Request) (d : Outcome) (s : Step (At Connection) Packet) → is_channel c.channels h ≡ true → ((k : ℕ) → Shows (f k) (x k)) → Heeds d s
     → NotesOutcome d (x h) s.next (asked_by request) → (l : Layer) (r : LayerRequest) → ((n : Layer) → entries_asked c l n r ≡ entry_of_request n h request)
-    → HeedsLayer c l r (outcome_on e f h d) (ready e x) (on_channel e x h s)
+    → HeedsLayer c l r (outcome_on e f h d) (live e x) (on_channel e x h s)
 asked_on c e f x h request (Done next packet) s is each g notes l r same =
     let n : Layer = is_ready e (put_at f h next) in
-    let sees : SeesLayer n (ready e (put x h s.next)) = sees_put e f x h next s.next each g.next in
+    let sees : SeesLayer n (live e (put x h s.next)) = sees_put e f x h next s.next each g.next in
     record {
       next = sees;
       put = on_bare h packet g.quiet ∙ ap (λ o. addressed h o) g.packet;
       quiet = on_quiet c.channels h packet is g.quiet;
-      step = subst (λ (es : List Entry). StepOf (ready e x) (ready e (put x h s.next)) es) (sym (same n))
+      step = subst (λ (es : List Entry). StepOf (live e x) (live e (put x h s.next)) es) (sym (same n))
           (step_on e x h s.next n (asked_by request) (entry_of_request n h request) sees notes
           (λ k m. ap (λ (said : Handed). added (if both (k == h) (same_name m (name_of n h)) then said else nothing_handed) nothing_handed) (asked_shown (n.circuits h) request)
           ∙ sym (under_one k m (record { channel = h; name = name_of n h; said = Asked request }) (asked_by request))));
     }
 asked_on c e f x h request (Refused error) s is each g notes l r same = tt
 
-room : (c : LayerSettings) (l : Layer) (r : LayerRequest) (full : Bool) (good : LayerOutcome) (z : At Channels) (s : LayerStep) → HeedsLayer c l r good z s → HeedsLayer c l r (where_room full good) z s
+room : (c : LayerSettings) (l : Layer) (r : LayerRequest) (full : Bool) (good : LayerOutcome) (z : At Channels) (s : Step (At Channels) LayerPacket) → HeedsLayer c l r good z s → HeedsLayer c l r (where_room full good) z s
 room c l r true good z s h = tt
 room c l r false good z s h = h
 
-at_once : (c : LayerSettings) (l : Layer) (r : LayerRequest) (now full : Bool) (good : LayerOutcome) (z : At Channels) (s : LayerStep) → HeedsLayer c l r good z s → HeedsLayer c l r (if_at_once now full good) z s
+at_once : (c : LayerSettings) (l : Layer) (r : LayerRequest) (now full : Bool) (good : LayerOutcome) (z : At Channels) (s : Step (At Channels) LayerPacket) → HeedsLayer c l r good z s → HeedsLayer c l r (if_at_once now full good) z s
 at_once c l r true full good z s h = room c l r full good z s h
 at_once c l r false full good z s h = h
 
-if_there : (c : LayerSettings) (l : Layer) (r : LayerRequest) (b : Bool) (good : LayerOutcome) (error : _) (z : At Channels) (s : LayerStep) → (b ≡ true → HeedsLayer c l r good z s)
+if_there : (c : LayerSettings) (l : Layer) (r : LayerRequest) (b : Bool) (good : LayerOutcome) (error : _) (z : At Channels) (s : Step (At Channels) LayerPacket) → (b ≡ true → HeedsLayer c l r good z s)
     → HeedsLayer c l r (if b then good else Declined error) z s
 if_there c l r true good error z s h = h refl
 if_there c l r false good error z s h = tt
@@ -246,7 +247,7 @@ free_in role f channels h e = found (first_free role f channels.count) (λ k is.
 -- the circuit of a configured channel does what is asked
 circuit_asked : ParamsLaws → (c : LayerSettings) (e : ℕ) (f : ℕ → Circuit) (x : Channels) (h : ℕ) (request : Request) → is_channel c.channels h ≡ true → ((k : ℕ) → Shows (f k) (x k))
     → (l : Layer) (r : LayerRequest) → ((n : Layer) → entries_asked c l n r ≡ entry_of_request n h request)
-    → HeedsLayer c l r (outcome_on e f h (outcome c.circuit (f h) request)) (ready e x) (on_channel e x h (channel_acts (x h) (act_of request)))
+    → HeedsLayer c l r (outcome_on e f h (outcome c.circuit (f h) request)) (live e x) (on_channel e x h (channel_acts (x h) (act_of request)))
 circuit_asked laws c e f x h request is each l r same =
     asked_on c e f x h request (outcome c.circuit (f h) request) (channel_acts (x h) (act_of request)) is each
     (subst (λ (y : Circuit). Heeds (outcome c.circuit y request) (channel_acts (x h) (act_of request))) (sym (each h).is) (heeds laws c.circuit (each h).agreed (x h) request (each h).fits))
@@ -254,44 +255,44 @@ circuit_asked laws c e f x h request is each l r same =
     l r same
 
 dial : ParamsLaws → (c : LayerSettings) (full : Bool) (e : ℕ) (f : ℕ → Circuit) (x : Channels) (called calling user : List ℕ) (proposal : Proposal) → ((k : ℕ) → Shows (f k) (x k)) → (l : Layer) → l.circuits ≡ f
-    → HeedsLayer c l (Dials called calling user proposal) (dialled c full e f (free_channel c.circuit.role f c.channels) called calling user proposal) (ready e x)
+    → HeedsLayer c l (Dials called calling user proposal) (dialled c full e f (free_channel c.circuit.role f c.channels) called calling user proposal) (live e x)
     (layer_side_acts e (Live x) (dial_act (free_channel c.circuit.role f c.channels) called calling user proposal))
 dial laws c full e f x called calling user proposal each l same = found (free_channel c.circuit.role f c.channels) refl
   where
     found : (o : Option ℕ) → free_channel c.circuit.role f c.channels ≡ o
-        → HeedsLayer c l (Dials called calling user proposal) (dialled c full e f o called calling user proposal) (ready e x) (layer_side_acts e (Live x) (dial_act o called calling user proposal))
+        → HeedsLayer c l (Dials called calling user proposal) (dialled c full e f o called calling user proposal) (live e x) (layer_side_acts e (Live x) (dial_act o called calling user proposal))
     found None is = tt
     found (Some h) is =
-        room c l (Dials called calling user proposal) full (outcome_on e f h (outcome c.circuit (f h) (Calls called calling user proposal))) (ready e x)
+        room c l (Dials called calling user proposal) full (outcome_on e f h (outcome c.circuit (f h) (Calls called calling user proposal))) (live e x)
         (on_channel e x h (channel_acts (x h) (act_of (Calls called calling user proposal))))
         (circuit_asked laws c e f x h (Calls called calling user proposal) (free_in c.circuit.role f c.channels h is) each l (Dials called calling user proposal)
         (λ n. ap (λ o. entry_of_dial n o (Calls called calling user proposal)) (ap (λ (g : ℕ → Circuit). free_channel c.circuit.role g c.channels) same ∙ is)))
 
 asked_ready : ParamsLaws → (c : LayerSettings) (full : Bool) (e : ℕ) (l : Layer) (x : Channels) (r : LayerRequest) → DoesItself r → ((k : ℕ) → Shows (l.circuits k) (x k))
-    → HeedsLayer c l r (outcome_ready c full e l.circuits r) (ready e x) (layer_side_acts e (Live x) (layer_act c l.circuits r))
+    → HeedsLayer c l r (outcome_ready c full e l.circuits r) (live e x) (layer_side_acts e (Live x) (layer_act c l.circuits r))
 asked_ready laws c full e l x (Asks h request) does each =
-    if_there c l (Asks h request) (is_channel c.channels h) (if_at_once (puts_at_once request) full (outcome_on e l.circuits h (outcome c.circuit (l.circuits h) request))) _ (ready e x)
+    if_there c l (Asks h request) (is_channel c.channels h) (if_at_once (puts_at_once request) full (outcome_on e l.circuits h (outcome c.circuit (l.circuits h) request))) _ (live e x)
     (on_channel e x h (channel_acts (x h) (act_of request)))
-    (λ is. at_once c l (Asks h request) (puts_at_once request) full (outcome_on e l.circuits h (outcome c.circuit (l.circuits h) request)) (ready e x)
+    (λ is. at_once c l (Asks h request) (puts_at_once request) full (outcome_on e l.circuits h (outcome c.circuit (l.circuits h) request)) (live e x)
     (on_channel e x h (channel_acts (x h) (act_of request)))
     (circuit_asked laws c e l.circuits x h request is each l (Asks h request) (λ n. refl)))
 asked_ready laws c full e l x (Dials called calling user proposal) does each = dial laws c full e l.circuits x called calling user proposal each l refl
 asked_ready laws c full e l x PullsAll does each = absurd does
 asked_ready laws c full e l x (Restarts cause diagnostic) does each =
-    room c l (Restarts cause diagnostic) full (restarted_for c.circuit.role e l.circuits cause diagnostic) (ready e x) restarts (given (is_fault_of_restart cause) refl (cause == 0 || is_of_end c.circuit.role cause))
+    room c l (Restarts cause diagnostic) full (restarted_for c.circuit.role e l.circuits cause diagnostic) (live e x) restarts (given (is_fault_of_restart cause) refl (cause == 0 || is_of_end c.circuit.role cause))
   where
-    restarts : LayerStep
-    restarts = record { next = restarting e x; out = Restart ∷ []; error = None }
+    restarts : Step (At Channels) LayerPacket
+    restarts = record { next = left e x; out = Restart ∷ []; error = None }
 
     given : (is_fault : Bool) → is_fault_of_restart cause ≡ is_fault → (b : Bool)
-        → HeedsLayer c l (Restarts cause diagnostic) (if not is_fault && b then Accepted (flat.restarting_from e l.circuits) (Some (restart cause diagnostic)) else Declined (layer_error.Circuit circuit_error.BadParameter)) (ready e x) restarts
+        → HeedsLayer c l (Restarts cause diagnostic) (if not is_fault && b then Accepted (flat.restarting_from e l.circuits) (Some (restart cause diagnostic)) else Declined (layer_error.Circuit circuit_error.BadParameter)) (live e x) restarts
     given true is b = tt
     given false is false = tt
     given false is true = record {
       next = record { restarting = refl; restarts = refl; circuits = λ k. ap forgotten (each k).is };
       put = refl;
       quiet = ((is, λ no. absurd no), tt);
-      step = quiet_step (ready e x) (restarting e x) refl (λ k. still (x k));
+      step = quiet_step (live e x) (left e x) refl (λ k. still (x k));
     }
 
 -- A call of the user.
@@ -304,7 +305,7 @@ layer_heeds laws c full l z r does s = side l.restarting z.side s.restarting s.c
     side true w is each = tt
     side false (Left x) is each = absurd (true≢false (sym is))
     side false (Live x) is each =
-        subst (λ (m : ℕ). HeedsLayer c l r (outcome_ready c full m l.circuits r) (ready z.epoch x) (layer_side_acts z.epoch (Live x) (layer_act c l.circuits r))) (sym s.restarts)
+        subst (λ (m : ℕ). HeedsLayer c l r (outcome_ready c full m l.circuits r) (live z.epoch x) (layer_side_acts z.epoch (Live x) (layer_act c l.circuits r))) (sym s.restarts)
         (asked_ready laws c full z.epoch l x r does each)
 
 -- ---- pulls
@@ -332,15 +333,15 @@ layer_pulls c l z h is s = side l.restarting z.side s.restarting s.circuits
           next = record { restarting = refl; restarts = s.restarts; circuits = λ k. pulled_forgotten k h l.circuits x each (pulled c.circuit (l.circuits h)).next (ap (λ (p : Pulled). p.next) kept) (k == h) refl };
           put = ap (λ (p : Pulled). bare_layers (option_to_list (packet_on h p.packet))) kept;
           quiet = subst (λ (p : Pulled). AreQuiet c.channels (option_to_list (packet_on h p.packet))) (sym kept) tt;
-          step = quiet_step (restarting z.epoch x) (restarting z.epoch x) refl (λ k. still (x k));
+          step = quiet_step (left z.epoch x) (left z.epoch x) refl (λ k. still (x k));
         }
     side false (Live x) both each =
-        let t : ChannelStep = channel_acts (x h) pull_act in
+        let t : Step (At Connection) Packet = channel_acts (x h) pull_act in
         let g : Does (pulled c.circuit (l.circuits h)).next (pulled c.circuit (l.circuits h)).packet t =
         subst (λ (y : Circuit). Does (pulled c.circuit y).next (pulled c.circuit y).packet t) (sym (each h).is) (pulls_as c.circuit (each h).agreed (x h) (each h).fits) in
         record {
           next = record { restarting = refl; restarts = s.restarts; circuits = λ k. put_same (k == h) (pulled c.circuit (l.circuits h)).next (l.circuits k) t.next (x k) g.next (each k) };
           put = on_bare h (pulled c.circuit (l.circuits h)).packet g.quiet ∙ ap (λ o. addressed h o) g.packet;
           quiet = on_quiet c.channels h (pulled c.circuit (l.circuits h)).packet is g.quiet;
-          step = quiet_step (ready z.epoch x) (ready z.epoch (put x h t.next)) refl (λ k. pulled_note x h k (k == h) refl);
+          step = quiet_step (live z.epoch x) (live z.epoch (put x h t.next)) refl (λ k. pulled_note x h k (k == h) refl);
         }

@@ -7,7 +7,7 @@ use Rattle.x25_layer.specs.declared.error.LayerError.{LayerError}
 use Rattle.x25_layer.specs.declared.error.LayerError.TheVariants as error
 use Rattle.x25_layer.specs.Layer.{LayerSettings, Layer, is_ready}
 use Rattle.x25_layer.specs.Calls.{PullsAll, outcome_in, layer_outcome, layer_pulled}
-use Rattle.x25_layer.specs.Rounds.{LinkView, Putting, begin, with_pulled, pull_one, round, rounds_of, rounds, backlog, Went, Refuses, went}
+use Rattle.x25_layer.specs.laws.Rounds.{LinkView, Putting, begin, with_pulled, pull_one, round, rounds_of, rounds, backlog, Went, Refuses, went}
 use Rattle.x25_layer.specs.laws.WaitLaw.{PullsNone, RoundsLeaveNone, StillPullsNone}
 use Rattle.x25_layer.proofs.SettleLemmas.{left, Lessens, one_lessens, lessens_then, round_lessens, split, rounds_settle}
 

@@ -21,6 +21,7 @@ pub mod SettleLemmas
 pub mod PullLemmas
 pub mod FreeLemmas
 pub mod BusyLemmas
+pub mod NextLemmas
 pub mod ClearLemmas
 pub mod NameLemmas
 pub mod CountLemmas

@@ -17,12 +17,12 @@ use Rattle.x25_circuit.specs.Notice.{CallRequest, connected, deliveries}
 use Rattle.x25_circuit.specs.Hearing.{answers, unless, takes, hears_status, confirms, request_in, goes, clears_for, collides}
 use Rattle.x25_circuit.specs.Calling.{Outcome, Refused, Request, Calls, Accepts, Clears, Sends, Interrupts, Resets, does, call_sent, may_call, request_of, outcome}
 use Rattle.x25_circuit.specs.Cause.{may_clear_for, may_reset_for}
-use Rattle.x25_handshakes.specs.laws.Handshake.{Side, Live, Left, At}
-use Rattle.x25_handshakes.specs.laws.Stretch.{Data, Call, Accept, Stretch, StretchStep, stretch_does, stretch_fails, by_ground, takes_data, takes_status, data_ground, ack_ground, pulls}
-use Rattle.x25_handshakes.specs.laws.Transfer.{d1, lifted}
-use Rattle.x25_handshakes.specs.laws.Calls.{Phase, Unused, Waiting, Offered, Crossed, Talking, Connection, CallStep, in_transfer, call_crosses, calling_talk, called_talk}
+use Rattle.x25_handshakes.specs.laws.Handshake.{Side, Live, Left, At, Step, live, left}
+use Rattle.x25_handshakes.specs.laws.Stretch.{Data, Call, Accept, Stretch, stretch_does, stretch_fails, by_ground, takes_data, takes_status, data_ground, ack_ground, pulls, Packet}
+use Rattle.x25_handshakes.specs.laws.Transfer.{lifted}
+use Rattle.x25_handshakes.specs.laws.Calls.{Phase, Unused, Waiting, Offered, Crossed, Talking, Connection, in_transfer, call_crosses, calling_talk, called_talk}
 use Rattle.x25_handshakes.specs.laws.Calls as nested_calls
-use Rattle.x25_handshakes.specs.laws.Channel.{clr, lifted_call, channel_takes, channel_acts}
+use Rattle.x25_handshakes.specs.laws.Channel.{lifted_call, channel_takes, channel_acts}
 use Rattle.x25_handshakes.specs.laws.PeerLayers.{found}
 use Rattle.x25_layer.specs.laws.Bare.{bare}
 use Rattle.x25_layer.specs.laws.Transcript.{Handed, nothing_handed, added, told_by_all, asked_by}
@@ -133,7 +133,7 @@ abbrev IsBefore : Phase → Type 0
 IsBefore a = (e : ℕ) (m i : List CallRequest) → (held_of (in_call e m i a) ≡ held_of (in_call e m i Unused)) × (resets_of (in_call e m i a) ≡ 0)
 
 answered_notes : (c : Settings) (x : Circuit) (e : ℕ) (m i : List CallRequest) (a : Phase) (answer : Params) → IsBefore a → (b : Bool)
-    → let s : CallStep = if b then nested_calls.goes (calling_talk answer) m i [] else nested_calls.unexpected a m i in
+    → let s : Step Connection Packet = if b then nested_calls.goes (calling_talk answer) m i [] else nested_calls.unexpected a m i in
     (lifted_call e s s.error).error ≡ None
     → Notes (in_call e m i a) (lifted_call e s s.error).next (told_by_all (if b then goes x Open answer true None (connected answer ∷ []) else clears_for c x 3 66).notices)
 answered_notes c x e m i a answer before true q =
@@ -174,12 +174,12 @@ row_in_call c g e m i (Offered theirs) p fits = row_arriving c g e m i theirs p
 row_in_call c g e m i (Crossed mine) p fits = row_collision c g e m i mine p
 row_in_call c g e m i (Talking t b at) p fits = on_terms (λ a. Row c g (in_call e m i a) p) g t b at fits (row_in_transfer c g e m i at.epoch at.side p)
 
-row_clearing : (c : Settings) (g : Agreed) (e : ℕ) (x : Connection) (p : PlainPacket) → Row c g (clr e x) p
+row_clearing : (c : Settings) (g : Agreed) (e : ℕ) (x : Connection) (p : PlainPacket) → Row c g (left e x) p
 row_clearing c g e x (clear h cause n) has q = AfterClear (omega arith) refl refl
 row_clearing c g e x (clear_conf h) has q = AfterClear (omega arith) refl refl
 row_clearing c g e x (restart cause n) has q = absurd has
 row_clearing c g e x restart_conf has q = absurd has
-row_clearing c g e x other has q = still (clr e x)
+row_clearing c g e x other has q = still (left e x)
 
 row_side : (c : Settings) (g : Agreed) (e : ℕ) (x : Side Connection) (p : PlainPacket) → AreAgreed g x → Row c g (record { epoch = e; side = x }) p
 row_side c g e (Live x) p fits = row_in_call c g e x.made x.indicated x.phase p fits
@@ -192,12 +192,12 @@ notes_taken c g n p fits has q = row_side c g n.epoch n.side p fits has q
 
 -- ---- calls of the user
 
-if_notes : (b : Bool) (u v : Outcome) (n : At Connection) (f : StretchStep → At Connection) (s w : StretchStep) (h : Handed) → NotesOutcome u n (f s) h → NotesOutcome v n (f w) h
+if_notes : (b : Bool) (u v : Outcome) (n : At Connection) (f : Step Stretch Packet → At Connection) (s w : Step Stretch Packet) (h : Handed) → NotesOutcome u n (f s) h → NotesOutcome v n (f w) h
     → NotesOutcome (if b then u else v) n (f (if b then s else w)) h
 if_notes true u v n f s w h p q = p
 if_notes false u v n f s w h p q = q
 
-if_both : (a b : Bool) (u v : Outcome) (n : At Connection) (f : StretchStep → At Connection) (s w : StretchStep) (h : Handed) → NotesOutcome u n (f s) h → NotesOutcome v n (f w) h
+if_both : (a b : Bool) (u v : Outcome) (n : At Connection) (f : Step Stretch Packet → At Connection) (s w : Step Stretch Packet) (h : Handed) → NotesOutcome u n (f s) h → NotesOutcome v n (f w) h
     → NotesOutcome (if a && b then u else v) n (f (if a then (if b then s else w) else w)) h
 if_both true true u v n f s w h p q = p
 if_both true false u v n f s w h p q = q
@@ -249,7 +249,7 @@ asked_call c g e m i called calling user proposal = test (may_call c.long_data c
     params : Params
     params = proposal.params
 
-    placed : Bool → CallStep
+    placed : Bool → Step Connection Packet
     placed b = if b then nested_calls.goes (Waiting params) (m ++ request_of called calling user params ∷ []) i (Call (request_of called calling user params) ∷ []) else nested_calls.goes Unused m i []
 
     test : (b : Bool) → may_call c.long_data called calling user params ≡ b
@@ -263,7 +263,7 @@ asked_call c g e m i called calling user proposal = test (may_call c.long_data c
 asked_answer : (c : Settings) (g : Agreed) (e : ℕ) (m i : List CallRequest) (theirs : Params) (answer : Proposal) → Asked c g (in_call e m i (Offered theirs)) (Accepts (Some answer))
 asked_answer c g e m i theirs answer = test (may_answer theirs answer.params)
   where
-    answered : Bool → CallStep
+    answered : Bool → Step Connection Packet
     answered b = if b then nested_calls.goes (called_talk answer.params) m i (Accept (field_for theirs answer) ∷ []) else nested_calls.goes (Offered theirs) m i []
 
     test : (b : Bool)
@@ -296,15 +296,15 @@ notes_asked c g n request fits = asked_side c g n.epoch n.side request fits
 -- ---- a pull says nothing
 
 pulled_open : (t b : Terms) (e : ℕ) (m i : List CallRequest) (s : ℕ) (x : Stretch) (rest : List Piece)
-    → Silent (in_call e m i (Talking t b (d1 s x))) (lifted_call e (in_transfer t b m i (lifted s (pulls t x rest) (pulls t x rest).error)) (lifted s (pulls t x rest) (pulls t x rest).error).error).next
+    → Silent (in_call e m i (Talking t b (live s x))) (lifted_call e (in_transfer t b m i (lifted s (pulls t x rest) (pulls t x rest).error)) (lifted s (pulls t x rest) (pulls t x rest).error).error).next
 pulled_open t b e m i s x [] = (refl, refl, refl)
 pulled_open t b e m i s x (p ∷ ps) = test x.peer_ready (nat_lt (length x.sent) (x.acked + t.window))
   where
-    step : StretchStep → At Connection
+    step : Step Stretch Packet → At Connection
     step st = (lifted_call e (in_transfer t b m i (lifted s st st.error)) (lifted s st st.error).error).next
 
     test : (a c : Bool)
-        → Silent (in_call e m i (Talking t b (d1 s x))) (step (if a then (if c then stretch_does (record x { sent = x.sent ++ p ∷ []; rest = ps }) (Data (length x.sent % 8) (length x.taken % 8) p ∷ []) else stretch_does x []) else stretch_does x []))
+        → Silent (in_call e m i (Talking t b (live s x))) (step (if a then (if c then stretch_does (record x { sent = x.sent ++ p ∷ []; rest = ps }) (Data (length x.sent % 8) (length x.taken % 8) p ∷ []) else stretch_does x []) else stretch_does x []))
     test true true = (refl, refl, refl)
     test true false = (refl, refl, refl)
     test false c = (refl, refl, refl)

@@ -3,8 +3,8 @@ use Rattle.std.proofs.Common.{◌≡◌, ℕ, List, [], ◌∷◌, ◌++◌, Opt
 use Rattle.x25_bits.specs.declared.role.Role.{Role}
 use Rattle.x25_packet.specs.Packet.{PlainPacket, restart, restart_conf}
 use Rattle.x25_packet.specs.Spelling.{channel_of, HasChannel}
-use Rattle.x25_handshakes.specs.laws.Handshake.{At}
-use Rattle.x25_handshakes.specs.laws.Layers.{LayerPacket, On, Channels, all_fresh, restarting, LayerStep, LayerAct, OnChannel, layer_acts, layer_takes}
+use Rattle.x25_handshakes.specs.laws.Handshake.{At, Step, left, near_stepped}
+use Rattle.x25_handshakes.specs.laws.Layers.{LayerPacket, On, Channels, all_fresh, LayerAct, OnChannel, layer_acts, layer_takes}
 use Rattle.x25_handshakes.specs.laws.Histories.{messages, interrupts, calls}
 use Rattle.x25_handshakes.specs.laws.PeerLayer.{PeerChannels}
 use Rattle.x25_handshakes.specs.laws.PeerLayers.{JoinedLayers, layer_found}
@@ -61,7 +61,7 @@ put_stands : (r : Role) (channels : Ranges) (w : Joined) (l : Layer) (o : List P
     → SeesLayer l (layer_acts h.nested_end act).next → bare_layers o ≡ (layer_acts h.nested_end act).out → IsQuietEnd channels (puts (our_end w) l o es).near → StepOf h.nested_end (layer_acts h.nested_end act).next es
     → Stands r channels (with_peer w.peer (puts (our_end w) l o es))
 put_stands r channels w l o es h act sees put quiet step =
-    let s : LayerStep = layer_acts h.nested_end act in
+    let s : Step (At Channels) LayerPacket = layer_acts h.nested_end act in
     record {
       nested_end = s.next;
       error = _;
@@ -105,12 +105,12 @@ module _ (p : PeerPremises) (r : Role) (long_data : Bool) (channels : Ranges) wh
   hands_up : (w : Joined) (h : Stands r channels w) (K : List PlainPacket) → w.back ≡ K → Stands r channels (with_peer w.peer (handed_up c (our_end w) K))
   hands_up w h [] front = h
   hands_up w h (packet ∷ K) front =
-      let s : LayerStep = layer_takes r h.nested_end (bare_layer packet) in
+      let s : Step (At Channels) LayerPacket = layer_takes r h.nested_end (bare_layer packet) in
       let back : bare_layers w.back ≡ bare_layer packet ∷ bare_layers K = ap bare_layers front in
       let j : JoinedLayers = record { near = h.nested_end; peer = w.peer; out = bare_layers w.out; back = bare_layers w.back; error = h.error } in
       let found : Option ℕ = layer_found (bare_layer packet) s.error in
-      let next : nested.IsReached r (nested.near_stepped j (bare_layers K) s found) = nested.goes_on j _ h.reached (nested.Takes (bare_layer packet) (bare_layers K) back) in
-      let clean : found ≡ None = second h.error found (p.quiet r (nested.near_stepped j (bare_layers K) s found) next) in
+      let next : nested.IsReached r (near_stepped j (bare_layers K) s found) = nested.goes_on j _ h.reached (nested.Takes (bare_layer packet) (bare_layers K) back) in
+      let clean : found ≡ None = second h.error found (p.quiet r (near_stepped j (bare_layers K) s found) next) in
       let ok = subst (λ (l : List PlainPacket). AreConfigured channels l) front h.configured in
       let a : LayerAnswer = layer_answers c w.near.layer packet in
       let g : FollowsLayer channels a h.nested_end s = layer_follows p.params c w.near.layer h.nested_end packet h.sees ok.0 clean in
@@ -173,7 +173,7 @@ module _ (p : PeerPremises) (r : Role) (long_data : Bool) (channels : Ranges) wh
 
   start_stands : Stands r channels (start r long_data channels)
   start_stands = record {
-    nested_end = restarting 0 all_fresh;
+    nested_end = left 0 all_fresh;
     error = None;
     reached = nested.at_start;
     up = refl;

@@ -12,11 +12,11 @@ use Rattle.x25_circuit.specs.Circuit.{Talk, silent, Circuit}
 use Rattle.x25_circuit.specs.Notice.{CallRequest, PlainNotice}
 use Rattle.x25_circuit.specs.Hearing.{Answer}
 use Rattle.x25_circuit.specs.Calling.{Outcome, Done, Refused, Request, Calls, Accepts, Clears, Sends, Interrupts, Resets, SaysReady, SaysNotReady, request_of}
-use Rattle.x25_handshakes.specs.laws.Handshake.{Side, Live, Left, At, state_of}
+use Rattle.x25_handshakes.specs.laws.Handshake.{Side, Live, Left, At, state_of, Step}
 use Rattle.x25_handshakes.specs.laws.Stretch.{Packet, Stretch, Send, Pull, Ready, NotReady, Interrupt}
 use Rattle.x25_handshakes.specs.laws.Transfer.{Inside, SendsReset}
 use Rattle.x25_handshakes.specs.laws.Calls.{Phase, Unused, Waiting, Offered, Crossed, Talking, Connection, PlacesCall, AcceptsCall, Talks}
-use Rattle.x25_handshakes.specs.laws.Channel.{ChannelStep, ChannelAct, Within, SendsClear}
+use Rattle.x25_handshakes.specs.laws.Channel.{ChannelAct, Within, SendsClear}
 use Rattle.x25_handshakes.specs.laws.Histories.{resets_in}
 use Rattle.x25_layer.specs.laws.Bare.{bare}
 use Rattle.x25_layer.specs.laws.Quiet.{IsQuiet, IsNoFault}
@@ -125,19 +125,19 @@ TellNoFault [] = Unit {0}
 TellNoFault (notice ∷ notices) = IsNoFault notice × TellNoFault notices
 
 -- the answer of the table is the step of the channel, and tells of no error of procedure
-pub record Follows (a : Answer) (s : ChannelStep) : Type 0 where
+pub record Follows (a : Answer) (s : Step (At Connection) Packet) : Type 0 where
   pub next : Shows a.next s.next
   pub owed : bare_if a.owed ≡ s.out
   pub quiet : IsQuietIf a.owed
   pub no_fault : TellNoFault a.notices
 
 -- the same of a call of the user that isn't refused, and of a pull
-pub record Does (x : Circuit) (owed : Option PlainPacket) (s : ChannelStep) : Type 0 where
+pub record Does (x : Circuit) (owed : Option PlainPacket) (s : Step (At Connection) Packet) : Type 0 where
   pub next : Shows x s.next
   pub packet : bare_if owed ≡ s.out
   pub quiet : IsQuietIf owed
 
-abbrev pub Heeds : Outcome → ChannelStep → Type 0
+abbrev pub Heeds : Outcome → Step (At Connection) Packet → Type 0
 Heeds (Done next packet) s = Does next packet s
 Heeds (Refused e) s = Unit {0}
 

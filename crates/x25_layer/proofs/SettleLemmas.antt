@@ -2,18 +2,15 @@
 use Rattle.std.proofs.Common.{◌≡◌, ◌⊎◌, inl, inr, ℕ, zero, suc, ◌+◌, ◌<◌, ◌≤◌, ◌%◌, List, [], ◌∷◌, ◌++◌, length, Option, Some, None, Bool, true, false, nat_lt, ◌==◌, ◌&&◌, if◌then◌else◌, refl, sym, ap, ◌∙◌, eq-eqb, arith}
 use Rattle.std.proofs.lemmas.Option.{none-some}
 use Rattle.std.proofs.lemmas.Bool.{eqb-true}
-use Rattle.x25_packet.specs.Packet.{PlainPacket, restart}
+use Rattle.x25_packet.specs.Packet.{PlainPacket}
 use Rattle.x25_circuit.specs.declared.state.State.{State}
 use Rattle.x25_circuit.specs.declared.state.State.TheVariants.{Free, Calling, Arriving, Collision, Open, Resetting, Clearing}
 use Rattle.x25_circuit.specs.Message.{Piece}
-use Rattle.x25_circuit.specs.declared.error.CircuitError.TheVariants as circuit_error
-use Rattle.x25_circuit.specs.Cause.{may_restart_for}
-use Rattle.x25_circuit.specs.Circuit.{Settings, Talk, Circuit, begun, forgotten, talking, outgoing}
+use Rattle.x25_circuit.specs.Circuit.{Settings, Talk, Circuit, begun, talking, outgoing}
 use Rattle.x25_circuit.specs.Calling.{Pulled, pulls_nothing, data_packet, pull_open, pull_in, pulled}
-use Rattle.x25_layer.specs.declared.error.LayerError.TheVariants as error
-use Rattle.x25_layer.specs.Layer.{LayerSettings, Layer, put_at, packet_on, restarting_from, goes_up}
-use Rattle.x25_layer.specs.Calls.{Accepted, Declined, Restarts, PullsAll, outcome_in, layer_outcome, layer_pulled}
-use Rattle.x25_layer.specs.Rounds.{LinkView, Putting, begin, with_pulled, pull_one, round, rounds_of, rounds, backlog, Went, Refuses, went, calls}
+use Rattle.x25_layer.specs.Layer.{LayerSettings, put_at, packet_on, goes_up}
+use Rattle.x25_layer.specs.Calls.{layer_pulled}
+use Rattle.x25_layer.specs.laws.Rounds.{LinkView, Putting, begin, with_pulled, pull_one, round, rounds_of, rounds, backlog}
 use Rattle.x25_layer.specs.laws.RoundLaw.{RoundsSettle, ComesUpAlone}
 
 -- a pull that gives a packet leaves one fewer
@@ -183,46 +180,3 @@ begun_backlog (suc n) = let e : backlog (λ k. begun) n ≡ 0 = begun_backlog n 
 
 pub comes_up_alone : ComesUpAlone
 comes_up_alone link c = ap (λ (n : ℕ). rounds_of n link c (begin (goes_up c).next (goes_up c).owed)) (begun_backlog c.channels.count)
-
--- those that forget have none to send either
-forgotten_backlog : (f : ℕ → Circuit) (n : ℕ) → backlog (λ k. forgotten (f k)) n ≡ 0
-forgotten_backlog f zero = refl
-forgotten_backlog f (suc n) = let e : backlog (λ k. forgotten (f k)) n ≡ 0 = forgotten_backlog f n in omega (arith, e)
-
--- a restart of the user puts RESTART alone
-restart_alone : (link : LinkView) (c : LayerSettings) (restarts : ℕ) (f : ℕ → Circuit) (cause diagnostic : ℕ) → rounds link c (begin (restarting_from restarts f) (Some (restart cause diagnostic))) ≡ begin (restarting_from restarts f) (Some (restart cause diagnostic))
-restart_alone link c restarts f cause diagnostic = ap (λ (n : ℕ). rounds_of n link c (begin (restarting_from restarts f) (Some (restart cause diagnostic)))) (forgotten_backlog f c.channels.count)
-
-restart_in : (link : LinkView) (c : LayerSettings) (l : Layer) (cause diagnostic : ℕ) (restarting full : Bool) → link.is_up ≡ true → l.restarting ≡ restarting → (link.waits [] == 256) ≡ full
-    → calls link c l (Restarts cause diagnostic) ≡ went link c (outcome_in c full restarting l.restarts l.circuits (Restarts cause diagnostic))
-restart_in link c l cause diagnostic restarting full up at_l is_full =
-    ap (λ (b : Bool). if b then went link c (layer_outcome c (link.waits [] == 256) l (Restarts cause diagnostic)) else Refuses error.NotUp) up
-    ∙ ap (λ (b : Bool). went link c (outcome_in c b l.restarting l.restarts l.circuits (Restarts cause diagnostic))) is_full
-    ∙ ap (λ (b : Bool). went link c (outcome_in c full b l.restarts l.circuits (Restarts cause diagnostic))) at_l
-
--- where the link is up, no restart is under way and there is room, by whether the cause may be given
-pub restart_goes : (link : LinkView) (c : LayerSettings) (l : Layer) (cause diagnostic : ℕ) → link.is_up ≡ true → l.restarting ≡ false → (link.waits [] ≡ 256 → ⊥) → may_restart_for c.circuit.role cause ≡ true
-    → calls link c l (Restarts cause diagnostic) ≡ Went (begin (restarting_from l.restarts l.circuits) (Some (restart cause diagnostic)))
-restart_goes link c l cause diagnostic up at_l free given =
-    restart_in link c l cause diagnostic false false up at_l (not_same (link.waits []) 256 free)
-    ∙ ap (λ (b : Bool). went link c (if b then Accepted (restarting_from l.restarts l.circuits) (Some (restart cause diagnostic)) else Declined (error.Circuit circuit_error.BadParameter))) given
-    ∙ ap (λ (s : Putting). Went s) (restart_alone link c l.restarts l.circuits cause diagnostic)
-
-pub restart_refused : (link : LinkView) (c : LayerSettings) (l : Layer) (cause diagnostic : ℕ) → link.is_up ≡ true → l.restarting ≡ false → (link.waits [] ≡ 256 → ⊥) → may_restart_for c.circuit.role cause ≡ false
-    → calls link c l (Restarts cause diagnostic) ≡ Refuses (error.Circuit circuit_error.BadParameter)
-restart_refused link c l cause diagnostic up at_l free not_given =
-    restart_in link c l cause diagnostic false false up at_l (not_same (link.waits []) 256 free)
-    ∙ ap (λ (b : Bool). went link c (if b then Accepted (restarting_from l.restarts l.circuits) (Some (restart cause diagnostic)) else Declined (error.Circuit circuit_error.BadParameter))) not_given
-
--- ---- that all be pulled: the rounds, and nothing before them
-
-pulls_in : (link : LinkView) (c : LayerSettings) (l : Layer) (restarting : Bool) → link.is_up ≡ true → l.restarting ≡ restarting
-    → calls link c l PullsAll ≡ went link c (outcome_in c (link.waits [] == 256) restarting l.restarts l.circuits PullsAll)
-pulls_in link c l restarting up at_l =
-    ap (λ (b : Bool). if b then went link c (layer_outcome c (link.waits [] == 256) l PullsAll) else Refuses error.NotUp) up
-    ∙ ap (λ (b : Bool). went link c (outcome_in c (link.waits [] == 256) b l.restarts l.circuits PullsAll)) at_l
-
-pub pulls_go : (link : LinkView) (c : LayerSettings) (l : Layer) → link.is_up ≡ true → l.restarting ≡ false → calls link c l PullsAll ≡ Went (rounds link c (begin l None))
-pulls_go link c l up at_l =
-    pulls_in link c l false up at_l
-    ∙ ap (λ (b : Bool). Went (rounds link c (begin (record { restarting = b; restarts = l.restarts; circuits = l.circuits }) None))) (sym at_l)

@@ -3,9 +3,9 @@ use Rattle.std.proofs.Common.{◌≡◌, ℕ, suc, List, [], ◌∷◌, ◌++◌
 use Rattle.std.proofs.lemmas.Bool.{eqb-true}
 use Rattle.x25_circuit.specs.Circuit.{Circuit}
 use Rattle.x25_circuit.specs.Notice.{PlainNotice}
-use Rattle.x25_handshakes.specs.laws.Handshake.{Side, At}
+use Rattle.x25_handshakes.specs.laws.Handshake.{Side, At, live}
 use Rattle.x25_handshakes.specs.laws.Calls.{Connection}
-use Rattle.x25_handshakes.specs.laws.Layers.{Channels, put, ready, all_fresh}
+use Rattle.x25_handshakes.specs.laws.Layers.{Channels, put, all_fresh}
 use Rattle.x25_handshakes.specs.laws.Names.{Name, both, same_name}
 use Rattle.x25_handshakes.specs.laws.Histories.{circuit_at}
 use Rattle.x25_layer.specs.Layer.{Layer, notices_on}
@@ -29,8 +29,8 @@ nothing_if false = refl
 pub quiet_step : (x y : At Channels) → y.epoch ≡ x.epoch → ((k : ℕ) → Notes (circuit_at x k) (circuit_at y k) nothing_handed) → StepOf x y []
 quiet_step x y same notes k = (nothing_handed, Here same (notes k), λ m. nothing_if (same_name m (present y k)))
 
-pub restart_step : (e : ℕ) (x : Side Channels) → StepOf (record { epoch = e; side = x }) (ready (suc e) all_fresh) []
-restart_step e x k = (nothing_handed, Afresh (omega arith) refl refl, λ m. nothing_if (same_name m (present (ready (suc e) all_fresh) k)))
+pub restart_step : (e : ℕ) (x : Side Channels) → StepOf (record { epoch = e; side = x }) (live (suc e) all_fresh) []
+restart_step e x k = (nothing_handed, Afresh (omega arith) refl refl, λ m. nothing_if (same_name m (present (live (suc e) all_fresh) k)))
 
 chosen : (b : Bool) (a c : At Connection) (s : Handed) → (b ≡ true → Notes a c s) → Notes a (if b then c else a) (if b then s else nothing_handed)
 chosen true a c s f = f refl
@@ -40,17 +40,17 @@ fix : (b c d : Bool) (s : Handed) → (b ≡ true → c ≡ d) → (if both b c 
 fix true c d s f = ap (λ (e : Bool). if e then s else nothing_handed) (f refl)
 fix false c d s f = nothing_if d
 
-name_seen : (l : Layer) (e : ℕ) (y : Channels) (h : ℕ) → SeesLayer l (ready e y) → name_of l h ≡ present (ready e y) h
-name_seen l e y h s = name_eq (name_of l h) (present (ready e y) h) s.restarts (ap (λ (c : Circuit). c.clears) (s.circuits h).is) (ap (λ (c : Circuit). c.resets) (s.circuits h).is)
+name_seen : (l : Layer) (e : ℕ) (y : Channels) (h : ℕ) → SeesLayer l (live e y) → name_of l h ≡ present (live e y) h
+name_seen l e y h s = name_eq (name_of l h) (present (live e y) h) s.restarts (ap (λ (c : Circuit). c.clears) (s.circuits h).is) (ap (λ (c : Circuit). c.resets) (s.circuits h).is)
 
 -- a step on channel h
-pub step_on : (e : ℕ) (x : Channels) (h : ℕ) (c : At Connection) (l : Layer) (s : Handed) (es : List Entry) → SeesLayer l (ready e (put x h c)) → Notes (x h) c s
-    → ((k : ℕ) (m : Name) → under k m es ≡ (if both (k == h) (same_name m (name_of l h)) then s else nothing_handed)) → StepOf (ready e x) (ready e (put x h c)) es
+pub step_on : (e : ℕ) (x : Channels) (h : ℕ) (c : At Connection) (l : Layer) (s : Handed) (es : List Entry) → SeesLayer l (live e (put x h c)) → Notes (x h) c s
+    → ((k : ℕ) (m : Name) → under k m es ≡ (if both (k == h) (same_name m (name_of l h)) then s else nothing_handed)) → StepOf (live e x) (live e (put x h c)) es
 step_on e x h c l s es sees notes is k = (
   if k == h then s else nothing_handed,
   Here refl (chosen (k == h) (x k) c s (λ at. subst (λ (j : ℕ). Notes (x j) c s) (sym (eqb-true k h at)) notes)),
-  λ m. is k m ∙ fix (k == h) (same_name m (name_of l h)) (same_name m (present (ready e (put x h c)) k)) s
-      (λ at. ap (λ (j : Name). same_name m j) (name_seen l e (put x h c) h sees ∙ ap (λ (j : ℕ). present (ready e (put x h c)) j) (sym (eqb-true k h at)))),
+  λ m. is k m ∙ fix (k == h) (same_name m (name_of l h)) (same_name m (present (live e (put x h c)) k)) s
+      (λ at. ap (λ (j : Name). same_name m j) (name_seen l e (put x h c) h sees ∙ ap (λ (j : ℕ). present (live e (put x h c)) j) (sym (eqb-true k h at)))),
 )
 
 handed_append : (s : Handed) → added s nothing_handed ≡ s

@@ -17,13 +17,13 @@ use Rattle.x25_circuit.specs.Notice.{CallRequest, connected, deliveries}
 use Rattle.x25_circuit.specs.Hearing.{answers, unless, takes, hears_status, confirms, status, request_in, goes, clears_for, collides}
 use Rattle.x25_circuit.specs.Cause.{is_of_end, may_give, is_fault_of_clear, is_fault_of_reset}
 use Rattle.x25_circuit.specs.Calling.{Outcome, Refused, Request, Calls, Accepts, Clears, Sends, Interrupts, Resets, SaysReady, SaysNotReady, does, request_of, call_sent, may_call, outcome, Pulled, pulled, pull_open, data_packet}
-use Rattle.x25_handshakes.specs.laws.Handshake.{Side, Live, Left, At}
-use Rattle.x25_handshakes.specs.laws.Stretch.{Data, Call, Accept, Stretch, StretchStep, stretch_does, stretch_fails, Send, Interrupt, pulls, stretch_acts, by_ground, takes_data, takes_status, data_ground, ack_ground}
+use Rattle.x25_handshakes.specs.laws.Handshake.{Side, Live, Left, At, Step, live, left}
+use Rattle.x25_handshakes.specs.laws.Stretch.{Data, Call, Accept, Stretch, stretch_does, stretch_fails, Send, Interrupt, pulls, stretch_acts, by_ground, takes_data, takes_status, data_ground, ack_ground, Packet}
 use Rattle.x25_handshakes.specs.laws.Stretch as nested
-use Rattle.x25_handshakes.specs.laws.Transfer.{d1, rst, lifted}
-use Rattle.x25_handshakes.specs.laws.Calls.{Phase, Unused, Waiting, Offered, Crossed, Talking, Connection, CallStep, in_transfer, call_crosses, calling_talk, called_talk}
+use Rattle.x25_handshakes.specs.laws.Transfer.{lifted}
+use Rattle.x25_handshakes.specs.laws.Calls.{Phase, Unused, Waiting, Offered, Crossed, Talking, Connection, in_transfer, call_crosses, calling_talk, called_talk}
 use Rattle.x25_handshakes.specs.laws.Calls as nested_calls
-use Rattle.x25_handshakes.specs.laws.Channel.{ChannelStep, live, clr, lifted_call, channel_takes, channel_acts}
+use Rattle.x25_handshakes.specs.laws.Channel.{lifted_call, channel_takes, channel_acts}
 use Rattle.x25_handshakes.specs.laws.PeerLayers.{found}
 use Rattle.x25_layer.specs.laws.Bare.{bare}
 use Rattle.x25_layer.proofs.Sees.{talk_of, Agreed, sent_on, taken_on, AreAgreedIn, AreAgreed, view, ParamsLaws, bare_if, IsQuietIf, TellNoFault, Follows, Does, Heeds, act_of, pull_act}
@@ -34,10 +34,10 @@ some_none n e = cc
 
 -- a step in d1, seen from the channel
 
-abbrev pub call_step : Agreed → List CallRequest → List CallRequest → ℕ → StretchStep → CallStep
+abbrev pub call_step : Agreed → List CallRequest → List CallRequest → ℕ → Step Stretch Packet → Step Connection Packet
 call_step g m i s st = in_transfer (sent_on g) (taken_on g) m i (lifted s st st.error)
 
-abbrev pub channel_step : Agreed → ℕ → List CallRequest → List CallRequest → ℕ → StretchStep → ChannelStep
+abbrev pub channel_step : Agreed → ℕ → List CallRequest → List CallRequest → ℕ → Step Stretch Packet → Step (At Connection) Packet
 channel_step g e m i s st = lifted_call e (call_step g m i s st) (call_step g m i s st).error
 
 abbrev pub in_call : ℕ → List CallRequest → List CallRequest → Phase → At Connection
@@ -48,10 +48,10 @@ abbrev pub in_talk : Agreed → ℕ → List CallRequest → List CallRequest �
 in_talk g e m i at = in_call e m i (Talking (sent_on g) (taken_on g) at)
 
 abbrev pub in_open : Agreed → ℕ → List CallRequest → List CallRequest → ℕ → Stretch → At Connection
-in_open g e m i s x = in_talk g e m i (d1 s x)
+in_open g e m i s x = in_talk g e m i (live s x)
 
 abbrev pub in_resetting : Agreed → ℕ → List CallRequest → List CallRequest → ℕ → Stretch → At Connection
-in_resetting g e m i s x = in_talk g e m i (rst s x)
+in_resetting g e m i s x = in_talk g e m i (left s x)
 
 no_failure : (g : Agreed) (e : ℕ) (m i : List CallRequest) (s : ℕ) (x : Stretch) (n : ℕ) → (channel_step g e m i s (stretch_fails x n)).error ≡ None → ⊥
 no_failure g e m i s x n q = some_none n q
@@ -136,7 +136,7 @@ collision_row Dce g e m i mine request allowed = record { next = record { agreed
 
 -- an acceptance of what this end proposed, where it answers what may be answered
 answered_row : (c : Settings) (x : Circuit) (e : ℕ) (m i : List CallRequest) (a : Phase) (answer : Params) → x.clears ≡ e → x.resets ≡ 0 → (b : Bool)
-    → let s : CallStep = if b then nested_calls.goes (calling_talk answer) m i [] else nested_calls.unexpected a m i in
+    → let s : Step Connection Packet = if b then nested_calls.goes (calling_talk answer) m i [] else nested_calls.unexpected a m i in
     (lifted_call e s s.error).error ≡ None
     → Follows (if b then goes x Open answer true None (connected answer ∷ []) else clears_for c x 3 66) (lifted_call e s s.error)
 answered_row c x e m i a answer clears resets true q = record {
@@ -191,7 +191,7 @@ row_in_call laws c g e m i (Offered theirs) p fits = row_arriving c g e m i thei
 row_in_call laws c g e m i (Crossed mine) p fits = row_collision c g e m i mine p
 row_in_call laws c g e m i (Talking t b at) p fits = on_terms (λ a. Row c g (in_call e m i a) p) g t b at fits (row_in_transfer c g e m i at.epoch at.side p)
 
-row_clearing : (c : Settings) (g : Agreed) (e : ℕ) (x : Connection) (p : PlainPacket) → Row c g (clr e x) p
+row_clearing : (c : Settings) (g : Agreed) (e : ℕ) (x : Connection) (p : PlainPacket) → Row c g (left e x) p
 row_clearing c g e x (clear h cause n) has q = record { next = record { agreed = g; is = refl; fits = tt }; owed = refl; quiet = tt; no_fault = (tt, tt) }
 row_clearing c g e x (clear_conf h) has q = record { next = record { agreed = g; is = refl; fits = tt }; owed = refl; quiet = tt; no_fault = (tt, tt) }
 row_clearing c g e x (restart cause n) has q = absurd has
@@ -209,18 +209,18 @@ follows laws c g n p fits has q = row_side laws c g n.epoch n.side p fits has q
 
 -- ---- calls of the user
 
-if_heeds : (b : Bool) (u v : Outcome) (f : StretchStep → ChannelStep) (s w : StretchStep) → Heeds u (f s) → Heeds v (f w) → Heeds (if b then u else v) (f (if b then s else w))
+if_heeds : (b : Bool) (u v : Outcome) (f : Step Stretch Packet → Step (At Connection) Packet) (s w : Step Stretch Packet) → Heeds u (f s) → Heeds v (f w) → Heeds (if b then u else v) (f (if b then s else w))
 if_heeds true u v f s w h g = h
 if_heeds false u v f s w h g = g
 
 -- two tests joined, and one in the other
-if_both : (a b : Bool) (u v : Outcome) (f : StretchStep → ChannelStep) (s w : StretchStep) → Heeds u (f s) → Heeds v (f w) → Heeds (if a && b then u else v) (f (if a then (if b then s else w) else w))
+if_both : (a b : Bool) (u v : Outcome) (f : Step Stretch Packet → Step (At Connection) Packet) (s w : Step Stretch Packet) → Heeds u (f s) → Heeds v (f w) → Heeds (if a && b then u else v) (f (if a then (if b then s else w) else w))
 if_both true true u v f s w h g = h
 if_both true false u v f s w h g = g
 if_both false b u v f s w h g = g
 
 -- a clear or a reset goes where its cause may be given, and that is no cause of a fault
-given_heeds : (is_fault : Bool) (role : Role) (cause : ℕ) (u : Outcome) (s : ChannelStep) → (is_fault ≡ false → Heeds u s) → Heeds (if may_give is_fault role cause then u else Refused BadParameter) s
+given_heeds : (is_fault : Bool) (role : Role) (cause : ℕ) (u : Outcome) (s : Step (At Connection) Packet) → (is_fault ≡ false → Heeds u s) → Heeds (if may_give is_fault role cause then u else Refused BadParameter) s
 given_heeds true role cause u s h = tt
 given_heeds false role cause u s h = test (cause == 0 || is_of_end role cause)
   where
@@ -268,7 +268,7 @@ asked_call laws c g e m i called calling user proposal = test (may_call c.long_d
     params : Params
     params = proposal.params
 
-    placed : Bool → CallStep
+    placed : Bool → Step Connection Packet
     placed b = if b then nested_calls.goes (Waiting params) (m ++ request_of called calling user params ∷ []) i (Call (request_of called calling user params) ∷ []) else nested_calls.goes Unused m i []
 
     test : (b : Bool) → may_call c.long_data called calling user params ≡ b
@@ -288,7 +288,7 @@ asked_call laws c g e m i called calling user proposal = test (may_call c.long_d
 asked_answer : ParamsLaws → (c : Settings) (g : Agreed) (e : ℕ) (m i : List CallRequest) (theirs : Params) (answer : Proposal) → may_propose theirs ≡ true → Asked c g (in_call e m i (Offered theirs)) (Accepts (Some answer))
 asked_answer laws c g e m i theirs answer allowed = test (may_answer theirs answer.params) refl
   where
-    answered : Bool → CallStep
+    answered : Bool → Step Connection Packet
     answered b = if b then nested_calls.goes (called_talk answer.params) m i (Accept (field_for theirs answer) ∷ []) else nested_calls.goes (Offered theirs) m i []
 
     test : (b : Bool) → may_answer theirs answer.params ≡ b
@@ -324,10 +324,10 @@ heeds laws c g n request fits = asked_side laws c g n.epoch n.side request fits
 
 -- ---- the next data packet
 
-abbrev pub DoesPull : Pulled → ChannelStep → Type 0
+abbrev pub DoesPull : Pulled → Step (At Connection) Packet → Type 0
 DoesPull p s = Does p.next p.packet s
 
-if_pulled : (a b : Bool) (u v : Pulled) (f : StretchStep → ChannelStep) (s w : StretchStep) → DoesPull u (f s) → DoesPull v (f w) → DoesPull (if a && b then u else v) (f (if a then (if b then s else w) else w))
+if_pulled : (a b : Bool) (u v : Pulled) (f : Step Stretch Packet → Step (At Connection) Packet) (s w : Step Stretch Packet) → DoesPull u (f s) → DoesPull v (f w) → DoesPull (if a && b then u else v) (f (if a then (if b then s else w) else w))
 if_pulled true true u v f s w h g = h
 if_pulled true false u v f s w h g = g
 if_pulled false b u v f s w h g = g

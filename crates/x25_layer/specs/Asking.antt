@@ -20,11 +20,6 @@ AsksCircuit c v result l h (Done next packet) =
     MatchResult result (λ p. FitsLayer c v (with_circuit l h next) × (plain_sent p ≡ packet)) (λ e. e ≡ error.NoMemory)
 AsksCircuit c v result l h (Refused e) = result ≡ Err (error.Circuit e)
 
--- where memory is missing: a refusal of the circuit goes before 70
-abbrev pub error_without_memory : Outcome → LayerError
-error_without_memory (Done next packet) = error.NoMemory
-error_without_memory (Refused e) = error.Circuit e
-
 -- why the circuit refuses it, if it does, as an error of the layer
 abbrev pub refusal_on : Outcome → Option LayerError
 refusal_on (Done next packet) = None

@@ -115,6 +115,15 @@ outcome_in c is_full false restarts circuits request = outcome_ready c is_full r
 abbrev pub layer_outcome : LayerSettings → Bool → Layer → LayerRequest → LayerOutcome
 layer_outcome c is_full l request = outcome_in c is_full l.restarting l.restarts l.circuits request
 
+-- refused with 9 where the link isn't up
+abbrev pub asked_where : LayerSettings → Bool → Bool → Layer → LayerRequest → LayerOutcome
+asked_where c is_up is_full l request = if is_up then layer_outcome c is_full l request else Declined error.NotUp
+
+-- why it is refused, if it is
+abbrev pub declined_for : LayerOutcome → Option LayerError
+declined_for (Accepted next packet) = None
+declined_for (Declined e) = Some e
+
 -- ---- the next data packet of a channel
 
 pub record LayerPulled : Type 0 where

@@ -1,7 +1,6 @@
 pub mod Error
 pub mod Layer
 pub mod Calls
-pub mod Rounds
 pub mod Ranges
 pub mod Full
 pub mod Report

@@ -1,13 +1,30 @@
--- What a layer makes of octets on a channel, read or not.
-use Rattle.std.specs.Prelude.{◌≢◌, ℕ, Bool, true, false, Result, Ok, Err, if◌then◌else◌}
+-- What a layer makes of octets that its link handed up, whatever they are.
+use Rattle.std.specs.Prelude.{◌≢◌, ℕ, List, Option, Some, None, Bool, true, false, Result, Ok, Err, if◌then◌else◌}
 use Rattle.x25_packet.specs.declared.packet.Packet.{Packet}
 use Rattle.x25_packet.specs.declared.error.PacketError.{PacketError}
 use Rattle.x25_packet.specs.declared.error.PacketError.TheVariants as error
 use Rattle.x25_packet.specs.Packet.{PlainPacket, plain}
-use Rattle.x25_packet.specs.Spelling.{HasChannel}
+use Rattle.x25_packet.specs.Reading.{channel_in}
+use Rattle.x25_packet.specs.Spelling.{HasChannel, longest_user}
+use Rattle.x25_packet.specs.Taking.{read_in}
 use Rattle.x25_circuit.specs.Circuit.{Settings, Circuit}
 use Rattle.x25_circuit.specs.Hearing.{Answer, answers, undecoded}
-use Rattle.x25_layer.specs.Layer.{LayerSettings, Layer, LayerAnswer, is_channel, answers_on, drops}
+use Rattle.x25_layer.specs.Layer.{LayerSettings, Layer, LayerAnswer, is_channel, answers_on, drops, layer_answers}
+use Rattle.x25_layer.specs.Layer.{layer_undecoded}
+
+abbrev pub undecoded_at : LayerSettings → Layer → PacketError → Option ℕ → LayerAnswer
+undecoded_at c l e None = drops l.restarting l.restarts l.circuits
+undecoded_at c l e (Some h) = layer_undecoded c l h e
+
+abbrev pub answer_to : LayerSettings → Layer → List ℕ → Result PlainPacket PacketError → LayerAnswer
+answer_to c l octets (Ok packet) = layer_answers c l packet
+answer_to c l octets (Err e) = undecoded_at c l e (channel_in octets)
+
+-- octets that the link handed up, read in one form or in all, with as much user data as a CALL of this end may have
+abbrev pub layer_hears : LayerSettings → Bool → Layer → List ℕ → LayerAnswer
+layer_hears c wide l octets = answer_to c l octets (read_in wide (longest_user c.circuit.long_data) octets)
+
+-- ---- step by step
 
 abbrev pub plain_read : Result Packet PacketError → Result PlainPacket PacketError
 plain_read (Ok packet) = Ok (plain packet)

@@ -2,5 +2,5 @@
 pub mod Idle
 pub mod Counts
 pub mod FitsLayer
-pub mod OverLink
 pub mod Pulling
+pub mod Answering

@@ -1,6 +1,7 @@
 -- What the laws of this crate say (src/law.rt), and the machines that they are about.
 pub mod Acknowledged
 pub mod Law
+pub mod Rounds
 pub mod RoundLaw
 pub mod NameLaw
 pub mod ApartLaw

@@ -9,7 +9,6 @@ use std::alloc::Global;
 use x25_circuit::Circuit;
 
 // Whether no message waits in a circuit, and no answer is awaited.
-#[inline(always)]
 fn is_idle(circuit: &Circuit) -> bool
     ensures { result ≡ true → IsIdle circuit.now }
 {
@@ -39,7 +38,6 @@ impl Busy {
     }
 
     // Whether a channel and all below are of them, for which the list isn't searched.
-    #[inline(always)]
     fn has_all_to(&self, channel: u16) -> bool
         requires { 1 ≤ channel }
         ensures within { result ≡ true → channel ≤ length self.now.channels.items }
@@ -50,7 +48,6 @@ impl Busy {
     }
 
     // How many of them are up to a channel.
-    #[inline(always)]
     fn count_to(&self, channel: u16) -> usize
         ensures bound { result ≤ length self.now.channels.items }
         ensures below { (i : ℕ) → i < result → slice_index self.now.channels.items i ≤ channel }
@@ -70,7 +67,6 @@ impl Busy {
     }
 
     /// The next one after a channel.
-    #[inline(always)]
     pub(crate) fn after(&self, channel: u16) -> Option<u16>
         ensures listed { IfSome result (λ next. IsOutside self.now.channels.items next → ⊥) }
         ensures higher { IfSome result (λ next. channel < next) }
@@ -118,7 +114,6 @@ impl Busy {
     }
 
     /// With this channel, where its circuit isn't idle.
-    #[inline(always)]
     pub(crate) fn note(&mut self, channel: u16, circuit: &Circuit)
         requires { is_number (vec_capacity self.old.channels) channel ≡ true }
         ensures others { (k : ℕ) → (k ≡ channel → ⊥) → IsOutside self.new.channels.items k

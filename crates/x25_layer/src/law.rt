@@ -6,7 +6,7 @@ ghost use Rattle.x25_layer.specs.laws.Acknowledged.{AcknowledgedAreHandedUp};
 ghost use Rattle.x25_layer.specs.laws.Apart.{AlwaysApart};
 ghost use Rattle.x25_layer.specs.laws.ApartLaw.{IsOverLinks, RestartsFirst, BeginsAlone, OwnMovesDecide, StaysDown};
 ghost use Rattle.x25_layer.specs.laws.ApartLaw.{EventsRunOn};
-ghost use Rattle.x25_layer.specs.laws.RoundLaw.{CallsRun, HearsRun, RoundsSettle, ComesUpAlone};
+ghost use Rattle.x25_layer.specs.laws.RoundLaw.{CallsRun, HearsRun, RoundsSettle, RoundsGoOn, RoundsEnd, ComesUpAlone};
 ghost use Rattle.x25_layer.specs.laws.PeerClaims.{WithAnyPeer, FindsNoError, IsAllInOrder, AllHaveArrived};
 ghost use Rattle.x25_layer.specs.laws.WaitLaw.{RoundsLeaveNone, StillPullsNone, ClosedKeepNone, NoneOpenInRestart};
 ghost use Rattle.x25_layer.specs.laws.WaitLaw.{WaitForUsersAlone};
@@ -70,11 +70,13 @@ pub fn each_end_is_by_itself()
 {}
 
 /// A call of a layer over a link is a run: the step of the call, and then pulls of data packets, until a round of pulls
-/// gives nothing. When the link comes up, RESTART is put alone.
+/// gives nothing; each round leads on to there. When the link comes up, RESTART is put alone.
 pub fn calls_are_runs()
     ensures calls { CallsRun }
     ensures hears { HearsRun }
     ensures settle { RoundsSettle }
+    ensures on { RoundsGoOn }
+    ensures end { RoundsEnd }
     ensures up { ComesUpAlone }
 {}
 

@@ -7,8 +7,8 @@ ghost use Rattle.x25_layer.specs.code.Idle.{IdleBeside};
 use crate::busy::Busy;
 use crate::circuits::{begun_circuits, forget_all};
 use crate::error::LayerError;
-use crate::putting::Sheet;
 use crate::ranges::Ranges;
+use crate::sheet::Sheet;
 use crate::stretch::Stretch;
 use std::alloc::Global;
 use x25_bits::Role;
@@ -22,9 +22,10 @@ fn one_if(is_so: bool) -> usize
     if is_so { 1 } else { 0 }
 }
 
-/// The packet layer of one end, DTE or DCE: its logical channels, numbered from 1, over a link that keeps order.
+/// The packet layer of one end, DTE or DCE: its logical channels, numbered from 1.
 ///
-/// ITU-T X.25 (10/96), sections 3 and 4.
+/// It knows no link. Each call that has a packet to put leaves its octets, which are put by who calls: into a link that
+/// keeps order, before the next call. ITU-T X.25 (10/96), sections 3 and 4.
 #[derive(Drop)]
 pub struct Layer {
     pub(crate) role: Role,
@@ -46,7 +47,7 @@ pub struct Layer {
     pub(crate) counts_left: bool,
     ghost restarts_left: { counts_left ≡ true → restarts < 2 ^ 64 - 1 },
     ghost circuits_left: { counts_left ≡ true → HaveCountsLeft circuits.items },
-    /// Each packet that is put is spelled there.
+    /// The packet that the call before has to put.
     pub(crate) sheet: Sheet,
 }
 
@@ -142,6 +143,14 @@ impl Layer {
             Some(circuit) => circuit.awaits(),
             None => Awaits::Nothing,
         }
+    }
+
+    /// The octets of the packet that the call before has to put into the link; none where it has none to put.
+    #[inline(always)]
+    pub fn to_put(&self) -> &[u8]
+        ensures { result.now ≡ self.now.sheet }
+    {
+        self.sheet.as_slice()
     }
 
     /// How many channels there are.

@@ -1,4 +1,4 @@
-//! The packet layer of X.25 at one end: restart, and its logical channels over a link that keeps order.
+//! The packet layer of X.25 at one end: restart, and its logical channels. It answers packets, and knows no link.
 //! ITU-T X.25 (10/96), sections 3 and 4.
 #![tactic(auto)]
 
@@ -11,13 +11,14 @@ mod free_channel;
 mod full;
 mod law;
 mod layer;
-mod putting;
+mod link_state;
+mod pulling;
 mod ranges;
 mod receiving;
 mod report;
 mod restarting;
-mod rounds;
 mod sending;
+mod sheet;
 mod stretch;
 
 pub use error::LayerError;
@@ -27,6 +28,7 @@ pub use law::{
     two_layers_keep_order,
 };
 pub use layer::Layer;
+pub use link_state::LinkState;
 pub use ranges::Ranges;
 pub use report::Report;
 pub use stretch::Stretch;

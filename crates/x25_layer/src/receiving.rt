@@ -1,5 +1,5 @@
 //! Octets that the link handed up. ITU-T X.25 (10/96), sections 3.3 and 4, and Annex C.
-ghost use Rattle.std.specs.Prelude.{◌≡◌, ℕ, ◌+◌, ◌<◌, ◌≤◌, [], length, true};
+ghost use Rattle.std.specs.Prelude.{◌≡◌, ◌+◌, [], length, true};
 ghost use Rattle.x25_packet.specs.Spelling.{longest_user};
 ghost use Rattle.x25_packet.specs.Taking.{read_in};
 ghost use Rattle.x25_circuit.specs.code.PartialMessage.{spares};
@@ -8,18 +8,16 @@ ghost use Rattle.x25_layer.specs.Layer.{LayerSettings, notices_on};
 ghost use Rattle.x25_layer.specs.Ranges.{is_number};
 ghost use Rattle.x25_layer.specs.Layer.{Layer as State};
 ghost use Rattle.x25_layer.specs.code.FitsLayer.{FitsLayer};
-ghost use Rattle.x25_layer.specs.code.OverLink.{view_of, after_all, TakesPacket, Hears};
-ghost use Rattle.x25_layer.specs.Rounds.{LinkView, answer_to, hears};
+ghost use Rattle.x25_layer.specs.code.Answering.{Hears};
 ghost use Rattle.x25_layer.specs.Asking.{with_circuit};
 ghost use Rattle.x25_layer.specs.Full.{HasCountsLeft, HaveCountsLeft, IsNotFull};
 ghost use Rattle.x25_layer.specs.Report.{plain_report, handed_over_in};
-ghost use Rattle.x25_layer.specs.Receiving.{plain_read, IsOfChannel, circuit_hears, hears_on};
+ghost use Rattle.x25_layer.specs.Receiving.{plain_read, IsOfChannel, circuit_hears, hears_on, answer_to, layer_hears};
 
 use crate::full::is_full;
 use crate::layer::Layer;
 use crate::report::Report;
 use x25_circuit::{Circuit, Notice, Octets, Reply};
-use x25_link::OrderedLink;
 use x25_packet::{Packet, PacketError, channel, longest_user, read, taking_keeps_octets};
 
 // The circuit takes a packet, or octets that spell none, by their error.
@@ -63,7 +61,6 @@ fn told_on<'a>(channel: u16, collided: bool, notice: Option<Notice<'a>>) -> Repo
 
 impl Layer {
     // The circuit of a configured channel takes a packet, or octets that spell none.
-    #[inline(always)]
     fn hear_channel<'a>(
         &mut self,
         channel: u16,
@@ -94,18 +91,17 @@ impl Layer {
 
     // A packet of a channel, or octets that spell none. They are dropped while a restart is under way, and where the
     // channel isn't configured.
-    fn hear_on<'a, L: OrderedLink>(
+    fn hear_on<'a>(
         &mut self,
-        link: &mut L,
         channel: u16,
         read: &Result<Packet<'a>, PacketError>,
         spare: &mut Option<Octets>,
     ) -> Report<'a>
         requires kind { IsOfChannel (plain_read read.now) }
         requires left { HaveCountsLeft self.old.circuits.items }
-        requires place { TakesPacket L.OrderedLink link.old }
         requires spare { spares spare.old ≡ 1 }
-        ensures { Hears L.OrderedLink self.old link.old self.new link.new result (spares spare.new)
+        requires none { self.old.sheet ≡ [] }
+        ensures { Hears self.old self.new result (spares spare.new)
             (λ c l. hears_on c l l.restarting channel (plain_read read.now)) }
     {
         if self.restarting {
@@ -119,25 +115,17 @@ impl Layer {
             collided,
             notice,
         } = self.hear_channel(channel, read, spare);
-        self.put_owed(link, channel, packet);
+        self.sheet.spell_owed(channel, packet);
         told_on(channel, collided, notice)
     }
 
-    // Octets that the link handed up, whatever they are. The packet that is owed for them is put. With `wide` they
-    // are read in all forms.
-    fn hear<'a, L: OrderedLink>(
-        &mut self,
-        link: &mut L,
-        wide: bool,
-        octets: &'a [u8],
-        spare: &mut Option<Octets>,
-    ) -> Report<'a>
+    // Octets that the link handed up, whatever they are. With `wide` they are read in all forms.
+    fn hear<'a>(&mut self, wide: bool, octets: &'a [u8], spare: &mut Option<Octets>) -> Report<'a>
         requires left { IsNotFull self.old }
-        requires place { TakesPacket L.OrderedLink link.old }
         requires spare { spares spare.old ≡ 1 }
-        ensures { Hears L.OrderedLink self.old link.old self.new link.new result (spares spare.new)
-            (λ c l. answer_to c l octets.now
-            (read_in wide (longest_user self.old.long_data) octets.now)) }
+        requires none { self.old.sheet ≡ [] }
+        ensures { Hears self.old self.new result (spares spare.new)
+            (λ c l. answer_to c l octets.now (read_in wide (longest_user self.old.long_data) octets.now)) }
     {
         let Some(channel) = channel(octets) else {
             return Report::Nothing;
@@ -145,55 +133,36 @@ impl Layer {
         taking_keeps_octets();
         let read = read(wide, longest_user(self.long_data), octets);
         match &read {
-            Ok(Packet::Restart { cause, diagnostic }) => {
-                self.hear_restart(link, *cause, *diagnostic)
-            }
-            Ok(Packet::RestartConf) => self.hear_restart_conf(link),
-            _ => self.hear_on(link, channel, &read, spare),
+            Ok(Packet::Restart { cause, diagnostic }) => self.hear_restart(*cause, *diagnostic),
+            Ok(Packet::RestartConf) => self.hear_restart_conf(),
+            _ => self.hear_on(channel, &read, spare),
         }
     }
 
-    /// Takes octets that the link handed up, puts the packet that is owed for them, and pulls data packets. It answers
-    /// what is reported to the users, `Report::Nothing` exactly where that is nothing; a stretch has its name after the
-    /// call.
+    /// Takes octets that the link handed up, and leaves the packet that is owed for them to be put. It answers what is
+    /// reported to the users, `Report::Nothing` exactly where that is nothing; a stretch has its name after the call.
     ///
     /// Without `wide` they are read in the form that a station writes alone. With it they are read in any form that
     /// X.25 has, and taken for a packet of that form (`take` of `x25_packet`).
     ///
-    /// No count is full, the link is up, fewer than 256 packets wait in it, it has 16 places, and it takes packets of
-    /// 4,099 octets. Octets that spell no packet go to the channel that the first two name. They are dropped where they
-    /// name no configured channel, and, but for RESTART and its confirmation, while this end's restart isn't confirmed.
+    /// No count is full. Octets that spell no packet go to the channel that the first two name. They are dropped where
+    /// they name no configured channel, and, but for RESTART and its confirmation, while this end's restart isn't
+    /// confirmed.
     ///
     /// It takes no memory: a message is handed over with the memory that it came in, and what comes next on its channel
     /// comes in the spare memory, which is left where none is handed over.
-    pub fn packet<'a, L: OrderedLink>(
+    pub fn packet<'a>(
         &mut self,
-        link: &mut L,
         wide: bool,
         octets: &'a [u8],
         spare: &mut Option<Octets>,
     ) -> Report<'a>
         requires left { IsNotFull self.old }
-        requires up { L.up link.old ≡ true }
-        requires free { L.waits link.old < 256 }
-        requires places { 16 ≤ L.promised link.old }
-        requires longest { 4099 ≤ L.longest link.old }
         requires spare { spares spare.old ≡ 1 }
-        ensures layer { (c : LayerSettings) (l : State) (x : L.State) → FitsLayer c self.old l → L.fits link.old x
-            → FitsLayer c self.new
-            (hears (view_of L.up_in L.waits_in L.after_put x) c wide l octets.now).step.layer }
-        ensures link { (c : LayerSettings) (l : State) (x : L.State) → FitsLayer c self.old l → L.fits link.old x
-            → L.fits link.new (after_all L.after_put x
-            (hears (view_of L.up_in L.waits_in L.after_put x) c wide l octets.now).step.put) }
-        ensures told { (c : LayerSettings) (l : State) (view : LinkView) → FitsLayer c self.old l
-            → plain_report result ≡ (hears view c wide l octets.now).notices }
-        ensures nothing { plain_report result ≡ [] → result ≡ Report.Nothing }
-        ensures longest { L.longest link.new ≡ L.longest link.old }
-        ensures spare { spares spare.new + handed_over_in result ≡ 1 }
+        ensures { Hears self.old self.new result (spares spare.new) (λ c l. layer_hears c wide l octets.now) }
     {
         self.counts_left = true;
-        let told = self.hear(link, wide, octets, spare);
-        self.pull_all(link);
-        told
+        self.sheet.clear();
+        self.hear(wide, octets, spare)
     }
 }

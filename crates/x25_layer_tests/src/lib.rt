@@ -1,5 +1,5 @@
-//! Tests of `x25_layer`: its public functions over a plain link, and which refusal comes first. What a layer answers
-//! packet by packet is played by `tests/golden`.
+//! Tests of `x25_layer`: its public functions, and which refusal comes first. What a layer answers packet by packet is
+//! played by `tests/golden`.
 #![tactic(auto)]
 
 #[cfg(test)]

@@ -1,10 +1,9 @@
 //! Which refusal comes, by the state of the link, of the layer and of the channel, and that it is told beforehand.
 
-use crate::calls::{ask, call, fill, layer, layer_with, link_down, plain_link, restart};
+use crate::calls::{ask, call, layer, layer_with, restart};
 use std::alloc::Global;
 use x25_circuit::{Marks, Request};
-use x25_layer::{Layer, LayerError, Ranges, Role};
-use x25_link::OrderedLink;
+use x25_layer::{Layer, LayerError, LinkState, Ranges, Role};
 
 /// What is asked of a channel, by its index up to 7.
 pub fn request(index: usize) -> Request<'static> {
@@ -32,19 +31,33 @@ pub fn request(index: usize) -> Request<'static> {
     }
 }
 
+/// A link that is up, and takes packets.
+pub static UP: LinkState = LinkState {
+    is_up: true,
+    is_full: false,
+};
+
+static FULL: LinkState = LinkState {
+    is_up: true,
+    is_full: true,
+};
+
+static DOWN: LinkState = LinkState {
+    is_up: false,
+    is_full: false,
+};
+
 /// What happens, and the number of its refusal or 0.
 #[derive(Clone, Copy)]
 enum Act {
     /// With a cause.
     Restart(u8, u8),
-    /// So many packets are handed down to the link, by another than the layer.
-    Fill(usize),
     /// Each request is asked on a channel, in order.
     Ask(u16, [u8; 7]),
     /// A call with these addresses, called and calling, and octets of user data.
     Call(&'static str, &'static str, &'static [u8], u8),
-    /// So many packets wait: what is refused puts none.
-    Waits(usize),
+    /// Whether anything at all may be asked.
+    Unready(u8),
 }
 
 fn number(error: Option<LayerError>) -> u8 {
@@ -55,12 +68,7 @@ fn number(error: Option<LayerError>) -> u8 {
 }
 
 // The refusal of a request that is told, and the one that comes.
-fn refusals<L: OrderedLink>(
-    layer: &mut Layer,
-    link: &mut L,
-    channel: u16,
-    index: usize,
-) -> (u8, u8) {
+fn refusals(layer: &mut Layer, link: LinkState, channel: u16, index: usize) -> (u8, u8) {
     let told = layer.refusal(link, channel, &request(index));
     (
         number(told),
@@ -68,12 +76,7 @@ fn refusals<L: OrderedLink>(
     )
 }
 
-fn refuses_on<L: OrderedLink>(
-    layer: &mut Layer,
-    link: &mut L,
-    channel: u16,
-    numbers: &[u8; 7],
-) -> bool {
+fn refuses_on(layer: &mut Layer, link: LinkState, channel: u16, numbers: &[u8; 7]) -> bool {
     for (index, wanted) in numbers.iter().enumerate() {
         if refusals(layer, link, channel, index) != (*wanted, *wanted) {
             return false;
@@ -83,9 +86,9 @@ fn refuses_on<L: OrderedLink>(
 }
 
 // The same of a call.
-fn refusals_of_call<L: OrderedLink>(
+fn refusals_of_call(
     layer: &mut Layer,
-    link: &mut L,
+    link: LinkState,
     addresses: (&str, &str),
     user: &[u8],
 ) -> (u8, u8) {
@@ -94,20 +97,19 @@ fn refusals_of_call<L: OrderedLink>(
 }
 
 // Whether an act is refused as it says.
-fn happens<L: OrderedLink>(layer: &mut Layer, link: &mut L, act: &Act) -> bool {
+fn happens(layer: &mut Layer, link: LinkState, act: &Act) -> bool {
     match act {
         Act::Restart(cause, wanted) => number(restart(layer, link, *cause).err()) == *wanted,
-        Act::Fill(count) => fill(link, *count),
         Act::Ask(channel, numbers) => refuses_on(layer, link, *channel, numbers),
         Act::Call(called, calling, user, wanted) => {
             refusals_of_call(layer, link, (called, calling), user) == (*wanted, *wanted)
         }
-        Act::Waits(count) => link.waiting() == *count,
+        Act::Unready(wanted) => number(layer.unready(link)) == *wanted,
     }
 }
 
 // The first act that is refused otherwise.
-fn odd_act<L: OrderedLink>(layer: &mut Layer, link: &mut L, acts: &[Act]) -> Option<usize> {
+fn odd_act(layer: &mut Layer, link: LinkState, acts: &[Act]) -> Option<usize> {
     for (place, act) in acts.iter().enumerate() {
         if !happens(layer, link, act) {
             return Some(place);
@@ -116,98 +118,100 @@ fn odd_act<L: OrderedLink>(layer: &mut Layer, link: &mut L, acts: &[Act]) -> Opt
     None
 }
 
-// At a DTE with so many channels these acts happen in order.
-fn odd_act_of(alloc: Global, channels: u16, acts: &[Act]) -> Option<Option<usize>> {
+// At a DTE with so many channels these acts happen while the link is up, and then these where it is in some state.
+fn odd_act_of(
+    alloc: Global,
+    channels: u16,
+    before: &[Act],
+    link: LinkState,
+    acts: &[Act],
+) -> Option<Option<usize>> {
     let mut layer = layer(alloc, Role::Dte, channels).ok()?;
-    let mut link = plain_link(alloc)?;
-    Some(odd_act(&mut layer, &mut *link, acts))
+    if odd_act(&mut layer, UP, before).is_some() {
+        return None;
+    }
+    Some(odd_act(&mut layer, link, acts))
 }
 
-static RESTARTING: [Act; 5] = [
-    Act::Restart(0, 0),
-    Act::Fill(255),
+static IN_A_RESTART: [Act; 2] = [Act::Unready(0), Act::Restart(0, 0)];
+
+static RESTARTING: [Act; 4] = [
+    Act::Unready(40),
     Act::Ask(4, [40; 7]),
     Act::Call("1", "2", &[], 40),
-    Act::Waits(256),
+    Act::Restart(7, 40),
 ];
 
 #[test]
 fn a_restart_refuses_all(rt: HostRuntime) {
     assert_eq!(rt;
-        odd_act_of(rt.alloc(), 3, RESTARTING.as_slice()),
+        odd_act_of(rt.alloc(), 3, &IN_A_RESTART, FULL, &RESTARTING),
         Some(None)
     );
 }
 
-static DOWN: [Act; 3] = [
+static LINK_DOWN: [Act; 4] = [
+    Act::Unready(9),
     Act::Ask(4, [9; 7]),
     Act::Call("1", "2", &[], 9),
     Act::Restart(7, 9),
 ];
 
-// The layer awaits a confirmation of its RESTART.
-fn odd_act_of_down(alloc: Global) -> Option<Option<usize>> {
-    let mut layer = layer(alloc, Role::Dte, 3).ok()?;
-    restart(&mut layer, &mut *plain_link(alloc)?, 0).ok()?;
-    let mut link = link_down(alloc)?;
-    Some(odd_act(&mut layer, &mut *link, DOWN.as_slice()))
-}
-
 #[test]
 fn a_link_that_is_down_refuses_all(rt: HostRuntime) {
-    assert_eq!(rt; odd_act_of_down(rt.alloc()), Some(None));
+    assert_eq!(rt;
+        odd_act_of(rt.alloc(), 3, &IN_A_RESTART, DOWN, &LINK_DOWN),
+        Some(None)
+    );
 }
 
+static ONE_CALL: [Act; 1] = [Act::Call("", "", &[], 0)];
+
 // The only channel has a call.
-static NO_SUCH_CHANNEL: [Act; 8] = [
-    Act::Call("", "", &[], 0),
-    Act::Fill(255),
+static NO_SUCH_CHANNEL: [Act; 5] = [
     Act::Ask(0, [42; 7]),
     Act::Ask(2, [42; 7]),
     Act::Ask(257, [42; 7]),
     Act::Ask(4097, [42; 7]),
     Act::Call("1", "2", &[], 41),
-    Act::Waits(256),
 ];
 
 #[test]
 fn a_channel_that_is_not_there_goes_before_a_full_queue(rt: HostRuntime) {
     assert_eq!(rt;
-        odd_act_of(rt.alloc(), 1, NO_SUCH_CHANNEL.as_slice()),
+        odd_act_of(rt.alloc(), 1, &ONE_CALL, FULL, &NO_SUCH_CHANNEL),
         Some(None)
     );
 }
 
 // A message puts no packet at once.
-static FULL_QUEUE: [Act; 6] = [
-    Act::Fill(256),
+static FULL_QUEUE: [Act; 5] = [
+    Act::Unready(0),
     Act::Ask(1, [10, 10, 30, 10, 10, 10, 10]),
     Act::Call("1", "2", &[], 10),
     Act::Call("x", "", &[], 10),
     Act::Restart(7, 10),
-    Act::Waits(256),
 ];
 
 #[test]
 fn a_full_queue_goes_before_the_circuit(rt: HostRuntime) {
     assert_eq!(rt;
-        odd_act_of(rt.alloc(), 3, FULL_QUEUE.as_slice()),
+        odd_act_of(rt.alloc(), 3, &[], FULL, &FULL_QUEUE),
         Some(None)
     );
 }
 
 // A DTE gives 0 or a cause with bit 8, but not the one by which it tells of an error of procedure.
-static CAUSES_OF_A_DTE: [Act; 4] = [
+static CAUSES_OF_A_DTE: [Act; 3] = [
     Act::Restart(7, 34),
     Act::Restart(128, 34),
-    Act::Waits(0),
     Act::Restart(129, 0),
 ];
 
 #[test]
 fn a_restart_has_a_cause_of_its_end(rt: HostRuntime) {
     assert_eq!(rt;
-        odd_act_of(rt.alloc(), 3, CAUSES_OF_A_DTE.as_slice()),
+        odd_act_of(rt.alloc(), 3, &[], UP, &CAUSES_OF_A_DTE),
         Some(None)
     );
 }
@@ -222,7 +226,7 @@ static NOT_ALLOWED: [Act; 4] = [
 #[test]
 fn the_circuit_refuses_what_its_state_does_not_allow(rt: HostRuntime) {
     assert_eq!(rt;
-        odd_act_of(rt.alloc(), 3, NOT_ALLOWED.as_slice()),
+        odd_act_of(rt.alloc(), 3, &[], UP, &NOT_ALLOWED),
         Some(None)
     );
 }

@@ -7,8 +7,8 @@ use Rattle.x25_frame.specs.declared.error.FrameError.{FrameError}
 use Rattle.x25_link.specs.{Station.{Settings, LinkStation}, Hearing.{other}, Link.{take_step}}
 use Rattle.x25_line.specs.laws.Stations.{Deliver, Event, Near, Far}
 use Rattle.x25_line.specs.laws.Sessions.{Entry, Meeting, Sessions, sent_in, begun_by, after_step, delivered, acts, swapped, run, from_nothing, from_set_up}
-use Rattle.x25_line.specs.{laws.StationClaims.{AreJoined}, Healing.{AreDeliveries, EachFindsIn, SessionsDrainEnd, SomeSessionsDrain}}
-use Rattle.x25_line.specs.laws.LawsBelow.{HealingLaws}
+use Rattle.x25_line.specs.{laws.StationClaims.{AreJoined}, Healing.{IsDelivery, EachFindsIn, SessionsDrainEnd, SomeSessionsDrain}, laws.LawsBelow.{HealingLaws}}
+use Rattle.x25_line.specs.laws.SessionClaims.{Each}
 use Rattle.x25_line.proofs.{StationSends.{AllWithin}, StationRuns.{joined_swapped}, HealingRuns.{within_of, fit_from}, HealingSteps.{IsDrained}}
 use Rattle.x25_line.proofs.DrainWeights.{more_if, times, times_more, seven_times, read_weight, weights, to_take, station_weight, AreSpelled}
 use Rattle.x25_line.proofs.DrainSteps.{changes, asks_in, read_weight_some, GoesOn, Changes, Took, took}
@@ -225,7 +225,7 @@ module _ (reads : ReadsSpelled) (c d : Settings) (joined : AreJoined c d) (back 
         less = omega (arith, f.less, most_swapped back c d w, most_swapped back d c v);
       }
 
-  pub count : (es : List Event) (w : Sessions) → AreDeliveries es → Fit c d w → Enough back w → EachFindsIn c d es w → length es ≤ at_most back c d w
+  pub count : (es : List Event) (w : Sessions) → Each IsDelivery es → Fit c d w → Enough back w → EachFindsIn c d es w → length es ≤ at_most back c d w
   count [] w are fit enough finds = omega arith
   count (Near Deliver ∷ es) w are fit enough finds =
       let f = near_falls reads c d joined back w fit enough finds.0 in
@@ -239,7 +239,7 @@ module _ (reads : ReadsSpelled) (c d : Settings) (joined : AreJoined c d) (back 
   -- some deliveries drain the line
   pub record Drains (w : Sessions) : Type 0 where
     pub deliveries : List Event
-    pub are : AreDeliveries deliveries
+    pub are : Each IsDelivery deliveries
     pub drained : IsDrained (run c d deliveries w)
 
   not_nil : (o : Entry) (os line : List Entry) → line ≡ o ∷ os → line ≡ [] → ⊥

@@ -300,4 +300,4 @@ module _ (c : Settings) (n1 back low : ℕ) (s : LinkStation) (small : c.window 
 
   pub took : (octets : List ℕ) (r : Result PlainFrame FrameError) → frame_of (other c.role) c.longest octets ≡ r → Took n1 back low (read_weight back low r) (asks_in r) s (take_step c octets s).side
   took octets r is =
-      subst (λ (z : Result PlainFrame FrameError). Took n1 back low (read_weight back low z) (asks_in z) s (take_step c octets s).side) is (hears_took octets (frame_of (other c.role) c.longest octets) s.phase refl)
+      rw (sym is) (hears_took octets (frame_of (other c.role) c.longest octets) s.phase refl)

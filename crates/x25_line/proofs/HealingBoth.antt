@@ -9,7 +9,7 @@ use Rattle.x25_link.specs.laws.BusyLaw.{BusyLaws}
 use Rattle.x25_link.proofs.EndLemmas.{busy_is}
 use Rattle.x25_line.specs.laws.Stations.{Deliver, T1, Event, Near, Far}
 use Rattle.x25_line.specs.laws.Sessions.{Entry, SessionEnd, Sessions, begun_by, delivered, acts, swapped, after_step, unless, run}
-use Rattle.x25_line.specs.{laws.StationClaims.{AreJoined}, Healing.{AreDeliveries, SessionHasTries, OneIsFree}, laws.LawsBelow.{HealingLaws}}
+use Rattle.x25_line.specs.{laws.StationClaims.{AreJoined}, Healing.{IsDelivery, HasTries, OneIsFree}, laws.LawsBelow.{HealingLaws}, laws.SessionClaims.{Each}}
 use Rattle.x25_line.proofs.{StationSteps.{not_both}, StationRuns.{joined_swapped}, HealingLines.{Reads, reads_none, Reports, NoFinal}}
 use Rattle.x25_line.proofs.HealingSteps.{Reached, then_happens, timely_up, Sound, sound_swapped, sound_at, in_order_at, SentWhole, whole_at, IsDrained, counted, all_heard, hears_well, deliveries_keep, reads_put}
 use Rattle.x25_line.proofs.HealingEnds.{after_firings, GoesOn, polls, stays, Fired, BothFired, both_fire}
@@ -162,7 +162,7 @@ module _ (reads : ReadsSpelled) (laws : HealingLaws) (busy_laws : BusyLaws) wher
   far_stays None w v same = same
 
   -- both fire
-  pub begins : (c d : Settings) → AreJoined c d → (w : Sessions) → Reached c d w → IsDrained w → SessionHasTries c w.near → SessionHasTries d w.far → OneIsFree w.near.station w.far.station
+  pub begins : (c d : Settings) → AreJoined c d → (w : Sessions) → Reached c d w → IsDrained w → HasTries c.retries w.near.station → HasTries d.retries w.far.station → OneIsFree w.near.station w.far.station
       → HealsAt w.near.begun w.far.begun c d (after_firings c d w)
   begins c d joined w r drained near_may far_may free = (after, by k.near k.far)
     where
@@ -239,5 +239,5 @@ module _ (reads : ReadsSpelled) (laws : HealingLaws) (busy_laws : BusyLaws) wher
       let sound = sound_at reads laws c d joined v r h.near_on h.far_on in
       both_rest s t h.one_free (rests_near c d joined v sound near) (rests_near d c (joined_swapped c d joined) (swapped v) (sound_swapped c d v sound) far)
 
-  pub deliveries_heal : (n m : ℕ) (c d : Settings) → AreJoined c d → (es : List Event) (w : Sessions) → AreDeliveries es → HealsAt n m c d w → HealsAt n m c d (run c d es w)
+  pub deliveries_heal : (n m : ℕ) (c d : Settings) → AreJoined c d → (es : List Event) (w : Sessions) → Each IsDelivery es → HealsAt n m c d w → HealsAt n m c d (run c d es w)
   deliveries_heal n m c d joined = deliveries_keep (HealsAt n m c d) c d (both_near n m c d joined) (both_far n m c d joined)

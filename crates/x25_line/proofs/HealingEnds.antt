@@ -1,13 +1,13 @@
 -- Whatever the two ends are at a quiet moment, once both have fired and all has come each is at rest or not Up.
-use Rattle.std.proofs.Common.{◌≡◌, List, [], ◌∷◌, ◌++◌, ◌⊎◌, inl, inr, length, Bool, true, false, if◌then◌else◌, ℕ, suc, ◌+◌, ◌<◌, Some, None, refl, sym, ap, ◌∙◌, subst, arith}
+use Rattle.std.proofs.Common.{◌≡◌, List, [], ◌∷◌, ◌⊎◌, inl, inr, length, Bool, true, false, if◌then◌else◌, ℕ, suc, ◌+◌, ◌<◌, Some, None, refl, sym, ap, ◌∙◌, subst, arith}
 use Rattle.std.proofs.lemmas.Bool.{ltb-true, ltb-false}
 use Rattle.std.specs.Prelude.{nat_lt}
 use Rattle.x25_frame.specs.{Frame.{PlainFrame, sabm}, laws.ReadingLaw.{ReadsSpelled}}
 use Rattle.x25_link.specs.{declared.phase.Phase.{Phase}, declared.phase.Phase.TheVariants.{Down, Waiting, Up}, declared.phase.Reason.TheVariants.{Retries}}
 use Rattle.x25_link.specs.{Station.{Settings, LinkStation, is_up, is_busy, wanted, with_nothing}, Hearing.{Step, other}, Link.{timer_step, timer_runs}}
 use Rattle.x25_link.specs.{laws.SetUp.{Is}, laws.WindowMachine.{nothing}, laws.WindowLaw.{Follows, IsOut}, laws.RestLaw.{IsAtRest}, laws.AnswerLaw.{says}}
-use Rattle.x25_line.specs.{laws.Stations.{T1, Event}, laws.Sessions.{Entry, SessionEnd, Sessions, sent_in, begun_by, acts, swapped, run}}
-use Rattle.x25_line.specs.{laws.StationClaims.{AreJoined, IsWhole, AreWhole}, Healing.{AreDeliveries, SessionHasTries}, laws.LawsBelow.{HealingLaws}}
+use Rattle.x25_line.specs.{laws.Stations.{T1, Event}, laws.Sessions.{SessionEnd, Sessions, begun_by, acts, swapped, run}}
+use Rattle.x25_line.specs.{laws.StationClaims.{AreJoined, IsWhole, AreWhole}, Healing.{IsDelivery, HasTries}, laws.SessionClaims.{Each}, laws.LawsBelow.{HealingLaws}}
 use Rattle.x25_line.proofs.{DrainWeights.{below_eight}, StationSteps.{not_both, out_not_up}, StationRuns.{joined_swapped}, HealingLines.{Reads}}
 use Rattle.x25_line.proofs.{StationEvents.{timer_up}, HealingSteps.{IsDrained, IsInOrderIfUp, refused, fires_is, reads_put}}
 use Rattle.x25_line.proofs.{HealingSetUp.{RestsOrOut, AreOfSetUp, Parts, asked, asked_polling, polled, rests, Settles, settle}, StationAway.{is_up_phase}}
@@ -38,12 +38,12 @@ off_sets_up s fs (out gone) = tt
 
 -- it goes on where it had tries left, and is as busy
 pub record WentOn (c : Settings) (e : SessionEnd) (s : LinkStation) (fs : List PlainFrame) : Type 0 where
-  pub tries : SessionHasTries c e
+  pub tries : HasTries c.retries e.station
   pub busy : is_busy s ≡ is_busy e.station
   pub is : GoesOn s fs
 
 pub record WentOff (c : Settings) (e : SessionEnd) (s : LinkStation) (fs : List PlainFrame) : Type 0 where
-  pub had_none : SessionHasTries c e → ⊥
+  pub had_none : HasTries c.retries e.station → ⊥
   pub is : IsOff s fs
 
 abbrev pub Fired : Settings → SessionEnd → LinkStation → List PlainFrame → Type 0
@@ -66,7 +66,7 @@ module _ (c d : Settings) (joined : AreJoined c d) (reads : ReadsSpelled) (laws 
     step = timer_step c s
 
     none : Reads (other d.role) d.longest w.out []
-    none = subst (λ (os : List Entry). Reads (other d.role) d.longest os []) (sym empty) tt
+    none = rw empty tt
 
     -- T1 doesn't run
     stands : timer_runs s.phase s ≡ false → Fired c w.near s [] → HasFired c d w (acts c T1 w)
@@ -78,9 +78,8 @@ module _ (c d : Settings) (joined : AreJoined c d) (reads : ReadsSpelled) (laws 
     fires running t fs near sent whole is =
         subst (HasFired c d w) (sym (fires_is c w running)) (record {
           frames = fs;
-          is = subst (λ (z : LinkStation). Fired c w.near z fs) (sym near) is;
-          out = subst (λ (gs : List PlainFrame). Reads (other d.role) d.longest (w.out ++ sent_in (begun_by step.notes.up w.near.begun) c.role gs) fs) (sym sent)
-              (reads_put reads c d joined [] (begun_by step.notes.up w.near.begun) w.out [] fs whole none);
+          is = rw near is;
+          out = rw sent (reads_put reads c d joined [] (begun_by step.notes.up w.near.begun) w.out [] fs whole none);
           back = refl;
           far = refl;
           begun = ap (λ (b : Bool). begun_by b w.near.begun) (timer_up c s);
@@ -88,7 +87,7 @@ module _ (c d : Settings) (joined : AreJoined c d) (reads : ReadsSpelled) (laws 
 
     -- an end that awaits UA
     waiting : s.phase ≡ Waiting → (b : Bool) → nat_lt s.tries c.retries ≡ b → HasFired c d w (acts c T1 w)
-    waiting waits b few = by b (subst (λ (b : Bool). After b) few (laws.sessions.laws.set_up.timer c s waits))
+    waiting waits b few = by b (rw (sym few) (laws.sessions.laws.set_up.timer c s waits))
       where
         After : Bool → Type 0
         After b = Is (if b then record s { tries = suc s.tries } else with_nothing Down s.tries) (if b then sabm true ∷ [] else []) (if b then None else Some Retries) false step
@@ -96,7 +95,7 @@ module _ (c d : Settings) (joined : AreJoined c d) (reads : ReadsSpelled) (laws 
         running : timer_runs s.phase s ≡ true
         running = ap (λ (p : Phase). timer_runs p s) waits
 
-        not_up : SessionHasTries c w.near → ⊥
+        not_up : HasTries c.retries w.near.station → ⊥
         not_up has = not_both (is_up s.phase) has.up (ap is_up waits)
 
         by : (b : Bool) → After b → HasFired c d w (acts c T1 w)
@@ -163,9 +162,9 @@ module _ (reads : ReadsSpelled) (laws : HealingLaws) where
       record {
         there = f.frames;
         behind = g.frames;
-        near = subst (λ (e : SessionEnd). Fired c w.near e.station f.frames) (sym g.far) f.is;
+        near = rw g.far f.is;
         far = subst (λ (e : SessionEnd). Fired d e (acts d T1 (swapped x)).near.station g.frames) f.far g.is;
-        out = subst (λ (os : List Entry). Reads (other d.role) d.longest os f.frames) (sym g.back) f.out;
+        out = rw g.back f.out;
         back = g.out;
         near_begun = ap (λ (e : SessionEnd). e.begun) g.far ∙ f.begun;
         far_begun = g.begun ∙ ap (λ (e : SessionEnd). e.begun) f.far;
@@ -179,8 +178,8 @@ module _ (reads : ReadsSpelled) (laws : HealingLaws) where
   parts s t fs gs (stays rest) (out gone) = rests rest gone
 
   -- from any two ends, where two that are Up and have tries left come to rest
-  pub rest_or_out : (c d : Settings) → AreJoined c d → (w : Sessions) → IsInOrderIfUp c w.near → IsInOrderIfUp d w.far → IsDrained w → (es : List Event) → AreDeliveries es
-      → IsDrained (run c d es (after_firings c d w)) → (SessionHasTries c w.near → SessionHasTries d w.far → RestOrOut c d es (after_firings c d w)) → RestOrOut c d es (after_firings c d w)
+  pub rest_or_out : (c d : Settings) → AreJoined c d → (w : Sessions) → IsInOrderIfUp c w.near → IsInOrderIfUp d w.far → IsDrained w → (es : List Event) → Each IsDelivery es
+      → IsDrained (run c d es (after_firings c d w)) → (HasTries c.retries w.near.station → HasTries d.retries w.far.station → RestOrOut c d es (after_firings c d w)) → RestOrOut c d es (after_firings c d w)
   rest_or_out c d joined w near_in far_in was es are after heals = by b.near b.far
     where
       v : Sessions

@@ -1,6 +1,5 @@
 -- The frames that stand on a line, and those among them that matter while an end heals.
-use Rattle.std.proofs.Common.{◌≡◌, ℕ, ◌+◌, ◌%◌, ◌≤◌, List, [], ◌∷◌, ◌++◌, false, Ok, refl, sym, subst, arith, length, ap, true}
-use Rattle.std.proofs.lemmas.Bool.{and_left, and_right}
+use Rattle.std.proofs.{Common.{◌≡◌, ℕ, ◌+◌, ◌%◌, ◌≤◌, List, [], ◌∷◌, ◌++◌, false, Ok, refl, arith, length, ap, true}, lemmas.Bool.{and_left, and_right}}
 use Rattle.std.specs.Prelude.{◌&&◌, not}
 use Rattle.x25_bits.specs.declared.role.Role.{Role}
 use Rattle.x25_frame.specs.{Frame.{PlainFrame, info, rr, rnr, rej}, Spelling.{spelling_of}, Reading.{frame_of}, laws.ReadingLaw.{ReadsSpelled}}
@@ -51,7 +50,7 @@ ahead_low n (rnr command nr pf ∷ fs) m h = ahead_low n fs m h.1
 ahead_low n (frame ∷ fs) m h = absurd h
 
 pub ahead_more : (n m k : ℕ) (fs es : List PlainFrame) → Ahead n fs m → Ahead m es k → Ahead n (fs ++ es) k
-ahead_more n m k [] es h g = subst (λ (z : ℕ). Ahead z es k) (sym h) g
+ahead_more n m k [] es h g = rw h g
 ahead_more n m k (info ns nr p x ∷ fs) es h g = (h.0, h.1, ahead_more (n + 1) m k fs es h.2 g)
 ahead_more n m k (rr command nr pf ∷ fs) es h g = (h.0, ahead_more n m k fs es h.1 g)
 ahead_more n m k (rej command nr pf ∷ fs) es h g = (h.0, ahead_more n m k fs es h.1 g)

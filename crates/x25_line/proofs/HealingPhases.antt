@@ -130,7 +130,7 @@ module _ (s z : LinkStation) (es : List PlainFrame) (k : SaysMore s z es) where
 
   -- whether it is busy is told by what it says more
   told_more : (busy : Bool) (gs : List PlainFrame) → Told (hears_busy busy gs) s → Told (hears_busy busy (gs ++ es)) z
-  told_more busy gs told = subst (λ (b : Bool). Told b z) (sym (hears_more busy gs es)) (told_on (hears_busy busy gs) s z es told k.says k.free)
+  told_more busy gs told = rw (hears_more busy gs es) (told_on (hears_busy busy gs) s z es told k.says k.free)
 
   final_more : (busy : Bool) (n : ℕ) (gs : List PlainFrame) → Final s busy n gs → Final z busy n (gs ++ es)
   final_more busy n gs h = record { is = h.is ∙ ap (λ (m : ℕ). m % 8) same; tells = tells_more n gs h.tells; told = told_more busy gs h.told }
@@ -148,8 +148,8 @@ module _ (s z : LinkStation) (es : List PlainFrame) (k : SaysMore s z es) where
   resent_more t gs fs h = record {
     recovery = h.recovery;
     peer_busy = h.peer_busy;
-    ahead = subst (λ (n : ℕ). Ahead n gs t.outgoing.place) same h.ahead;
-    reports = subst (λ (n : ℕ). Reports n t.outgoing.acked (fs ++ es)) same (reports_more (length s.taken) t.outgoing.acked k.place z.outgoing.place fs es h.reports k.next);
+    ahead = rw (sym same) h.ahead;
+    reports = rw (sym same) (reports_more (length s.taken) t.outgoing.acked k.place z.outgoing.place fs es h.reports k.next);
     free = k.free h.free;
   }
 
@@ -309,7 +309,7 @@ module _ (c : Settings) (laws : HealingLaws) (busy_laws : BusyLaws) (octets : Li
       recovery = a.recovery ∙ recovery;
       peer_busy = a.peer_busy ∙ peer_busy;
       ahead = ahead_more r n m fs step.side.out ahead
-          (subst (λ (es : List PlainFrame). Ahead n es m) (sym a.out) (ahead_more n o.place m o.first a.next first (next_ahead (length o.taken) o.place a.next m a.sends)));
+          (rw a.out (ahead_more n o.place m o.first a.next first (next_ahead (length o.taken) o.place a.next m a.sends)));
       reports = reports_heard r z.outgoing.acked nr gs tells (λ is. a.acked ∙ acked ∙ all is);
       free = free;
     })));
@@ -428,8 +428,7 @@ module _ (c : Settings) (laws : HealingLaws) (busy_laws : BusyLaws) (octets : Li
     more = record {
       taken = a.taken ∙ taken;
       place = o.place;
-      next = subst (λ (es : List PlainFrame). AreNext (length s.taken) o.place es m) (sym (a.out ∙ ap (λ (es : List PlainFrame). es ++ a.next) first))
-          (subst (λ (xs : List (List ℕ)). AreNext (length xs) o.place a.next m) taken a.sends);
+      next = rw (a.out ∙ ap (λ (es : List PlainFrame). es ++ a.next) first) (subst (λ (xs : List (List ℕ)). AreNext (length xs) o.place a.next m) taken a.sends);
       says = busy_laws.take c octets s up a.quiet;
       free = stays_free a.quiet;
     };
@@ -495,14 +494,14 @@ module _ (c : Settings) (laws : HealingLaws) (busy_laws : BusyLaws) (octets : Li
       let more : length z.taken ≡ length s.taken + 1 = ap length a.taken ∙ length-append s.taken (x ∷ []) in
       let next : AreNext (length z.taken) o.place step.side.out m =
       subst (λ (es : List PlainFrame). AreNext (length z.taken) o.place es m) (sym a.out)
-      (subst (λ (xs : List (List ℕ)). AreNext (length xs) o.place (o.first ++ a.next) m) (sym a.taken) (confirms_next (length o.taken) o.place m k.0 a.next a.sends)) in
+      (rw a.taken (confirms_next (length o.taken) o.place m k.0 a.next a.sends)) in
       record {
         o = o;
         answers = a;
         phase = inr (inr (inl (record {
           recovery = h.recovery;
           peer_busy = h.peer_busy;
-          ahead = subst (λ (n : ℕ). Ahead n gs t.outgoing.place) (sym more) ahead;
+          ahead = rw more ahead;
           reports = reports_new (length s.taken) (length z.taken) t.outgoing.acked o.place m fs step.side.out h.reports next k.1.speaks;
           free = stays_free a.quiet free;
         })));

@@ -7,11 +7,11 @@ use Rattle.x25_link.specs.{declared.error.LinkError.{LinkError}, Outgoing.{waits
 use Rattle.x25_link.specs.{Station.{Settings, LinkStation, Side, is_up, is_busy, may_send, owes_ready, send_next}, Hearing.{Step, other}}
 use Rattle.x25_link.specs.{Link.{put_step, put_refusal}, laws.AnswerLaw.{AreNext}, laws.BusyLaw.{Says, BusyLaws}}
 use Rattle.x25_link.proofs.EndLemmas.{open_is, closed_is, with_packet, put_once, busy_is}
-use Rattle.x25_line.specs.{laws.Stations.{Put, Deliver, Event, Near, Far}, laws.Sessions.{Entry, SessionEnd, Sessions, after_step, unless, acts, swapped, run}}
-use Rattle.x25_line.specs.{laws.StationClaims.{AreJoined}, laws.HealingPuts.{AreDeliveriesAndPuts, AreFree, SessionsFreeThroughout}}
+use Rattle.x25_line.specs.{laws.Stations.{Put, Deliver, Event, Near, Far}, laws.Sessions.{SessionEnd, Sessions, after_step, unless, acts, swapped, run}}
+use Rattle.x25_line.specs.{laws.StationClaims.{AreJoined}, laws.HealingPuts.{IsDeliveryOrPut, AreFree, SessionsFreeThroughout}, laws.SessionClaims.{Each}}
 use Rattle.x25_line.specs.laws.LawsBelow.{HealingLaws}
 use Rattle.x25_line.proofs.{StationSteps.{not_both}, StationRuns.{joined_swapped}}
-use Rattle.x25_line.proofs.HealingLines.{Reads, ahead_more, next_ahead, Mild, mild_more, held_mild, no_final_more, next_no_final, Reports}
+use Rattle.x25_line.proofs.HealingLines.{Reads, ahead_more, next_ahead, Mild, mild_more, held_mild, no_final_more, next_no_final}
 use Rattle.x25_line.proofs.{HealingSteps.{Reached, then_happens, Sound, sound_swapped, sound_at, SentWhole, whole_at, reads_put}, BusyLines.{silent_stays}}
 use Rattle.x25_line.proofs.HealingPhases.{Phases, asks_more, SaysMore, answered_more, resent_more, withheld_more}
 use Rattle.x25_line.proofs.{HealingBoth.{HealsBoth, HealsAt, both_turned, both_near, both_far}, sessions.SessionSteps.{whole_behind}}
@@ -92,7 +92,7 @@ module _ (s z : LinkStation) (es : List PlainFrame) (p : TakesDown s (record { n
         recovery = p.recovery ∙ h.recovery;
         peer_busy = p.peer_busy ∙ h.peer_busy;
         ahead = ahead_more (length t.taken) s.outgoing.place z.outgoing.place fs es h.ahead (next_ahead r s.outgoing.place es z.outgoing.place p.sends);
-        reports = subst (λ (a : ℕ). Reports (length t.taken) a gs) (sym p.acked) h.reports;
+        reports = rw p.acked h.reports;
         free = h.free;
       })))
   near_puts t fs gs free (inr (inr (inr (inl h)))) =
@@ -219,9 +219,9 @@ module _ (reads : ReadsSpelled) (laws : HealingLaws) (busy_laws : BusyLaws) wher
             there = b.there ++ p.next;
             behind = b.behind;
             out = p.out b.there b.out;
-            back = subst (λ (es : List Entry). Reads (other c.role) c.longest es b.behind) (sym p.back) b.back;
-            near = subst (λ (e : SessionEnd). Phases v.near.station e.station (b.there ++ p.next) b.behind) (sym p.far) near;
-            far = subst (λ (e : SessionEnd). Phases e.station v.near.station b.behind (b.there ++ p.next)) (sym p.far) far;
+            back = rw p.back b.back;
+            near = rw p.far near;
+            far = rw p.far far;
           }
 
   module _ (c d : Settings) (joined : AreJoined c d) where
@@ -252,7 +252,7 @@ module _ (reads : ReadsSpelled) (laws : HealingLaws) (busy_laws : BusyLaws) wher
         }
 
     -- so none is busy at any moment before one in which none is, as long as nothing comes between
-    free_now : (es : List Event) (w : Sessions) → AreDeliveriesAndPuts es → Reached c d w → is_up w.near.station.phase ≡ true → is_up w.far.station.phase ≡ true → SessionsFreeThroughout c d es w
+    free_now : (es : List Event) (w : Sessions) → Each IsDeliveryOrPut es → Reached c d w → is_up w.near.station.phase ≡ true → is_up w.far.station.phase ≡ true → SessionsFreeThroughout c d es w
         → AreFree w.near.station w.far.station
     free_now [] w are r up far_up free = free
     free_now (Near (Put packet) ∷ es) w are r up far_up free =
@@ -263,7 +263,7 @@ module _ (reads : ReadsSpelled) (laws : HealingLaws) (busy_laws : BusyLaws) wher
     free_now (Far Deliver ∷ es) w are r up far_up free = free.0
     free_now (event ∷ es) w are r up far_up free = absurd are.0
 
-    pub puts_run : (n m : ℕ) (es : List Event) (w : Sessions) → AreDeliveriesAndPuts es → HealsAt n m c d w → SessionsFreeThroughout c d es w → HealsAt n m c d (run c d es w)
+    pub puts_run : (n m : ℕ) (es : List Event) (w : Sessions) → Each IsDeliveryOrPut es → HealsAt n m c d w → SessionsFreeThroughout c d es w → HealsAt n m c d (run c d es w)
     puts_run n m [] w are h free = h
     puts_run n m (Near (Put packet) ∷ es) w are (r, h) free =
         let v : Sessions = acts c (Put packet) w in

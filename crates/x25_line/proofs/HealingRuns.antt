@@ -7,7 +7,7 @@ use Rattle.x25_link.specs.{declared.phase.Phase.{Phase}, declared.phase.Phase.Th
 use Rattle.x25_link.specs.{OrderedLink.{Lists}, Station.{Settings, LinkStation, Side, is_busy, with_near, with_nothing, fresh, ended}}
 use Rattle.x25_link.specs.{Hearing.{Step, quiet, leaves, other}, Link.{alone, puts, fires, asks_again, connects, disconnects, take_step}}
 use Rattle.x25_link.specs.{laws.LinkLaws.{ended_lists}, laws.RestLaw.{HasSaidAll}}
-use Rattle.x25_line.specs.{laws.Stations.{Event, Near, Far}, laws.Sessions.{SessionEnd, Sessions, acts, swapped, run, from_nothing, from_set_up}}
+use Rattle.x25_line.specs.{laws.Stations.{Event, Near, Far}, laws.Sessions.{Sessions, acts, swapped, run, from_nothing, from_set_up}}
 use Rattle.x25_line.specs.{laws.StationClaims.{AreJoined}, laws.LawsBelow.{HealingLaws}}
 use Rattle.x25_line.proofs.{StationSends.{AllWithin, within_push}, DrainSteps.{took}, sessions.Acts.{Keeps, act_stays}}
 
@@ -16,10 +16,10 @@ run_stays : (c d : Settings) (P Q : LinkStation → Type 0) → Keeps c P → Ke
 run_stays c d P Q near far [] w h k = (h, k)
 run_stays c d P Q near far (Near a ∷ es) w h k =
     let v = act_stays c P near w h a in
-    run_stays c d P Q near far es (acts c a w) v.near (subst (λ (e : SessionEnd). Q e.station) (sym v.far) k)
+    run_stays c d P Q near far es (acts c a w) v.near (rw v.far k)
 run_stays c d P Q near far (Far a ∷ es) w h k =
     let v = act_stays d Q far (swapped w) k a in
-    run_stays c d P Q near far es (swapped (acts d a (swapped w))) (subst (λ (e : SessionEnd). P e.station) (sym v.far) h) v.near
+    run_stays c d P Q near far es (swapped (acts d a (swapped w))) (rw v.far h) v.near
 
 -- ---- an end has said all that it may, and each packet may be sent
 

@@ -1,19 +1,18 @@
 -- Two ends of which not both go on once they have fired: set-up, a poll or DM is all that comes, and each end comes to rest or isn't Up.
-use Rattle.std.proofs.Common.{◌≡◌, ℕ, ◌<◌, List, [], ◌∷◌, ◌++◌, ◌⊎◌, inl, inr, length, Bool, true, false, if◌then◌else◌, Result, Ok, refl, sym, ap, ◌∙◌, subst, arith}
+use Rattle.std.proofs.Common.{◌≡◌, ℕ, ◌<◌, List, [], ◌∷◌, ◌++◌, ◌⊎◌, inl, inr, length, Bool, true, false, if◌then◌else◌, Ok, refl, sym, ap, ◌∙◌, arith}
 use Rattle.std.proofs.lemmas.Bool.{leb-true, le-ltb, eq-eqb, and_parts}
 use Rattle.std.specs.Prelude.{◌&&◌, nat_lt}
 use Rattle.x25_bits.specs.declared.role.Role.{Role}
 use Rattle.x25_frame.specs.{Frame.{PlainFrame, info, rr, rnr, rej, sabm, disc, ua, dm, frmr}, Spelling.{is_command, poll_or_final}, Reading.{frame_of}}
-use Rattle.x25_frame.specs.{laws.ReadingLaw.{ReadsSpelled}, declared.error.FrameError.{FrameError}}
+use Rattle.x25_frame.specs.laws.ReadingLaw.{ReadsSpelled}
 use Rattle.x25_link.specs.{declared.phase.Phase.{Phase}, declared.phase.Phase.TheVariants.{Down, Waiting, Up, Closed}, Outgoing.{waits}}
 use Rattle.x25_link.specs.Station.{Settings, LinkStation, Side, is_up, is_busy, wanted, with_nothing, fresh, sends, ready, may_send, owes_ready, finished, ended}
 use Rattle.x25_link.specs.Hearing.{Step, quiet, other, is_valid, acknowledged, peer_is, polls, rejects, row_of_frame}
 use Rattle.x25_link.specs.{Link.{alone, hears, declines, when_down, when_waiting, take_step, timer_runs}, laws.SetUp.{waiting_after, waiting_sends}}
 use Rattle.x25_link.specs.{laws.WindowLaw.{IsOut}, laws.RestLaw.{IsAtRest}, laws.AnswerLaw.{says, asks}}
 use Rattle.x25_link.proofs.EndLemmas.{none_open, not_open, pumped_stays}
-use Rattle.x25_line.specs.laws.Stations.{Deliver, Event}
-use Rattle.x25_line.specs.laws.Sessions.{Entry, Meeting, Sessions, sent_in, begun_by, after_step, delivered, acts, swapped, run}
-use Rattle.x25_line.specs.{laws.StationClaims.{AreJoined, IsWhole, AreWhole}, Healing.{AreDeliveries}, laws.LawsBelow.{HealingLaws}}
+use Rattle.x25_line.specs.{laws.Stations.{Deliver, Event}, laws.Sessions.{Entry, Meeting, Sessions, begun_by, after_step, delivered, acts, swapped, run}}
+use Rattle.x25_line.specs.{laws.StationClaims.{AreJoined, IsWhole, AreWhole}, Healing.{IsDelivery}, laws.SessionClaims.{Each}, laws.LawsBelow.{HealingLaws}}
 use Rattle.x25_line.proofs.{DrainWeights.{below_eight}, StationSteps.{not_both, out_not_up}, StationRuns.{joined_swapped}, HealingLines.{Reads}}
 use Rattle.x25_line.proofs.{HealingSteps.{IsDrained, deliveries_keep, reads_put}, StationAway.{up_takes_part, is_up_phase}}
 
@@ -118,7 +117,7 @@ calm_finished t h = by h.near
     by (inr off) = calm_if (owes_ready t.near) (ready false false t) t (λ owes. not_both (is_up t.near.phase) (and_parts (is_up t.near.phase) _ owes).0 off) (λ _. h)
 
 calm_ended : (k : ℕ) (t : Side) → IsCalm t → IsCalm (ended k t)
-calm_ended k t h = subst (λ (u : Side). IsCalm (finished u)) (sym (pumped_stays 7 k t (never_sends k t.near h.near))) (calm_finished t h)
+calm_ended k t h = rw (pumped_stays 7 k t (never_sends k t.near h.near)) (calm_finished t h)
 
 -- ---- what comes to one
 
@@ -183,7 +182,7 @@ calm_takes : (c : Settings) (octets : List ℕ) (f : PlainFrame) (s : LinkStatio
 calm_takes c octets f s read is h =
     let row = calm_hears c octets f s h is s.phase refl in
     calm_ended c.window (hears c octets (frame_of (other c.role) c.longest octets) s.phase (alone s)).side
-    (subst (λ (r : Result PlainFrame FrameError). IsCalm (hears c octets r s.phase (alone s)).side) (sym read) row)
+    (rw read row)
 
 -- ---- two ends of which not both go on, and the frames between them
 
@@ -268,10 +267,9 @@ module _ (c d : Settings) (joined : AreJoined c d) (reads : ReadsSpelled) (laws 
         record {
           there = fs ++ sent;
           behind = gs;
-          out = subst (λ (xs : List PlainFrame). Reads (other d.role) d.longest (w.out ++ sent_in session c.role xs) (fs ++ sent)) (sym is_sent)
-              (reads_put reads c d joined [] session w.out fs sent (set_up_whole d.longest sent are) out);
+          out = rw is_sent (reads_put reads c d joined [] session w.out fs sent (set_up_whole d.longest sent are) out);
           back = back;
-          is = subst (λ (x : LinkStation). Settles x t (fs ++ sent) gs) (sym near) is;
+          is = rw near is;
         }
 
     -- an end that awaits UA passes a poll over
@@ -325,10 +323,10 @@ module _ (c d : Settings) (joined : AreJoined c d) (reads : ReadsSpelled) (laws 
   ]
 
 -- ends that settle have settled once nothing is on the line
-pub settle : (c d : Settings) → AreJoined c d → ReadsSpelled → HealingLaws → (es : List Event) → AreDeliveries es → (w : Sessions) → Settling c d w
+pub settle : (c d : Settings) → AreJoined c d → ReadsSpelled → HealingLaws → (es : List Event) → Each IsDelivery es → (w : Sessions) → Settling c d w
     → (let v = run c d es w in IsDrained v → RestsOrOut v.near.station × RestsOrOut v.far.station)
-settle c d joined reads laws es are w first drained = settled (other d.role) (other c.role) d.longest c.longest v.near.station v.far.station h.there h.behind (subst (λ (os : List Entry). Reads (other d.role) d.longest os h.there) drained.out h.out)
-    (subst (λ (os : List Entry). Reads (other c.role) c.longest os h.behind) drained.back h.back) h.is
+settle c d joined reads laws es are w first drained = settled (other d.role) (other c.role) d.longest c.longest v.near.station v.far.station h.there h.behind (rw (sym drained.out) h.out)
+    (rw (sym drained.back) h.back) h.is
   where
     v : Sessions
     v = run c d es w

@@ -1,18 +1,17 @@
 -- Two ends in the sessions that stand: worlds that events lead to, what holds of them where both ends are Up, and what deliveries keep.
 use Rattle.std.proofs.Common.{◌≡◌, ℕ, ◌+◌, ◌%◌, ◌≤◌, ◌⊎◌, List, [], ◌∷◌, ◌++◌, length, true, false, Option, Some, Result, Ok, refl, sym, ap, ◌∙◌, subst, arith}
 use Rattle.std.proofs.lemmas.Bool.{le-leb}
-use Rattle.x25_bits.specs.declared.role.Role.{Role}
 use Rattle.x25_frame.specs.{Frame.{PlainFrame, info, rr, rnr, rej}, Reading.{frame_of}, laws.ReadingLaw.{ReadsSpelled}, declared.error.FrameError.{FrameError}}
 use Rattle.x25_window.specs.{code.Modulo.{resolved}, laws.Window.{Frame}}
 use Rattle.x25_link.specs.{Station.{Settings, LinkStation, is_up}, Hearing.{other, is_valid}, Link.{timer_runs, timer_step}}
 use Rattle.x25_link.specs.{laws.WindowMachine.{Window, Shows, ShowAll}, laws.WindowLaw.{IsSound}, laws.RestLaw.{HasSaidAll}, laws.AnswerLaw.{heard}}
 use Rattle.x25_line.specs.laws.StationClaims.{AreJoined, number_in, AreWhole}
 use Rattle.x25_line.specs.laws.Sessions.{Entry, SessionEnd, Sessions, sent_in, from_nothing, from_set_up, after_step, acts, swapped, happens, run, IsTimely, IsTimelyAt, AreTimely}
-use Rattle.x25_line.specs.{laws.SessionClaims.{Throughout}, Healing.{AreDeliveries}, laws.LawsBelow.{HealingLaws}}
+use Rattle.x25_line.specs.{laws.SessionClaims.{Each, Throughout}, Healing.{IsDelivery}, laws.LawsBelow.{HealingLaws}, laws.Line.{Line, swapped as line_swapped}}
+use Rattle.x25_line.specs.laws.Stations.{Deliver, T1, Event, Near, Far}
 use Rattle.x25_line.proofs.{Kept.{Kept, Kept-swapped, Way, hears_valid, Way-acked, resolved_is}, Frames.{Acks-le}, StationLines.{front_of, consed}}
 use Rattle.x25_line.proofs.{StationSteps.{AsUp, not_both}, sessions.SessionLines.{numbers}, sessions.SessionActs.{in_session}}
 use Rattle.x25_line.proofs.{sessions.SessionRuns.{HeldOf, held_swapped, throughout}, HealingRuns.{fit_from}, HealingLines.{Reads, reads_more}}
-use Rattle.x25_line.specs.{laws.Line.{Line, swapped as line_swapped}, laws.Stations.{Deliver, T1, Event, Near, Far}}
 
 -- ---- worlds that events lead to
 
@@ -91,10 +90,10 @@ module _ (reads : ReadsSpelled) (laws : HealingLaws) (c d : Settings) (joined : 
       record {
         line = line;
         kept = h.holds.kept;
-        near = subst (λ (s : LinkStation). AsUp c s line.near) near.view.1 near.machine;
-        far = subst (λ (s : LinkStation). AsUp d s line.far) far.view.1 far.machine;
-        out = subst (λ (fs : List PlainFrame). ShowAll fs line.out) (sym far.comes.0) h.holds.out;
-        back = subst (λ (fs : List PlainFrame). ShowAll fs line.back) (sym near.comes.0) h.holds.back;
+        near = subst (λ (s : LinkStation). AsUp c s line.near) near.is.station near.machine;
+        far = subst (λ (s : LinkStation). AsUp d s line.far) far.is.station far.machine;
+        out = rw far.is.comes h.holds.out;
+        back = rw near.is.comes h.holds.back;
         near_said = said.0;
         far_said = said.1;
       }
@@ -203,7 +202,7 @@ pub record IsDrained (w : Sessions) : Type 0 where
 
 -- what each delivery keeps stays through all
 pub deliveries_keep : (P : Sessions → Type 0) (c d : Settings) → ((w : Sessions) → P w → P (acts c Deliver w)) → ((w : Sessions) → P w → P (swapped (acts d Deliver (swapped w))))
-    → (es : List Event) (w : Sessions) → AreDeliveries es → P w → P (run c d es w)
+    → (es : List Event) (w : Sessions) → Each IsDelivery es → P w → P (run c d es w)
 deliveries_keep P c d near far [] w are h = h
 deliveries_keep P c d near far (Near Deliver ∷ es) w are h = deliveries_keep P c d near far es (acts c Deliver w) are.1 (near w h)
 deliveries_keep P c d near far (Far Deliver ∷ es) w are h = deliveries_keep P c d near far es (swapped (acts d Deliver (swapped w))) are.1 (far w h)
@@ -214,7 +213,7 @@ deliveries_keep P c d near far (Far a ∷ es) w are h = absurd are.0
 pub reads_put : ReadsSpelled → (c d : Settings) → AreJoined c d → (given : List (List ℕ)) (session : ℕ) (es : List Entry) (fs gs : List PlainFrame) → AreWhole d.longest given gs
     → Reads (other d.role) d.longest es fs → Reads (other d.role) d.longest (es ++ sent_in session c.role gs) (fs ++ gs)
 reads_put reads c d joined given session es fs gs whole read =
-    subst (λ (from : Role). Reads (other d.role) d.longest (es ++ sent_in session from gs) (fs ++ gs)) joined.near_role (reads_more reads (other d.role) d.longest given session es fs gs read whole)
+    rw (sym joined.near_role) (reads_more reads (other d.role) d.longest given session es fs gs read whole)
 
 -- T1 doesn't run: nothing changes
 pub refused : (c : Settings) (w : Sessions) → timer_runs w.near.station.phase w.near.station ≡ false → acts c T1 w ≡ w

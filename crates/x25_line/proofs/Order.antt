@@ -8,9 +8,9 @@ use Rattle.x25_frame.specs.declared.error.FrameError.TheVariants.{Short, BadFcs,
 use Rattle.x25_window.specs.{code.Modulo.{resolved}, laws.Window.{End, Frame, Numbered}}
 use Rattle.x25_link.specs.{declared.phase.Reason.{Reason}, declared.phase.Reason.TheVariants.{FrmrSent}, laws.WindowMachine.{Window}}
 use Rattle.x25_link.specs.laws.WindowLaw.{ending_of}
-use Rattle.x25_line.specs.laws.Peer.{Peer, fresh_peer, numbered_to, told_to, hearing, IsWanted, taking, MaySay, MayMake}
+use Rattle.x25_line.specs.{laws.Peer.{Peer, fresh_peer, numbered_to, told_to, hearing, IsWanted, taking, MaySay, MayMake}, laws.InWindow.{IsPrefix}}
+use Rattle.x25_line.specs.{laws.WholeNumbers.{taken_out}, laws.Said.{Said, Carried, Tells, Odd as OddSaid, said}}
 use Rattle.x25_line.proofs.Kept.{Way, BothWays, hears_valid, Way-hand, Way-send, Way-tell, Way-told, Way-hears, Way-takes, Way-giver, Way-unheard, Way-passed, Way-acked}
-use Rattle.x25_line.specs.{laws.InWindow.{IsPrefix}, laws.WholeNumbers.{taken_out}, laws.Said.{Said, Carried, Tells, Odd as OddSaid, said}}
 
 -- ---- what is told on a line, and the frames of the window machine that it stands for
 
@@ -153,7 +153,7 @@ module _ (p q : Peer) (out back : List Told) where
       (sent_one h (told_to t (numbered_to i p)) (told (Some c) nr) g (number.number, refl) ack.number ways)
 
   unsaid : (r : Peer) → r ≡ p → Hold p q out back → Hold r q (out ++ []) back
-  unsaid r is h = subst (λ (z : Peer). Hold z q (out ++ []) back) (sym is) (subst (λ (xs : List Told). Hold p q xs back) (sym (append-nil out)) h)
+  unsaid r is h = rw is (rw (append-nil out) h)
 
   pub says : (Odd : Type 0) (s : Said) (r : Peer) → MaySay Odd p s r → Hold p q out back → Hold r q (out ++ only s []) back
   says Odd (Tells c n) r may h = sent Odd h c n r may
@@ -170,13 +170,13 @@ module _ (p q : Peer) (out back : List Told) where
       ways (Some i) k = record { from_near = Way-unheard (end_of p) q.taken q.told h.there h.here i k.from_near; from_far = Way-passed (end_of q) p.taken p.told h.here h.there i k.from_far }
 
   pub left : (ys : List Told) → Left back ys → Hold p q out back → Hold p q out ys
-  left ys l h = subst (λ (zs : List Told). Hold p q out zs) (sym l.1) (fewer l.0 h)
+  left ys l h = rw l.1 (fewer l.0 h)
 
 -- ---- what comes to it
 
 module _ (p q : Peer) (out : List Told) where
   heard_way : (g : Frame (List ℕ)) (gs hs : List (Frame (List ℕ))) (b : Bool) (n : ℕ) → n ≡ g.ack % 8 → Ways p q gs (g ∷ hs) → Way (end_of (hearing b n p)) q.taken q.told gs hs
-  heard_way g gs hs true n is k = subst (λ (a : ℕ). Way (end_of (hearing true a p)) q.taken q.told gs hs) (sym is) (Way-hears (end_of p) q.taken q.told gs hs g k.from_near)
+  heard_way g gs hs true n is k = rw is (Way-hears (end_of p) q.taken q.told gs hs g k.from_near)
   heard_way g gs hs false n is k = Way-unheard (end_of p) q.taken q.told gs (g ∷ hs) 0 k.from_near
 
   passed : (b : Bool) (n : ℕ) (g : Frame (List ℕ)) (gs hs : List (Frame (List ℕ))) → n ≡ g.ack % 8 → Ways p q gs (g ∷ hs) → Ways (hearing b n p) q gs hs
@@ -200,14 +200,14 @@ module _ (p q : Peer) (out : List Told) where
 
   comes : (g : Frame (List ℕ)) (gs hs : List (Frame (List ℕ))) (carried : Option Carried) (n : ℕ) (r : Peer) → Shows carried g.carried → n ≡ g.ack % 8 → MayMake p (Tells carried n) r
       → Ways p q gs (g ∷ hs) → Ways r q gs hs
-  comes g gs hs None n r shows is may k = subst (λ (z : Peer). Ways z q gs hs) (sym may.1) (passed may.0 n g gs hs is k)
+  comes g gs hs None n r shows is may k = rw may.1 (passed may.0 n g gs hs is k)
   comes g gs hs (Some c) n r shows is may k = go may.0 may.1 may.2 may.3
     where
       go : (b t : Bool) → IsWanted t c.ns p → r ≡ taking t c.packet (hearing b n p) → Ways r q gs hs
       go b true wanted to =
           let s = carried_shown c g.carried shows in
           subst (λ (z : Peer). Ways z q gs hs) (sym to) (took b n g gs hs c s.0 is s.1 s.2 s.3 wanted k)
-      go b false wanted to = subst (λ (z : Peer). Ways z q gs hs) (sym to) (passed b n g gs hs is k)
+      go b false wanted to = rw to (passed b n g gs hs is k)
 
   front : (t : Told) (rest : List Told) (r : Peer) (gs hs : List (Frame (List ℕ))) → Bear out gs → Bear (t ∷ rest) hs → Ways p q gs hs → MayMake p (Tells t.carried t.nr) r → Hold r q out rest
   front t rest r gs hs shows (here x xs g ys carried number h) k may =
@@ -215,7 +215,7 @@ module _ (p q : Peer) (out : List Told) where
 
   pub makes : (s : Said) (rest : List Told) (r : Peer) → MayMake p s r → Hold p q out (only s rest) → Hold r q out rest
   makes (Tells c n) rest r may h = front (told c n) rest r h.there h.here h.out_bears h.back_bears h.ways may
-  makes s rest r may h = subst (λ (z : Peer). Hold z q out rest) (sym may) h
+  makes s rest r may h = rw may h
 
 -- ---- the claims
 

@@ -1,18 +1,18 @@
 -- A station and any peer keep the way in both directions, whatever happens, and that says the claims.
-use Rattle.std.proofs.Common.{◌≡◌, ℕ, zero, suc, ◌≤◌, List, [], ◌∷◌, ◌++◌, inl, length, take, remove, true, false, Option, None, refl, sym, ap, ◌∙◌, subst, arith}
+use Rattle.std.proofs.Common.{◌≡◌, ℕ, zero, suc, ◌≤◌, List, [], ◌∷◌, ◌++◌, inl, length, remove, true, false, Option, None, refl, sym, ap, ◌∙◌, subst, arith}
 use Rattle.x25_bits.specs.declared.role.Role.{Role}
 use Rattle.x25_frame.specs.{Reading.{frame_of}, laws.ReadingLaw.{ReadsSpelled}}
 use Rattle.x25_window.specs.code.Modulo.{resolved}
 use Rattle.x25_link.specs.{Station.{Settings, fresh}, Hearing.{other}}
-use Rattle.x25_line.specs.{laws.InWindow.{IsPrefix}, laws.Stations.{StationEnd, Stations, Act, Near, replaced, is_visible, acts, swapped, run, start}}
+use Rattle.x25_line.specs.laws.Stations.{StationEnd, Stations, Act, Near, replaced, is_visible, acts, swapped, run, start}
 use Rattle.x25_line.specs.{laws.StationClaims.{Always, BothInOrder, InOrder, HandsOne}, laws.LawsBelow.{Laws}}
 use Rattle.x25_line.specs.laws.PeerJoined.{Joined, our_end, with_peer, Happens, Ours, HandsDown, Sends, Hears, Loses, Damages, IsReached, at_start, goes_on}
 use Rattle.x25_line.specs.{laws.PeerClaims.{WithAnyPeer, WithAnyLapbPeer, KeepsOrder, FindsNoFault}, laws.StationPeers.{seen, IsPeer}}
+use Rattle.x25_line.specs.{laws.Said.{Said, Carried, Tells, Else, Odd as OddSaid, said}, laws.Peer.{Peer, fresh_peer, MaySay}}
 use Rattle.x25_line.proofs.{sessions.Letters.{visible_said}, Kept.{Way}}
 use Rattle.x25_line.proofs.Order.{Told, only, only_append, Left, left_front, left_deeper, Hold, starts, hold_turned, handed, says, left, makes, in_order as peers_in_order, valid_front, by_frmr, no_fault}
 use Rattle.x25_line.proofs.{StationRuns.{noted_before}, StationEvents.{each_hands_one}, StationClaimLemmas.{in_order}, StationActs.{MayAsk}}
 use Rattle.x25_line.proofs.{StationSays.{machine_of, MayDo}, StationPeers.{Seen, peer_acts, both_peers}}
-use Rattle.x25_line.specs.{laws.Said.{Said, Carried, Tells, Else, Odd as OddSaid, said}, laws.Peer.{Peer, fresh_peer, MaySay}}
 use Rattle.x25_line.specs.laws.PeerJoined as joined
 
 -- ---- what is told on a line of octets
@@ -39,7 +39,7 @@ module _ (from : Role) (n1 : ℕ) where
 
   tolds_replaced : (o : List ℕ) → is_visible o ≡ true → (os : List (List ℕ)) (i : ℕ) → Left (tolds os) (tolds (replaced os i o))
   tolds_replaced o visible [] i = (None, refl)
-  tolds_replaced o visible (x ∷ os) zero = subst (λ (s : Said). Left (tolds (x ∷ os)) (only s (tolds os))) (sym (visible_said from n1 o visible)) (left_front (said (frame_of from n1 x)) (tolds os))
+  tolds_replaced o visible (x ∷ os) zero = rw (visible_said from n1 o visible) (left_front (said (frame_of from n1 x)) (tolds os))
   tolds_replaced o visible (x ∷ os) (suc i) = left_deeper (said (frame_of from n1 x)) (tolds os) (tolds (replaced os i o)) (tolds_replaced o visible os i)
 
   odd_push : (os : List (List ℕ)) (o : List ℕ) → NoneOdd from n1 os → (said (frame_of from n1 o) ≡ OddSaid → ⊥) → NoneOdd from n1 (os ++ o ∷ [])
@@ -72,8 +72,7 @@ module _ (Odd : Type 0) (c : Settings) (q : Peer) where
   station_may = record {
     handed = λ os p out packet short h. record { hold = handed p q (tolds c.role c.longest out) (tolds (other c.role) c.longest os) packet h.hold; lapb = h.lapb };
     sends = λ os p r out octets may next h. record {
-      hold = subst (λ (xs : List Told). Hold r q xs (tolds (other c.role) c.longest os)) (sym (tolds_push c.role c.longest out octets))
-          (says p q (tolds c.role c.longest out) (tolds (other c.role) c.longest os) ⊥ (said (frame_of c.role c.longest octets)) r may h.hold);
+      hold = rw (tolds_push c.role c.longest out octets) (says p q (tolds c.role c.longest out) (tolds (other c.role) c.longest os) ⊥ (said (frame_of c.role c.longest octets)) r may h.hold);
       lapb = h.lapb;
     };
     hears = λ o os p r out may h. record {
@@ -146,7 +145,7 @@ module _ (Odd : Type 0) (c : Settings) (w : Joined) (h : JoinedHolds Odd c w) wh
       after Odd c w h (record w.peer { given = w.peer.given ++ packet ∷ [] }) w.out w.back (handed w.peer h.peer backs outs packet turned) h.reached.lapb
   theirs v (Sends octets q may) once ours =
       after Odd c w h q w.out (w.back ++ octets ∷ [])
-      (subst (λ (xs : List Told). Hold q h.peer xs outs) (sym (tolds_push (other c.role) c.longest w.back octets)) (says w.peer h.peer backs outs Odd (said (frame_of (other c.role) c.longest octets)) q may turned))
+      (rw (tolds_push (other c.role) c.longest w.back octets) (says w.peer h.peer backs outs Odd (said (frame_of (other c.role) c.longest octets)) q may turned))
       (λ lapb. odd_push (other c.role) c.longest w.back octets (h.reached.lapb lapb) (sends_odd Odd w.peer q (said (frame_of (other c.role) c.longest octets)) may lapb))
   theirs v (Hears octets rest q is may) once ours =
       after Odd c w h q rest w.back
@@ -200,7 +199,7 @@ module _ (reads : ReadsSpelled) (laws : Laws) where
       let few = other_way.1 in
       let count = ap length h.up in
       record {
-        up = subst (λ (xs : List (List ℕ)). IsPrefix xs q.given) h.up other_way.0;
+        up = rw (sym h.up) other_way.0;
         there = own.begins;
         acked = own.acked;
         idle = own.idle;
@@ -221,8 +220,8 @@ module _ (reads : ReadsSpelled) (laws : Laws) where
   peer_in_order c high w is once =
       let order = holds_claims ⊥ c high (seen is.peer w) (reached_holds ⊥ c high (seen is.peer w) is.reached once) in
       record {
-        begins = subst (λ (xs : List (List ℕ)). IsPrefix xs w.far.down) is.taken order.there;
-        acked = subst (λ (xs : List (List ℕ)). IsPrefix (take w.far.station.outgoing.acked w.far.down) xs) is.taken order.acked;
+        begins = rw (sym is.taken) order.there;
+        acked = rw (sym is.taken) order.acked;
         idle = λ idle. sym is.taken ∙ order.idle idle;
       }
 

@@ -5,8 +5,8 @@ use Rattle.x25_link.specs.{declared.error.LinkError.{LinkError}, Station.{Settin
 use Rattle.x25_link.specs.{laws.RestLaw.{IsAtRest}, laws.BusyLaw.{BusyLaws}}
 use Rattle.x25_line.specs.laws.Stations.{Deliver, T1, Event}
 use Rattle.x25_line.specs.laws.Sessions.{Entry, Meeting, Sessions, begun_by, after_step, unless, delivered, acts, swapped, run}
-use Rattle.x25_line.specs.{laws.StationClaims.{AreJoined}, laws.SessionClaims.{Throughout, IdleHasArrived}}
-use Rattle.x25_line.specs.{Healing.{EachRestShows, AreDeliveries, SessionsHealUnlessBothBusy}, laws.LawsBelow.{HealingLaws}}
+use Rattle.x25_line.specs.{laws.StationClaims.{AreJoined}, laws.SessionClaims.{Each, Throughout, IdleHasArrived}}
+use Rattle.x25_line.specs.{Healing.{EachRestShows, IsDelivery, SessionsHealUnlessBothBusy}, laws.LawsBelow.{HealingLaws}}
 use Rattle.x25_line.specs.laws.HealingPuts.{SessionsHaveArrived, PutsHealSessions}
 use Rattle.x25_line.proofs.{sessions.SessionHeld.{extended_nil}, sessions.TwoSessions.{idle_has_arrived}}
 use Rattle.x25_line.proofs.{HealingSteps.{IsDrained, Reached, at_reached, in_order_at, deliveries_keep}, HealingEnds.{after_firings, rest_or_out}}
@@ -41,7 +41,7 @@ deliver_hands c w = by w.back
     by [] = record { near = λ _. refl; far = λ _. refl }
     by (e ∷ es) = step_hands c w es _ (take_step c e.octets w.near.station)
 
-healing_hands : (c d : Settings) (es : List Event) (w : Sessions) → AreDeliveries es → HandNothingDown w (run c d es (after_firings c d w))
+healing_hands : (c d : Settings) (es : List Event) (w : Sessions) → Each IsDelivery es → HandNothingDown w (run c d es (after_firings c d w))
 healing_hands c d es w are =
     let x : Sessions = acts c T1 w in
     deliveries_keep (HandNothingDown w) c d (λ u h. then_hand w u (acts c Deliver u) h (deliver_hands c u))

@@ -3,9 +3,9 @@ use Rattle.std.proofs.Common.{◌≡◌, ℕ, suc, ◌≤◌, List, [], ◌∷�
 use Rattle.std.proofs.lemmas.Bool.{leb-true}
 use Rattle.std.specs.Prelude.{nat_le, nat_lt}
 use Rattle.x25_frame.specs.{Frame.{PlainFrame, sabm, disc}, Reading.{frame_of}, declared.error.FrameError.{FrameError}}
-use Rattle.x25_link.specs.{declared.phase.Phase.{Phase}, declared.phase.Phase.TheVariants.{Down, Waiting, Up, Closed}, declared.phase.Notes.{Notes}}
-use Rattle.x25_link.specs.{declared.phase.Reason.{Reason}, declared.phase.Reason.TheVariants.{Retries, FrmrSent, Reset, Local, Counts}}
-use Rattle.x25_link.specs.{declared.error.LinkError.{LinkError}, Station.{Settings, LinkStation, is_up, with_nothing}, Hearing.{Step, other}}
+use Rattle.x25_link.specs.{declared.phase.Phase.{Phase}, declared.phase.Phase.TheVariants.{Down, Waiting, Up, Closed}, declared.phase.Reason.{Reason}}
+use Rattle.x25_link.specs.{declared.phase.Reason.TheVariants.{Retries, FrmrSent, Reset, Local, Counts}, declared.error.LinkError.{LinkError}}
+use Rattle.x25_link.specs.{Station.{Settings, LinkStation, is_up, with_nothing}, Hearing.{Step, other}}
 use Rattle.x25_link.specs.Link.{take_step, put_step, put_refusal, timer_step, timer_refusal, timer_runs, connect_step, connect_refusal, disconnect_step, disconnect_refusal, abandon_step}
 use Rattle.x25_link.specs.{laws.NoteLaw.{IsQuiet}, laws.WindowMachine.{Window, nothing}, laws.SetUp.{Is, TakesPart}}
 use Rattle.x25_link.specs.laws.WindowLaw.{Stays, Ends, Follows, IsOut, sets_up, StaysOut}
@@ -67,7 +67,7 @@ sets_no_link_up (Ok (sabm p)) h = absurd (h p refl)
 sets_no_link_up r h = refl
 
 quiet_no_frmr : (step : Step) → IsQuiet step → NotesNoFrmr step.notes.down
-quiet_no_frmr step quiet = subst (λ (n : Notes). NotesNoFrmr n.down) (sym quiet) tt
+quiet_no_frmr step quiet = rw quiet tt
 
 module _ (c : Settings) (P : Stations → Type 0) (laws : Laws) (keeps : Lasts c P) where
   unless_lasts : (o : Option LinkError) (w v : Stations) → P w → (o ≡ None → P v) → P (unless o w v)

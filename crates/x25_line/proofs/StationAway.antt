@@ -112,7 +112,7 @@ pub frmr_three : (c : Settings) (octets : List ℕ) (s : LinkStation) → s.phas
 frmr_three c octets s up r read f why is out =
     frmr_row c octets s f why r is
     (subst (λ (q : Phase). (closed_by c.window (hears c octets r q (alone s))).side.out ≡ frmr f why ∷ []) up
-    (subst (λ (z : Result PlainFrame FrameError). (closed_by c.window (hears c octets z s.phase (alone s))).side.out ≡ frmr f why ∷ []) (sym read) out))
+    (rw read out))
 
 -- ---- two bits
 

@@ -1,5 +1,5 @@
 -- What holds of two stations says the claims.
-use Rattle.std.proofs.Common.{◌≡◌, ◌==◌, ℕ, ◌-◌, zero, suc, ◌≤◌, List, [], ◌∷◌, ◌++◌, inl, inr, length, take, drop, Bool, true, false, refl, sym, ap, ◌∙◌, subst, arith}
+use Rattle.std.proofs.Common.{◌≡◌, ◌==◌, ℕ, ◌-◌, zero, suc, ◌≤◌, List, [], ◌∷◌, ◌++◌, inl, inr, length, take, drop, Bool, true, false, refl, sym, ap, ◌∙◌, arith}
 use Rattle.std.proofs.{lemmas.Bool.{eqb-true, and_parts}, lemmas.List.{take-append-drop, take_all}}
 use Rattle.std.specs.Prelude.{replicate, ◌&&◌}
 use Rattle.x25_frame.specs.laws.ReadingLaw.{ReadsSpelled}
@@ -8,7 +8,7 @@ use Rattle.x25_link.specs.{declared.phase.Reason.TheVariants.{Retries}, Outgoing
 use Rattle.x25_link.specs.{Station.{Settings, LinkStation, is_up, lists_of}, Link.{is_idle}, laws.WindowMachine.{Window}}
 use Rattle.x25_line.specs.{laws.InWindow.{IsPrefix}, laws.Line.{Line}, laws.Stations.{StationEnd, Stations, Event, run, start}}
 use Rattle.x25_line.specs.laws.WholeNumbers.{machine_run, machine_at_start, MachineGoesAlong}
-use Rattle.x25_line.specs.laws.StationClaims.{AreJoined, IsSetUpOnce, Always, InOrder, BothInOrder, HasItsLists, BothHaveTheirLists, NotesItsEnd, BothNoteTheirEnds, OneLinkUnlessConnected, IsBehind, AreInWindow, NoFrmrSent, AreWhole, AllSentAreWhole}
+use Rattle.x25_line.specs.laws.StationClaims.{AreJoined, IsSetUpOnce, Always, InOrder, BothInOrder, HasItsLists, BothHaveTheirLists, NotesItsEnd, BothNoteTheirEnds, OneLinkUnlessConnected, IsBehind, AreInWindow, NoFrmrSent, AllSentAreWhole}
 use Rattle.x25_line.specs.laws.LawsBelow.{Laws}
 use Rattle.x25_line.proofs.{Kept.{Way, Way-acked, InWindow-from_Kept}, StationSteps.{away_is_not_up, AsUp, FitsEnd, NotesOnce, Joint, Holds, not_both}}
 use Rattle.x25_line.proofs.StationRuns.{run_once, run_unasked, start_machine}
@@ -135,7 +135,7 @@ pub holds_window : (MayAsk : Type 0) (c d : Settings) (w : Stations) → Holds M
 holds_window MayAsk c d w holds = (holds.0, is_behind MayAsk c d w holds.0 holds.1)
 
 pub holds_whole : (MayAsk : Type 0) (c d : Settings) → AreJoined c d → (w : Stations) → Holds MayAsk c d w → AllSentAreWhole c d w
-holds_whole MayAsk c d joined w holds = subst (λ (n : ℕ). AreWhole n (w.near.down ++ w.far.down) w.sent) (sym joined.longest) holds.1.whole
+holds_whole MayAsk c d joined w holds = rw joined.longest holds.1.whole
 
 module _ (reads : ReadsSpelled) (laws : Laws) where
   machine : (c d : Settings) → AreJoined c d → (events : List Event) → IsSetUpOnce (run c d events start) → Joint (Unit {0}) c d (run c d events start) (machine_run c d events start (machine_at_start c d))

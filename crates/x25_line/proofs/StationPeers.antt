@@ -10,12 +10,12 @@ use Rattle.x25_link.specs.{declared.phase.Reason.{Reason}, declared.phase.Reason
 use Rattle.x25_link.specs.{declared.error.LinkError.{LinkError}, Station.{Settings, LinkStation, is_up}, Hearing.{Step, other}}
 use Rattle.x25_link.specs.Link.{take_step, put_step, put_refusal, timer_refusal, connect_refusal, disconnect_refusal}
 use Rattle.x25_link.specs.laws.WindowMachine.{Window, Input, hands_down, receives, nothing}
-use Rattle.x25_link.specs.{laws.WindowLaw.{window_of, after_input, MayHandUp, ending_of, brought_by, Stays, Ends, Follows}, declared.phase.Notes.{Notes}}
+use Rattle.x25_link.specs.laws.WindowLaw.{window_of, after_input, MayHandUp, ending_of, brought_by, Stays, Ends, Follows}
 use Rattle.x25_line.specs.laws.Stations.{StationEnd, Stations, Act, Put, Deliver, T1, Connect, Disconnect, Abandon, Probe, Lose, Damage, Event, Near, Far, after_step, unless, delivered, replaced, is_visible, acts, swapped, happens, run, start}
 use Rattle.x25_line.specs.{laws.StationClaims.{AreJoined, IsSetUpOnce, Always, HandsOne}, laws.LawsBelow.{Laws}, laws.Said.{Said, Tells, said}}
-use Rattle.x25_line.specs.{laws.Peer.{Peer, fresh_peer, hearing, IsWanted, taking, MayMake, MaySend, MayHear}, laws.PeerClaims.{NoneIsFrmr}}
+use Rattle.x25_line.specs.{laws.Peer.{Peer, fresh_peer, hearing, IsWanted, taking, MayMake, MayHear}, laws.PeerClaims.{IsNoFrmr}}
 use Rattle.x25_line.specs.laws.PeerJoined.{our_end, with_peer, Ours, HandsDown, Sends, Hears, Loses, Damages, IsReached, at_start, goes_on}
-use Rattle.x25_line.specs.laws.StationPeers.{seen, IsPeer, AreBothPeers}
+use Rattle.x25_line.specs.{laws.StationPeers.{seen, IsPeer, AreBothPeers}, laws.SessionClaims.{Each}}
 use Rattle.x25_line.proofs.{StationSends.{AllWithin, within_push}, StationSteps.{MayBeAway, AsUp, IsAway, FitsEnd, no_packet_of, Leaves, empty_lists}}
 use Rattle.x25_line.proofs.{StationAway.{is_up_phase, frmr_three}, StationEvents.{each_hands_one}, StationRuns.{joined_swapped, once_before}}
 use Rattle.x25_line.proofs.StationSays.{machine_of, MayDo, AllFree, parting_free, frmr_free, free_all, runs_said}
@@ -31,9 +31,9 @@ pub record Seen (d : Settings) (Fine : Type 0) (R : List (List ℕ) → Peer →
   pub within : AllWithin d.longest peer.given
   pub down : peer.given ≡ w.near.down
   pub up : peer.taken ≡ w.near.up
-  pub fine : Fine → NoneIsFrmr w.near.reasons
+  pub fine : Fine → Each IsNoFrmr w.near.reasons
 
-noted_more : (reasons : List Reason) (noted : Option Reason) → NoneIsFrmr reasons → NotesNoFrmr noted → NoneIsFrmr (reasons ++ option_to_list noted)
+noted_more : (reasons : List Reason) (noted : Option Reason) → Each IsNoFrmr reasons → NotesNoFrmr noted → Each IsNoFrmr (reasons ++ option_to_list noted)
 noted_more [] None h n = tt
 noted_more [] (Some reason) h n = (n, tt)
 noted_more (r ∷ rs) noted h n = (h.0, noted_more rs noted h.1 n)
@@ -78,12 +78,12 @@ module _ (d : Settings) (high : d.window ≤ 7) (reads : ReadsSpelled) (laws : L
         within = subst (AllWithin d.longest) (sym said.given) r.within;
         down = said.given ∙ r.down_is;
         up = said.taken ∙ r.up_is;
-        fine = λ f. noted_more w.near.reasons step.notes.down (h.fine f) (subst (λ (n : Notes). NotesNoFrmr n.down) (sym stays.quiet) tt);
+        fine = λ f. noted_more w.near.reasons step.notes.down (h.fine f) (rw stays.quiet tt);
       }
 
   -- it leaves Up or is out, and sends nothing that has a number
   parts_seen : (w : Stations) (os : List (List ℕ)) (step : Step) (v : Window) → Ready w os [] None v → AllFree d.role d.longest step.side.out → IsAway MayAsk step.side.near → step.packet ≡ None
-      → (Fine → NoneIsFrmr (w.near.reasons ++ option_to_list step.notes.down)) → S (after_step d w os [] step)
+      → (Fine → Each IsNoFrmr (w.near.reasons ++ option_to_list step.notes.down)) → S (after_step d w os [] step)
   parts_seen w os step v r free away none fine =
       record {
         peer = r.peer;
@@ -121,12 +121,12 @@ module _ (d : Settings) (high : d.window ≤ 7) (reads : ReadsSpelled) (laws : L
 
   -- as a window, where that is the station's
   as_window : (w : Stations) (os down : List (List ℕ)) (v u : Window) (packet : Option (List ℕ)) → v ≡ u → packet ≡ None → Ready w os down None v → Ready w os down packet u
-  as_window w os down v u packet same none r = rw none (subst (λ (z : Window). Ready w os down None z) same r)
+  as_window w os down v u packet same none r = rw none (rw (sym same) r)
 
   module _ (w : Stations) (h : S w) (o : List ℕ) (os : List (List ℕ)) (is : w.back ≡ o ∷ os) where
     -- the front octets come to it
     came : R (o ∷ os) h.peer w.out
-    came = subst (λ (xs : List (List ℕ)). R xs h.peer w.out) is h.reached
+    came = rw (sym is) h.reached
 
     comes : (q : Peer) → MayHear h.peer (frame_of (other d.role) d.longest o) q → R os q w.out
     comes q may = does.hears o os h.peer q w.out may came
@@ -222,28 +222,28 @@ module _ (d : Settings) (high : d.window ≤ 7) (reads : ReadsSpelled) (laws : L
               stays_seen w h os [] (receives (info ns nr pf x)) step
               (as_window w os [] (after (machine_of k h.peer) (Hear nr)) (after_input (receives (info ns nr pf x)) step.packet (window_of k s)) step.packet
               (ap (λ (z : Window). after z (Hear nr)) (sym u.same) ∙ sym (ap (λ (p : Option (List ℕ)). after_input (receives (info ns nr pf x)) p (window_of k s)) none)) none
-              (heard nr (subst (λ (r : Result PlainFrame FrameError). MayHear h.peer r (hearing true nr h.peer)) read (true, false, tt, refl)))) stays
+              (heard nr (rw (sym read) (true, false, tt, refl)))) stays
           go (Some y) some may =
               let wanted : IsWanted true ns h.peer = may.0 ∙ ap (λ (z : Window). length z.taken % 8) u.same in
               let ready : Ready w os [] (Some x) (after (after (machine_of k h.peer) (Hear nr)) (Take 0 x)) =
-              took nr x (subst (λ (r : Result PlainFrame FrameError). MayHear h.peer r (taking true x (hearing true nr h.peer))) read (true, true, wanted, refl)) in
+              took nr x (rw (sym read) (true, true, wanted, refl)) in
               let same : after (after (machine_of k h.peer) (Hear nr)) (Take 0 x) ≡ after_input (receives (info ns nr pf x)) (Some y) (window_of k s) =
               ap (λ (z : Window). after (after z (Hear nr)) (Take 0 x)) (sym u.same) ∙ ap (λ (z : List ℕ). after (after (window_of k s) (Hear nr)) (Take 0 z)) may.1 in
               let packet : Ready w os [] (Some y) (after_input (receives (info ns nr pf x)) (Some y) (window_of k s)) =
-              subst (λ (z : List ℕ). Ready w os [] (Some z) (after_input (receives (info ns nr pf x)) (Some y) (window_of k s))) may.1 (subst (λ (z : Window). Ready w os [] (Some x) z) same ready) in
-              stays_seen w h os [] (receives (info ns nr pf x)) step (subst (λ (p : Option (List ℕ)). Ready w os [] p (after_input (receives (info ns nr pf x)) p (window_of k s))) (sym some) packet) stays
+              subst (λ (z : List ℕ). Ready w os [] (Some z) (after_input (receives (info ns nr pf x)) (Some y) (window_of k s))) may.1 (rw (sym same) ready) in
+              stays_seen w h os [] (receives (info ns nr pf x)) step (rw some packet) stays
 
       read_seen : (r : Result PlainFrame FrameError) → r ≡ frame_of (other d.role) d.longest o → NoSabm r → Follows (ending_of r (window_of k s)) k (brought_by r) s step → S (after_step d w os [] step)
       read_seen (Ok (info ns nr pf x)) read no_sabm follows = numbered_seen (info ns nr pf x) nr read (nat_le (resolved s.outgoing.acked nr) s.outgoing.sent) refl (λ e. e) (info_seen ns nr pf x read) follows
       read_seen (Ok (rr command nr pf)) read no_sabm follows =
           numbered_seen (rr command nr pf) nr read (nat_le (resolved s.outgoing.acked nr) s.outgoing.sent) refl (λ e. e)
-          (told_seen (rr command nr pf) nr (λ packet. refl) (λ y never. never) (subst (λ (r : Result PlainFrame FrameError). MayHear h.peer r (hearing true nr h.peer)) read (true, refl))) follows
+          (told_seen (rr command nr pf) nr (λ packet. refl) (λ y never. never) (rw (sym read) (true, refl))) follows
       read_seen (Ok (rnr command nr pf)) read no_sabm follows =
           numbered_seen (rnr command nr pf) nr read (nat_le (resolved s.outgoing.acked nr) s.outgoing.sent) refl (λ e. e)
-          (told_seen (rnr command nr pf) nr (λ packet. refl) (λ y never. never) (subst (λ (r : Result PlainFrame FrameError). MayHear h.peer r (hearing true nr h.peer)) read (true, refl))) follows
+          (told_seen (rnr command nr pf) nr (λ packet. refl) (λ y never. never) (rw (sym read) (true, refl))) follows
       read_seen (Ok (rej command nr pf)) read no_sabm follows =
           numbered_seen (rej command nr pf) nr read (nat_le (resolved s.outgoing.acked nr) s.outgoing.sent) refl (λ e. e)
-          (told_seen (rej command nr pf) nr (λ packet. refl) (λ y never. never) (subst (λ (r : Result PlainFrame FrameError). MayHear h.peer r (hearing true nr h.peer)) read (true, refl))) follows
+          (told_seen (rej command nr pf) nr (λ packet. refl) (λ y never. never) (rw (sym read) (true, refl))) follows
       read_seen (Ok (sabm p)) read no_sabm follows = absurd (no_sabm p refl)
       read_seen (Ok (disc p)) read no_sabm follows = ends_seen w h os step (machine_of k h.peer) Disc tt passed follows
       read_seen (Ok (ua p)) read no_sabm follows = quiet_seen (receives (ua p)) refl (λ y never. never) follows
@@ -344,8 +344,8 @@ IsPeerOf c near os p out = IsReached ⊥ c (record { near = near; peer = p; out 
 peer_may : (c d : Settings) → AreJoined c d → (near : StationEnd) → MayDo d ⊥ (IsPeerOf c near)
 peer_may c d joined near = record {
   handed = λ os p out packet short h. goes_on _ _ h (HandsDown packet);
-  sends = λ os p q out octets may next h. goes_on _ _ h (Sends octets q (subst (λ (r : Result PlainFrame FrameError). MaySend ⊥ p r q) (there octets) may));
-  hears = λ o os p q out may h. goes_on _ _ h (Hears o os q refl (subst (λ (r : Result PlainFrame FrameError). MayHear p r q) (here o) may));
+  sends = λ os p q out octets may next h. goes_on _ _ h (Sends octets q (rw (sym (there octets)) may));
+  hears = λ o os p q out may h. goes_on _ _ h (Hears o os q refl (rw (sym (here o)) may));
   loses = λ os p out i h. goes_on _ _ h (Loses i);
   damages = λ os p out i octets visible h. goes_on _ _ h (Damages i octets visible);
   faultless = λ o os p out ending h never. never;
@@ -375,7 +375,7 @@ station_acts c d a w h =
     record {
       peer = h.peer;
       reached = subst (IsReached ⊥ c) (sym (alike c h.peer a w)) (goes_on (seen h.peer (swapped w)) (with_peer h.peer (acts c a (our_end (with_peer h.peer w)))) h.reached (Ours a));
-      fits = subst (λ (e : StationEnd). FitsEnd MayAsk d e.station (machine_of d.window h.peer)) same h.fits;
+      fits = rw (sym same) h.fits;
       room = h.room;
       told = h.told;
       within = h.within;

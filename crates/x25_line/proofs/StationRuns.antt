@@ -1,5 +1,5 @@
 -- Each event keeps what holds of two stations, so each run does.
-use Rattle.std.proofs.Common.{◌≡◌, ℕ, suc, ◌≤◌, List, [], ◌∷◌, ◌++◌, inl, inr, length, remove, Bool, true, false, if◌then◌else◌, Option, Some, None, Result, Ok, refl, sym, ap, ◌∙◌, subst, arith, append-nil}
+use Rattle.std.proofs.Common.{drop, ◌≡◌, ℕ, suc, ◌≤◌, List, [], ◌∷◌, ◌++◌, inl, inr, length, remove, Bool, true, false, if◌then◌else◌, Option, Some, None, Result, Ok, refl, sym, ap, ◌∙◌, subst, arith, append-nil}
 use Rattle.std.proofs.lemmas.Bool.{leb-true}
 use Rattle.std.specs.Prelude.{nat_le, nat_lt}
 use Rattle.x25_frame.specs.{Frame.{PlainFrame, sabm, disc}, Reading.{frame_of}, laws.ReadingLaw.{ReadsSpelled}, declared.error.FrameError.{FrameError}}
@@ -11,16 +11,16 @@ use Rattle.x25_link.specs.Link.{take_step, put_step, put_refusal, timer_step, ti
 use Rattle.x25_link.specs.{laws.WindowMachine.{Window, hands_down, nothing, ShowAll}, laws.SetUp.{Is, TakesPart}}
 use Rattle.x25_link.specs.laws.WindowLaw.{Follows, IsOut, sets_up, StaysOut}
 use Rattle.x25_line.specs.laws.Stations.{StationEnd, Stations, Act, Put, Deliver, T1, Connect, Disconnect, Abandon, Probe, Lose, Damage, Event, Near, Far, after_step, unless, delivered, replaced, is_visible, acts, swapped, happens, run, fresh_station, start}
-use Rattle.x25_line.specs.laws.WholeNumbers.{first_of, place_of, taken_out, left_at, place_taken, machine_acts, machine_happens, machine_run, machine_at_start}
+use Rattle.x25_line.specs.laws.WholeNumbers.{first_of, place_of, taken_out, gone_from, place_taken, machine_acts, machine_happens, machine_run, machine_at_start}
 use Rattle.x25_line.specs.laws.LawsBelow.{Laws}
-use Rattle.x25_line.specs.laws.StationClaims.{AreJoined, IsSetUpOnce, AcceptsNoConnect, AcceptsNoConnectAt, NoneConnects, number_in, numbered_on, IsReached, at_start, near_moves, far_moves, AreWhole, NotesUp, HandsOne}
+use Rattle.x25_line.specs.laws.StationClaims.{AreJoined, IsSetUpOnce, AcceptsNoConnect, AcceptsNoConnectAt, NoneConnects, number_in, numbered_on, IsReached, at_start, near_moves, far_moves, NotesUp, HandsOne}
+use Rattle.x25_line.specs.{laws.Line.{Line, moved, swapped as line_swapped}, laws.Line.Move.{HandsDown, Loses}}
 use Rattle.x25_line.proofs.Kept.{Kept, Kept-moved, Kept-swapped}
 use Rattle.x25_line.proofs.StationLines.{IsOrderly, orderly_where, AreOrderly, AreParting, shows_lost, shows_damaged, orderly_lost, orderly_damaged, visible_reads, whole_more, either_way}
 use Rattle.x25_line.proofs.StationSends.{AllWithin, within_push}
-use Rattle.x25_line.proofs.StationSteps.{MayBeAway, away_is_not_up, out_is_away, AsUp, IsAway, FitsEnd, NotesOnce, Joint, Leads, goes_is, left_alone, stands_still, J-stays, not_both, quiet_notes, vain_notes, quiet_joint, parts_joint, ends_joint, read_joint, away_joint, declining_parting}
+use Rattle.x25_line.proofs.StationSteps.{MayBeAway, away_is_not_up, out_is_away, AsUp, IsAway, FitsEnd, NotesOnce, Joint, Leads, machine_is, left_alone, stands_still, J-stays, not_both, quiet_notes, vain_notes, quiet_joint, parts_joint, ends_joint, read_joint, away_joint, declining_parting}
 use Rattle.x25_line.proofs.StationAway.{closed_takes, waits_on, waiting_parting, quiet_by, up_takes_part, connects_from, first_false, second_false}
 use Rattle.x25_line.proofs.StationEvents.{each_hands_one}
-use Rattle.x25_line.specs.{laws.Line.{Line, moved, swapped as line_swapped}, laws.Line.Move.{HandsDown, Loses}}
 
 reached_swapped : (k j : ℕ) (l : Line (List ℕ)) → IsReached k j l → IsReached j k (line_swapped l)
 reached_swapped k j l at_start = at_start
@@ -54,7 +54,7 @@ module _ (MayAsk : Type 0) (c d : Settings) (joined : AreJoined c d) (reads : Re
   -- ---- what comes
 
   deliver_joint : (w : Stations) (l : Line (List ℕ)) (os : List (List ℕ)) → w.back ≡ os → Joint MayAsk c d w l → (MayAsk → (delivered c os w).near.came_up ≡ false)
-      → Leads MayAsk c d w l (left_at (other c.role) c.longest os (Some 0) l.back) (delivered c os w)
+      → Leads MayAsk c d w l (taken_out (gone_from (other c.role) c.longest os (Some 0)) l.back) (delivered c os w)
   deliver_joint w l [] is h once = stands_still MayAsk c d w l h
   deliver_joint w l (o ∷ os) is h once = go h.near
     where
@@ -268,7 +268,7 @@ module _ (MayAsk : Type 0) (c d : Settings) (joined : AreJoined c d) (reads : Re
   taken_off w l (Some n) os h shows orderly = left_joint w l (remove l.back n) os h (near_moves l (Loses n) h.reached tt) (Kept-moved (Loses n) l tt h.kept) shows orderly
 
   damage_joint : (w : Stations) (l : Line (List ℕ)) (i : ℕ) (octets : List ℕ) → Joint MayAsk c d w l → is_visible octets ≡ true
-      → Leads MayAsk c d w l (left_at (other c.role) c.longest w.back (Some i) l.back) (record w { back = replaced w.back i octets })
+      → Leads MayAsk c d w l (taken_out (gone_from (other c.role) c.longest w.back (Some i)) l.back) (record w { back = replaced w.back i octets })
   damage_joint w l i octets h visible = elim (visible_reads (other c.role) c.longest octets visible) [
     | inl short ↦ taken_off w l (place_of (other c.role) c.longest w.back i) (replaced w.back i octets) h
         (shows_damaged (other c.role) c.longest octets (ap number_in short) w.back i l.back h.back)
@@ -279,12 +279,12 @@ module _ (MayAsk : Type 0) (c d : Settings) (joined : AreJoined c d) (reads : Re
   ]
 
   damage_by : (b : Bool) (w : Stations) (l : Line (List ℕ)) (i : ℕ) (octets : List ℕ) → Joint MayAsk c d w l → is_visible octets ≡ b
-      → Leads MayAsk c d w l (left_at (other c.role) c.longest w.back (if b then Some i else None) l.back) (if b then record w { back = replaced w.back i octets } else w)
+      → Leads MayAsk c d w l (taken_out (gone_from (other c.role) c.longest w.back (if b then Some i else None)) l.back) (if b then record w { back = replaced w.back i octets } else w)
   damage_by true w l i octets h visible = damage_joint w l i octets h visible
   damage_by false w l i octets h visible = stands_still MayAsk c d w l h
 
   acts_joint : (a : Act) (w : Stations) (l : Line (List ℕ)) → (MayAsk → (acts c a w).near.came_up ≡ false) → (Connects a w → MayAsk) → Joint MayAsk c d w l
-      → Leads MayAsk c d w l (left_at (other c.role) c.longest w.back (place_taken a) l.back) (acts c a w)
+      → Leads MayAsk c d w l (taken_out (gone_from (other c.role) c.longest w.back (place_taken a)) l.back) (acts c a w)
   acts_joint (Put packet) w l once may h =
       leads_if MayAsk c d (nat_le (length packet) c.longest) w (unless (put_refusal w.near.station) w (after_step c w w.back (packet ∷ []) (put_step c packet w.near.station))) l h
       (λ short. put_joint w l packet h (leb-true _ _ short))
@@ -304,7 +304,7 @@ module _ (MayAsk : Type 0) (c d : Settings) (joined : AreJoined c d) (reads : Re
       → Joint MayAsk c d (acts c a w) (machine_acts c a w l)
   machine_joint a w l once may h =
       let p = acts_joint a w l once may h in
-      subst (λ (m : Line (List ℕ)). Joint MayAsk c d (acts c a w) m) (goes_is c w (acts c a w) l p.0 (left_at (other c.role) c.longest w.back (place_taken a) l.back) p.2) p.1
+      subst (λ (m : Line (List ℕ)). Joint MayAsk c d (acts c a w) m) (machine_is c (acts c a w).near.station (drop (length w.out) (acts c a w).out) (gone_from (other c.role) c.longest w.back (place_taken a)) l p.0 p.2.near p.2.far p.2.out p.2.back) p.1
 
 -- ---- runs
 
@@ -326,7 +326,7 @@ joint_swapped MayAsk c d same w l h =
       near_has = h.far_has;
       far_has = h.near_has;
       no_frmr = h.no_frmr;
-      whole = whole_more c.longest (w.near.down ++ w.far.down) (w.far.down ++ w.near.down) (either_way w.near.down w.far.down) w.sent (subst (λ (n : ℕ). AreWhole n (w.near.down ++ w.far.down) w.sent) (sym same) h.whole);
+      whole = whole_more c.longest (w.near.down ++ w.far.down) (w.far.down ++ w.near.down) (either_way w.near.down w.far.down) w.sent (rw same h.whole);
     }
 
 event_joint : (MayAsk : Type 0) (c d : Settings) → AreJoined c d → ReadsSpelled → Laws → (e : Event) (w : Stations) (l : Line (List ℕ)) → (MayAsk → IsSetUpOnce (happens c d e w)) → (ConnectsAt e w → MayAsk)

@@ -1,10 +1,10 @@
 -- What an end may do that keeps the rules of a peer; and what a station sends, which is that.
-use Rattle.std.proofs.Common.{◌≡◌, ℕ, ◌+◌, ◌≤◌, List, [], ◌∷◌, ◌++◌, length, map, remove, Bool, true, Option, Some, None, Result, Ok, refl, sym, ap, ◌∙◌, subst, arith, append_assoc, append-nil}
+use Rattle.std.proofs.Common.{◌≡◌, ℕ, ◌+◌, ◌≤◌, List, [], ◌∷◌, ◌++◌, length, map, remove, Bool, true, Option, Some, None, Ok, refl, sym, ap, ◌∙◌, subst, arith, append_assoc, append-nil}
 use Rattle.std.proofs.lemmas.List.{map-append}
 use Rattle.std.specs.List.{slice_get}
 use Rattle.x25_bits.specs.declared.role.Role.{Role}
 use Rattle.x25_frame.specs.{Frame.{PlainFrame, info, rr, rnr, rej, sabm, disc, ua, dm, frmr}, Spelling.{spelling_of}, Reading.{frame_of}}
-use Rattle.x25_frame.specs.{laws.ReadingLaw.{ReadsSpelled}, declared.error.FrameError.{FrameError}}
+use Rattle.x25_frame.specs.laws.ReadingLaw.{ReadsSpelled}
 use Rattle.x25_link.specs.{Station.{Settings}, Hearing.{other}, declared.phase.Reason.TheVariants.{FrmrSent}, laws.WindowLaw.{ending_of}}
 use Rattle.x25_link.specs.laws.WindowMachine.{Window, ShowsItem, Shows, ShowAll, IsSent, Runs, rests, goes_on}
 use Rattle.x25_line.specs.{laws.Stations.{replaced, is_visible}, laws.StationClaims.{number_in}, laws.Peer.{Peer, MaySend, MayHear, numbered_to, told_to}}
@@ -107,7 +107,7 @@ module _ (d : Settings) (high : d.window ≤ 7) (P : Peer → List PlainFrame �
   said_run from reached is room told w frames rests = record { peer = p; reached = reached; is = is; room = room; told = told; given = refl; taken = refl }
   said_run from reached is room told w frames (goes_on v fs s gs run sends may shows) =
       let h = said_run from reached is room told v fs run in
-      subst (λ (z : Window). Said d P p (after z s) (fs ++ gs)) h.is (one v fs h s gs sends (subst (λ (z : Window). Allows z s) (sym h.is) may) (subst (λ (z : Window). ShowAll gs (frames_of z s)) (sym h.is) shows))
+      subst (λ (z : Window). Said d P p (after z s) (fs ++ gs)) h.is (one v fs h s gs sends (rw h.is may) (rw h.is shows))
 
 -- ---- frames without one
 
@@ -159,22 +159,19 @@ pub record MayDo (d : Settings) (Fine : Type 0) (R : List (List ℕ) → Peer �
 module _ (d : Settings) (high : d.window ≤ 7) (reads : ReadsSpelled) (Fine : Type 0) (R : List (List ℕ) → Peer → List (List ℕ) → Type 0) (does : MayDo d Fine R) (os : List (List ℕ)) where
   -- one frame more
   sent : (out : List (List ℕ)) (p q : Peer) (f : PlainFrame) → frame_of d.role d.longest (spelling_of d.role f) ≡ Ok f → MaySend ⊥ p (Ok f) q → q.sent ≤ p.sent + 1 → R os p out → R os q (out ++ spelling_of d.role f ∷ [])
-  sent out p q f read may next reached = does.sends os p q out (spelling_of d.role f) (subst (λ (r : Result PlainFrame FrameError). MaySend ⊥ p r q) (sym read) may) next reached
+  sent out p q f read may next reached = does.sends os p q out (spelling_of d.role f) (rw read may) next reached
 
   pub free_all : (out : List (List ℕ)) (p : Peer) (fs : List PlainFrame) → AllFree d.role d.longest fs → R os p out
       → R os p (out ++ map (spelling_of d.role) fs)
-  free_all out p [] free reached = subst (λ (xs : List (List ℕ)). R os p xs) (sym (append-nil out)) reached
+  free_all out p [] free reached = rw (append-nil out) reached
   free_all out p (f ∷ fs) free reached =
-      subst (λ (xs : List (List ℕ)). R os p xs) (append_assoc out (spelling_of d.role f ∷ []) (map (spelling_of d.role) fs))
-      (free_all (out ++ spelling_of d.role f ∷ []) p fs free.1 (sent out p p f free.0.reads (free_sent p f free.0.none) (omega arith) reached))
+      rw (sym (append_assoc out (spelling_of d.role f ∷ []) (map (spelling_of d.role) fs))) (free_all (out ++ spelling_of d.role f ∷ []) p fs free.1 (sent out p p f free.0.reads (free_sent p f free.0.none) (omega arith) reached))
 
   speaks : (out : List (List ℕ)) → MaySay d (λ q frames. R os q (out ++ map (spelling_of d.role) frames))
   speaks out p q before f good may next given taken h =
-      subst (λ (xs : List (List ℕ)). R os q xs)
-      (append_assoc out (map (spelling_of d.role) before) (spelling_of d.role f ∷ []) ∙ ap (λ (xs : List (List ℕ)). out ++ xs) (sym (map-append (spelling_of d.role) before (f ∷ []))))
-      (sent (out ++ map (spelling_of d.role) before) p q f (good_reads reads d.role d.longest f good) may next h)
+      rw (sym (append_assoc out (map (spelling_of d.role) before) (spelling_of d.role f ∷ []) ∙ ap (λ (xs : List (List ℕ)). out ++ xs) (sym (map-append (spelling_of d.role) before (f ∷ []))))) (sent (out ++ map (spelling_of d.role) before) p q f (good_reads reads d.role d.longest f good) may next h)
 
   pub runs_said : (out : List (List ℕ)) (p : Peer) (from : Window) → R os p out → machine_of d.window p ≡ from → p.sent ≤ p.acked + d.window → p.told ≤ length p.taken → AllWithin d.longest p.given
       → (w : Window) (frames : List PlainFrame) → Runs from w frames → Said d (λ q frames. R os q (out ++ map (spelling_of d.role) frames)) p w frames
   runs_said out p from reached is room told within w frames runs =
-      said_run d high (λ q frames. R os q (out ++ map (spelling_of d.role) frames)) (speaks out) p within from (subst (λ (xs : List (List ℕ)). R os p xs) (sym (append-nil out)) reached) is room told w frames runs
+      said_run d high (λ q frames. R os q (out ++ map (spelling_of d.role) frames)) (speaks out) p within from (rw (append-nil out) reached) is room told w frames runs

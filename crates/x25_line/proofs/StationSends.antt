@@ -162,7 +162,7 @@ sent_more k j n1 l from w frames h s fs reached kept handed_down taken acked sho
       back = h.back;
       behind = h.behind ++ frames_of h.line.near s;
       out = ap (λ (gs : List (Frame (List ℕ))). gs ++ frames_of h.line.near s) h.out ∙ append_assoc l.out h.behind (frames_of h.line.near s);
-      shows = shows_append frames fs h.behind (frames_of h.line.near s) h.shows (subst (λ (z : Window). ShowAll fs (frames_of z s)) (sym h.near) shows);
+      shows = shows_append frames fs h.behind (frames_of h.line.near s) h.shows (rw h.near shows);
       good = good_append n1 frames fs h.good good;
       handed = handed_append from.given frames fs h.handed handed;
       given = handed_down ∙ h.given;
@@ -177,9 +177,7 @@ sent_more k j n1 l from w frames h s fs reached kept handed_down taken acked sho
   where
     here : (es : List PlainFrame) → given from.acked (length from.taken) h.line.near.sent (fs ++ es) ≡ frames_of h.line.near s ++ given from.acked (length from.taken) (steps h.line s).near.sent es
     here es =
-        subst (λ (z : Window). given from.acked (length from.taken) z.sent (fs ++ es) ≡ frames_of z s ++ given from.acked (length from.taken) (after z s).sent es) (sym h.near)
-        (subst (λ (a : ℕ). given a (length from.taken) w.sent (fs ++ es) ≡ frames_of w s ++ given a (length from.taken) (after w s).sent es) h.acked
-        (subst (λ (xs : List (List ℕ)). given w.acked (length xs) w.sent (fs ++ es) ≡ frames_of w s ++ given w.acked (length xs) (after w s).sent es) h.taken (gives es)))
+        rw h.near (rw (sym h.acked) (subst (λ (xs : List (List ℕ)). given w.acked (length xs) w.sent (fs ++ es) ≡ frames_of w s ++ given w.acked (length xs) (after w s).sent es) h.taken (gives es)))
 
 more : (k j n1 : ℕ) (l : Line (List ℕ)) (from w : Window) (frames : List PlainFrame) → AllWithin n1 from.given → (s : Step (List ℕ)) (fs : List PlainFrame)
     → IsSent s → Allows w s → ShowAll fs (frames_of w s) → Sent k j n1 l from w frames → Sent k j n1 l from (after w s) (frames ++ fs)
@@ -193,10 +191,9 @@ more k j n1 l from w frames within (Send n) fs sends may shows h =
     let item = item_at n1 w.given n may.3 (subst (AllWithin n1) (sym h.given) within) in
     sent_more k j n1 l from w frames h (Send n) fs (near_moves h.line (Sends n) h.reached ok) (Kept-moved (Sends n) h.line ok h.kept) refl refl refl shows
     (single_good n1 (frame_of (after w (Send n)) (numbered n (slice_get w.given n))) (send_good n1 n w item) fs shows)
-    (subst (λ (given : List (List ℕ)). AllHandedDown given fs) h.given
-    (single_handed w.given (frame_of (after w (Send n)) (numbered n (slice_get w.given n))) (send_handed n1 n w item) fs shows))
+    (rw (sym h.given) (single_handed w.given (frame_of (after w (Send n)) (numbered n (slice_get w.given n))) (send_handed n1 n w item) fs shows))
     (single_given w.acked (length w.taken) w.sent (after w (Send n)).sent (frame_of (after w (Send n)) (numbered n (slice_get w.given n)))
-    (send_given n1 n w item (subst (λ (z : Window). z.window ≤ 7) h.near h.kept.from_near.high) may) fs shows)
+    (send_given n1 n w item (rw (sym h.near) h.kept.from_near.high) may) fs shows)
 more k j n1 l from w frames within s fs sends may shows h = absurd sends
 
 pub runs_sent : (k j n1 : ℕ) (l : Line (List ℕ)) (from : Window) → IsReached k j l → Kept l → l.near ≡ from → AllWithin n1 from.given

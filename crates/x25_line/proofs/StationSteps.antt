@@ -14,9 +14,9 @@ use Rattle.x25_link.specs.laws.WindowLaw.{IsSound, window_of, brought_by, after_
 use Rattle.x25_line.specs.{laws.Line.{Line, MayTake, FrontMayBeTaken, arrived, front_arrived, takes_item}, laws.Line.Move.{Arrives, Loses}}
 use Rattle.x25_line.specs.laws.Stations.{StationEnd, Stations, after_step}
 use Rattle.x25_line.specs.laws.StationClaims.{AreJoined, IsReached, near_moves, number_in, numbered_on, NoFrmr, AreWhole}
-use Rattle.x25_line.specs.laws.WholeNumbers.{given, first_of, taken_out, counted}
+use Rattle.x25_line.specs.laws.WholeNumbers.{given, first_of, taken_out, counted, machine_after}
 use Rattle.x25_line.proofs.Kept.{Kept, Way, Kept-moved, hears_valid}
-use Rattle.x25_line.proofs.StationLines.{shows_append, Front, front_of, carried_of, IsOrderly, AreOrderly, consed, numbered_append, orderly_append, AllGood, AreParting, no_frmr_append, good_no_frmr, parting_no_frmr, good_numbered, good_orderly, parting_numbered, parting_orderly, AllHandedDown, whole_more, whole_append, good_whole, parting_whole, first_more}
+use Rattle.x25_line.proofs.StationLines.{shows_append, Front, front_of, carried_of, IsOrderly, AreOrderly, consed, numbered_append, orderly_append, AllGood, AreParting, no_frmr_append, good_no_frmr, parting_no_frmr, good_numbered, good_orderly, parting_numbered, parting_orderly, whole_more, whole_append, good_whole, parting_whole, first_more}
 use Rattle.x25_line.proofs.StationSends.{AllWithin, Sent, sent_given, runs_sent}
 
 -- Down or Closed, and Waiting where an end may ask for set-up
@@ -115,16 +115,15 @@ abbrev pub Leads : Type 0 → Settings → Settings → Stations → Line (List 
 Leads MayAsk c d w l left v = (m : Line (List ℕ)) × Joint MayAsk c d v m × Goes c w v l m left
 
 -- so it is the machine that the definition says
-pub goes_is : (c : Settings) (w v : Stations) (l m : Line (List ℕ)) (left : List (Frame (List ℕ))) → Goes c w v l m left
-    → m ≡ (let e = counted c.window v.near.station l.near in
-    record { near = e; far = l.far; out = l.out ++ given e.acked (length e.taken) l.near.sent (numbered_on c.role c.longest (not_taken w.out v.out)); back = left })
-goes_is c w v l m left g =
-    let put : List PlainFrame = numbered_on c.role c.longest (not_taken w.out v.out) in
+pub machine_is : (c : Settings) (station : LinkStation) (put : List (List ℕ)) (place : Option ℕ) (l m : Line (List ℕ)) → m.near ≡ counted c.window station l.near → m.far ≡ l.far
+    → m.out ≡ l.out ++ given m.near.acked (length m.near.taken) l.near.sent (numbered_on c.role c.longest put) → m.back ≡ taken_out place l.back → m ≡ machine_after c station put place l
+machine_is c station put place l m near far out back =
+    let frames : List PlainFrame = numbered_on c.role c.longest put in
     let made : End (List ℕ) → End (List ℕ) → List (Frame (List ℕ)) → List (Frame (List ℕ)) → Line (List ℕ) = λ near far out back. record { near = near; far = far; out = out; back = back } in
-    ap (λ (out : List (Frame (List ℕ))). made m.near m.far out m.back) g.out
-    ∙ ap (λ (e : End (List ℕ)). made e m.far (l.out ++ given e.acked (length e.taken) l.near.sent put) m.back) g.near
-    ∙ ap (λ (far : End (List ℕ)). (let e = counted c.window v.near.station l.near in made e far (l.out ++ given e.acked (length e.taken) l.near.sent put) m.back)) g.far
-    ∙ ap (λ (back : List (Frame (List ℕ))). (let e = counted c.window v.near.station l.near in made e l.far (l.out ++ given e.acked (length e.taken) l.near.sent put) back)) g.back
+    ap (λ (out : List (Frame (List ℕ))). made m.near m.far out m.back) out
+    ∙ ap (λ (e : End (List ℕ)). made e m.far (l.out ++ given e.acked (length e.taken) l.near.sent frames) m.back) near
+    ∙ ap (λ (far : End (List ℕ)). (let e = counted c.window station l.near in made e far (l.out ++ given e.acked (length e.taken) l.near.sent frames) m.back)) far
+    ∙ ap (λ (back : List (Frame (List ℕ))). (let e = counted c.window station l.near in made e l.far (l.out ++ given e.acked (length e.taken) l.near.sent frames) back)) back
 
 pub counted_up : (k : ℕ) (s : LinkStation) (e : Window) → is_up s.phase ≡ true → counted k s e ≡ window_of k s
 counted_up k s e up = rw up refl
@@ -277,7 +276,7 @@ module _ (MayAsk : Type 0) (c d : Settings) (joined : AreJoined c d) (reads : Re
       → AreOrderly MayAsk (other d.role) d.longest (out ++ map (spelling_of c.role) fs)
   good_out_orderly out fs good f =
       orderly_append MayAsk (other d.role) d.longest out (map (spelling_of c.role) fs) f
-      (subst (λ (r : Role). AreOrderly MayAsk r d.longest (map (spelling_of c.role) fs)) (sym joined.near_role) (good_orderly reads c.role d.longest MayAsk fs good))
+      (rw joined.near_role (good_orderly reads c.role d.longest MayAsk fs good))
 
   parting_out : (out : List (List ℕ)) (fs : List PlainFrame) (gs : List (Frame (List ℕ))) → AreParting MayAsk fs → ShowAll (numbered_on (other d.role) d.longest out) gs
       → ShowAll (numbered_on (other d.role) d.longest (out ++ map (spelling_of c.role) fs)) gs
@@ -292,12 +291,12 @@ module _ (MayAsk : Type 0) (c d : Settings) (joined : AreJoined c d) (reads : Re
       → AreOrderly MayAsk (other d.role) d.longest (out ++ map (spelling_of c.role) fs)
   parting_out_orderly out fs parting f =
       orderly_append MayAsk (other d.role) d.longest out (map (spelling_of c.role) fs) f
-      (subst (λ (r : Role). AreOrderly MayAsk r d.longest (map (spelling_of c.role) fs)) (sym joined.near_role) (parting_orderly reads c.role d.longest MayAsk fs parting))
+      (rw joined.near_role (parting_orderly reads c.role d.longest MayAsk fs parting))
 
   -- what is put, as its own end reads it
   good_put : (out : List (List ℕ)) (fs : List PlainFrame) → AllGood d.longest fs → numbered_on c.role c.longest (not_taken out (out ++ map (spelling_of c.role) fs)) ≡ fs
   good_put out fs good =
-      ap (numbered_on c.role c.longest) (put_behind out (map (spelling_of c.role) fs)) ∙ good_numbered reads c.role c.longest fs (subst (λ (n : ℕ). AllGood n fs) (sym joined.longest) good)
+      ap (numbered_on c.role c.longest) (put_behind out (map (spelling_of c.role) fs)) ∙ good_numbered reads c.role c.longest fs (rw joined.longest good)
 
   parting_put : (out : List (List ℕ)) (fs : List PlainFrame) → AreParting MayAsk fs → numbered_on c.role c.longest (not_taken out (out ++ map (spelling_of c.role) fs)) ≡ []
   parting_put out fs parting = ap (numbered_on c.role c.longest) (put_behind out (map (spelling_of c.role) fs)) ∙ parting_numbered reads c.role c.longest MayAsk fs parting
@@ -315,10 +314,9 @@ module _ (MayAsk : Type 0) (c d : Settings) (joined : AreJoined c d) (reads : Re
           reached = t.reached;
           kept = t.kept;
           near = inl (record { up = stays.up; sound = stays.sound; same = sym t.near });
-          far = subst (λ (e : End (List ℕ)). FitsEnd MayAsk d w.far.station e) (sym far) h.far;
-          out = subst (λ (gs : List (Frame (List ℕ))). ShowAll (numbered_on (other d.role) d.longest (w.out ++ map (spelling_of c.role) step.side.out)) gs)
-              (sym (t.out ∙ ap (λ (gs : List (Frame (List ℕ))). gs ++ t.behind) g.out)) (good_out w.out step.side.out l.out t.behind t.good h.out t.shows);
-          back = subst (λ (gs : List (Frame (List ℕ))). ShowAll (numbered_on (other c.role) c.longest back) gs) (sym t.back) g.left;
+          far = rw far h.far;
+          out = rw (t.out ∙ ap (λ (gs : List (Frame (List ℕ))). gs ++ t.behind) g.out) (good_out w.out step.side.out l.out t.behind t.good h.out t.shows);
+          back = rw t.back g.left;
           out_orderly = good_out_orderly w.out step.side.out t.good h.out_orderly;
           back_orderly = g.orderly;
           near_has = record {
@@ -327,11 +325,11 @@ module _ (MayAsk : Type 0) (c d : Settings) (joined : AreJoined c d) (reads : Re
             within = subst (AllWithin d.longest) (sym t.given ∙ ap (λ (z : Window). z.given) (sym t.near)) g.within;
             notes = quiet_notes MayAsk c w back down step h.near_has.notes stays.quiet (stays.up ∙ sym was_up);
           };
-          far_has = subst (λ (e : End (List ℕ)). Has MayAsk c.longest w.far e) (sym far) h.far_has;
+          far_has = rw far h.far_has;
           no_frmr = no_frmr_append w.sent step.side.out h.no_frmr (good_no_frmr d.longest step.side.out t.good);
           whole = whole_append d.longest ((w.near.down ++ down) ++ w.far.down) w.sent step.side.out
               (whole_more d.longest (w.near.down ++ w.far.down) ((w.near.down ++ down) ++ w.far.down) (first_more w.near.down w.far.down down) w.sent h.whole)
-              (good_whole d.longest (w.near.down ++ down) w.far.down step.side.out t.good (subst (λ (given : List (List ℕ)). AllHandedDown given step.side.out) (sym g.given) t.handed));
+              (good_whole d.longest (w.near.down ++ down) w.far.down step.side.out t.good (rw g.given t.handed));
         },
         record {
           near = t.near ∙ sym (counted_up c.window step.side.near l.near stays.up);
@@ -366,8 +364,7 @@ module _ (MayAsk : Type 0) (c d : Settings) (joined : AreJoined c d) (reads : Re
       let e = l.near in
       let may = subst (λ (bs : List (Frame (List ℕ))). FrontMayBeTaken (is_some packet) (length e.taken) bs) (sym is) ok in
       record {
-        reached = subst (λ (z : Line (List ℕ)). IsReached c.window d.window z) (ap (λ (bs : List (Frame (List ℕ))). front_arrived (is_some packet) bs l) is)
-            (near_moves l (Arrives (is_some packet)) h.reached may);
+        reached = rw (sym (ap (λ (bs : List (Frame (List ℕ))). front_arrived (is_some packet) bs l) is)) (near_moves l (Arrives (is_some packet)) h.reached may);
         kept = subst (λ (z : Line (List ℕ)). Kept z) (ap (λ (bs : List (Frame (List ℕ))). front_arrived (is_some packet) bs l) is) (Kept-moved (Arrives (is_some packet)) l may h.kept);
         near = near;
         far = refl;
@@ -408,7 +405,7 @@ module _ (MayAsk : Type 0) (c d : Settings) (joined : AreJoined c d) (reads : Re
       (ap (λ (o : Option (Numbered (List ℕ))). takes_item true o (after e (Hear (g.ack % 8)))) q.is
       ∙ ap (λ (z : Window). after z (Take 0 q.item.item)) (hears_same w.near.station e g nr u.same shown.1)
       ∙ ap (λ (z : List ℕ). after heard (Take 0 z)) (sym q.same ∙ up.1))
-      (subst (λ (o : Option (Numbered (List ℕ))). MayTake true (length e.taken) o) (sym q.is) (sym q.number ∙ up.0 ∙ ap (λ (z : Window). length z.taken % 8) u.same))
+      (rw q.is (sym q.number ∙ up.0 ∙ ap (λ (z : Window). length z.taken % 8) u.same))
       (ap (λ (z : Window). z.given) u.same)
       (ap (λ (xs : List (List ℕ)). xs ++ y ∷ []) (h.near_has.up ∙ sym (ap (λ (z : Window). z.taken) u.same)))
 
@@ -459,8 +456,7 @@ module _ (MayAsk : Type 0) (c d : Settings) (joined : AreJoined c d) (reads : Re
       → Stays c.window input w.near.station step → Leads MayAsk c d w l l.back (after_step c w os [] step)
   quiet_joint w l h u os orderly shows input step same never stays =
       J-stays w l l os [] input step h u.up
-      (subst (λ (v : Window). Stage MayAsk c d w l l os [] step.packet v) (sym same)
-      (quiet_stage w l h u os orderly shows step.packet (no_packet_of input step.packet (window_of c.window w.near.station) never stays.hands_up))) stays
+      (rw same (quiet_stage w l h u os orderly shows step.packet (no_packet_of input step.packet (window_of c.window w.near.station) never stays.hands_up))) stays
 
   -- a station that leaves or is out: a numbered frame that comes to it is lost to the machine
   pub parts_joint : (w : Stations) (l : Line (List ℕ)) → Joint MayAsk c d w l → (gs : List (Frame (List ℕ))) (os : List (List ℕ)) (step : Step)
@@ -514,7 +510,7 @@ module _ (MayAsk : Type 0) (c d : Settings) (joined : AreJoined c d) (reads : Re
       → Leads MayAsk c d w l (remove l.back 0) (after_step c w os [] step)
   told_joint w l h u os f nr step orderly front number follows hears never =
       numbered_joint w l h u os f nr step front number follows
-      (λ packet up. subst (λ (v : Window). Stage MayAsk c d w l (come l (is_some packet) front.frame front.others) os [] packet v) (sym (hears packet)) (stage packet (no_packet_of (receives f) packet (window_of c.window w.near.station) never up)))
+      (λ packet up. rw (hears packet) (stage packet (no_packet_of (receives f) packet (window_of c.window w.near.station) never up)))
     where
       stage : (packet : Option (List ℕ)) → packet ≡ None → Stage MayAsk c d w l (come l (is_some packet) front.frame front.others) os [] packet (after (window_of c.window w.near.station) (Hear nr))
       stage packet none = rw none (tell_stage w l h u os orderly front.frame front.others front.is front.rest_shows nr number)

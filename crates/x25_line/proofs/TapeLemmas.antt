@@ -85,7 +85,7 @@ item_judged ns n packet p u held window number again h = go (n == p.sent) refl h
           n = n;
           may = record { number = number; same = item_same (slice_get p.given n) packet parts.1; window = window; again = again };
           is = sym same;
-          held = subst (λ (z : Peer). length z.given ≡ z.sent) same (held ∙ still);
+          held = rw (sym same) (held ∙ still);
         }
     old false test is = none_some u is
 
@@ -101,7 +101,7 @@ item_judged ns n packet p u held window number again h = go (n == p.sent) refl h
           n = n;
           may = record { number = number; same = slice_get-last p.given packet n (next ∙ sym held); window = window; again = again };
           is = sym same;
-          held = subst (λ (z : Peer). length z.given ≡ z.sent) same (length_push p.given packet ∙ one_more);
+          held = rw (sym same) (length_push p.given packet ∙ one_more);
         }
     go false test is = old (nat_lt n p.sent && is_item (slice_get p.given n) packet) refl is
 
@@ -145,7 +145,7 @@ info_judged nr c p q held h = go (judges_number c.ns c.packet p) refl h
           base = n.base;
           from = n.from;
           may = (n.n, a.t, n.may, record { number = may.number; rising = may.rising; taken = may.taken }, a.is ∙ ap (told_to a.t) n.is);
-          held = subst (λ (z : Peer). length z.given ≡ z.sent) (sym a.is) n.held;
+          held = rw a.is n.held;
         }
 
 judged : (s : Said) (p q : Peer) → length p.given ≡ p.sent → judges_said s p ≡ Some q → Judged s p q
@@ -182,9 +182,9 @@ record Explained (c : Settings) (w : Joined) : Type 0 where
   pub held : length w.peer.given ≡ w.peer.sent
 
 base_reached : (c : Settings) (w : Joined) (packet : List ℕ) (base : Peer) → IsReached (Unit {0}) c w → IsBase w.peer packet base → IsReached (Unit {0}) c (record w { peer = base })
-base_reached c w packet base reached (inl is) = subst (λ (p : Peer). IsReached (Unit {0}) c (record w { peer = p })) (sym is) reached
+base_reached c w packet base reached (inl is) = rw is reached
 base_reached c w packet base reached (inr is) =
-    subst (λ (p : Peer). IsReached (Unit {0}) c (record w { peer = p })) (sym is) (goes_on w (record w { peer = grown packet w.peer }) reached (HandsDown packet))
+    rw is (goes_on w (record w { peer = grown packet w.peer }) reached (HandsDown packet))
 
 explained : (c : Settings) (w : Joined) → IsSilent c w → Explained c w
 explained c w Begins = record { reached = at_start; held = refl }

@@ -4,8 +4,8 @@
 use Rattle.std.specs.Prelude.{◌≡◌, ℕ, ◌<◌, ◌≤◌, ◌⊎◌, false, true, List, [], ◌∷◌, length}
 use Rattle.x25_link.specs.{Station.{Settings, LinkStation, is_up, is_busy}, Link.{timer_runs}, laws.RestLaw.{IsAtRest}}
 use Rattle.x25_line.specs.{laws.Stations.{Act, Deliver, T1, Event, Near, Far}, laws.StationClaims.{AreJoined}}
-use Rattle.x25_line.specs.laws.Sessions.{SessionEnd, Sessions, Meeting, from_nothing, from_set_up, AreTimely, happens}
-use Rattle.x25_line.specs.{laws.Sessions.{run}, laws.SessionClaims.{SomeMet}}
+use Rattle.x25_line.specs.laws.Sessions.{Sessions, Meeting, from_nothing, from_set_up, happens, run}
+use Rattle.x25_line.specs.laws.SessionClaims.{Each, SomeMet, Throughout}
 
 -- ---- deliveries
 
@@ -13,14 +13,10 @@ abbrev pub IsDeliver : Act → Type 0
 IsDeliver Deliver = Unit {0}
 IsDeliver act = ⊥
 
+-- the front octets come at either end
 abbrev pub IsDelivery : Event → Type 0
 IsDelivery (Near act) = IsDeliver act
 IsDelivery (Far act) = IsDeliver act
-
--- the front octets come at either end, in any order of the two
-abbrev pub AreDeliveries : List Event → Type 0
-AreDeliveries [] = Unit {0}
-AreDeliveries (e ∷ es) = IsDelivery e × AreDeliveries es
 
 -- ---- what rest shows
 
@@ -40,12 +36,12 @@ abbrev pub OneIsFree : LinkStation → LinkStation → Type 0
 OneIsFree s t = (is_busy s ≡ false) ⊎ (is_busy t ≡ false)
 
 -- an end is Up; where its timer T1 runs, it has tries left
-pub record SessionHasTries (c : Settings) (e : SessionEnd) : Type 0 where
-  pub up : is_up e.station.phase ≡ true
-  pub tries : timer_runs e.station.phase e.station ≡ true → e.station.tries < c.retries
+pub record HasTries (retries : ℕ) (s : LinkStation) : Type 0 where
+  pub up : is_up s.phase ≡ true
+  pub tries : timer_runs s.phase s ≡ true → s.tries < retries
 
-abbrev pub IsSessionAtRestOrOut : SessionEnd → Type 0
-IsSessionAtRestOrOut e = IsAtRest e.station ⊎ (is_up e.station.phase ≡ false)
+abbrev pub IsAtRestOrOut : LinkStation → Type 0
+IsAtRestOrOut s = IsAtRest s ⊎ (is_up s.phase ≡ false)
 
 -- Both ends are at rest, in the same sessions as before, and all that was handed down in these has been handed up at
 -- the other end.
@@ -60,17 +56,15 @@ pub record SessionsAreHealed (w v : Sessions) : Type 0 where
 -- Each end is at rest or not Up; and if both were Up, with tries left where T1 ran, both are at rest in their sessions,
 -- and everything has arrived.
 pub record EachSessionHeals (c d : Settings) (w v : Sessions) : Type 0 where
-  pub near : IsSessionAtRestOrOut v.near
-  pub far : IsSessionAtRestOrOut v.far
-  pub healed : SessionHasTries c w.near → SessionHasTries d w.far → SessionsAreHealed w v
+  pub near : IsAtRestOrOut v.near.station
+  pub far : IsAtRestOrOut v.far.station
+  pub healed : HasTries c.retries w.near.station → HasTries d.retries w.far.station → SessionsAreHealed w v
 
 -- whatever the ends are, but for two that are both busy
 abbrev pub SessionsHealUnlessBothBusy : Type 0
-SessionsHealUnlessBothBusy =
-    (c d : Settings) → AreJoined c d → (begin : Sessions) → (begin ≡ from_nothing) ⊎ (begin ≡ from_set_up)
-    → (events : List Event) → AreTimely c d events begin
-    → (let w = run c d events begin in w.out ≡ [] → w.back ≡ [] → OneIsFree w.near.station w.far.station
-    → (deliveries : List Event) → AreDeliveries deliveries
+SessionsHealUnlessBothBusy = Throughout (λ (c d : Settings) (w : Sessions).
+    w.out ≡ [] → w.back ≡ [] → OneIsFree w.near.station w.far.station
+    → (deliveries : List Event) → Each IsDelivery deliveries
     → (let v = run c d (Near T1 ∷ Far T1 ∷ deliveries) w in v.out ≡ [] → v.back ≡ [] → EachSessionHeals c d w v))
 
 -- ---- each line drains, whenever timer T1 runs out
@@ -90,12 +84,13 @@ SessionsDrainEnd =
     (c d : Settings) → AreJoined c d → (begin : Sessions) → (begin ≡ from_nothing) ⊎ (begin ≡ from_set_up)
     → (events : List Event)
     → (let w = run c d events begin in (most : ℕ)
-    × ((deliveries : List Event) → AreDeliveries deliveries → EachFindsIn c d deliveries w → length deliveries ≤ most))
+    × ((deliveries : List Event) → Each IsDelivery deliveries → EachFindsIn c d deliveries w
+    → length deliveries ≤ most))
 
 -- so there are deliveries that drain its line
 abbrev pub SomeSessionsDrain : Type 0
 SomeSessionsDrain =
     (c d : Settings) → AreJoined c d → (begin : Sessions) → (begin ≡ from_nothing) ⊎ (begin ≡ from_set_up)
     → (events : List Event)
-    → (deliveries : List Event) × AreDeliveries deliveries
+    → (deliveries : List Event) × Each IsDelivery deliveries
     × (let v = run c d deliveries (run c d events begin) in (v.out ≡ []) × (v.back ≡ []))

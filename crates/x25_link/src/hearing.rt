@@ -133,7 +133,6 @@ impl LinkStation {
     }
 
     // Octets, in Up.
-    #[inline(always)]
     fn hear_up<'a>(&mut self, octets: &'a [u8], out: &mut Frames) -> Heard<'a>
         requires place { length out.old < 25 }
         ensures step { Hears self.old self.new out.old out.new result
@@ -235,7 +234,6 @@ impl LinkStation {
     // ---- all phases
 
     // What the octets bring, before the sending rule.
-    #[inline(always)]
     fn hear_octets<'a>(&mut self, octets: &'a [u8], out: &mut Frames) -> Heard<'a>
         requires place { length out.old < 25 }
         ensures step { Hears self.old self.new out.old out.new result

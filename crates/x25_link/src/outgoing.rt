@@ -110,7 +110,6 @@ impl Outgoing {
     /// Takes a received N(R), and says how many frames it acknowledges. 7 BadAck where it is none from the first frame
     /// that isn't acknowledged to V(S) at its highest; nothing changes then.
     #[tactic(auto, using(crate::proofs::OutgoingLemmas::sent_length))]
-    #[inline(always)]
     pub fn ack(&mut self, nr: Seq) -> Result<u8, WindowError>
         ensures step { (k : ℕ) (o : OutgoingState) → FitsOutgoing k self.old o
             → IfOk result (λ count. FitsOutgoing k self.new (acknowledged_to (o.acked + count) o)) }
@@ -131,7 +130,6 @@ impl Outgoing {
     }
 
     // Takes the first packets as acknowledged, and their places back.
-    #[inline(always)]
     fn release(&mut self, count: u8)
         requires { count ≤ length self.old.sender.items }
         ensures sender { (w : Sending (List ℕ)) → Fits self.old.sender w
@@ -171,7 +169,6 @@ impl Outgoing {
 
     /// As `add` and then `send_next`, where before it nothing may be sent: so where the window is open no packet waits,
     /// and this one goes at once. It says whether it did.
-    #[inline(always)]
     pub fn send_at_once(&mut self, packet: &[u8], from: Role, nr: Seq, out: &mut Frames) -> bool
         requires few { length self.old.queue < 256 }
         requires fits { length packet.now ≤ 4099 }

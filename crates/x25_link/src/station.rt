@@ -78,7 +78,6 @@ impl LinkStation {
     }
 
     /// Sends RR, or RNR where the station is busy.
-    #[inline(always)]
     pub fn ready(&mut self, command: bool, pf: bool, out: &mut Frames)
         requires { length out.old < 25 }
         ensures step { Leads self.old self.new out.old out.new (λ c t. ready command pf t) }

@@ -10,16 +10,11 @@ use Rattle.x25_packet_judge.specs.Book as book
 use Rattle.x25_packet_judge.specs.Channel as channels
 
 -- which packet it is
-pub is_channels : (from : Role) (of : ℕ) (packet : PlainPacket) (b : Book) → is_of_all packet ≡ false
-    → book.takes from of packet b ≡ book.follows from of (item_of packet) (is_quiet from b) (book.spoken from b)
+takes_is : (from : Role) (of : ℕ) (packet : PlainPacket) (b : Book) (all : Bool) → is_of_all packet ≡ all
+    → book.takes from of packet b ≡ (if all then book.restarts from (item_of packet) (is_restart packet) (book.spoken from b)
+    else book.follows from of (item_of packet) (is_quiet from b) (book.spoken from b))
 unfolding book.takes
-is_channels from of packet b is = ap (λ a. if a then book.restarts from (item_of packet) (is_restart packet) (book.spoken from b)
-    else book.follows from of (item_of packet) (is_quiet from b) (book.spoken from b)) is
-
-pub is_all : (from : Role) (of : ℕ) (packet : PlainPacket) (b : Book) → is_of_all packet ≡ true
-    → book.takes from of packet b ≡ book.restarts from (item_of packet) (is_restart packet) (book.spoken from b)
-unfolding book.takes
-is_all from of packet b is = ap (λ a. if a then book.restarts from (item_of packet) (is_restart packet) (book.spoken from b)
+takes_is from of packet b all is = ap (λ a. if a then book.restarts from (item_of packet) (is_restart packet) (book.spoken from b)
     else book.follows from of (item_of packet) (is_quiet from b) (book.spoken from b)) is
 
 -- ---- channels and restarts behind it
@@ -42,16 +37,16 @@ sets_follow : (b : Book) (role from : Role) (channel of : ℕ) (packet : PlainPa
     ≡ (if all || (channel % 4096 == of % 4096) then behind_item (seen_by role from (item_of packet)) (set_of role channel b)
     else set_of role channel b)
 sets_follow b role from channel of packet true is =
-    ap (λ (s : book.Seen). end_of role (channel_of channel s.book.channels)) (is_all from of packet b is)
+    ap (λ (s : book.Seen). end_of role (channel_of channel s.book.channels)) (takes_is from of packet b true is)
     ∙ each_set role from channel (item_of packet) b.channels
 sets_follow b role from channel of packet false is =
-    ap (λ (s : book.Seen). end_of role (channel_of channel s.book.channels)) (is_channels from of packet b is)
+    ap (λ (s : book.Seen). end_of role (channel_of channel s.book.channels)) (takes_is from of packet b false is)
     ∙ one_set role from channel of (item_of packet) b.channels (channel % 4096 == of % 4096) refl
 
 pub restarts_of_all : (b : Book) (role from : Role) (of : ℕ) (packet : PlainPacket) → is_of_all packet ≡ true
     → end_of role (book.takes from of packet b).book.restarts ≡ behind_item (seen_by role from (item_of packet)) (end_of role b.restarts)
 restarts_of_all b role from of packet is =
-    ap (λ (s : book.Seen). end_of role s.book.restarts) (is_all from of packet b is) ∙ ends_move role from (item_of packet) b.restarts
+    ap (λ (s : book.Seen). end_of role s.book.restarts) (takes_is from of packet b true is) ∙ ends_move role from (item_of packet) b.restarts
 
 restarts_follow : (b : Book) (role from : Role) (of : ℕ) (packet : PlainPacket) (all : Bool) → is_of_all packet ≡ all
     → is_quiet from b ≡ false
@@ -59,7 +54,7 @@ restarts_follow : (b : Book) (role from : Role) (of : ℕ) (packet : PlainPacket
     ≡ behind_item (seen_by role from (if all then item_of packet else Elsewhere)) (end_of role b.restarts)
 restarts_follow b role from of packet true is loud = restarts_of_all b role from of packet is
 restarts_follow b role from of packet false is loud =
-    ap (λ (s : book.Seen). end_of role s.book.restarts) (is_channels from of packet b is)
+    ap (λ (s : book.Seen). end_of role s.book.restarts) (takes_is from of packet b false is)
     ∙ ends_move role from Elsewhere (if is_quiet from b then any_channel else b.restarts)
     ∙ ap (λ q. behind_item (seen_by role from Elsewhere) (end_of role (if q then any_channel else b.restarts))) loud
 
@@ -76,14 +71,14 @@ spoken_once Dce b = refl
 
 pub sends_first : (from : Role) (of : ℕ) (packet : PlainPacket) (b : Book) → is_of_all packet ≡ true
     → is_quiet from (book.takes from of packet b).book ≡ false
-sends_first from of packet b is = ap (λ (s : book.Seen). is_quiet from s.book) (is_all from of packet b is) ∙ spoken_once from b
+sends_first from of packet b is = ap (λ (s : book.Seen). is_quiet from s.book) (takes_is from of packet b true is) ∙ spoken_once from b
 
 loud_stays : (b : Book) (role from : Role) (of : ℕ) (packet : PlainPacket) (all : Bool) → is_of_all packet ≡ all
     → is_quiet role b ≡ false → is_quiet role (book.takes from of packet b).book ≡ false
 loud_stays b role from of packet true is loud =
-    ap (λ (s : book.Seen). is_quiet role s.book) (is_all from of packet b is) ∙ spoken_layers role from b loud
+    ap (λ (s : book.Seen). is_quiet role s.book) (takes_is from of packet b true is) ∙ spoken_layers role from b loud
 loud_stays b role from of packet false is loud =
-    ap (λ (s : book.Seen). is_quiet role s.book) (is_channels from of packet b is) ∙ spoken_layers role from b loud
+    ap (λ (s : book.Seen). is_quiet role s.book) (takes_is from of packet b false is) ∙ spoken_layers role from b loud
 
 pub books_follow_tapes : BooksFollowTapes
 books_follow_tapes = record {
@@ -124,21 +119,21 @@ module _ (from : Role) (of : ℕ) (packet : PlainPacket) (b : Book) where
       ≡ (if awaits from packet b then Some RestartAwaited
       else rule_of (sends_to (item_of packet) (asked_of from of packet b)).told (item_of packet))
   told_is unknown false is =
-      ap (λ (s : book.Seen). s.verdict.rule) (is_channels from of packet b is)
+      ap (λ (s : book.Seen). s.verdict.rule) (takes_is from of packet b false is)
       ∙ one_rule unknown from of (item_of packet) (channel_of of b.channels) (is_early from b)
       ∙ ap (λ a. if not a && is_early from b then Some RestartAwaited else rule_of (sends_to (item_of packet) (asked from of b a)).told (item_of packet)) (sym is)
   told_is unknown true is =
-      ap (λ (s : book.Seen). s.verdict.rule) (is_all from of packet b is)
+      ap (λ (s : book.Seen). s.verdict.rule) (takes_is from of packet b true is)
       ∙ ap (λ a. if not a && is_early from b then Some RestartAwaited else rule_of (sends_to (item_of packet) (asked from of b a)).told (item_of packet)) (sym is)
 
   pub judged_so : (all : Bool) → is_of_all packet ≡ all
       → (book.takes from of packet b).verdict.is_judged
       ≡ (awaits from packet b || (is_restart packet || (sent (item_of packet) (asked_of from of packet b)).finding.is_judged))
   judged_so false is =
-      ap (λ (s : book.Seen). s.verdict.is_judged) (is_channels from of packet b is)
+      ap (λ (s : book.Seen). s.verdict.is_judged) (takes_is from of packet b false is)
       ∙ one_judged from of (item_of packet) (channel_of of b.channels) (is_early from b)
       ∙ ap (λ a. (not a && is_early from b) || (sent (item_of packet) (asked from of b a)).finding.is_judged) (sym is)
       ∙ ap (λ r. awaits from packet b || (r || (sent (item_of packet) (asked_of from of packet b)).finding.is_judged)) (sym (or_parts (is_restart packet) _ is).0)
   judged_so true is =
-      ap (λ (s : book.Seen). s.verdict.is_judged) (is_all from of packet b is)
+      ap (λ (s : book.Seen). s.verdict.is_judged) (takes_is from of packet b true is)
       ∙ ap (λ a. (not a && is_early from b) || (is_restart packet || (sent (item_of packet) (asked from of b a)).finding.is_judged)) (sym is)

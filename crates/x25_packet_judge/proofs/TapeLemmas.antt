@@ -5,14 +5,10 @@ use Rattle.x25_packet_judge.proofs.TellingLemmas.{broken, polite, rude, unbroken
 use Rattle.x25_possible.specs.laws.Possible.{Item, Own, Other}
 
 module _ (sets : SendsExactly) where
-  calm : (from : Role) (channel : ℕ) (packet : PlainPacket) (b : Book) → awaits from packet b ≡ false
-      → rule_told from channel packet b ≡ rule_of (sends_to (item_of packet) (asked_of from channel packet b)).told (item_of packet)
-  calm from channel packet b is = told_is from channel packet b (λ s x. sets.unknown s x) (is_of_all packet) refl
-      ∙ ap (λ e. if e then Some RestartAwaited else rule_of (sends_to (item_of packet) (asked_of from channel packet b)).told (item_of packet)) is
-
-  early : (from : Role) (channel : ℕ) (packet : PlainPacket) (b : Book) → awaits from packet b ≡ true
-      → rule_told from channel packet b ≡ Some RestartAwaited
-  early from channel packet b is = told_is from channel packet b (λ s x. sets.unknown s x) (is_of_all packet) refl
+  told_by : (from : Role) (channel : ℕ) (packet : PlainPacket) (b : Book) (e : Bool) → awaits from packet b ≡ e
+      → rule_told from channel packet b
+      ≡ (if e then Some RestartAwaited else rule_of (sends_to (item_of packet) (asked_of from channel packet b)).told (item_of packet))
+  told_by from channel packet b e is = told_is from channel packet b (λ s x. sets.unknown s x) (is_of_all packet) refl
       ∙ ap (λ e. if e then Some RestartAwaited else rule_of (sends_to (item_of packet) (asked_of from channel packet b)).told (item_of packet)) is
 
   -- Elsewhere is refused by the set of restarts
@@ -25,16 +21,16 @@ module _ (sets : SendsExactly) where
   tell_exactly = record {
     told = λ b from channel packet begun tape early fits order.
         sets.told (asked_of from channel packet b) begun tape (item_of packet) fits
-        (broken _ (item_of packet) (ap is_order (sym (calm from channel packet b early)) ∙ order));
+        (broken _ (item_of packet) (ap is_order (sym (told_by from channel packet b false early)) ∙ order));
     untold = λ b from channel packet begun tape early fits order still.
         sets.untold (asked_of from channel packet b) begun tape (item_of packet) fits
-        (unbroken _ (item_of packet) (ap is_order (sym (calm from channel packet b early)) ∙ order)) still;
+        (unbroken _ (item_of packet) (ap is_order (sym (told_by from channel packet b false early)) ∙ order)) still;
     manners = λ b from channel packet q early rudely there may.
         sets.rude (asked_of from channel packet b) (item_of packet) q
-        (rude _ (item_of packet) (ap is_manners (sym (calm from channel packet b early)) ∙ rudely)) there may;
-    unknown = λ b from channel packet early none. calm from channel packet b early
+        (rude _ (item_of packet) (ap is_manners (sym (told_by from channel packet b false early)) ∙ rudely)) there may;
+    unknown = λ b from channel packet early none. told_by from channel packet b false early
         ∙ ap (λ (t : Told). rule_of t (item_of packet)) (sets.unknown (asked_of from channel packet b) (item_of packet) none);
-    early = λ b from channel packet is. early from channel packet b is;
+    early = λ b from channel packet is. told_by from channel packet b true is;
     awaited = λ b from packet begun tape is loud fits.
         sets.told (end_of from b.restarts) begun tape Elsewhere fits (broken _ Elsewhere (refused from packet b is loud));
     judged = λ b from channel packet. judged_is from channel packet b (awaits from packet b) refl;
@@ -51,7 +47,7 @@ module _ (sets : SendsExactly) where
           && (is_some (rule_told from channel packet b) || is_known (moved from channel packet b))))) (sym is)
       judged_is from channel packet b false is = judged_so from channel packet b (is_of_all packet) refl
           ∙ ap (λ r. awaits from packet b || (is_restart packet || (is_known (asked_of from channel packet b)
-          && (is_some r || is_known (moved from channel packet b))))) (sym (calm from channel packet b is))
+          && (is_some r || is_known (moved from channel packet b))))) (sym (told_by from channel packet b false is))
 
 -- ---- whole tapes
 
@@ -90,7 +86,7 @@ module _ (from : Role) (channel : ℕ) (tape restarts : List (Item Packet)) (b :
         → asked_of from channels packet (behind_all ps b) ≡ behind from on
         → MaySend from on (item_of packet) → is_order (rule_told from channels packet (behind_all ps b)) ≡ false
     asked channels packet on none is may =
-        ap is_order (calm sets from channels packet (behind_all ps b) none)
+        ap is_order (told_by sets from channels packet (behind_all ps b) false none)
         ∙ ap (λ s. is_order (rule_of (sends_to (item_of packet) s).told (item_of packet))) is
         ∙ untold (sends_to (item_of packet) (behind from on)).told (item_of packet) (innocents from on (item_of packet) may.0 may.1.0 may.1.1)
 
@@ -119,9 +115,9 @@ module _ (from : Role) (channel : ℕ) (tape restarts : List (Item Packet)) (b :
     none_polite : (e : Bool) → awaits from packet (behind_all ps b) ≡ e → is_of_all packet ≡ false
         → (IsRude (sends_to (item_of packet) (behind from (tape_on from channel ps tape))).told → ⊥)
         → is_manners (rule_told from channel packet (behind_all ps b)) ≡ false
-    none_polite true is of mild = ap is_manners (early sets from channel packet (behind_all ps b) is)
+    none_polite true is of mild = ap is_manners (told_by sets from channel packet (behind_all ps b) true is)
     none_polite false is of mild =
-        ap is_manners (calm sets from channel packet (behind_all ps b) is)
+        ap is_manners (told_by sets from channel packet (behind_all ps b) false is)
         ∙ ap (λ s. is_manners (rule_of (sends_to (item_of packet) s).told (item_of packet)))
         (ap (λ a. if a then end_of from (behind_all ps b).restarts else set_of from channel (behind_all ps b)) of ∙ its_set ps)
         ∙ polite (sends_to (item_of packet) (behind from (tape_on from channel ps tape))).told (item_of packet) mild

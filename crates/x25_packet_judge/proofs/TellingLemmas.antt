@@ -1,5 +1,5 @@
 -- What is told of a packet, by the set of its sender.
-use Rattle.x25_packet_judge.proofs.Names.{and_parts, or_parts, both_ways, cond_both, ◌≡◌, ◌∙◌, ℕ, Bool, true, false, Option, Some, None, refl, sym, ap, ◌-◌, ◌%◌, ◌==◌, is_some, not, ◌&&◌, ◌||◌, if◌then◌else◌, nat_lt, nat_le, unwrap_or, Role, Dte, Dce, rule_of, sent, is_of_manners, is_order, Channel, ClearAwaited, NoCall, PacketUnsent, ResetAwaited, RestartAwaited, end_of, is_manners, seen_by, behind_item, IsBroken, IsRude, IsUntold, begun, is_known, sends_to, shows_to, Packet, Data, Rr, Rnr, Elsewhere, Set, Told, Nothing, Rude, Broken}
+use Rattle.x25_packet_judge.proofs.Names.{and_parts, or_parts, both_ways, cond_both, ◌≡◌, ◌∙◌, ℕ, Bool, true, false, Option, Some, None, refl, sym, ap, ◌-◌, ◌%◌, ◌==◌, is_some, not, ◌&&◌, ◌||◌, if◌then◌else◌, nat_lt, nat_le, unwrap_or, Role, Dte, Dce, rule_of, sent, is_of_manners, is_order, Channel, ClearAwaited, NoCall, PacketUnsent, ResetAwaited, RestartAwaited, end_of, is_manners, seen_by, behind_item, IsBroken, IsRude, IsUntold, is_known, sends_to, Packet, Data, Rr, Rnr, Set, Told, Nothing, Rude, Broken}
 use Rattle.x25_packet_judge.specs.Numbers.{apart}
 use Rattle.x25_packet_judge.specs.declared.channel.Finding.{Finding}
 use Rattle.x25_packet_judge.specs.declared.packet_rule.PacketRule.{PacketRule}
@@ -91,24 +91,6 @@ ends_move Dte Dte x c = refl
 ends_move Dte Dce x c = refl
 ends_move Dce Dte x c = refl
 ends_move Dce Dce x c = refl
-
--- where both ends have restarted a packet of another channel changes nothing
-stays : (s : Set) → s ≡ begun s.role → (sends_to Elsewhere s).set ≡ s
-stays s e = ap (λ t. (sends_to Elsewhere t).set) e ∙ sym e
-
-waits : (s : Set) → s ≡ begun s.role → shows_to Elsewhere s ≡ s
-waits s e = ap (shows_to Elsewhere) e ∙ sym e
-
-module _ (c : Channel) (d : c.dte ≡ begun c.dte.role) (e : c.dce ≡ begun c.dce.role) where
-  pub passes : (from : Role) → c ≡ (channels.takes from Elsewhere c).channel
-  passes Dte = sym (ap (λ (s : Set). record { dte = s; dce = shows_to Elsewhere c.dce; is_noted = c.is_noted }) (stays c.dte d)
-      ∙ ap (λ (s : Set). record { dte = c.dte; dce = s; is_noted = c.is_noted }) (waits c.dce e))
-  passes Dce = sym (ap (λ (s : Set). record { dte = s; dce = (sends_to Elsewhere c.dce).set; is_noted = c.is_noted }) (waits c.dte d)
-      ∙ ap (λ (s : Set). record { dte = c.dte; dce = s; is_noted = c.is_noted }) (stays c.dce e))
-
-  pub not_early : (from : Role) → false ≡ channels.is_early from c
-  not_early Dte = sym (ap (λ s. is_order (rule_of (sends_to Elsewhere s).told Elsewhere)) d)
-  not_early Dce = sym (ap (λ s. is_order (rule_of (sends_to Elsewhere s).told Elsewhere)) e)
 
 pub judged_ends : (role from : Role) (x : Packet) (c : Channel)
     → end_of role (channels.judges from x c).channel ≡ behind_item (seen_by role from x) (end_of role c)

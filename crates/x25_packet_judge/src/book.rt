@@ -160,17 +160,6 @@ impl Book {
         }
     }
 
-    /// The same; where nothing was sent since the set-up, the packet layer may go on from before it.
-    fn follows(&mut self, from: Role, channel: u16, item: Item, is_first: bool) -> Verdict
-        ensures book { self.new ≡ (definition.follows from channel item is_first self.old).book }
-        ensures verdict { result ≡ (definition.follows from channel item is_first self.old).verdict }
-    {
-        if is_first {
-            self.restarts = Channel::any();
-        }
-        self.judges(from, channel, item)
-    }
-
     /// RESTART or its confirmation, of all channels. No RESTART breaks a rule.
     fn restarts(&mut self, from: Role, item: Item, is_judged: bool) -> Verdict
         ensures book { self.new ≡ (definition.restarts from item is_judged self.old).book }
@@ -185,7 +174,8 @@ impl Book {
         }
     }
 
-    /// A packet; what is told of it is answered.
+    /// A packet; what is told of it is answered. Where nothing was sent since the set-up, the packet layer may go on
+    /// from before it.
     #[tactic(auto, unfolding(crate::specs::Book::takes, crate::specs::Item::item_of))]
     fn takes(&mut self, from: Role, channel: u16, packet: &Packet) -> Verdict
         ensures book { self.new ≡ (definition.takes from channel (plain packet.now) self.old).book }
@@ -196,7 +186,12 @@ impl Book {
         match packet {
             Packet::Restart { .. } => self.restarts(from, Item::Restart, true),
             Packet::RestartConf => self.restarts(from, Item::RestartConf, false),
-            _ => self.follows(from, channel, item_of(packet), layers.own.is_quiet),
+            _ => {
+                if layers.own.is_quiet {
+                    self.restarts = Channel::any();
+                }
+                self.judges(from, channel, item_of(packet))
+            }
         }
     }
 
@@ -230,26 +225,6 @@ impl Book {
         verdict_of(channel, finding)
     }
 
-    /// Octets that are no packet in any form.
-    fn tells_no_packet(&mut self, channel: u16) -> Verdict
-        ensures book { self.new ≡ (definition.tells_no_packet channel self.old).book }
-        ensures verdict { result ≡ (definition.tells_no_packet channel self.old).verdict }
-    {
-        self.misses_on(channel);
-        told(PacketRule::NoPacket)
-    }
-
-    /// A packet in the form that a station writes.
-    fn reads_written(&mut self, from: Role, channel: u16, most: usize, octets: &[u8]) -> Verdict
-        ensures book { self.new ≡ (definition.reads_written from channel most octets.now self.old).book }
-        ensures verdict { result ≡ (definition.reads_written from channel most octets.now self.old).verdict }
-    {
-        match decode_within(most, octets) {
-            Ok(packet) => self.takes(from, channel, &packet),
-            Err(_) => self.misses_on(channel),
-        }
-    }
-
     /// A packet in any form, which is judged as the one that a station takes it for.
     #[inline(never)]
     fn reads_any(&mut self, from: Role, channel: u16, most: usize, octets: &[u8]) -> Verdict
@@ -259,7 +234,10 @@ impl Book {
         match take(most, octets) {
             Ok(taken) => self.takes(from, channel, &taken),
             Err(_) if is_diagnostic(most, octets) => passed(None),
-            Err(_) if is_no_packet(most, octets) => self.tells_no_packet(channel),
+            Err(_) if is_no_packet(most, octets) => {
+                self.misses_on(channel);
+                told(PacketRule::NoPacket)
+            }
             Err(_) => self.misses_on(channel),
         }
     }
@@ -277,7 +255,10 @@ impl Book {
         if reading.wide {
             self.reads_any(from, channel, most, octets)
         } else {
-            self.reads_written(from, channel, most, octets)
+            match decode_within(most, octets) {
+                Ok(packet) => self.takes(from, channel, &packet),
+                Err(_) => self.misses_on(channel),
+            }
         }
     }
 
@@ -318,20 +299,8 @@ impl Book {
         self.keep(from, layers);
     }
 
-    /// A UA, which the other end may have had before.
-    #[tactic(auto, unfolding(crate::specs::Book::accepts))]
-    fn accepts(&mut self, from: Role, layers: Layers)
-        ensures { self.new ≡ definition.accepts from layers self.old }
-    {
-        if layers.other.is_fresh {
-            self.begins(from, layers.accepts());
-        } else {
-            self.keep(from, layers.accepts());
-        }
-    }
-
-    /// UA, which breaks a rule of the link layer where `is_broken`.
-    #[tactic(auto, unfolding(crate::specs::Book::accepts_if))]
+    /// UA, which the other end may have had before, and which breaks a rule of the link layer where `is_broken`.
+    #[tactic(auto, unfolding(crate::specs::Book::accepts, crate::specs::Book::accepts_if))]
     fn accepts_if(&mut self, from: Role, is_broken: bool)
         ensures { self.new ≡ definition.accepts_if from is_broken (definition.layers_of from self.old) self.old }
     {
@@ -339,7 +308,11 @@ impl Book {
         if is_broken && layers.own.asked == 0 {
             return;
         }
-        self.accepts(from, layers);
+        if layers.other.is_fresh {
+            self.begins(from, layers.accepts());
+        } else {
+            self.keep(from, layers.accepts());
+        }
     }
 
     /// An I frame, which breaks a rule of the link layer where `is_broken`.

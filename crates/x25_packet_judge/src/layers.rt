@@ -29,18 +29,6 @@ pub(crate) struct Layer {
     pub(crate) is_quiet: bool,
 }
 
-impl Track {
-    /// Behind a UA of the end that comes again, where its numbers begin anew.
-    fn behind_ua(self) -> Track
-        ensures { result ≡ definition.behind_ua self }
-    {
-        match self {
-            Track::Unseen => Track::Unseen,
-            Track::Dropped | Track::Followed => Track::Dropped,
-        }
-    }
-}
-
 impl Layer {
     /// Nothing is known.
     pub(crate) fn unseen() -> Layer
@@ -82,24 +70,6 @@ impl Layer {
         }
     }
 
-    pub(crate) fn is_unseen(self) -> bool
-        ensures { result ≡ definition.is_unseen self.track }
-    {
-        matches!(self.track, Track::Unseen)
-    }
-
-    pub(crate) fn is_dropped(self) -> bool
-        ensures { result ≡ definition.is_dropped self.track }
-    {
-        matches!(self.track, Track::Dropped)
-    }
-
-    pub(crate) fn is_followed(self) -> bool
-        ensures { result ≡ definition.is_followed self.track }
-    {
-        matches!(self.track, Track::Followed)
-    }
-
     /// Not all of its packets were seen.
     pub(crate) fn lost(self) -> Layer
         ensures { result ≡ definition.lost self }
@@ -134,7 +104,10 @@ impl Layer {
             Layer { asked, ..self }
         } else {
             Layer {
-                track: self.track.behind_ua(),
+                track: match self.track {
+                    Track::Unseen => Track::Unseen,
+                    Track::Dropped | Track::Followed => Track::Dropped,
+                },
                 asked,
                 ..self
             }
@@ -206,7 +179,8 @@ impl Layers {
     fn may_hear(self) -> bool
         ensures { result ≡ definition.may_hear self }
     {
-        !self.own.is_dropped() && (!self.other.is_dropped() && !self.other.is_fresh)
+        !matches!(self.own.track, Track::Dropped)
+            && (!matches!(self.other.track, Track::Dropped) && !self.other.is_fresh)
     }
 
     /// Whether an N(R) shows that packets of the other end weren't seen.
@@ -215,7 +189,7 @@ impl Layers {
     {
         let seen = apart(self.other.next, self.other.acked);
         let is_ahead = seen < apart(number, self.other.acked);
-        self.may_hear() && (self.other.is_unseen() || is_ahead)
+        self.may_hear() && (matches!(self.other.track, Track::Unseen) || is_ahead)
     }
 
     /// The end sends a frame that may belong to no set-up.
@@ -249,14 +223,14 @@ impl Layers {
     fn is_next(self, number: u8) -> bool
         ensures { result ≡ definition.is_next number self }
     {
-        self.own.is_followed() && number == self.own.next
+        matches!(self.own.track, Track::Followed) && number == self.own.next
     }
 
     /// Whether the packet of an I frame is judged.
     pub(crate) fn may_judge(self, number: u8) -> bool
         ensures { result ≡ definition.may_judge number self }
     {
-        self.other.is_followed() && self.is_next(number)
+        matches!(self.other.track, Track::Followed) && self.is_next(number)
     }
 
     /// The end sends an I frame.

@@ -2,26 +2,16 @@
 use Rattle.std.proofs.Common.{◌≡◌, ◌+◌, ◌==◌, nat_lt, List, Bool, true, false, if◌then◌else◌, Option, None, refl, sym, ap, subst}
 use Rattle.x25_packet.specs.Packet.{PlainPacket}
 use Rattle.x25_given.specs.Given.{PlainGiven}
-use Rattle.x25_link.specs.declared.phase.Phase.{Phase}
-use Rattle.x25_link.specs.declared.phase.Phase.TheVariants.{Down, Waiting, Up, Closed}
-use Rattle.x25_link.specs.declared.phase.Reason.TheVariants.{Retries}
-use Rattle.x25_link.specs.Outgoing.{waits}
-use Rattle.x25_link.specs.Station.{Settings as LinkSettings, LinkStation, is_up, with_near}
-use Rattle.x25_link.specs.Hearing.{quiet, leaves}
-use Rattle.x25_link.specs.Link.{alone, closed_by, asks_again, timer_step, connect_refusal, relink_refusal}
+use Rattle.x25_link.specs.{declared.phase.Phase.{Phase}, declared.phase.Phase.TheVariants.{Down, Waiting, Up, Closed}}
+use Rattle.x25_link.specs.{declared.phase.Reason.TheVariants.{Retries}, Outgoing.{waits}, Station.{Settings as LinkSettings, LinkStation, is_up, with_near}}
+use Rattle.x25_link.specs.{Hearing.{quiet, leaves}, Link.{alone, closed_by, asks_again, timer_step, connect_refusal, relink_refusal}}
 use Rattle.x25_circuit.specs.Calling.{Sends}
-use Rattle.x25_layer.specs.Layer.{Layer}
-use Rattle.x25_layer.specs.Calls.{LayerRequest, Asks, LayerOutcome, Accepted, Declined, layer_outcome}
-use Rattle.x25_layer.specs.Rounds.{Refuses, went}
-use Rattle.x25_layer.specs.declared.error.LayerError.TheVariants as layer_error
-use Rattle.x25_station.specs.declared.error.StationError.{StationError}
-use Rattle.x25_station.specs.declared.error.StationError.TheVariants as error
-use Rattle.x25_station.specs.Config.{Settings, layer_settings, link_settings}
-use Rattle.x25_station.specs.Command.{may_ask}
-use Rattle.x25_station.specs.Entry.{StationEntry}
-use Rattle.x25_station.specs.Giving.{suits, is_taken, view_given, not_taken}
-use Rattle.x25_station.specs.Station.{Station, view_of}
+use Rattle.x25_layer.specs.{Layer.{Layer}, Calls.{LayerRequest, Asks, LayerOutcome, Accepted, Declined, layer_outcome}, laws.Rounds.{Refuses, went}}
+use Rattle.x25_station.specs.{declared.error.StationError.{StationError}, Config.{Settings, layer_settings, link_settings}, Command.{may_ask}}
+use Rattle.x25_station.specs.{Entry.{StationEntry}, Giving.{suits, is_taken, view_given, not_taken}, Station.{Station, view_of}}
 use Rattle.x25_station.specs.Step.{Step, Outcome, Did, Refused, requests, did, entries_of_outcome, gave, gives, where_asked}
+use Rattle.x25_layer.specs.declared.error.LayerError.TheVariants as layer_error
+use Rattle.x25_station.specs.declared.error.StationError.TheVariants as error
 
 abbrev step_in : Step → Outcome → Step
 step_in k (Did step) = step

@@ -1,16 +1,11 @@
 -- What packets are read as, and what a link's peer sends and hears.
 use Rattle.std.proofs.Common.{◌≡◌, ℕ, ◌≤◌, List, [], ◌∷◌, ◌++◌, length, drop, Bool, true, false, Some, None, Result, Ok, refl, sym, ap, subst, ◌∙◌, append_assoc, arith}
 use Rattle.std.proofs.lemmas.List.{length-append, drop_all}
-use Rattle.x25_frame.specs.Frame.{PlainFrame}
-use Rattle.x25_frame.specs.declared.error.FrameError.{FrameError}
+use Rattle.x25_frame.specs.{Frame.{PlainFrame}, declared.error.FrameError.{FrameError}}
 use Rattle.x25_packet.specs.Packet.{PlainPacket}
-use Rattle.x25_line.specs.laws.Said.{Said, Tells, Odd, said}
-use Rattle.x25_line.specs.laws.Peer.{Peer, MaySay, MaySend, MayMake, MayHear, hearing, taking}
-use Rattle.x25_layer.specs.Layer.{LayerNotice}
-use Rattle.x25_layer.specs.laws.Transcript.{Entry}
-use Rattle.x25_station.specs.Config.{Settings}
-use Rattle.x25_station.specs.Entry.{StationEntry, in_layer, notice_in, layer_entries, layer_notices}
-use Rattle.x25_station.specs.laws.ReadLaw.{AreReadable}
+use Rattle.x25_line.specs.{laws.Said.{Said, Tells, Odd, said}, laws.Peer.{Peer, MaySay, MaySend, MayMake, MayHear, hearing, taking}}
+use Rattle.x25_layer.specs.{Layer.{LayerNotice}, laws.Transcript.{Entry}}
+use Rattle.x25_station.specs.{Config.{Settings}, Entry.{StationEntry, in_layer, notice_in, layer_entries, layer_notices}, laws.ReadLaw.{AreReadable}}
 use Rattle.x25_peer.specs.laws.BesideSessions.{read_by, ReadAs}
 use Rattle.x25_peer.proofs.sessions.LinkSteps.{AreReadBack}
 

@@ -9,7 +9,7 @@ use Rattle.x25_clock.specs.laws.ClockLaw.{comes}
 use Rattle.x25_io.specs.code.Written.{AppendsPrefix, Tells}
 use Rattle.x25_io.specs.declared.fault.Fault.{Fault}
 use Rattle.x25_layer.specs.Calls.{PullsAll, LayerOutcome, Accepted, Declined, layer_outcome}
-use Rattle.x25_layer.specs.Rounds.{Answered, Went, Refuses, calls}
+use Rattle.x25_layer.specs.laws.Rounds.{Answered, Went, Refuses, calls}
 use Rattle.x25_frame.specs.Frame.{PlainFrame}
 use Rattle.x25_link.specs.Link.{alone}
 use Rattle.x25_frame.specs.Spelling.{spelling_of}

@@ -4,7 +4,7 @@ use Rattle.std.proofs.lemmas.Bool.{ltb-false}
 use Rattle.x25_circuit.specs.Calling.{SaysReady}
 use Rattle.x25_layer.specs.Layer.{Layer}
 use Rattle.x25_layer.specs.Calls.{Asks as asks_on, PullsAll, outcome_in}
-use Rattle.x25_layer.specs.Rounds.{Refuses, went}
+use Rattle.x25_layer.specs.laws.Rounds.{Refuses, went}
 use Rattle.x25_layer.specs.declared.error.LayerError.TheVariants as layer_error
 use Rattle.x25_link.specs.Link.{alone}
 use Rattle.x25_link.specs.Outgoing.{waits}

@@ -18,7 +18,7 @@ use Rattle.x25_circuit.specs.Params.{said_or, said_by, said_in, sizes_of as dire
 use Rattle.x25_circuit.specs.declared.params.Params.{Params}
 use Rattle.x25_handshakes.specs.laws.Stretch as theirs
 use Rattle.x25_handshakes.specs.laws.PeerTransfer.{TransferDeed, InStretch, Resets, MayDoTransfer, does_transfer, transfer_packet_of, transfer_taking}
-use Rattle.x25_handshakes.specs.laws.PeerCalls.{Stage, Free, Calling, Called, Collided, InData, CallDeed, PlacesCall, AcceptsCall, InTransfer}
+use Rattle.x25_handshakes.specs.laws.PeerCalls.{CallDeed, PlacesCall, AcceptsCall, InTransfer}
 use Rattle.x25_handshakes.specs.laws.PeerCalls.{MayDoCall, does_call, call_packet_of, call_taking, calling_in_data, stands}
 use Rattle.x25_handshakes.specs.laws.PeerChannel.{InCall, Clears}
 use Rattle.x25_handshakes.specs.laws.PeerStretch as stretch
@@ -29,6 +29,7 @@ use Rattle.x25_possible.specs.declared.phase.Phase.TheVariants as phase
 use Rattle.x25_possible.specs.declared.packet.Packet.TheVariants as item
 use Rattle.x25_possible_peers.specs.laws.Peers.{talk_of, item_of, data_of, transfer_phase, stage_phase, sizes_by, sizes_in, said_of, terms_of, limits}
 use Rattle.x25_possible_peers.specs.laws.Peers.{DeedsAreSends, PacketsAreTaken, IsTakenSo, IsNextAt, IsNext, IsOfRole}
+use Rattle.x25_handshakes.specs.laws.Calls.{Stage, Unused, Waiting, Offered, Crossed, Talking}
 
 joining_push : (j : Partial) (ps : List Piece) (p : Piece) → joining j (ps ++ p ∷ []) ≡ joined (joining j ps) p
 joining_push j [] p = refl
@@ -144,9 +145,9 @@ calling_most known (Err e) = refl
 
 call_sends : (stage : Stage (At PeerStretch)) (m i : List CallRequest) (d : CallDeed) → MayDoCall stage d
     → (t : ℕ) × (sends_as t (stage_phase stage) (item_of (call_packet_of stage d)) ≡ Some (stage_phase (does_call stage m i d).stage))
-call_sends Free m i (PlacesCall n) may = (0, refl)
-call_sends (Called theirs) m i (AcceptsCall field) may = (0, ap (λ n. Some (fresh (limits n))) (called_most theirs (facilities_of field)))
-call_sends (InData t b at) m i (InTransfer d) may = transfer_sends t.size at.epoch at.side d may
+call_sends Unused m i (PlacesCall n) may = (0, refl)
+call_sends (Offered theirs) m i (AcceptsCall field) may = (0, ap (λ n. Some (fresh (limits n))) (called_most theirs (facilities_of field)))
+call_sends (Talking t b at) m i (InTransfer d) may = transfer_sends t.size at.epoch at.side d may
 call_sends stage m i d may = absurd may
 
 transfer_clears : (size : ℕ) (y : Side PeerStretch) → sends_as 0 (transfer_phase size y) item.Clear ≡ Some phase.Clears
@@ -154,11 +155,11 @@ transfer_clears size (Live y) = refl
 transfer_clears size (Left y) = refl
 
 stage_clears : (stage : Stage (At PeerStretch)) → sends_as 0 (stage_phase stage) item.Clear ≡ Some phase.Clears
-stage_clears (InData t b at) = transfer_clears t.size at.side
-stage_clears Free = refl
-stage_clears (Calling mine) = refl
-stage_clears (Called theirs) = refl
-stage_clears (Collided mine) = refl
+stage_clears (Talking t b at) = transfer_clears t.size at.side
+stage_clears Unused = refl
+stage_clears (Waiting mine) = refl
+stage_clears (Offered theirs) = refl
+stage_clears (Crossed mine) = refl
 
 pub channel_sends : DeedsAreSends
 channel_sends e (Live y) (InCall d) may = call_sends y.stage y.made y.indicated d may
@@ -208,31 +209,31 @@ call_takes : (r : Role) (stage : Stage (At PeerStretch)) (m i : List CallRequest
     → IsOfRole r (Live (stands stage m i)) → IsNext p (Live (stands stage m i))
     → IsTakenSo r (stage_phase stage) (item_of p) (call_taking r stage m i p).out (stage_phase (call_taking r stage m i p).next.stage)
 unfolding NotClear IsNextHere
-call_takes r Free m i theirs.Clear clear of next = absurd clear
-call_takes r Free m i (theirs.Data ns nr (More q user)) clear of next = refl
-call_takes r Free m i (theirs.Data ns nr (Last q user)) clear of next = refl
-call_takes r Free m i p clear of next = refl
-call_takes r (Calling mine) m i theirs.Clear clear of next = absurd clear
-call_takes Dte (Calling mine) m i (theirs.Call n) clear of next = refl
-call_takes Dce (Calling mine) m i (theirs.Call n) clear of next = refl
-call_takes r (Calling mine) m i (theirs.Accept field) clear of next = calls_accept mine field r
-call_takes r (Calling mine) m i (theirs.Data ns nr (More q user)) clear of next = refl
-call_takes r (Calling mine) m i (theirs.Data ns nr (Last q user)) clear of next = refl
-call_takes r (Calling mine) m i p clear of next = refl
-call_takes r (Called their) m i theirs.Clear clear of next = absurd clear
-call_takes r (Called their) m i (theirs.Data ns nr (More q user)) clear of next = refl
-call_takes r (Called their) m i (theirs.Data ns nr (Last q user)) clear of next = refl
-call_takes r (Called their) m i p clear of next = refl
-call_takes r (Collided mine) m i theirs.Clear clear of next = absurd clear
-call_takes Dte (Collided mine) m i (theirs.Call n) clear of next = refl
-call_takes Dce (Collided mine) m i (theirs.Call n) clear of next = absurd of
-call_takes r (Collided mine) m i (theirs.Accept field) clear of next = calls_accept mine field r
-call_takes r (Collided mine) m i (theirs.Data ns nr (More q user)) clear of next = refl
-call_takes r (Collided mine) m i (theirs.Data ns nr (Last q user)) clear of next = refl
-call_takes r (Collided mine) m i p clear of next = refl
-call_takes r (InData t b at) m i p clear of next = transfer_takes r t.size at.epoch at.side p clear (here p next)
+call_takes r Unused m i theirs.Clear clear of next = absurd clear
+call_takes r Unused m i (theirs.Data ns nr (More q user)) clear of next = refl
+call_takes r Unused m i (theirs.Data ns nr (Last q user)) clear of next = refl
+call_takes r Unused m i p clear of next = refl
+call_takes r (Waiting mine) m i theirs.Clear clear of next = absurd clear
+call_takes Dte (Waiting mine) m i (theirs.Call n) clear of next = refl
+call_takes Dce (Waiting mine) m i (theirs.Call n) clear of next = refl
+call_takes r (Waiting mine) m i (theirs.Accept field) clear of next = calls_accept mine field r
+call_takes r (Waiting mine) m i (theirs.Data ns nr (More q user)) clear of next = refl
+call_takes r (Waiting mine) m i (theirs.Data ns nr (Last q user)) clear of next = refl
+call_takes r (Waiting mine) m i p clear of next = refl
+call_takes r (Offered their) m i theirs.Clear clear of next = absurd clear
+call_takes r (Offered their) m i (theirs.Data ns nr (More q user)) clear of next = refl
+call_takes r (Offered their) m i (theirs.Data ns nr (Last q user)) clear of next = refl
+call_takes r (Offered their) m i p clear of next = refl
+call_takes r (Crossed mine) m i theirs.Clear clear of next = absurd clear
+call_takes Dte (Crossed mine) m i (theirs.Call n) clear of next = refl
+call_takes Dce (Crossed mine) m i (theirs.Call n) clear of next = absurd of
+call_takes r (Crossed mine) m i (theirs.Accept field) clear of next = calls_accept mine field r
+call_takes r (Crossed mine) m i (theirs.Data ns nr (More q user)) clear of next = refl
+call_takes r (Crossed mine) m i (theirs.Data ns nr (Last q user)) clear of next = refl
+call_takes r (Crossed mine) m i p clear of next = refl
+call_takes r (Talking t b at) m i p clear of next = transfer_takes r t.size at.epoch at.side p clear (here p next)
   where
-    here : (p : theirs.Packet) → IsNext p (Live (stands (InData t b at) m i)) → IsNextHere p at.side
+    here : (p : theirs.Packet) → IsNext p (Live (stands (Talking t b at) m i)) → IsNextHere p at.side
     here (theirs.Data ns nr piece) h = h
     here p h = tt
 
@@ -241,11 +242,11 @@ transfer_cleared role size (Live y) = refl
 transfer_cleared role size (Left y) = refl
 
 stage_cleared : (role : Role) (stage : Stage (At PeerStretch)) → takes role (stage_phase stage) item.Clear ≡ Some phase.WasCleared
-stage_cleared role (InData t b at) = transfer_cleared role t.size at.side
-stage_cleared role Free = refl
-stage_cleared role (Calling mine) = refl
-stage_cleared role (Called theirs) = refl
-stage_cleared role (Collided mine) = refl
+stage_cleared role (Talking t b at) = transfer_cleared role t.size at.side
+stage_cleared role Unused = refl
+stage_cleared role (Waiting mine) = refl
+stage_cleared role (Offered theirs) = refl
+stage_cleared role (Crossed mine) = refl
 
 pub channel_takes : PacketsAreTaken
 unfolding NotClear

@@ -6,7 +6,7 @@ use Rattle.x25_circuit.specs.Notice.{CallRequest}
 use Rattle.x25_handshakes.specs.laws.Handshake.{Side, Live, Left, At}
 use Rattle.x25_handshakes.specs.laws.Stretch as theirs
 use Rattle.x25_handshakes.specs.laws.PeerStretch.{PeerStretch}
-use Rattle.x25_handshakes.specs.laws.PeerCalls.{Stage, Free, Calling, Called, Collided, InData, PeerCall, CallDeed, PlacesCall}
+use Rattle.x25_handshakes.specs.laws.PeerCalls.{PeerCall, CallDeed, PlacesCall}
 use Rattle.x25_handshakes.specs.laws.PeerCalls.{AcceptsCall, InTransfer, does_call, call_taking}
 use Rattle.x25_handshakes.specs.laws.PeerChannel.{ChannelDeed, InCall, Clears, does_channel, channel_packet_of, channel_taking}
 use Rattle.x25_possible.specs.Channel.{channel_rules}
@@ -18,18 +18,19 @@ use Rattle.x25_possible.specs.declared.phase.Phase.TheVariants.{Idle}
 use Rattle.x25_possible_peers.specs.laws.Peers.{item_of, phase_of, IsTakenSo, IsOfRole, NotCollided, confirmed}
 use Rattle.x25_possible_peers.specs.laws.Peers.{PeerStands, Begins, Does, Shown, Hears}
 use Rattle.x25_possible_peers.proofs.PeerLemmas.{channel_sends, channel_takes}
+use Rattle.x25_handshakes.specs.laws.Calls.{Stage, Unused, Waiting, Offered, Crossed, Talking}
 
 -- ---- the DCE's call never collides
 
 call_of_role : (stage : Stage (At PeerStretch)) (m i : List CallRequest) (d : CallDeed) → NotCollided stage → NotCollided (does_call stage m i d).stage
-call_of_role Free m i (PlacesCall n) h = tt
-call_of_role Free m i d h = tt
-call_of_role (Calling mine) m i d h = tt
-call_of_role (Called their) m i (AcceptsCall field) h = tt
-call_of_role (Called their) m i d h = tt
-call_of_role (Collided mine) m i d h = absurd h
-call_of_role (InData t b at) m i (InTransfer d) h = tt
-call_of_role (InData t b at) m i d h = tt
+call_of_role Unused m i (PlacesCall n) h = tt
+call_of_role Unused m i d h = tt
+call_of_role (Waiting mine) m i d h = tt
+call_of_role (Offered their) m i (AcceptsCall field) h = tt
+call_of_role (Offered their) m i d h = tt
+call_of_role (Crossed mine) m i d h = absurd h
+call_of_role (Talking t b at) m i (InTransfer d) h = tt
+call_of_role (Talking t b at) m i d h = tt
 
 does_of_role : (r : Role) (e : ℕ) (y : Side PeerCall) (d : ChannelDeed) → IsOfRole r y → IsOfRole r (does_channel e y d).side
 does_of_role Dte e y d h = tt
@@ -39,14 +40,14 @@ does_of_role Dce e (Left c) d h = tt
 
 call_taken_of_role : (stage : Stage (At PeerStretch)) (m i : List CallRequest) (p : theirs.Packet) → NotCollided stage
     → NotCollided (call_taking Dce stage m i p).next.stage
-call_taken_of_role Free m i (theirs.Call n) h = tt
-call_taken_of_role Free m i p h = tt
-call_taken_of_role (Calling mine) m i (theirs.Call n) h = tt
-call_taken_of_role (Calling mine) m i (theirs.Accept field) h = tt
-call_taken_of_role (Calling mine) m i p h = tt
-call_taken_of_role (Called their) m i p h = tt
-call_taken_of_role (Collided mine) m i p h = absurd h
-call_taken_of_role (InData t b at) m i p h = tt
+call_taken_of_role Unused m i (theirs.Call n) h = tt
+call_taken_of_role Unused m i p h = tt
+call_taken_of_role (Waiting mine) m i (theirs.Call n) h = tt
+call_taken_of_role (Waiting mine) m i (theirs.Accept field) h = tt
+call_taken_of_role (Waiting mine) m i p h = tt
+call_taken_of_role (Offered their) m i p h = tt
+call_taken_of_role (Crossed mine) m i p h = absurd h
+call_taken_of_role (Talking t b at) m i p h = tt
 
 takes_of_role : (r : Role) (e : ℕ) (y : Side PeerCall) (p : theirs.Packet) → IsOfRole r y → IsOfRole r (channel_taking r e y p).next.side
 takes_of_role Dte e y p h = tt
@@ -56,7 +57,7 @@ takes_of_role Dce e (Left c) theirs.Clear h = tt
 takes_of_role Dce e (Left c) theirs.ClearConf h = tt
 takes_of_role Dce e (Left c) p h = tt
 
-fresh_of_role : (r : Role) → IsOfRole r (Live (record { stage = Free; made = []; indicated = [] }))
+fresh_of_role : (r : Role) → IsOfRole r (Live (record { stage = Unused; made = []; indicated = [] }))
 fresh_of_role Dte = tt
 fresh_of_role Dce = tt
 
@@ -80,7 +81,7 @@ map_push (q ∷ way) p = ap (λ xs. item_of q ∷ xs) (map_push way p)
 
 pub explained : (r : Role) (tape : List (Item Packet)) (y : At PeerCall) (way : List theirs.Packet) → PeerStands r tape y way
     → Stands (channel_rules r (Idle ∷ [])) tape (phase_of y.side) (map item_of way)
-explained r _ _ _ Begins = RunBegins (phase_of (Live (record { stage = Free; made = []; indicated = [] }))) (inl refl)
+explained r _ _ _ Begins = RunBegins (phase_of (Live (record { stage = Unused; made = []; indicated = [] }))) (inl refl)
 explained r _ _ _ (Does tape y way d may h) =
     RunSends tape (phase_of y.side) (phase_of (does_channel y.epoch y.side d).side) (map item_of way) (item_of (channel_packet_of y.side d))
     (channel_sends y.epoch y.side d may) (explained r tape y way h)

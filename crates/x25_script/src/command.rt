@@ -47,7 +47,6 @@ fn split_d(text: &[u8]) -> (bool, &[u8])
     }
 }
 
-#[inline(always)]
 #[tactic(auto, unfolding(crate::specs::Reading::send_in))]
 pub(crate) fn send(text: &[u8]) -> Option<Command<'_>>
     ensures { GivesCommand result (send_in text.now) }
@@ -118,7 +117,6 @@ fn not_ready(text: &[u8]) -> Option<Command<'_>>
 }
 
 /// What is asked of a call, with nothing beside it.
-#[inline(always)]
 fn alone(part: CallPart<'_>) -> Command<'_>
     ensures { plain_command result ≡ plain_part part.entry }
 {
@@ -140,7 +138,6 @@ fn alone(part: CallPart<'_>) -> Command<'_>
 }
 
 /// The same, where there is one.
-#[inline(always)]
 fn alone_in(part: Option<CallPart<'_>>) -> Option<Command<'_>>
     ensures { (read : Option PlainCommand) → GivesPart part.entry read → GivesCommand result read }
 {
@@ -151,7 +148,6 @@ fn alone_in(part: Option<CallPart<'_>>) -> Option<Command<'_>>
 }
 
 /// As `accept_part`, made at once.
-#[inline(always)]
 #[tactic(auto, unfolding(crate::specs::Reading::accept_in))]
 pub(crate) fn accept(text: &[u8]) -> Option<Command<'_>>
     ensures { GivesCommand result (accept_in text.now) }

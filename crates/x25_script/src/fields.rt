@@ -19,7 +19,6 @@ pub(crate) fn is(text: &[u8], word: &str) -> bool
 }
 
 /// Whether the text begins with this word. Each character is compared, so that it is one comparison at a literal word.
-#[inline(always)]
 fn begins_with(text: &[u8], word: &[u8]) -> bool
     ensures value { result ≡ bytes_eq word.now (take (length word.now) text.now) }
     ensures bound { IsTrue result → length word.now ≤ length text.now }
@@ -37,7 +36,6 @@ fn begins_with(text: &[u8], word: &[u8]) -> bool
 }
 
 /// What follows this word, where the text begins with it.
-#[inline(always)]
 pub(crate) fn behind<'a>(text: &'a [u8], word: &[u8]) -> Option<&'a [u8]>
     ensures { MatchOption result (IsNotBehind word.now text.now) (λ rest. text.now ≡ word.now ++ rest.now) }
 {
@@ -120,7 +118,6 @@ fn digits(text: &[u8]) -> Option<&str>
 }
 
 /// The number that at most five digits write.
-#[inline(always)]
 fn value_of(text: &[u8]) -> Option<u32>
     requires { length text.now ≤ 5 }
     ensures { MatchOption result (list_all is_ascii_digit text.now
@@ -136,7 +133,6 @@ fn value_of(text: &[u8]) -> Option<u32>
     Some(value)
 }
 
-#[inline(always)]
 fn sixteen_bits(value: u32) -> Option<u16>
     ensures { result ≡ (if nat_lt value 65536 then Some value else None) }
 {

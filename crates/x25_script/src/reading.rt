@@ -32,7 +32,6 @@ fn damaged(fields: &[u8]) -> Option<(Role, u16, HexDigits<'_>)>
 }
 
 /// How many frames arrive at most.
-#[inline(always)]
 #[tactic(auto, unfolding(crate::specs::Reading::drain_in))]
 fn at_most(fields: &[u8]) -> Option<u16>
     ensures { option_map drain result ≡ drain_in fields.now }
@@ -80,7 +79,6 @@ pub fn read_command<W, T: ScriptTaker<W>>(
     hand_command(end, other_command(text), taker, with)
 }
 
-#[inline(always)]
 fn read_t1<W, T: ScriptTaker<W>>(fields: &[u8], taker: &mut T, with: &mut W) -> T::Answer
     ensures { T.gives taker.old with.old taker.new with.new result (after T1 fields.now) }
 {
@@ -90,7 +88,6 @@ fn read_t1<W, T: ScriptTaker<W>>(fields: &[u8], taker: &mut T, with: &mut W) -> 
     }
 }
 
-#[inline(always)]
 fn read_deliver<W, T: ScriptTaker<W>>(fields: &[u8], taker: &mut T, with: &mut W) -> T::Answer
     ensures { T.gives taker.old with.old taker.new with.new result (after Deliver fields.now) }
 {
@@ -119,7 +116,6 @@ fn read_damage<W, T: ScriptTaker<W>>(fields: &[u8], taker: &mut T, with: &mut W)
     }
 }
 
-#[inline(always)]
 fn read_drain<W, T: ScriptTaker<W>>(fields: &[u8], taker: &mut T, with: &mut W) -> T::Answer
     ensures { T.gives taker.old with.old taker.new with.new result (drain_in fields.now) }
 {

@@ -91,7 +91,6 @@ pub enum Command<'a> {
 
 impl Command<'_> {
     /// Whether the line gives more than one of the strict profile has.
-    #[inline(always)]
     pub fn is_wide(&self) -> bool
         ensures { result ≡ is_wide (plain_command self.now) }
     {

@@ -99,7 +99,6 @@ impl<W: Sink, P: Reporter> ScriptTaker<W> for Simulator<P> {
         self.stage.happen(Event::T1(end), writer)
     }
 
-    #[inline(always)]
     #[tactic(auto, unfolding(crate::specs::Stage::line_turn))]
     fn deliver(&mut self, from: Role, writer: &mut W) -> Result<(), Fault> {
         self.stage.happen(Event::Deliver(away_from(from)), writer)
@@ -125,7 +124,6 @@ impl<W: Sink, P: Reporter> ScriptTaker<W> for Simulator<P> {
         self.stage.happen(damaged, writer)
     }
 
-    #[inline(always)]
     #[tactic(auto, unfolding(crate::specs::Stage::line_turn))]
     fn drain(&mut self, count: u16, writer: &mut W) -> Result<(), Fault> {
         self.stage.drain(u32::from(count), writer)

@@ -150,7 +150,6 @@ impl Stage {
     }
 
     /// How many frames are on the line from an end.
-    #[inline(always)]
     fn sent(&self, end: Role) -> usize
         ensures { result ≡ length (line_from self.now.world end) }
     {

@@ -14,9 +14,9 @@ use Rattle.x25_layer.specs.declared.error.LayerError.{LayerError}
 use Rattle.x25_layer.specs.declared.error.LayerError.TheVariants as layer_error
 use Rattle.x25_layer.specs.Layer.{LayerSettings, Layer, is_channel, restarting_from}
 use Rattle.x25_layer.specs.Calls.{LayerRequest, Asks, Dials, Restarts, PullsAll, LayerOutcome, Accepted, Declined, layer_outcome, outcome_in, outcome_ready, outcome_on, where_room, if_at_once, puts_at_once, dialled, restarted_for, free_channel}
-use Rattle.x25_layer.specs.Rounds.{LinkView, Putting, Answered, Went, Refuses, went, calls, refusal_of}
-use Rattle.x25_layer.specs.code.OverLink as over
-use Rattle.x25_layer.specs.code.OverLink.{after_all, LayerGives, LinkGives}
+use Rattle.x25_layer.specs.laws.Rounds.{LinkView, Putting, Answered, Went, Refuses, went, calls, refusal_of}
+use Rattle.x25_station.specs.code.OverLink as over
+use Rattle.x25_station.specs.code.OverLink.{after_all, LayerGives, LinkGives}
 use Rattle.x25_layer.specs.code.FitsLayer.{FitsLayer}
 use Rattle.x25_station.specs.declared.config.Manner.{Manner}
 use Rattle.x25_station.specs.declared.step.Step as code_step
@@ -42,13 +42,13 @@ use Rattle.x25_station.proofs.ResultLemmas.{ok_err, err_is}
 pub taken_link : (c : LinkSettings) (m n : ShownLink) (s : LinkStation) → n.station ≡ m.station → FitsLink c m s → FitsLink c n s
 taken_link c m n s same fits = subst (λ x. FitsLink c (record { station = x; frames = n.frames }) s) (sym same) (record { near = fits.near; settled = fits.settled; calm = fits.calm })
 
-pub after_puts : (c : LinkSettings) (m : ShownLink) (packets : List PlainPacket) (t : Side) → FitsWhole m (after_all after_put_to (kept_of c t) packets) → FitsWhole m (kept_of c (all_put c packets t))
+pub after_puts : (c : LinkSettings) (m : ShownLink) (packets : List PlainPacket) (t : Side) → FitsWhole m (after_all (kept_of c t) packets) → FitsWhole m (kept_of c (all_put c packets t))
 after_puts c m packets t fits = subst (λ (x : LinkState). FitsWhole m x) (put_by_put c packets t) fits
 
 -- ---- an accepted call
 
 pub leaves_did : {T : Type 0} {manner : Manner} (u : T) (c : Settings) → manner ≡ manner_of c → (s : LinkStation) (m n : ShownLink) (z : layer_code.Layer) (entries : List StationEntry) (a : Answered) → LayerGives (layer_settings c) z (Ok u) a
-    → LinkGives (FitsWhole m) after_put_to (kept_of (link_settings c) (alone s)) (Ok u) a → n.station ≡ m.station → n.frames ≡ [] → KeptBy (did c (alone s) entries a)
+    → LinkGives m (kept_of (link_settings c) (alone s)) (Ok u) a → n.station ≡ m.station → n.frames ≡ [] → KeptBy (did c (alone s) entries a)
     → station.LeavesParts {T = Unit} c manner n z (Ok tt) (did c (alone s) entries a)
 leaves_did u c as_set s m n z entries (Went p) layer link same none kept = record {
   link = taken_link (link_settings c) m n _ same (after_puts (link_settings c) m p.put (alone s) link).link;
@@ -60,7 +60,7 @@ leaves_did u c as_set s m n z entries (Went p) layer link same none kept = recor
 leaves_did u c as_set s m n z entries (Refuses e) layer link same none kept = absurd (ok_err u e layer)
 
 pub sends_did : {T : Type 0} (u : T) (c : Settings) (s : LinkStation) (m : ShownLink) (r : code_step.Step) (entries : List StationEntry) (a : Answered)
-    → LinkGives (FitsWhole m) after_put_to (kept_of (link_settings c) (alone s)) (Ok u) a → r.frames ≡ m.frames → station.Sends {T = Unit} c r (Ok tt) (did c (alone s) entries a)
+    → LinkGives m (kept_of (link_settings c) (alone s)) (Ok u) a → r.frames ≡ m.frames → station.Sends {T = Unit} c r (Ok tt) (did c (alone s) entries a)
 sends_did u c s m r entries (Went p) link made = made ∙ (after_puts (link_settings c) m p.put (alone s) link).kept
 sends_did u c s m r entries (Refuses e) link made = tt
 
@@ -139,15 +139,15 @@ calls_named view c l request = test view.is_up
 -- ---- the calls, by the layer's clauses
 
 abbrev pub Layers : {T : Type 0} → ShownLink → layer_code.Layer → layer_code.Layer → Result T LayerError → LayerRequest → Type 0
-Layers l y z result request = (d : LayerSettings) (k : Layer) (x : LinkState) → FitsLayer d y k → FitsWhole l x → LayerGives d z result (calls (over.view_of up_at waits_of after_put_to x) d k request)
+Layers l y z result request = (d : LayerSettings) (k : Layer) (x : LinkState) → FitsLayer d y k → FitsWhole l x → LayerGives d z result (calls (over.seen_at x) d k request)
 
 abbrev pub Links : {T : Type 0} → ShownLink → ShownLink → layer_code.Layer → Result T LayerError → LayerRequest → Type 0
 Links l m y result request =
-    (d : LayerSettings) (k : Layer) (x : LinkState) → FitsLayer d y k → FitsWhole l x → LinkGives (FitsWhole m) after_put_to x result (calls (over.view_of up_at waits_of after_put_to x) d k request)
+    (d : LayerSettings) (k : Layer) (x : LinkState) → FitsLayer d y k → FitsWhole l x → LinkGives m x result (calls (over.seen_at x) d k request)
 
 -- why the layer would refuse it
 abbrev pub Judges : Option LayerError → ShownLink → layer_code.Layer → LayerRequest → Type 0
-Judges o l y request = (d : LayerSettings) (k : Layer) (x : LinkState) → FitsLayer d y k → FitsWhole l x → o ≡ refusal_of (calls (over.view_of up_at waits_of after_put_to x) d k request)
+Judges o l y request = (d : LayerSettings) (k : Layer) (x : LinkState) → FitsLayer d y k → FitsWhole l x → o ≡ refusal_of (calls (over.seen_at x) d k request)
 
 -- the frames are kept from nothing on
 whole : {manner : Manner} (c : Settings) (l : ShownLink) (y : layer_code.Layer) (s : Station) → FitsParts c manner l y s → FitsWhole l (kept_of (link_settings c) (alone s.link))
@@ -172,9 +172,9 @@ layer_gives result c l y z s request fits clause =
     (clause (layer_settings c) s.layer (kept_of (link_settings c) (alone s.link)) fits.layer (whole c l y s fits))
 
 pub link_gives : {manner : Manner} {T : Type 0} (result : Result T LayerError) (c : Settings) (l m : ShownLink) (y : layer_code.Layer) (s : Station) (request : LayerRequest) → FitsParts c manner l y s → Links l m y result request
-    → LinkGives (FitsWhole m) after_put_to (kept_of (link_settings c) (alone s.link)) result (answered_by c s request)
+    → LinkGives m (kept_of (link_settings c) (alone s.link)) result (answered_by c s request)
 link_gives result c l m y s request fits clause =
-    subst (λ (view : LinkView). LinkGives (FitsWhole m) after_put_to (kept_of (link_settings c) (alone s.link)) result (calls view (layer_settings c) s.layer request)) (same_view (link_settings c) (alone s.link))
+    subst (λ (view : LinkView). LinkGives m (kept_of (link_settings c) (alone s.link)) result (calls view (layer_settings c) s.layer request)) (same_view (link_settings c) (alone s.link))
     (clause (layer_settings c) s.layer (kept_of (link_settings c) (alone s.link)) fits.layer (whole c l y s fits))
 
 pub record Answers (c : Settings) (manner : Manner) (n : ShownLink) (z : layer_code.Layer) (r : code_step.Step) (outcome : Outcome) : Type 0 where

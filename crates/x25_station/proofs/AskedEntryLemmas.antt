@@ -14,7 +14,7 @@ use Rattle.x25_layer.specs.Layer.{LayerSettings, Layer, is_channel}
 use Rattle.x25_layer.specs.declared.ranges.Ranges.{Ranges}
 use Rattle.x25_layer.specs.Ranges.{may_call}
 use Rattle.x25_layer.specs.Calls.{LayerRequest, Asks, Dials, Restarts, PullsAll, LayerOutcome, Accepted, Declined, layer_outcome, outcome_in, outcome_on, if_at_once, puts_at_once, first_of, lowest_free, highest_free, first_free, where_callable, free_channel}
-use Rattle.x25_layer.specs.Rounds.{LinkView, Putting, begin, rounds, Answered, Went, Refuses, went, calls}
+use Rattle.x25_layer.specs.laws.Rounds.{LinkView, Putting, begin, rounds, Answered, Went, Refuses, went, calls}
 use Rattle.x25_layer.specs.laws.Transcript.{Asked, name_of}
 use Rattle.x25_layer.specs.laws.TwoLayers.{shown, entry_of_dial}
 use Rattle.x25_station.specs.Entry.{StationEntry, of_channel, of_channels, restart_asked, station_asked}

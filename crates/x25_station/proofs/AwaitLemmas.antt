@@ -31,7 +31,8 @@ use Rattle.x25_layer.specs.Layer.{LayerSettings, Layer, LayerAnswer, is_channel,
 use Rattle.x25_layer.specs.laws.Transcript.{Said, Asked, Told, name_of}
 use Rattle.x25_layer.specs.laws.TwoLayers.{shown}
 use Rattle.x25_layer.specs.Calls.{LayerRequest, Asks, Dials, Restarts, PullsAll, LayerOutcome, Accepted, Declined, where_room, if_at_once, puts_at_once, outcome_on, dialled, restarted_for, outcome_ready, outcome_in, layer_outcome, free_channel, layer_pulled}
-use Rattle.x25_layer.specs.Rounds.{LinkView, Putting, with_pulled, pull_one, round, rounds_of, rounds, backlog, undecoded_at, answer_to}
+use Rattle.x25_layer.specs.Receiving.{undecoded_at, answer_to}
+use Rattle.x25_layer.specs.laws.Rounds.{LinkView, Putting, with_pulled, pull_one, round, rounds_of, rounds, backlog}
 use Rattle.x25_layer.specs.declared.error.LayerError.TheVariants as error
 use Rattle.x25_station.specs.Entry.{StationEntry, of_channel, restart_asked, was_restarted, restart_confirmed, at_fault, station_told, station_asked}
 use Rattle.x25_station.specs.laws.EndLaw.{is_answer, is_answer_in, clears_in, is_answered_on, is_left_on}

@@ -16,7 +16,7 @@ use Rattle.x25_circuit.specs.Calling.{Request, Calls, Accepts, Clears, Sends, In
 use Rattle.x25_layer.specs.declared.error.LayerError.TheVariants.{NoSuchChannel}
 use Rattle.x25_layer.specs.Layer.{LayerSettings, Layer, is_channel}
 use Rattle.x25_layer.specs.Calls.{Asks, Dials, LayerOutcome, Accepted, Declined, outcome_in, outcome_on, where_room, if_at_once, puts_at_once, dialled, free_channel}
-use Rattle.x25_layer.specs.Rounds.{LinkView, Putting, Went, calls}
+use Rattle.x25_layer.specs.laws.Rounds.{LinkView, Putting, Went, calls}
 use Rattle.x25_station.specs.code.Memory.{IsBrief}
 use Rattle.x25_station.proofs.AskedEntryLemmas.{accepted}
 

@@ -7,7 +7,7 @@ use Rattle.x25_handshakes.specs.laws.Names.{Name, both, same_name}
 use Rattle.x25_layer.specs.Layer.{LayerSettings, Layer, LayerAnswer, is_channel}
 use Rattle.x25_layer.specs.Layer.Confirmed.{unconfirmed_at}
 use Rattle.x25_station.specs.Confirming.{named_by}
-use Rattle.x25_layer.specs.Rounds.{LinkView, Putting, begin, rounds}
+use Rattle.x25_layer.specs.laws.Rounds.{LinkView, Putting, begin, rounds}
 use Rattle.x25_layer.specs.code.FitsLayer.{is_open_at, name_at}
 use Rattle.x25_layer.specs.laws.Transcript.{name_of}
 use Rattle.x25_station.specs.declared.confirming.Unconfirmed.{Unconfirmed}

@@ -7,8 +7,8 @@ use Rattle.x25_link.specs.code.Bounds.{WindowIsSmall, FewStand}
 use Rattle.x25_layer.specs.Layer.{LayerSettings, Layer}
 use Rattle.x25_layer.specs.Calls.{LayerRequest}
 use Rattle.x25_layer.specs.declared.error.LayerError.{LayerError}
-use Rattle.x25_layer.specs.Rounds.{Answered, Went, Refuses as LayerRefuses, refusal_of}
-use Rattle.x25_layer.specs.code.OverLink.{LinkGives}
+use Rattle.x25_layer.specs.laws.Rounds.{Answered, Went, Refuses as LayerRefuses, refusal_of}
+use Rattle.x25_station.specs.code.OverLink.{LinkGives}
 use Rattle.x25_layer.specs.code.FitsLayer.{FitsLayer}
 use Rattle.x25_layer.specs.declared.layer.Layer as layer_code
 use Rattle.x25_station.specs.declared.config.Manner.{Manner}
@@ -99,7 +99,7 @@ alike old new out result said told same d = record {
 
 -- what the layer put became eight frames at most
 puts_few : {T : Type 0} (u : T) (c : Settings) (s : LinkStation) (m : ShownLink) (a : Answered) → (link_settings c).window ≤ 7 → s.outgoing.acked ≤ s.outgoing.place
-    → LinkGives (FitsWhole m) after_put_to (kept_of (link_settings c) (alone s)) (Ok u) a → length m.frames ≤ 8
+    → LinkGives m (kept_of (link_settings c) (alone s)) (Ok u) a → length m.frames ≤ 8
 puts_few u c s m (Went p) small low link = few_made c.role m.frames (all_put (link_settings c) p.put (alone s)).out 8 (after_puts (link_settings c) m p.put (alone s) link).kept (few_put (link_settings c) p.put (alone s) small low)
 puts_few u c s m (LayerRefuses e) small low link = absurd (ok_err u e link)
 

@@ -6,8 +6,8 @@ use Rattle.x25_circuit.specs.Calling as circuit
 use Rattle.x25_layer.specs.declared.layer.Layer as layer_code
 use Rattle.x25_layer.specs.Layer.{LayerSettings, Layer, is_channel}
 use Rattle.x25_layer.specs.Calls.{LayerRequest, Asks, Dials, Restarts, PullsAll, layer_outcome, free_channel}
-use Rattle.x25_layer.specs.Rounds.{LinkView, Putting, Answered, Went}
-use Rattle.x25_layer.specs.code.OverLink.{LayerGives}
+use Rattle.x25_layer.specs.laws.Rounds.{LinkView, Putting, Answered, Went}
+use Rattle.x25_station.specs.code.OverLink.{LayerGives}
 use Rattle.x25_layer.specs.code.FitsLayer.{FitsLayer}
 use Rattle.x25_layer.specs.laws.Transcript.{Asked, name_of}
 use Rattle.x25_layer.specs.laws.TwoLayers.{shown}

@@ -5,7 +5,7 @@ use Rattle.std.specs.Option.{is_some}
 use Rattle.x25_link.specs.declared.phase.Notes.{Notes}
 use Rattle.x25_link.specs.declared.phase.Reason.{Reason}
 use Rattle.x25_layer.specs.Layer.{LayerSettings, Layer}
-use Rattle.x25_layer.specs.Rounds.{LinkView, Putting, hears, comes_up}
+use Rattle.x25_layer.specs.laws.Rounds.{LinkView, Putting, hears, comes_up}
 use Rattle.x25_station.specs.Entry.{StationEntry, entries_noted}
 use Rattle.x25_station.specs.Step.{rests, layer_at, layer_down, layer_answer, entries_of_answer, entries_of_packet, entries_heard}
 

@@ -9,7 +9,7 @@ use Rattle.x25_link.specs.laws.NoteLaw.{PutTells}
 use Rattle.x25_layer.specs.declared.error.LayerError.TheVariants as layer_error
 use Rattle.x25_layer.specs.Layer.{LayerSettings, Layer, LayerNotice}
 use Rattle.x25_layer.specs.Calls.{LayerOutcome, Accepted, Declined, layer_outcome}
-use Rattle.x25_layer.specs.Rounds.{LinkView, Putting, begin, rounds, backlog, Went, Refuses, went, calls}
+use Rattle.x25_layer.specs.laws.Rounds.{LinkView, Putting, begin, rounds, backlog, Went, Refuses, went, calls}
 use Rattle.x25_layer.specs.laws.Transcript.{Entry}
 use Rattle.x25_layer.specs.laws.TwoLayers.{TwoLayers, Move, Requests, requested, moves_in, moves}
 use Rattle.x25_layer.specs.laws.RoundLaw.{moves_all, pulls_of, AreChannels, CallsRun}

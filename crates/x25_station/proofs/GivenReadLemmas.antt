@@ -19,7 +19,7 @@ use Rattle.x25_given.specs.Writing.{write, written}
 use Rattle.x25_given.specs.laws.ReadingLaw.{WrittenIsInForm, WrittenIsRead}
 use Rattle.x25_layer.specs.Layer.{LayerSettings, LayerAnswer, layer_answers}
 use Rattle.x25_station.specs.Confirming.{named_by}
-use Rattle.x25_layer.specs.Rounds.{answer_to}
+use Rattle.x25_layer.specs.Receiving.{answer_to}
 use Rattle.x25_station.specs.Beside.{PlainBeside, beside_in}
 use Rattle.x25_station.specs.Config.{layer_settings}
 use Rattle.x25_station.specs.Entry.{StationEntry, bringing, entries_beside}

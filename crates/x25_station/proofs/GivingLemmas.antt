@@ -10,7 +10,7 @@ use Rattle.x25_frame.specs.Spelling.{spelling_of}
 use Rattle.x25_link.specs.Outgoing.{waits}
 use Rattle.x25_link.specs.Station.{Settings as LinkSettings, LinkStation, Side, is_up}
 use Rattle.x25_link.specs.Link.{alone, put_refusal, put_step}
-use Rattle.x25_link.specs.code.FitsLink.{ShownLink, LinkState, FitsWhole, up_at, waits_of, after_put_to}
+use Rattle.x25_link.specs.code.FitsLink.{ShownLink, LinkState, FitsWhole, waits_of}
 use Rattle.x25_link.specs.code.Bounds.{WindowIsSmall, FewStand}
 use Rattle.x25_link.specs.laws.NoteLaw.{PutTells}
 use Rattle.x25_circuit.specs.Params.{Proposal, in_brief}
@@ -20,13 +20,12 @@ use Rattle.x25_layer.specs.declared.error.LayerError.{LayerError}
 use Rattle.x25_layer.specs.declared.error.LayerError.TheVariants as layer_error
 use Rattle.x25_layer.specs.Layer.{LayerSettings, Layer, is_channel}
 use Rattle.x25_layer.specs.Calls.{LayerRequest, Asks, Dials, LayerOutcome, Accepted, Declined, layer_outcome, layer_pulled, free_channel, outcome_in, outcome_on, if_at_once, puts_at_once}
-use Rattle.x25_layer.specs.Rounds.{LinkView, Putting, Answered, Went, Refuses, begin, with_pulled, pull_one, round, rounds_of, rounds, backlog, went, calls, refusal_of}
-use Rattle.x25_layer.specs.code.OverLink as over
-use Rattle.x25_layer.specs.code.OverLink.{LayerGives}
+use Rattle.x25_layer.specs.laws.Rounds.{LinkView, Putting, Answered, Went, Refuses, begin, with_pulled, pull_one, round, rounds_of, rounds, backlog, went, calls, refusal_of}
+use Rattle.x25_station.specs.code.OverLink as over
+use Rattle.x25_station.specs.code.OverLink.{LayerGives, all_with, seen_with, GoesWith}
 use Rattle.x25_layer.specs.code.FitsLayer.{FitsLayer}
 use Rattle.x25_layer.specs.laws.Transcript.{Asked, name_of}
 use Rattle.x25_layer.specs.laws.TwoLayers.{shown}
-use Rattle.x25_given.specs.Asking.{all_in_form, view_in, GoesInForm}
 use Rattle.x25_given.specs.Given.{PlainGiven, may_give}
 use Rattle.x25_given.specs.Writing.{write}
 use Rattle.x25_station.specs.declared.config.Manner.{Manner}
@@ -63,22 +62,17 @@ use Rattle.x25_station.proofs.TakeLemmas.{least_by_meaning, few_made}
 
 -- ---- the link after the packets
 
-unchanged : (x : LinkState) (packets : List PlainPacket) → all_in_form after_put_to write None x packets ≡ over.after_all after_put_to x packets
-unchanged x [] = refl
-unchanged x (p ∷ packets) = unchanged (after_put_to x (packet.spelling_of p)) packets
-
-given_by_put : (c : LinkSettings) (g : PlainGiven) (packets : List PlainPacket) (t : Side) → all_in_form after_put_to write (Some g) (kept_of c t) packets ≡ kept_of c (all_given c g packets t)
+given_by_put : (c : LinkSettings) (g : PlainGiven) (packets : List PlainPacket) (t : Side) → all_with g (kept_of c t) packets ≡ kept_of c (all_given c g packets t)
 given_by_put c g [] t = refl
 given_by_put c g (p ∷ packets) t =
     let octets = write g (packet.spelling_of p) in
     let step = put_step c octets t.near in
-    unchanged (after_put_to (kept_of c t) octets) packets
-    ∙ ap (λ (kept : List (List ℕ)). over.after_all after_put_to (record { settings = c; station = step.side.near; kept = kept }) packets)
+    ap (λ (kept : List (List ℕ)). over.after_all (record { settings = c; station = step.side.near; kept = kept }) packets)
     (sym (map-append (spelling_of c.role) t.out step.side.out))
     ∙ put_by_put c packets (behind t step.side)
 
 -- what the layer sees of it
-seen_given : (c : LinkSettings) (g : PlainGiven) (s : LinkStation) → view_in up_at waits_of after_put_to write g (kept_of c (alone s)) ≡ view_given c g s
+seen_given : (c : LinkSettings) (g : PlainGiven) (s : LinkStation) → seen_with g (kept_of c (alone s)) ≡ view_given c g s
 seen_given c g s = ap (λ (f : List PlainPacket → ℕ). record { is_up = is_up s.phase; waits = f }) (fun_ext (λ packets. ap waits_of (given_by_put c g packets (alone s))))
 
 -- ---- the link accepts the packets
@@ -178,11 +172,11 @@ few_given c g packets s small low =
 -- ---- the calls, by the layer's clauses
 
 abbrev pub LayersGiven : {T : Type 0} → PlainGiven → ShownLink → layer_code.Layer → layer_code.Layer → Result T LayerError → LayerRequest → Type 0
-LayersGiven g l y z result request = (d : LayerSettings) (k : Layer) (x : LinkState) → FitsLayer d y k → FitsWhole l x → LayerGives d z result (calls (view_in up_at waits_of after_put_to write g x) d k request)
+LayersGiven g l y z result request = (d : LayerSettings) (k : Layer) (x : LinkState) → FitsLayer d y k → FitsWhole l x → LayerGives d z result (calls (seen_with g x) d k request)
 
 abbrev pub LinksGiven : {T : Type 0} → PlainGiven → ShownLink → ShownLink → layer_code.Layer → Result T LayerError → LayerRequest → Type 0
 LinksGiven g l m y result request = (d : LayerSettings) (k : Layer) (x : LinkState) → FitsLayer d y k → FitsWhole l x
-    → GoesInForm FitsWhole after_put_to write m result g x (calls (view_in up_at waits_of after_put_to write g x) d k request)
+    → GoesWith m g x result (calls (seen_with g x) d k request)
 
 pub layers_as : {T : Type 0} (result : Result T LayerError) (f g : PlainGiven) (l : ShownLink) (y z : layer_code.Layer) (request : LayerRequest) → f ≡ g → LayersGiven f l y z result request → LayersGiven g l y z result request
 layers_as result f g l y z request same h = subst (λ (x : PlainGiven). LayersGiven x l y z result request) same h
@@ -210,7 +204,7 @@ abbrev LinkLeft : Settings → PlainGiven → LinkStation → ShownLink → Answ
 LinkLeft c g s m (Went p) = FitsWhole m (kept_of (link_settings c) (all_given (link_settings c) g p.put (alone s)))
 LinkLeft c g s m (Refuses e) = Unit {0}
 
-left_by : {T : Type 0} (u : T) (c : Settings) (g : PlainGiven) (s : LinkStation) (m : ShownLink) (a : Answered) → (let r : Result T LayerError = Ok u in GoesInForm FitsWhole after_put_to write m r g (kept_of (link_settings c) (alone s)) a)
+left_by : {T : Type 0} (u : T) (c : Settings) (g : PlainGiven) (s : LinkStation) (m : ShownLink) (a : Answered) → (let r : Result T LayerError = Ok u in GoesWith m g (kept_of (link_settings c) (alone s)) r a)
     → LinkLeft c g s m a
 left_by u c g s m (Went p) h = subst (λ (x : LinkState). FitsWhole m x) (given_by_put (link_settings c) g p.put (alone s)) h
 left_by u c g s m (Refuses e) h = tt
@@ -220,7 +214,7 @@ link_given : {manner : Manner} {T : Type 0} (u : T) (c : Settings) (g : PlainGiv
 link_given {T = T} u c g l m y s request fits clause =
     let r : Result T LayerError = Ok u in
     left_by u c g s.link m (answered_given c g s request)
-    (subst (λ (view : LinkView). GoesInForm FitsWhole after_put_to write m r g (kept_of (link_settings c) (alone s.link)) (calls view (layer_settings c) s.layer request)) (seen_given (link_settings c) g s.link)
+    (subst (λ (view : LinkView). GoesWith m g (kept_of (link_settings c) (alone s.link)) r (calls view (layer_settings c) s.layer request)) (seen_given (link_settings c) g s.link)
     (clause (layer_settings c) s.layer (kept_of (link_settings c) (alone s.link)) fits.layer (record { link = fits.link; kept = fits.sent })))
 
 -- ---- an accepted call
@@ -370,7 +364,7 @@ refusal_same v w c (Declined e) true = refl
 refusal_same v w c o false = refl
 
 judged_same : (c : Settings) (g : PlainGiven) (s : Station) (request : LayerRequest)
-    → refusal_of (calls (over.view_of up_at waits_of after_put_to (kept_of (link_settings c) (alone s.link))) (layer_settings c) s.layer request) ≡ refusal_of (answered_given c g s request)
+    → refusal_of (calls (over.seen_at (kept_of (link_settings c) (alone s.link))) (layer_settings c) s.layer request) ≡ refusal_of (answered_given c g s request)
 judged_same c g s request =
     ap (λ (view : LinkView). refusal_of (calls view (layer_settings c) s.layer request)) (same_view (link_settings c) (alone s.link))
     ∙ refusal_same (view_of (link_settings c) s.link) (view_given (link_settings c) g s.link) (layer_settings c) (layer_outcome (layer_settings c) (waits s.link.outgoing == 256) s.layer request) (is_up s.link.phase)

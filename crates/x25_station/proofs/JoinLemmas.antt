@@ -15,7 +15,8 @@ use Rattle.x25_layer.specs.declared.error.LayerError.TheVariants as layer_error
 use Rattle.x25_layer.specs.Layer.{LayerSettings, Layer, LayerAnswer, LayerNotice, goes_up, layer_answers}
 use Rattle.x25_layer.specs.Calls.{LayerOutcome, Accepted, Declined, layer_outcome}
 use Rattle.x25_station.specs.Confirming.{named_by}
-use Rattle.x25_layer.specs.Rounds.{LinkView, Putting, begin, rounds, Went, Refuses, went, calls, hears, answer_to}
+use Rattle.x25_layer.specs.Receiving.{answer_to}
+use Rattle.x25_layer.specs.laws.Rounds.{LinkView, Putting, begin, rounds, Went, Refuses, went, calls, hears}
 use Rattle.x25_packet.specs.Spelling.{longest_user}
 use Rattle.x25_layer.specs.laws.Transcript.{Entry}
 use Rattle.x25_layer.specs.laws.TwoLayers.{TwoLayers, Move, Requests, HandsUp, requested, answered, handed_up, moves_in, moves}

@@ -19,7 +19,7 @@ use Rattle.x25_link.specs.laws.NoteLaw.{IsQuiet, Tells, HandsUp, TakeTells, Take
 use Rattle.x25_layer.specs.declared.error.LayerError.TheVariants as layer_error
 use Rattle.x25_layer.specs.Layer.{LayerSettings, Layer, goes_up}
 use Rattle.x25_layer.specs.Calls.{LayerOutcome, Accepted, Declined, layer_outcome}
-use Rattle.x25_layer.specs.Rounds.{LinkView, Putting, begin, rounds, Refuses, went}
+use Rattle.x25_layer.specs.laws.Rounds.{LinkView, Putting, begin, rounds, Refuses, went}
 use Rattle.x25_station.specs.Config.{Settings, link_settings, layer_settings}
 use Rattle.x25_station.specs.Command.{Requests, RequestsWith, Connects, Disconnects, Probes, Relinks, said_by, may_ask}
 use Rattle.x25_station.specs.Entry.{StationEntry, connect_asked, disconnect_asked, relink_asked}

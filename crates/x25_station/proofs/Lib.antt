@@ -9,6 +9,9 @@ pub mod ReadLemmas
 pub mod KeepLemmas
 pub mod DownLemmas
 pub mod LinkLemmas
+pub mod RoundLemmas
+pub mod DriveLemmas
+pub mod WithLemmas
 pub mod NameLemmas
 pub mod AskLemmas
 pub mod ShownLemmas

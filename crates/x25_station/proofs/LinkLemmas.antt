@@ -9,22 +9,22 @@ use Rattle.x25_link.specs.Outgoing.{waits}
 use Rattle.x25_link.specs.Station.{Settings as LinkSettings, LinkStation, Side, is_up}
 use Rattle.x25_link.specs.Link.{alone, put_step}
 use Rattle.x25_link.specs.code.FitsLink.{up_at, waits_of, after_put_to}
-use Rattle.x25_layer.specs.Rounds.{LinkView}
-use Rattle.x25_layer.specs.code.OverLink as over
+use Rattle.x25_layer.specs.laws.Rounds.{LinkView}
+use Rattle.x25_station.specs.code.OverLink as over
 use Rattle.x25_station.specs.Receiving.{kept_of}
 use Rattle.x25_station.specs.Station.{put_on, all_put, view_of}
 
-pub put_by_put : (c : LinkSettings) (packets : List PlainPacket) (t : Side) → over.after_all after_put_to (kept_of c t) packets ≡ kept_of c (all_put c packets t)
+pub put_by_put : (c : LinkSettings) (packets : List PlainPacket) (t : Side) → over.after_all (kept_of c t) packets ≡ kept_of c (all_put c packets t)
 put_by_put c [] t = refl
 put_by_put c (p ∷ packets) t =
     let step = put_step c (packet.spelling_of p) t.near in
-    ap (λ (kept : List (List ℕ)). over.after_all after_put_to (record { settings = c; station = step.side.near; kept = kept }) packets)
+    ap (λ (kept : List (List ℕ)). over.after_all (record { settings = c; station = step.side.near; kept = kept }) packets)
     (sym (map-append (spelling_of c.role) t.out step.side.out))
     ∙ put_by_put c packets (put_on c p t)
 
 -- what the layer sees of the link
 abbrev pub seen_by : LinkSettings → Side → LinkView
-seen_by c t = over.view_of up_at waits_of after_put_to (kept_of c t)
+seen_by c t = over.seen_at (kept_of c t)
 
 -- what is put depends on the link alone, and not on the frames that went before
 pub near_alone : (c : LinkSettings) (packets : List PlainPacket) (t u : Side) → t.near ≡ u.near → (all_put c packets t).near ≡ (all_put c packets u).near

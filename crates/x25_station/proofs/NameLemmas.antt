@@ -15,7 +15,7 @@ use Rattle.x25_layer.specs.Layer.{LayerSettings, Layer, is_channel, put_at}
 use Rattle.x25_layer.specs.Calls.{LayerPulled, layer_pulled}
 use Rattle.x25_layer.specs.code.FitsLayer.{is_open_at}
 use Rattle.x25_layer.specs.laws.Transcript.{name_of}
-use Rattle.x25_layer.specs.Rounds.{LinkView, Putting, with_pulled, pull_one, round, rounds_of, rounds, backlog}
+use Rattle.x25_layer.specs.laws.Rounds.{LinkView, Putting, with_pulled, pull_one, round, rounds_of, rounds, backlog}
 
 -- what a pull leaves as it is
 record Kept : Type 0 where

@@ -15,7 +15,7 @@ use Rattle.x25_circuit.specs.Message.{Piece, piece_of, asked_in}
 use Rattle.x25_circuit.specs.Hearing.{Answer, answers, undecoded, row_call, row_accept, row_clear, row_clear_conf, row_reset, row_reset_conf, row_data, row_undecoded, request_in, unless, data_ground, number_ground, takes, hears_status, confirms}
 use Rattle.x25_layer.specs.Layer.{LayerSettings, Layer, LayerAnswer, LayerNotice, on_channel, restarted, restart_done, layer_fault, is_channel, put_at, answers_on, drops, answers_ready, answers_restarting, answers_in, undecoded_in}
 use Rattle.x25_station.specs.Confirming.{named_by}
-use Rattle.x25_layer.specs.Rounds.{answer_to, undecoded_at}
+use Rattle.x25_layer.specs.Receiving.{answer_to, undecoded_at}
 use Rattle.x25_layer.specs.code.FitsLayer.{is_open_at}
 use Rattle.x25_layer.specs.laws.Transcript.{name_of}
 use Rattle.x25_handshakes.specs.laws.Names.{Name, same_name}

@@ -1,5 +1,5 @@
 -- What a pull behind a step leaves, and what it sends.
-use Rattle.std.proofs.Common.{◌≡◌, List, [], ◌∷◌, ◌++◌, map, ◌==◌, Result, Ok, Err, OnErr, IsErrOf, ℕ, ◌<◌, ◌≤◌, length, arith, refl, ap, sym, subst, ◌∙◌}
+use Rattle.std.proofs.Common.{Bool, true, false, ◌≡◌, List, [], ◌∷◌, ◌++◌, map, ◌==◌, Result, Ok, Err, OnErr, IsErrOf, ℕ, ◌<◌, ◌≤◌, length, arith, refl, ap, sym, subst, ◌∙◌}
 use Rattle.std.specs.Prelude.{◌≢◌}
 use Rattle.std.proofs.Math.Path.{fun_ext}
 use Rattle.std.proofs.lemmas.List.{append-nil, append_assoc}
@@ -7,12 +7,11 @@ use Rattle.x25_packet.specs.Packet.{PlainPacket}
 use Rattle.x25_packet.specs.Spelling as packet
 use Rattle.x25_frame.specs.Spelling.{spelling_of}
 use Rattle.x25_link.specs.Link.{alone, put_step}
-use Rattle.x25_link.specs.code.Frames.{places_left}
 use Rattle.x25_link.specs.code.FitsLink.{ShownLink, LinkState, FitsWhole, up_at, waits_of, after_put_to}
 use Rattle.x25_layer.specs.Calls.{PullsAll, layer_outcome}
-use Rattle.x25_layer.specs.Rounds.{LinkView, Answered, Went, Refuses as LayerRefuses, calls}
-use Rattle.x25_layer.specs.code.OverLink as over
-use Rattle.x25_layer.specs.code.OverLink.{after_all, LayerGives, LinkGives}
+use Rattle.x25_layer.specs.laws.Rounds.{LinkView, Answered, Went, Refuses as LayerRefuses, calls}
+use Rattle.x25_station.specs.code.OverLink as over
+use Rattle.x25_station.specs.code.OverLink.{after_all, LayerGives, LinkGives}
 use Rattle.x25_layer.specs.code.FitsLayer.{FitsLayer}
 use Rattle.x25_layer.specs.declared.layer.Layer as layer_code
 use Rattle.x25_layer.specs.declared.error.LayerError.{LayerError}
@@ -39,17 +38,17 @@ use Rattle.x25_station.proofs.ResultLemmas.{ok_err}
 abbrev behind : List (List ℕ) → LinkState → LinkState
 behind before x = record x { kept = before ++ x.kept }
 
-puts_behind : (before : List (List ℕ)) (x : LinkState) (packets : List PlainPacket) → after_all after_put_to (behind before x) packets ≡ behind before (after_all after_put_to x packets)
+puts_behind : (before : List (List ℕ)) (x : LinkState) (packets : List PlainPacket) → after_all (behind before x) packets ≡ behind before (after_all x packets)
 puts_behind before x [] = refl
 puts_behind before x (p ∷ packets) =
     let step = put_step x.settings (packet.spelling_of p) x.station in
     let next : LinkState = after_put_to x (packet.spelling_of p) in
-    ap (λ (kept : List (List ℕ)). after_all after_put_to (record next { kept = kept }) packets)
+    ap (λ (kept : List (List ℕ)). after_all (record next { kept = kept }) packets)
     (append_assoc before x.kept (map (spelling_of x.settings.role) step.side.out))
     ∙ puts_behind before next packets
 
 abbrev seen_at : LinkState → LinkView
-seen_at x = over.view_of up_at waits_of after_put_to x
+seen_at x = over.seen_at x
 
 seen_behind : (before : List (List ℕ)) (x : LinkState) → seen_at (behind before x) ≡ seen_at x
 seen_behind before x = ap (λ (f : List PlainPacket → ℕ). record { is_up = up_at x; waits = f })
@@ -65,18 +64,18 @@ abbrev start : Settings → Station → LinkState
 start c s = kept_of (link_settings c) (alone s.link)
 
 -- behind the frames that were there stand those of the packets
-after_pull : (c : Settings) (before : List (List ℕ)) (m : ShownLink) (packets : List PlainPacket) (s : Station) → FitsWhole m (after_all after_put_to (behind before (start c s)) packets)
+after_pull : (c : Settings) (before : List (List ℕ)) (m : ShownLink) (packets : List PlainPacket) (s : Station) → FitsWhole m (after_all (behind before (start c s)) packets)
     → FitsWhole m (behind before (kept_of (link_settings c) (all_put (link_settings c) packets (alone s.link))))
 after_pull c before m packets s fits = subst (λ (x : LinkState). FitsWhole m x)
     (puts_behind before (start c s) packets ∙ ap (behind before) (put_by_put (link_settings c) packets (alone s.link))) fits
 
 made_did : {T : Type 0} (u : T) (c : Settings) (before : List (List ℕ)) (s : Station) (m : ShownLink) (entries : List StationEntry) (a : Answered)
-    → LinkGives (FitsWhole m) after_put_to (behind before (start c s)) (Ok u) a → m.frames ≡ before ++ map (spelling_of c.role) (pulled_of s (did c (alone s.link) entries a)).out
+    → LinkGives m (behind before (start c s)) (Ok u) a → m.frames ≡ before ++ map (spelling_of c.role) (pulled_of s (did c (alone s.link) entries a)).out
 made_did u c before s m entries (Went p) link = (after_pull c before m p.put s link).kept
 made_did u c before s m entries (LayerRefuses e) link = absurd (ok_err u e link)
 
 leaves_did : {T : Type 0} {manner : Manner} (u : T) (c : Settings) → manner ≡ manner_of c → (before : List (List ℕ)) (s : Station) (m n : ShownLink) (z : layer_code.Layer) (entries : List StationEntry) (a : Answered) → LayerGives (layer_settings c) z (Ok u) a
-    → LinkGives (FitsWhole m) after_put_to (behind before (start c s)) (Ok u) a → n.station ≡ m.station → n.frames ≡ [] → KeptBy (did c (alone s.link) entries a)
+    → LinkGives m (behind before (start c s)) (Ok u) a → n.station ≡ m.station → n.frames ≡ [] → KeptBy (did c (alone s.link) entries a)
     → LeavesParts {T = Unit} c manner n z (Ok tt) (did c (alone s.link) entries a)
 leaves_did u c as_set before s m n z entries (Went p) layer link same none kept = record {
   link = taken_link (link_settings c) m n _ same (after_pull c before m p.put s link).link;
@@ -87,7 +86,7 @@ leaves_did u c as_set before s m n z entries (Went p) layer link same none kept 
 }
 leaves_did u c as_set before s m n z entries (LayerRefuses e) layer link same none kept = absurd (ok_err u e layer)
 
--- ---- no place is wanted behind nine frames or fewer, and any other refusal is the definition's
+-- ---- a refusal is the definition's
 
 memory_is : (e : LayerError) → of_layer e ≡ error.NoMemory → e ≡ layer_error.NoMemory
 memory_is layer_error.NotUp is = absurd (cc)
@@ -107,13 +106,12 @@ none_of : (s : Station) (e : LayerError) (found : StationError) (o : Outcome) �
 none_of s e found (Did step) is other exactly = absurd (other (memory_is e (sym is ∙ exactly)))
 none_of s e found (Refused x) is other exactly = refl
 
-places_enough : (e : LayerError) (frames : List (List ℕ)) → ((let x : Result Unit LayerError = Err e in IsErrOf x layer_error.NoMemory) → places_left frames < 16) → length frames ≤ 9 → e ≢ layer_error.NoMemory
-places_enough e frames missing few is =
-    let low = missing (ap (λ (x : LayerError). let r : Result Unit LayerError = Err x in r) is) in
-    omega (arith, low, few)
-
-pub few_given : (g : ShownLink) (frames : List (List ℕ)) → g.frames ≡ frames → length frames ≤ 9 → length g.frames ≤ 9
-few_given g frames same few = let n : length g.frames ≡ length frames = ap length same in omega (arith, n, few)
+-- nothing that is pulled asks for memory
+pub no_lack : (e : LayerError) → ((let x : Result Unit LayerError = Err e in IsErrOf x layer_error.NoMemory) → false ≡ true) → e ≢ layer_error.NoMemory
+no_lack e missing is = false_true (missing (ap (λ (x : LayerError). let r : Result Unit LayerError = Err x in r) is))
+  where
+    false_true : false ≡ true → ⊥
+    false_true h = cc
 
 -- The link l is given frames, and is g then; the layer pulls, and leaves m; and the frames are taken, which leaves n.
 module _ (c : Settings) (l g : ShownLink) (y : layer_code.Layer) (s : Station) (manner : Manner) (fits : FitsParts c manner l y s) (same : g.station ≡ l.station) where
@@ -136,8 +134,8 @@ module _ (c : Settings) (l g : ShownLink) (y : layer_code.Layer) (s : Station) (
   layer_gives result z layers = subst (λ (view : LinkView). LayerGives (layer_settings c) z result (calls view (layer_settings c) s.layer PullsAll)) seen
       (layers (layer_settings c) s.layer (behind before (start c s)) fits.layer given)
 
-  link_gives : {T : Type 0} (result : Result T LayerError) (m : ShownLink) → Links g m y result PullsAll → LinkGives (FitsWhole m) after_put_to (behind before (start c s)) result answer
-  link_gives result m links = subst (λ (view : LinkView). LinkGives (FitsWhole m) after_put_to (behind before (start c s)) result (calls view (layer_settings c) s.layer PullsAll)) seen
+  link_gives : {T : Type 0} (result : Result T LayerError) (m : ShownLink) → Links g m y result PullsAll → LinkGives m (behind before (start c s)) result answer
+  link_gives result m links = subst (λ (view : LinkView). LinkGives m (behind before (start c s)) result (calls view (layer_settings c) s.layer PullsAll)) seen
       (links (layer_settings c) s.layer (behind before (start c s)) fits.layer given)
 
   pulled_made : {T : Type 0} (u : T) (m : ShownLink) → Links g m y (Ok u) PullsAll → m.frames ≡ before ++ map (spelling_of c.role) (pulled c s).out
@@ -169,18 +167,18 @@ module _ (c : Settings) (l g : ShownLink) (y : layer_code.Layer) (s : Station) (
       none_of s e (of_layer e) (requests c s PullsAll) refl named
       (refused_did Unit Unit e (of_layer e) c s.link z entries answer (calls_named (view_of (link_settings c) s.link) (layer_settings c) s.layer PullsAll) refl (layer_gives x z layers))
 
-  pub pulls_fit : (result : Result Unit LayerError) (m n : ShownLink) (z : layer_code.Layer) → Layers g y z result PullsAll → Links g m y result PullsAll → (IsErrOf result layer_error.NoMemory → places_left before < 16) → length before ≤ 9
+  pub pulls_fit : (result : Result Unit LayerError) (m n : ShownLink) (z : layer_code.Layer) → Layers g y z result PullsAll → Links g m y result PullsAll → (IsErrOf result layer_error.NoMemory → false ≡ true)
       → OnErr result (FitsLayer (layer_settings c) z s.layer) → ((x : LinkState) → FitsWhole g x → OnErr result (FitsWhole m x)) → n.station ≡ m.station → n.frames ≡ [] → KeptBy (requests c s PullsAll)
       → FitsParts c manner n z (pulled c s).near
-  pulls_fit (Ok u) m n z layers links missing few layer stays same none kept = pulled_fits u m n z layers links same none kept
-  pulls_fit (Err e) m n z layers links missing few layer stays same none kept =
-      subst (λ (step : Step). FitsParts c manner n z step.near) (sym (nothing_done e z (places_enough e before missing few) layers)) (still_fits m n z layer stays same none)
+  pulls_fit (Ok u) m n z layers links missing layer stays same none kept = pulled_fits u m n z layers links same none kept
+  pulls_fit (Err e) m n z layers links missing layer stays same none kept =
+      subst (λ (step : Step). FitsParts c manner n z step.near) (sym (nothing_done e z (no_lack e missing) layers)) (still_fits m n z layer stays same none)
 
-  pub pulls_made : (result : Result Unit LayerError) (m : ShownLink) (z : layer_code.Layer) → Layers g y z result PullsAll → Links g m y result PullsAll → (IsErrOf result layer_error.NoMemory → places_left before < 16) → length before ≤ 9
+  pub pulls_made : (result : Result Unit LayerError) (m : ShownLink) (z : layer_code.Layer) → Layers g y z result PullsAll → Links g m y result PullsAll → (IsErrOf result layer_error.NoMemory → false ≡ true)
       → ((x : LinkState) → FitsWhole g x → OnErr result (FitsWhole m x)) → m.frames ≡ before ++ map (spelling_of c.role) (pulled c s).out
-  pulls_made (Ok u) m z layers links missing few stays = pulled_made u m links
-  pulls_made (Err e) m z layers links missing few stays =
-      still_made m stays ∙ sym (append-nil before) ∙ ap (λ (step : Step). before ++ map (spelling_of c.role) step.out) (sym (nothing_done e z (places_enough e before missing few) layers))
+  pulls_made (Ok u) m z layers links missing stays = pulled_made u m links
+  pulls_made (Err e) m z layers links missing stays =
+      still_made m stays ∙ sym (append-nil before) ∙ ap (λ (step : Step). before ++ map (spelling_of c.role) step.out) (sym (nothing_done e z (no_lack e missing) layers))
 
 -- ---- a pull that is asked for
 
@@ -188,11 +186,7 @@ pub goes_on : (o : Outcome) → Refuses {T = Unit} (Ok tt) o → RefusesOnly {T 
 goes_on (Did step) goes = refl
 goes_on (Refused e) goes = absurd goes
 
-pub has_places : (found : StationError) (e : LayerError) (frames : List (List ℕ)) (o : Outcome) → found ≡ of_layer e
-    → ((let x : Result Unit LayerError = Err e in IsErrOf x layer_error.NoMemory) → places_left frames < 16) → frames ≡ []
+pub never_lacks : (found : StationError) (e : LayerError) (o : Outcome) → found ≡ of_layer e → ((let x : Result Unit LayerError = Err e in IsErrOf x layer_error.NoMemory) → false ≡ true)
     → (let r : Result Unit StationError = Err found in Refuses r o → RefusesOnly r o)
-has_places found e frames (Did step) is missing none exactly =
-    let few = missing (ap (λ (x : LayerError). let r : Result Unit LayerError = Err x in r) (memory_is e (sym is ∙ exactly))) in
-    let n : length frames ≡ 0 = ap length none in
-    absurd (omega (arith, few, n))
-has_places found e frames (Refused x) is missing none exactly = ap (λ y. Err y) exactly
+never_lacks found e (Did step) is missing exactly = absurd (no_lack e missing (memory_is e (sym is ∙ exactly)))
+never_lacks found e (Refused x) is missing exactly = ap (λ y. Err y) exactly

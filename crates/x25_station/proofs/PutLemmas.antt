@@ -10,7 +10,7 @@ use Rattle.x25_link.specs.Link.{alone, put_refusal}
 use Rattle.x25_link.specs.laws.NoteLaw.{PutTells}
 use Rattle.x25_layer.specs.Layer.{LayerSettings}
 use Rattle.x25_layer.specs.Calls.{layer_pulled}
-use Rattle.x25_layer.specs.Rounds.{Putting, with_pulled, pull_one, round, rounds_of, rounds, backlog}
+use Rattle.x25_layer.specs.laws.Rounds.{Putting, with_pulled, pull_one, round, rounds_of, rounds, backlog}
 use Rattle.x25_station.specs.Station.{put_on, all_put, view_of, waiting_after}
 use Rattle.x25_station.specs.laws.JoinLaw.{AreAccepted}
 use Rattle.x25_station.proofs.LinkLemmas.{near_alone}

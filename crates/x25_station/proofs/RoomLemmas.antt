@@ -12,7 +12,7 @@ use Rattle.x25_layer.specs.declared.error.LayerError.{LayerError}
 use Rattle.x25_layer.specs.declared.error.LayerError.TheVariants as error
 use Rattle.x25_layer.specs.Layer.{LayerSettings, is_channel}
 use Rattle.x25_layer.specs.Calls.{LayerOutcome, Accepted, Declined, Asks, outcome_on, outcome_in}
-use Rattle.x25_layer.specs.Rounds.{Answered, Went, Refuses, LinkView, went}
+use Rattle.x25_layer.specs.laws.Rounds.{Answered, Went, Refuses, LinkView, went}
 use Rattle.x25_link.specs.Station.{Side, is_up}
 use Rattle.x25_station.specs.Config.{Settings, link_settings, layer_settings}
 use Rattle.x25_station.specs.Entry.{StationEntry}

@@ -7,7 +7,7 @@ use Rattle.x25_circuit.specs.Calling.{Request, Accepts, outcome}
 use Rattle.x25_layer.specs.declared.error.LayerError.TheVariants as layer_error
 use Rattle.x25_layer.specs.Layer.{LayerSettings, is_channel}
 use Rattle.x25_layer.specs.Calls.{Asks, LayerOutcome, Declined, layer_outcome, outcome_in, outcome_on, if_at_once, puts_at_once}
-use Rattle.x25_layer.specs.Rounds.{LinkView, Refuses, went}
+use Rattle.x25_layer.specs.laws.Rounds.{LinkView, Refuses, went}
 use Rattle.x25_link.specs.Link.{alone}
 use Rattle.x25_station.specs.Config.{Settings, link_settings, layer_settings}
 use Rattle.x25_station.specs.Command.{proposal_said}

@@ -24,7 +24,7 @@ use Rattle.x25_layer.specs.declared.error.LayerError.{LayerError}
 use Rattle.x25_layer.specs.declared.error.LayerError.TheVariants as layer_error
 use Rattle.x25_layer.specs.Layer.{Layer, is_channel, is_ready}
 use Rattle.x25_layer.specs.Calls.{PullsAll, outcome_in, layer_outcome}
-use Rattle.x25_layer.specs.Rounds.{LinkView, Answered, Went, Refuses, Putting, begin, rounds, went, calls}
+use Rattle.x25_layer.specs.laws.Rounds.{LinkView, Answered, Went, Refuses, Putting, begin, rounds, went, calls}
 use Rattle.x25_given.specs.Given.{PlainGiven}
 use Rattle.x25_given.specs.Writing.{write}
 use Rattle.x25_station.specs.Command.{Requests, RequestsWith, Connects, Disconnects, Probes, Relinks, said_by, may_ask}

@@ -18,7 +18,7 @@ use Rattle.x25_circuit.specs.Message.{piece_of, no_part, joining, completed}
 use Rattle.x25_circuit.specs.Notice.{CallRequest, PlainNotice, connected, deliveries}
 use Rattle.x25_circuit.specs.Hearing.{Answer, answers, undecoded, collides, goes, clears_for, connects, row_call, row_accept, row_clear, row_clear_conf, row_reset, row_reset_conf, row_open, row_data, row_undecoded, unless, data_ground, number_ground, takes, hears_status, confirms}
 use Rattle.x25_layer.specs.Layer.{LayerSettings, Layer, LayerAnswer, is_channel, notices_on, answers_on, drops, answers_ready, answers_restarting, answers_in, undecoded_in}
-use Rattle.x25_layer.specs.Rounds.{undecoded_at, answer_to}
+use Rattle.x25_layer.specs.Receiving.{undecoded_at, answer_to}
 use Rattle.x25_station.specs.Receiving.{IsShort, AreTellable}
 
 abbrev AreShort : List PlainNotice → Type 0

@@ -28,7 +28,7 @@ use Rattle.x25_layer.specs.declared.error.LayerError.TheVariants as layer_error
 use Rattle.x25_layer.specs.Layer.{LayerSettings, Layer, LayerAnswer, is_channel, is_ready, put_at, packet_on, restarting_from}
 use Rattle.x25_layer.specs.Calls.{LayerRequest, Asks, Restarts, LayerOutcome, Accepted, Declined, outcome_on, outcome_in, layer_outcome}
 use Rattle.x25_station.specs.Confirming.{named_by}
-use Rattle.x25_layer.specs.Rounds.{LinkView, Putting, begin, rounds, went, Refuses}
+use Rattle.x25_layer.specs.laws.Rounds.{LinkView, Putting, begin, rounds, went, Refuses}
 use Rattle.x25_layer.specs.code.FitsLayer.{awaited_at}
 use Rattle.x25_station.specs.Command.{Requests, RequestsWith, Connects, Disconnects, Probes, Relinks, said_by, may_ask}
 use Rattle.x25_station.specs.Config.{Settings, link_settings, layer_settings}

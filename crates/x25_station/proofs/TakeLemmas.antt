@@ -13,6 +13,7 @@ use Rattle.x25_link.specs.Link.{take_step}
 use Rattle.x25_link.specs.laws.NoteLaw.{TakeTells, TakeHandsUp}
 use Rattle.x25_link.specs.code.FitsLink.{ShownLink, FitsLink, limit_of, up_of, waiting_of}
 use Rattle.x25_link.specs.laws.LinkLaws.{link_waits}
+use Rattle.x25_link.specs.code.Frames.{places_left}
 use Rattle.x25_layer.specs.declared.layer.Layer as layer_code
 use Rattle.x25_station.specs.declared.config.Manner.{Manner}
 use Rattle.x25_station.specs.Config.{Settings, link_settings}
@@ -76,3 +77,7 @@ if_some (Some x) P f = f x refl
 -- the link takes the longest packet
 pub takes_longest : {manner : Manner} (l : ShownLink) (y : layer_code.Layer) → AreMeant manner l y → 4099 ≤ limit_of l
 takes_longest l y h = least_by_meaning l y 4099 (limit_of l) h (λ c s fits. let n : limit_of l ≡ 4099 = fits.link.near.longest in omega (arith, n))
+
+-- between calls no frame is kept, so that there are places for those of any call
+pub has_places : {manner : Manner} (l : ShownLink) (y : layer_code.Layer) → AreMeant manner l y → 16 ≤ places_left l.frames
+has_places l y h = least_by_meaning l y 16 (places_left l.frames) h (λ c s fits. let n : length l.frames ≡ 0 = ap length fits.sent in omega (arith, n))

@@ -13,7 +13,7 @@ use Rattle.x25_link.specs.Hearing.{Step as LinkStep, quiet, leaves}
 use Rattle.x25_link.specs.Link as link
 use Rattle.x25_link.specs.Link.{closed_by, alone, connect_refusal, disconnect_refusal, asks_again, timer_refusal, timer_step, probe_refusal, relink_refusal}
 use Rattle.x25_layer.specs.Layer.{Layer}
-use Rattle.x25_layer.specs.Rounds.{Answered, Went, Refuses, calls}
+use Rattle.x25_layer.specs.laws.Rounds.{Answered, Went, Refuses, calls}
 use Rattle.x25_given.specs.Given.{PlainGiven}
 use Rattle.x25_station.specs.declared.error.StationError.TheVariants as error
 use Rattle.x25_station.specs.Command.{Command, Requests, RequestsWith, Connects, Disconnects, Probes, Relinks, said_by, may_ask}

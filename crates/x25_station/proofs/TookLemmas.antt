@@ -10,7 +10,7 @@ use Rattle.x25_link.specs.Link.{take_step, abandon_step}
 use Rattle.x25_link.specs.code.FitsLink.{ShownLink, FitsLink, FitsWhole}
 use Rattle.x25_layer.specs.declared.layer.Layer as layer_code
 use Rattle.x25_layer.specs.code.FitsLayer.{FitsLayer}
-use Rattle.x25_layer.specs.Rounds.{Putting}
+use Rattle.x25_layer.specs.laws.Rounds.{Putting}
 use Rattle.x25_station.specs.declared.config.Manner.{Manner}
 use Rattle.x25_station.specs.Config.{Settings, link_settings, layer_settings, manner_of}
 use Rattle.x25_station.specs.Entry.{StationEntry, entries_noted}

@@ -19,7 +19,7 @@ use Rattle.x25_link.specs.Hearing.{Step as LinkStep, quiet, leaves, other}
 use Rattle.x25_link.specs.Link.{alone, closed_by, put_step, take_step, timer_runs, timer_refusal, timer_step, asks_again, connect_refusal, connect_step, disconnect_refusal, disconnect_step, probe_refusal, relink_refusal, relink_step, abandon_step}
 use Rattle.x25_link.specs.laws.SetUp.{TakeWaits, waiting_after, waiting_up}
 use Rattle.x25_layer.specs.code.FitsLayer.{is_full}
-use Rattle.x25_layer.specs.Rounds.{Answered, Went, Refuses, calls}
+use Rattle.x25_layer.specs.laws.Rounds.{Answered, Went, Refuses, calls}
 use Rattle.x25_given.specs.Given.{PlainGiven}
 use Rattle.x25_given.specs.Writing.{write}
 use Rattle.x25_station.specs.Command.{Requests, RequestsWith, Connects, Disconnects, Probes, Relinks, said_by, may_ask}

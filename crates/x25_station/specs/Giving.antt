@@ -10,7 +10,7 @@ use Rattle.x25_circuit.specs.declared.error.CircuitError.TheVariants as circuit_
 use Rattle.x25_circuit.specs.Calling.{Accepts, Clears}
 use Rattle.x25_layer.specs.declared.error.LayerError.TheVariants as layer_error
 use Rattle.x25_layer.specs.Calls.{LayerRequest, Asks, Dials}
-use Rattle.x25_layer.specs.Rounds.{LinkView}
+use Rattle.x25_layer.specs.laws.Rounds.{LinkView}
 use Rattle.x25_given.specs.Given.{PlainGiven, may_give}
 use Rattle.x25_given.specs.Writing.{write}
 use Rattle.x25_station.specs.declared.error.StationError.{StationError}

@@ -7,7 +7,7 @@ use Rattle.x25_link.specs.code.Frames.{places_left}
 use Rattle.x25_circuit.specs.Notice.{PlainNotice, incoming, interrupted}
 use Rattle.x25_layer.specs.declared.layer.Layer as layer_code
 use Rattle.x25_layer.specs.Layer.{LayerSettings, Layer, LayerNotice, on_channel, is_channel}
-use Rattle.x25_layer.specs.Rounds.{LinkView, Putting}
+use Rattle.x25_layer.specs.laws.Rounds.{LinkView, Putting}
 use Rattle.x25_layer.specs.code.FitsLayer.{FitsLayer}
 use Rattle.x25_station.specs.Config.{Settings, link_settings, layer_settings}
 use Rattle.x25_station.specs.Station.{all_put, view_of}

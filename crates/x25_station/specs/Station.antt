@@ -7,7 +7,7 @@ use Rattle.x25_link.specs.Outgoing.{waits}
 use Rattle.x25_link.specs.Station.{Settings as LinkSettings, LinkStation, Side, with_nothing, is_up}
 use Rattle.x25_link.specs.Link.{alone, put_step}
 use Rattle.x25_layer.specs.Layer.{Layer, at_rest}
-use Rattle.x25_layer.specs.Rounds.{LinkView}
+use Rattle.x25_layer.specs.laws.Rounds.{LinkView}
 pub mod Told
 
 pub record Station : Type 0 where

@@ -17,7 +17,8 @@ use Rattle.x25_link.specs.Link.{relink_step}
 use Rattle.x25_layer.specs.Layer.{LayerSettings, Layer, LayerAnswer, rested}
 use Rattle.x25_layer.specs.Calls.{LayerRequest, LayerOutcome, Accepted, Declined, layer_outcome}
 use Rattle.x25_layer.specs.code.FitsLayer.{is_full}
-use Rattle.x25_layer.specs.Rounds.{LinkView, Putting, Answered, Went, Refuses, calls, hears, comes_up, answer_to}
+use Rattle.x25_layer.specs.Receiving.{answer_to}
+use Rattle.x25_layer.specs.laws.Rounds.{LinkView, Putting, Answered, Went, Refuses, calls, hears, comes_up}
 use Rattle.x25_station.specs.declared.error.StationError.{StationError}
 use Rattle.x25_station.specs.declared.error.StationError.TheVariants as error
 use Rattle.x25_station.specs.Config.{Settings, link_settings, layer_settings}

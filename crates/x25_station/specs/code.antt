@@ -2,6 +2,7 @@
 pub mod PlainEntry
 pub mod Memory
 pub mod FitsParts
+pub mod OverLink
 pub mod FitsStation
 pub mod Clock
 pub mod Pulls

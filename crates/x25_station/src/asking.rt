@@ -20,6 +20,7 @@ ghost use Rattle.x25_given.specs.Given.{PlainGiven};
 ghost use Rattle.x25_station.specs.Step.{commands, gives, gives_said, requests};
 
 use crate::command::Cmd;
+use crate::driving::{ask, call, pull, restart, state};
 use crate::entering::enter;
 use crate::entries::Entries;
 use crate::entry::{Asked, Entry, Said};
@@ -96,7 +97,6 @@ pub(crate) fn enter_asked(layer: &Layer, entries: &mut Entries, channel: u16, re
 }
 
 // Whether this may be asked: confirmation by a station that reads packets in all their forms.
-#[inline(always)]
 fn may_ask(wide: bool, request: &Request<'_>) -> bool
     ensures { (h : ℕ) → result ≡ may_ask wide (Asks h (plain_request request.now)) }
 {
@@ -218,7 +218,7 @@ impl Station {
     {
         steps_keep_bounds();
         holds_few();
-        match self.layer.pull(&mut self.link) {
+        match pull(&mut self.layer, &mut self.link) {
             Ok(()) => {
                 self.link.swap_frames(&mut out.frames);
                 Ok(())
@@ -311,10 +311,14 @@ impl Station {
     {
         steps_keep_bounds();
         holds_few();
-        match self
-            .layer
-            .call(&mut self.link, called, calling, user, proposal)
-        {
+        match call(
+            &mut self.layer,
+            &mut self.link,
+            called,
+            calling,
+            user,
+            proposal,
+        ) {
             Ok(channel) => {
                 let request = Request::Call {
                     called,
@@ -350,12 +354,12 @@ impl Station {
         // A copy is lent, so that the kind of the request itself stays known where this stands in its callers' place.
         let asked = request;
         if !may_ask(self.manner.wide, &asked) {
-            if let Some(error) = self.layer.refusal(&self.link, channel, &asked) {
+            if let Some(error) = self.layer.refusal(state(&self.link), channel, &asked) {
                 return Err(StationError::of_layer(error));
             }
             return Err(NOT_TAKEN);
         }
-        match self.layer.ask(&mut self.link, channel, request) {
+        match ask(&mut self.layer, &mut self.link, channel, request) {
             Ok(()) => {
                 enter_asked(&self.layer, &mut out.entries, channel, &asked);
                 self.link.swap_frames(&mut out.frames);
@@ -374,7 +378,7 @@ impl Station {
     {
         steps_keep_bounds();
         holds_few();
-        match self.layer.restart(&mut self.link, cause, diagnostic) {
+        match restart(&mut self.layer, &mut self.link, cause, diagnostic) {
             Ok(()) => {
                 out.entries.push(Entry::RestartAsked { cause, diagnostic });
                 self.link.swap_frames(&mut out.frames);

@@ -14,12 +14,13 @@ ghost use Rattle.x25_station.specs.Step.{gives, gives_said};
 
 use crate::asking::enter_asked;
 use crate::command::CallCmd;
+use crate::driving::{ask_with, call_with, state};
 use crate::error::StationError;
 use crate::law::steps_keep_bounds;
 use crate::station::Station;
 use crate::step::Step;
 use x25_circuit::{CircuitError, Proposal, Request};
-use x25_given::{Given, Writing, ask_through, call_through};
+use x25_given::{Given, Writing};
 use x25_layer::{LayerError, Params};
 use x25_link::holds_few;
 
@@ -148,7 +149,7 @@ impl Station {
         holds_few();
         if let Some(error) = self
             .layer
-            .call_refusal(&self.link, called, calling, user, proposal)
+            .call_refusal(state(&self.link), called, calling, user, proposal)
         {
             return Err(StationError::of_layer(error));
         }
@@ -158,7 +159,7 @@ impl Station {
         let Ok(form) = Writing::new(self.alloc, *given) else {
             return Err(StationError::NoMemory);
         };
-        match call_through(
+        match call_with(
             &mut self.layer,
             &mut self.link,
             form,
@@ -197,7 +198,7 @@ impl Station {
         steps_keep_bounds();
         holds_few();
         let judged = request;
-        if let Some(error) = self.layer.refusal(&self.link, channel, &judged) {
+        if let Some(error) = self.layer.refusal(state(&self.link), channel, &judged) {
             return Err(StationError::of_layer(error));
         }
         if !self.takes(given, suits(given, &judged)) {
@@ -206,7 +207,7 @@ impl Station {
         let Ok(form) = Writing::new(self.alloc, *given) else {
             return Err(StationError::NoMemory);
         };
-        match ask_through(&mut self.layer, &mut self.link, form, channel, request) {
+        match ask_with(&mut self.layer, &mut self.link, form, channel, request) {
             Ok(()) => {
                 enter_asked(&self.layer, &mut out.entries, channel, &judged);
                 self.link.swap_frames(&mut out.frames);

@@ -6,6 +6,7 @@ mod beside;
 mod command;
 mod config;
 mod confirming;
+mod driving;
 mod entering;
 mod entries;
 mod entry;

@@ -95,7 +95,6 @@ impl Memory {
     }
 
     /// The memory of a message, where no entry has it, and none is left.
-    #[inline(always)]
     pub(crate) fn take_spare(&mut self) -> Option<Octets>
         ensures spare { spares result ≡ self.old.messages }
         ensures texts { self.new.texts ≡ self.old.texts }
@@ -105,7 +104,6 @@ impl Memory {
     }
 
     /// Takes that memory back, where it is still there.
-    #[inline(always)]
     pub(crate) fn give_spare(&mut self, spare: Option<Octets>)
         requires { self.old.messages ≡ 0 }
         ensures texts { self.new.texts ≡ self.old.texts }

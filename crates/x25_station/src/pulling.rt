@@ -7,6 +7,7 @@ ghost use Rattle.x25_station.specs.Pulling.{pulled};
 ghost use Rattle.x25_station.specs.Station.{Station as State};
 ghost use Rattle.x25_station.specs.Timer.{timer_pulled};
 
+use crate::driving::pull;
 use crate::law::steps_keep_bounds;
 use crate::station::Station;
 use crate::step::{MOST_FRAMES, Step};
@@ -45,7 +46,7 @@ impl Station {
         steps_keep_bounds();
         self.link.swap_frames(frames);
         // It is refused where it does nothing.
-        let _ = self.layer.pull(&mut self.link);
+        let _ = pull(&mut self.layer, &mut self.link);
         self.link.swap_frames(frames);
     }
 }

@@ -6,7 +6,7 @@ ghost use Rattle.x25_link.specs.code.FitsLink.{FitsWhole, up_of};
 ghost use Rattle.x25_layer.specs.Layer.{Layer as LayerState};
 ghost use Rattle.x25_layer.specs.code.FitsLayer.{FitsLayer};
 ghost use Rattle.x25_layer.specs.Full.{IsNotFull};
-ghost use Rattle.x25_layer.specs.Rounds.{hears, comes_up};
+ghost use Rattle.x25_layer.specs.laws.Rounds.{hears, comes_up};
 ghost use Rattle.x25_station.specs.Entry.{bringing, entries_up, entries_noted};
 ghost use Rattle.x25_station.specs.Confirming.{named_by};
 ghost use Rattle.x25_station.specs.code.Clock.{SaysAcknowledged, TellsTimer};
@@ -21,6 +21,7 @@ ghost use Rattle.x25_station.specs.Step.{entries_of_answer, entries_of_packet};
 
 use crate::beside::beside_of;
 use crate::confirming::{confirmed, unconfirmed_on};
+use crate::driving::{come_up_alone, packet_up};
 use crate::entering::{bringing, enter_beside, enter_told};
 use crate::entries::Entries;
 use crate::entry::Entry;
@@ -33,7 +34,6 @@ use x25_link::{Link, Notes, OrderedLink, holds_few, notes_what_changes};
 use x25_packet::{channel, taking_keeps_octets};
 
 // The channel that a packet names, and 0 where it names none.
-#[inline(always)]
 fn named(packet: &[u8]) -> u16
     ensures { result ≡ named_by packet.now }
 {
@@ -50,7 +50,7 @@ fn come_up(layer: &mut Layer, link: &mut Link, entries: &mut Entries)
     ensures entries { map plain_entry entries.new.items ≡ map plain_entry entries.old.items ++ entries_up true }
 {
     entries.push(Entry::LinkUp);
-    layer.up(link).unwrap();
+    come_up_alone(layer, link);
 }
 
 // What the layer does with a packet that the link hands up, and the channel on which it may have brought more.
@@ -77,7 +77,7 @@ fn hear(
 {
     taking_keeps_octets();
     let mut spare = entries.memory.take_spare();
-    let told = layer.packet(link, wide, packet, &mut spare);
+    let told = packet_up(layer, link, wide, packet, &mut spare);
     entries.memory.give_spare(spare);
     let channel = bringing(&told);
     enter_told(layer, &mut entries.memory, told, &mut entries.list);
@@ -156,7 +156,6 @@ impl Station {
     }
 
     // Octets come, into a step that is empty. It says whether frames were acknowledged.
-    #[inline(always)]
     fn come(&mut self, octets: &[u8], out: &mut Step) -> bool
         requires { IsEmpty out.old }
         ensures does { Does self.old self.new out.new (Ok tt) (λ c s. Did (receives c s octets.now)) }
@@ -169,7 +168,6 @@ impl Station {
     }
 
     // Whether the link is up and a count is at its most.
-    #[inline(always)]
     fn is_full(&self) -> bool
         ensures value { (c : Settings) (s : State) → FitsStation c self.now s → result ≡ abandons c s }
         ensures up { result ≡ true → up_of self.now.link ≡ true }
@@ -199,7 +197,6 @@ impl Station {
     }
 
     // Octets that the link takes.
-    #[inline(always)]
     fn take(&mut self, octets: &[u8], out: &mut Step) -> bool
         requires left { up_of self.old.link ≡ true → IsNotFull self.old.layer }
         requires goes_on { (c : Settings) (s : State) → FitsStation c self.old s → abandons c s ≡ false }

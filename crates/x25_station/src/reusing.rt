@@ -11,7 +11,6 @@ use crate::step::Step;
 impl Station {
     /// Takes a step back that was read, of this station or of another, and leaves it empty. Timer T1 goes on in it, or
     /// is off.
-    #[inline(always)]
     pub fn reuse(&self, out: &mut Step)
         ensures empty { IsEmpty out.new }
         ensures timer { (c : Settings) (s : State) → FitsStation c self.now s → out.new.timer ≡ standing s }

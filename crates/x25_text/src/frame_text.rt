@@ -14,7 +14,6 @@ use x25_frame::{Frame, FrameError, Seq};
 /// The most characters of a frame or of a fault on one line, without its mark and line feed.
 pub const MOST_TEXT: usize = 8_300;
 
-#[inline]
 pub(crate) fn push_supervisory(label: &[u8], command: bool, pf: bool, nr: Seq, text: &mut Text)
     requires room { length text.old + (length label.now + 11) ≤ ROOM }
     ensures text { text.new ≡ text.old ++ (label.now ++ supervisory_text command pf nr.number) }

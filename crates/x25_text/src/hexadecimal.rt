@@ -29,7 +29,6 @@ static VALUES: [u8; 256] = [
     255, 255, 255,
 ];
 
-#[inline]
 fn value(character: u8) -> u8
     ensures { result ≡ value_of character }
 {
@@ -53,7 +52,6 @@ fn read_pairs(digits: &[u8], octets: &mut [u8]) -> bool
 }
 
 /// The values of sixteen characters, 255 of one that is no digit.
-#[inline]
 fn values(characters: u8x16) -> u8x16
     ensures { result ≡ map value_of characters }
 {
@@ -66,7 +64,6 @@ fn values(characters: u8x16) -> u8x16
 }
 
 /// Whether all are values of digits.
-#[inline]
 fn are_digits(values: u8x16) -> bool
     ensures { result ≡ list_all (λ value. nat_lt value 16) values }
 {
@@ -74,7 +71,6 @@ fn are_digits(values: u8x16) -> bool
 }
 
 /// The octets of sixteen values, as far as these are values of digits.
-#[inline]
 fn joined(values: u8x16) -> u8x8
     ensures size { length result ≡ 8 }
     ensures front { (count : ℕ) → count ≤ 8 → IsTrue (list_all (λ value. nat_lt value 16) (take (2 * count) values))
@@ -86,7 +82,6 @@ fn joined(values: u8x16) -> u8x8
 }
 
 /// Reads eight octets from a place on.
-#[inline]
 fn read_eight(digits: &[u8], octets: &mut [u8], place: usize) -> bool
     requires digits { length digits.now ≡ 2 * length octets.old }
     requires room { place + 8 ≤ length octets.old }
@@ -123,7 +118,6 @@ pub fn read_hexadecimal(digits: &[u8], octets: &mut [u8]) -> bool
 }
 
 /// The values of sixteen characters, as far as these are digits.
-#[inline(always)]
 fn values_of_digits(characters: u8x16) -> u8x16
     ensures { IsTrue (list_all is_ascii_hexdigit characters) → result ≡ map value_of characters }
 {
@@ -134,7 +128,6 @@ fn values_of_digits(characters: u8x16) -> u8x16
 }
 
 /// Reads eight octets from a place on, whose characters are digits.
-#[inline(always)]
 fn read_eight_digits(digits: &[u8], octets: &mut [u8], place: usize)
     requires digits { IsTrue (list_all is_ascii_hexdigit digits.now) }
     requires length { length digits.now ≡ 2 * length octets.old }
@@ -147,7 +140,6 @@ fn read_eight_digits(digits: &[u8], octets: &mut [u8], place: usize)
 }
 
 /// The octets of sixteen values, as far as these are values of digits: each in a word.
-#[inline(always)]
 fn joined_words(values: u8x16) -> u16x8
     ensures size { length result ≡ 8 }
     ensures octets { IsTrue (list_all (λ value. nat_lt value 16) values) → result ≡ paired values }
@@ -157,7 +149,6 @@ fn joined_words(values: u8x16) -> u16x8
 }
 
 /// The octets of twice sixteen values, as far as these are values of digits.
-#[inline(always)]
 fn joined_sixteen(first: u8x16, second: u8x16) -> u8x16
     ensures size { length result ≡ 16 }
     ensures octets { IsTrue (list_all (λ value. nat_lt value 16) first)
@@ -173,7 +164,6 @@ fn joined_sixteen(first: u8x16, second: u8x16) -> u8x16
 }
 
 /// Reads sixteen octets from a place on, whose characters are digits.
-#[inline(always)]
 fn read_sixteen_digits(digits: &[u8], octets: &mut [u8], place: usize)
     requires digits { IsTrue (list_all is_ascii_hexdigit digits.now) }
     requires length { length digits.now ≡ 2 * length octets.old }
@@ -226,7 +216,6 @@ pub fn read_digits(digits: &[u8], octets: &mut [u8])
 }
 
 /// The place of the lowest bit that is set, 16 where none is.
-#[inline(always)]
 pub fn lowest_set(mask: u64) -> usize
     ensures { result ≡ (if mask == 0 then 16 else trailing_zeros w64 mask) }
 {
@@ -238,7 +227,6 @@ pub fn lowest_set(mask: u64) -> usize
 }
 
 /// How many of sixteen values stand before the first that is of no digit.
-#[inline]
 fn leading(values: u8x16) -> usize
     ensures { result ≡ prefix_len (λ value. nat_lt value 16) values }
 {
@@ -247,7 +235,6 @@ fn leading(values: u8x16) -> usize
 
 /// Reads eight octets from a place on, and answers how many of their sixteen characters stand before the first that is
 /// no digit: so far the octets are right.
-#[inline]
 fn read_leading(text: &[u8], octets: &mut [u8], place: usize) -> usize
     requires text { 2 * place + 16 ≤ length text.now }
     requires room { place + 8 ≤ length octets.old }
@@ -262,7 +249,6 @@ fn read_leading(text: &[u8], octets: &mut [u8], place: usize) -> usize
 }
 
 /// The octets before a line feed, where one stands behind so many characters: `before` octets of two, and `more`.
-#[inline]
 fn octets_before(text: &[u8], before: usize, more: usize) -> Option<usize>
     requires { 2 * before + more < length text.now }
     ensures count { IfSome result (λ count. 2 * count ≡ 2 * before + more) }
@@ -312,7 +298,6 @@ pub fn read_line(text: &[u8], octets: &mut [u8]) -> Option<usize>
 }
 
 /// The digits of four octets.
-#[inline]
 fn digits_of_four(octets: u8x4) -> u8x8
     ensures { result ≡ flat_map octet_text octets }
 {
@@ -326,7 +311,6 @@ fn digits_of_four(octets: u8x4) -> u8x8
 }
 
 /// The digits of eight octets.
-#[inline]
 fn digits_of(octets: u8x8) -> u8x16
     ensures { result ≡ flat_map octet_text octets }
 {
@@ -340,7 +324,6 @@ fn digits_of(octets: u8x8) -> u8x16
 }
 
 /// Writes the digits of the four octets from a place on.
-#[inline]
 fn write_four(octets: &[u8], digits: &mut [u8], place: usize)
     requires digits { length digits.old ≡ 2 * length octets.now }
     requires room { place + 4 ≤ length octets.now }
@@ -351,7 +334,6 @@ fn write_four(octets: &[u8], digits: &mut [u8], place: usize)
 }
 
 /// Writes the digits of the eight octets from a place on.
-#[inline]
 fn write_eight(octets: &[u8], digits: &mut [u8], place: usize)
     requires digits { length digits.old ≡ 2 * length octets.now }
     requires room { place + 8 ≤ length octets.now }
@@ -362,7 +344,6 @@ fn write_eight(octets: &[u8], digits: &mut [u8], place: usize)
 }
 
 /// Writes fewer than eight octets as digits: four at a time, the digits of the last four over some that are there.
-#[inline]
 fn write_few(octets: &[u8], digits: &mut [u8])
     requires length { length digits.old ≡ 2 * length octets.now }
     requires few { length octets.now < 8 }
@@ -381,7 +362,6 @@ fn write_few(octets: &[u8], digits: &mut [u8])
 ///
 /// Eight octets at a time, of which the digits of the last eight, behind the loop, may be written over some that are
 /// there.
-#[inline]
 pub fn write_hexadecimal(octets: &[u8], digits: &mut [u8])
     requires { length digits.old ≡ 2 * length octets.now }
     ensures { digits.new ≡ flat_map octet_text octets.now }
@@ -398,7 +378,6 @@ pub fn write_hexadecimal(octets: &[u8], digits: &mut [u8])
 }
 
 /// A mark for each of sixteen characters: 246 or more for a digit, less for another.
-#[inline(always)]
 fn marks(characters: u8x16) -> u8x16
     ensures { list_all (nat_le 246) result ≡ list_all is_ascii_hexdigit characters }
 {
@@ -411,7 +390,6 @@ fn marks(characters: u8x16) -> u8x16
 }
 
 /// The marks of the sixteen characters from a place on.
-#[inline(always)]
 fn marks_at(text: &[u8], place: usize) -> u8x16
     requires { place + 16 ≤ length text.now }
     ensures { list_all (nat_le 246) result ≡ list_all is_ascii_hexdigit (take 16 (drop place text.now)) }
@@ -420,14 +398,12 @@ fn marks_at(text: &[u8], place: usize) -> u8x16
 }
 
 /// The lesser of two marks, sixteen times.
-#[inline(always)]
 fn lesser(first: u8x16, second: u8x16) -> u8x16
     ensures { list_all (nat_le 246) result ≡ (list_all (nat_le 246) first && list_all (nat_le 246) second) }
 {
     first.simd_lt(second).select(first, second)
 }
 
-#[inline(always)]
 fn are_below_ten(values: u8x16) -> bool
     ensures { result ≡ list_all (λ value. nat_lt value 10) values }
 {
@@ -435,7 +411,6 @@ fn are_below_ten(values: u8x16) -> bool
 }
 
 /// Whether all marks are of digits.
-#[inline(always)]
 fn are_of_digits(marks: u8x16) -> bool
     ensures { result ≡ list_all (nat_le 246) marks }
 {

@@ -93,7 +93,6 @@ fn reserve(buffer: &mut Vec<u8>, count: usize, more: usize) -> Result<(), AllocE
 }
 
 /// Puts characters behind the first `count`, and answers how many there are then.
-#[inline(always)]
 fn put(buffer: &mut [u8], count: usize, characters: &[u8]) -> usize
     requires room { count + length characters.now ≤ length buffer.old }
     ensures text { take result buffer.new ≡ take count buffer.old ++ characters.now }
@@ -106,7 +105,6 @@ fn put(buffer: &mut [u8], count: usize, characters: &[u8]) -> usize
 }
 
 /// Puts octets as hexadecimal digits behind the first `count` characters, and answers how many there are then.
-#[inline]
 fn put_hexadecimal(buffer: &mut [u8], count: usize, octets: &[u8]) -> usize
     requires room { count + 2 * length octets.now ≤ length buffer.old }
     ensures text { take result buffer.new ≡ take count buffer.old ++ flat_map octet_text octets.now }
@@ -119,7 +117,6 @@ fn put_hexadecimal(buffer: &mut [u8], count: usize, octets: &[u8]) -> usize
 }
 
 /// A number of one digit as a character.
-#[inline]
 pub fn digit(number: u8) -> u8
     requires { number < 10 }
     ensures { decimal number ≡ result ∷ [] }
@@ -128,7 +125,6 @@ pub fn digit(number: u8) -> u8
 }
 
 /// A bit as a character.
-#[inline]
 pub(crate) fn bit_digit(is_set: bool) -> u8
     ensures { decimal (bit is_set) ≡ result ∷ [] }
 {
@@ -136,7 +132,6 @@ pub(crate) fn bit_digit(is_set: bool) -> u8
 }
 
 /// A sequence number as a character.
-#[inline]
 pub(crate) fn seq_digit(number: Seq) -> u8
     ensures { decimal number.number ≡ result ∷ [] }
 {
@@ -181,7 +176,6 @@ impl Text {
     }
 
     /// Appends the characters.
-    #[inline]
     pub fn push(&mut self, characters: &[u8])
         requires room { length self.old + length characters.now ≤ ROOM }
         ensures text { self.new ≡ self.old ++ characters.now }

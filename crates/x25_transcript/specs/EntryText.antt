@@ -88,7 +88,8 @@ request_text channel name (Accepts None) = codes "accept" ++ channel_text channe
 request_text channel name (Accepts (Some answer)) = codes "accept" ++ channel_text channel ++ params_text answer.params
 request_text channel name (Clears cause diagnostic) = codes "clear" ++ channel_text channel
     ++ given_text cause diagnostic
-request_text channel name (Sends marks user) = codes "send" ++ stretch_text channel name ++ marks_text marks ++ user_text user
+request_text channel name (Sends marks user) = codes "send" ++ stretch_text channel name
+    ++ marks_text marks ++ user_text user
 request_text channel name (Interrupts user) = codes "int" ++ stretch_text channel name ++ user_text user
 request_text channel name (Resets cause diagnostic) = codes "reset" ++ channel_text channel
     ++ given_text cause diagnostic

@@ -1,15 +1,11 @@
 -- What a step leaves of a stretch that is open after it: it goes on, or has just begun.
 use Rattle.std.proofs.Common.{◌≡◌, ◌⊎◌, inl, inr, ℕ, suc, ◌≤◌, List, [], ◌∷◌, ◌++◌, length, Option, Some, None, Bool, true, false, nat_lt, nat_le, ◌&&◌, if◌then◌else◌, refl, sym, ap, ◌∙◌, arith, append-nil}
-use Rattle.x25_bits.specs.declared.role.Role.{Role}
-use Rattle.x25_bits.specs.declared.role.Role.TheVariants.{Dte, Dce}
+use Rattle.x25_bits.specs.{declared.role.Role.{Role}, declared.role.Role.TheVariants.{Dte, Dce}}
 use Rattle.x25_packet.specs.Packet.{PlainPacket, call, accept, clear, clear_conf, user_data, rr, rnr, interrupt, interrupt_conf, reset, reset_conf, restart, restart_conf}
 use Rattle.x25_packet.specs.declared.marks.Marks.{Marks}
-use Rattle.x25_circuit.specs.declared.state.State.{State}
-use Rattle.x25_circuit.specs.declared.state.State.TheVariants.{Free, Calling, Arriving, Collision, Open, Resetting, Clearing}
-use Rattle.x25_circuit.specs.declared.params.Params.{Params}
-use Rattle.x25_circuit.specs.declared.error.CircuitError.TheVariants.{BadParameter, Full, TooLong, InterruptOutstanding}
-use Rattle.x25_circuit.specs.Params.{Proposal, default_params, may_answer, field_for, said_in}
-use Rattle.x25_circuit.specs.Cause.{may_clear_for, may_reset_for}
+use Rattle.x25_circuit.specs.{declared.state.State.{State}, declared.state.State.TheVariants.{Free, Calling, Arriving, Collision, Open, Resetting, Clearing}}
+use Rattle.x25_circuit.specs.{declared.params.Params.{Params}, declared.error.CircuitError.TheVariants.{BadParameter, Full, TooLong, InterruptOutstanding}}
+use Rattle.x25_circuit.specs.{Params.{Proposal, default_params, may_answer, field_for, said_in}, Cause.{may_clear_for, may_reset_for}}
 use Rattle.x25_circuit.specs.Message.{Piece, piece_of, cut}
 use Rattle.x25_circuit.specs.Circuit.{Settings, Talk, silent, Circuit, talking, outgoing, incoming as terms_in, is_open, is_open_in, waits}
 use Rattle.x25_circuit.specs.Notice.{CallRequest, connected}

@@ -1,24 +1,18 @@
 -- What a move of a layer's end leaves of a stretch that is open after it, and what it adds to the transcript.
 use Rattle.std.proofs.Common.{◌≡◌, ℕ, List, [], ◌∷◌, ◌++◌, Option, Some, None, Bool, true, false, ◌==◌, if◌then◌else◌, refl, sym, subst, append-nil}
 use Rattle.std.proofs.lemmas.Bool.{eqb-true}
-use Rattle.x25_packet.specs.Packet.{PlainPacket, restart, restart_conf}
-use Rattle.x25_packet.specs.Spelling.{channel_of}
-use Rattle.x25_circuit.specs.Circuit.{Circuit, is_open}
-use Rattle.x25_circuit.specs.Hearing.{answers}
-use Rattle.x25_circuit.specs.Calling.{Outcome, Done, Refused, Calls, outcome, pulled}
-use Rattle.x25_circuit.specs.Cause.{may_restart_for}
-use Rattle.x25_layer.specs.Ranges.{is_channel}
-use Rattle.x25_layer.specs.Layer.{LayerSettings, Layer, put_at, answers_on, drops, answers_in, layer_answers, restarting_from}
+use Rattle.x25_packet.specs.{Packet.{PlainPacket, restart, restart_conf}, Spelling.{channel_of}}
+use Rattle.x25_circuit.specs.{Circuit.{Circuit, is_open}, Hearing.{answers}, Calling.{Outcome, Done, Refused, Calls, outcome, pulled}, Cause.{may_restart_for}}
+use Rattle.x25_layer.specs.{Ranges.{is_channel}, Layer.{LayerSettings, Layer, put_at, answers_on, drops, answers_in, layer_answers, restarting_from}}
 use Rattle.x25_layer.specs.Calls.{LayerRequest, Asks, Dials, Restarts, PullsAll, LayerOutcome, Accepted, Declined, puts_at_once, where_room, if_at_once, outcome_on, dialled, free_channel, outcome_ready, outcome_in, layer_outcome, layer_pulled}
-use Rattle.x25_circuit.specs.declared.error.CircuitError.TheVariants as circuit_error
-use Rattle.x25_layer.specs.declared.error.LayerError.{LayerError}
-use Rattle.x25_layer.specs.declared.error.LayerError.TheVariants as error
-use Rattle.x25_layer.specs.laws.Transcript.{Entry}
-use Rattle.x25_layer.specs.laws.TwoLayers as layer
+use Rattle.x25_layer.specs.{declared.error.LayerError.{LayerError}, laws.Transcript.{Entry}}
 use Rattle.x25_layer.specs.laws.TwoLayers.{requested, pulled_in, moves_in, entries_asked, entries_told}
 use Rattle.x25_layer.specs.laws.Apart.{OwnMove, Requests, Pulls, Takes, GoesDown, as_move, coming, alone, own_moves}
 use Rattle.x25_world.proofs.Continues.{never, AfterPacket, AfterCall, stays_heard, stays_called, packet_heard, AfterOutcome, outcome_called, pulled_called}
 use Rattle.x25_world.proofs.sessions.SessionTrace.{TakesNone}
+use Rattle.x25_circuit.specs.declared.error.CircuitError.TheVariants as circuit_error
+use Rattle.x25_layer.specs.declared.error.LayerError.TheVariants as error
+use Rattle.x25_layer.specs.laws.TwoLayers as layer
 
 pub record LayerGoes (R : Circuit → Circuit → Type 0) (l next : Layer) (k : ℕ) : Type 0 where
   pub circuit : R (l.circuits k) (next.circuits k)

@@ -1,28 +1,15 @@
 -- Set-up: SABM and UA are taken, and both ends put RESTART, as two stations from a link just set up.
 use Rattle.std.proofs.Common.{◌≡◌, ℕ, List, [], ◌∷◌, ◌++◌, map, Bool, true, Option, None, Ok, refl, sym, ap, ap₂, ◌∙◌, subst, arith}
-use Rattle.x25_bits.specs.declared.role.Role.{Role}
-use Rattle.x25_bits.specs.declared.role.Role.TheVariants.{Dte, Dce}
-use Rattle.x25_frame.specs.Frame.{PlainFrame, sabm, ua}
-use Rattle.x25_frame.specs.Spelling.{spelling_of}
-use Rattle.x25_frame.specs.Reading.{frame_of}
-use Rattle.x25_link.specs.declared.phase.Phase.TheVariants.{Down, Waiting}
-use Rattle.x25_link.specs.declared.phase.Reason.{Reason}
-use Rattle.x25_link.specs.laws.SetUp.{Is}
-use Rattle.x25_link.specs.Station.{LinkStation, with_nothing, fresh, is_up, pumped}
-use Rattle.x25_link.specs.Hearing.{Step as LinkStep}
-use Rattle.x25_link.specs.Link.{take_step, put_step}
+use Rattle.x25_bits.specs.{declared.role.Role.{Role}, declared.role.Role.TheVariants.{Dte, Dce}}
+use Rattle.x25_frame.specs.{Frame.{PlainFrame, sabm, ua}, Spelling.{spelling_of}, Reading.{frame_of}}
+use Rattle.x25_link.specs.{declared.phase.Phase.TheVariants.{Down, Waiting}, declared.phase.Reason.{Reason}, laws.SetUp.{Is}}
+use Rattle.x25_link.specs.{Station.{LinkStation, with_nothing, fresh, is_up, pumped}, Hearing.{Step as LinkStep}, Link.{take_step, put_step}}
 use Rattle.x25_layer.specs.Layer.{at_rest, goes_up}
-use Rattle.x25_station.specs.declared.config.Cfg.{Cfg}
-use Rattle.x25_station.specs.Config.{settings_from, longest_packet}
-use Rattle.x25_station.specs.Entry.{StationEntry, link_up, entries_noted}
-use Rattle.x25_station.specs.Station.{Station, new_station}
-use Rattle.x25_station.specs.Step.{Step, follows, receives}
-use Rattle.x25_station.specs.laws.KeepLaw.{IsKept}
+use Rattle.x25_station.specs.{declared.config.Cfg.{Cfg}, Config.{settings_from, longest_packet}, Entry.{StationEntry, link_up, entries_noted}}
+use Rattle.x25_station.specs.{Station.{Station, new_station}, Step.{Step, follows, receives}, laws.KeepLaw.{IsKept}}
 use Rattle.x25_world.specs.World.{World, swapped, entered, tapped, after_step, delivered, after, Event, Receives, happens, refusal_of, AreAccepted, connected, established}
-use Rattle.x25_world.specs.laws.Claims.{link_of}
-use Rattle.x25_world.specs.laws.WindowGoes.{restart_of, two_links}
+use Rattle.x25_world.specs.{laws.Claims.{link_of}, laws.WindowGoes.{restart_of, two_links}, laws.LawsBelow.{Laws}}
 use Rattle.x25_world.proofs.sessions.SessionTrace.{layer_of}
-use Rattle.x25_world.specs.laws.LawsBelow.{Laws}
 use Rattle.x25_peer.proofs.sessions.LinkSteps.{handed_up}
 
 -- ---- an end that comes up

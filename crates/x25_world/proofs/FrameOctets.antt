@@ -1,16 +1,11 @@
 -- The octets that spell a frame are octets, at most as many as the longest frame has.
 use Rattle.std.proofs.Common.{◌≡◌, ◌∙◌, ℕ, zero, suc, ◌+◌, ◌-◌, ◌*◌, ◌/◌, ◌%◌, ◌≤◌, ◌<◌, Bool, true, false, not, List, [], ◌∷◌, ◌++◌, length, map, take, drop, replicate, subst, arith, refl}
-use Rattle.std.proofs.lemmas.List.{length-append, length-map, length-replicate}
-use Rattle.std.proofs.lemmas.List.Elements.{All-nil, All-cons, All-append}
-use Rattle.x25_bits.specs.Bits.{bit}
-use Rattle.x25_bits.specs.FrameCheck.{number_of, bits_of, add, divisor, divided, remainder, inverted, fcs_of}
-use Rattle.x25_bits.specs.FrameCheck.Sealed.{seal_of}
-use Rattle.x25_bits.specs.declared.role.Role.{Role}
-use Rattle.x25_bits.specs.declared.role.Role.TheVariants.{Dte, Dce}
+use Rattle.std.proofs.{lemmas.List.{length-append, length-map, length-replicate}, lemmas.List.Elements.{All-nil, All-cons, All-append}}
+use Rattle.x25_bits.specs.{Bits.{bit}, FrameCheck.{number_of, bits_of, add, divisor, divided, remainder, inverted, fcs_of}, FrameCheck.Sealed.{seal_of}}
+use Rattle.x25_bits.specs.{declared.role.Role.{Role}, declared.role.Role.TheVariants.{Dte, Dce}}
 use Rattle.x25_frame.specs.Frame.{PlainFrame, info, rr, rnr, rej, sabm, disc, ua, dm, frmr}
 use Rattle.x25_frame.specs.Spelling.{is_command, address_of, control_of, information_of, IsInRange, MayCarry, IsWithin, body_of, spelling_of}
-use Rattle.x25_station.specs.Config.{longest_packet}
-use Rattle.x25_station.specs.laws.ReadLaw.{AreOctets}
+use Rattle.x25_station.specs.{Config.{longest_packet}, laws.ReadLaw.{AreOctets}}
 use Rattle.x25_world.specs.laws.TapOctets.{AreOfFrame}
 
 -- ---- the frame check sequence has sixteen bits

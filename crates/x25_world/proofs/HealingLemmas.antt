@@ -1,49 +1,32 @@
 -- What rest shows at a world of two stations; and how its two links heal, while the layers put nothing.
 use Rattle.std.proofs.Common.{◌≡◌, ℕ, List, [], ◌∷◌, ◌++◌, map, Bool, true, false, ◌&&◌, if◌then◌else◌, Option, Some, None, refl, sym, ap, ◌∙◌, subst, suc, length, ◌≤◌, inl}
-use Rattle.std.specs.Prelude.{◌==◌}
 use Rattle.std.proofs.lemmas.Bool.{eq-eqb}
-use Rattle.x25_bits.specs.declared.role.Role.{Role}
-use Rattle.x25_bits.specs.declared.role.Role.TheVariants.{Dte, Dce}
+use Rattle.std.specs.Prelude.{◌==◌}
+use Rattle.x25_bits.specs.{declared.role.Role.{Role}, declared.role.Role.TheVariants.{Dte, Dce}}
 use Rattle.x25_frame.specs.Spelling.{spelling_of}
 use Rattle.x25_packet.specs.Packet.{PlainPacket}
-use Rattle.x25_link.specs.declared.error.LinkError.{LinkError}
-use Rattle.x25_link.specs.Station.{Settings as LinkSettings, LinkStation, is_up, awaits_ua}
-use Rattle.x25_link.specs.Hearing.{Step as LinkStep, other}
-use Rattle.x25_link.specs.Link.{take_step, timer_step, timer_refusal, timer_runs, abandon_step}
+use Rattle.x25_line.specs.{laws.Sessions.{Meeting, Sessions, from_nothing, begun_by, IsTimely, AreTimely}, laws.SessionNumbers.{standing_run, standing_at}}
+use Rattle.x25_line.specs.laws.SessionClaims.{Each, octets_of}
+use Rattle.x25_line.specs.Healing.{IsDelivery, EachRestShows, IsAtRestOrOut, HasTries, OneIsFree, EachSessionHeals, SessionsHealUnlessBothBusy, FindsIn, EachFindsIn, SessionsDrainEnd}
+use Rattle.x25_layer.specs.{code.FitsLayer.{waits_up_to}, laws.Law.{HasAllOf}}
+use Rattle.x25_handshakes.specs.laws.Names.{Name}
+use Rattle.x25_station.specs.{declared.config.Cfg.{Cfg}, Config.{Settings, settings_from, link_settings, layer_settings}, Station.{all_put, view_of}}
+use Rattle.x25_station.specs.{Step.{follows, layer_at, unless, fires}, laws.KeepLaw.{ConnectKeeps}, Station.Told.{stretch}}
+use Rattle.x25_world.specs.World.{World, swapped, WorldOutcome, Happened, Declined, swapped_back, Receives, acts, delivered, fired, of_station, is_on_line, after, after_step, happens, refusal_of, run, AreAccepted}
+use Rattle.x25_world.specs.{laws.Claims.{link_of, station_at}, laws.LawsBelow.{SessionLaws}, laws.SessionClaims.{Throughout, AllArrive}}
+use Rattle.x25_world.specs.{laws.WindowGoes.{at_end}, laws.Sessions.{last_session, handed_in}}
+use Rattle.x25_world.specs.Healing.{IsDrained, receipt, all_received, firing, AreLinksOf, StopsAtRest, RestShows, PutsNothing, PutsNothingAt, NonePut, Heals, MayHeal, HealsWhereNonePut, DrainsWhereNonePut}
+use Rattle.x25_world.proofs.{Known.{IsConfigured, is_configured, links_joined}, WorldLemmas.{refusal-swapped}}
+use Rattle.x25_world.proofs.{sessions.SessionReaches.{both_down, known_sessions, links_append, timely_append}, sessions.SessionJoined.{SessionsJoined}}
+use Rattle.x25_world.proofs.{Growing.{octets_put}, sessions.SessionFollows.{silent}, sessions.SessionRuns.{throughout_joined}}
+use Rattle.x25_peer.proofs.Granted.{timer_silent}
+use Rattle.x25_link.specs.{declared.error.LinkError.{LinkError}, Station.{Settings as LinkSettings, LinkStation, is_up, awaits_ua}}
+use Rattle.x25_link.specs.{Hearing.{Step as LinkStep, other}, Link.{take_step, timer_step, timer_refusal, timer_runs, abandon_step}, laws.RestLaw.{IsAtRest}}
 use Rattle.x25_link.specs.Link as link
-use Rattle.x25_link.specs.laws.RestLaw.{IsAtRest}
 use Rattle.x25_line.specs.laws.Stations as line
 use Rattle.x25_line.specs.laws.Sessions as links
-use Rattle.x25_line.specs.laws.Sessions.{Meeting, Sessions, from_nothing, begun_by, IsTimely, AreTimely}
-use Rattle.x25_line.specs.laws.SessionNumbers.{standing_run, standing_at}
 use Rattle.x25_line.specs.laws.SessionClaims as claims
-use Rattle.x25_line.specs.laws.SessionClaims.{octets_of}
-use Rattle.x25_line.specs.Healing.{AreDeliveries, EachRestShows, SessionHasTries, OneIsFree, EachSessionHeals, SessionsHealUnlessBothBusy, FindsIn, EachFindsIn, SessionsDrainEnd}
-use Rattle.x25_layer.specs.code.FitsLayer.{waits_up_to}
-use Rattle.x25_layer.specs.laws.Law.{HasAllOf}
-use Rattle.x25_handshakes.specs.laws.Names.{Name}
-use Rattle.x25_station.specs.declared.config.Cfg.{Cfg}
-use Rattle.x25_station.specs.Config.{Settings, settings_from, link_settings, layer_settings}
-use Rattle.x25_station.specs.Station.{all_put, view_of}
-use Rattle.x25_station.specs.Step.{follows, layer_at, unless, fires}
-use Rattle.x25_station.specs.laws.KeepLaw.{ConnectKeeps}
-use Rattle.x25_station.specs.Station.Told.{stretch}
-use Rattle.x25_world.specs.World.{World, swapped, WorldOutcome, Happened, Declined, swapped_back, Receives, acts, delivered, fired, of_station, is_on_line, after, after_step, happens, refusal_of, run, AreAccepted}
 use Rattle.x25_world.specs.declared.error.WorldError.TheVariants as error
-use Rattle.x25_world.specs.laws.Claims.{link_of, station_at}
-use Rattle.x25_world.specs.laws.LawsBelow.{SessionLaws}
-use Rattle.x25_world.specs.laws.SessionClaims.{Throughout, AllArrive}
-use Rattle.x25_world.specs.laws.WindowGoes.{at_end}
-use Rattle.x25_world.specs.laws.Sessions.{last_session, handed_in}
-use Rattle.x25_world.specs.Healing.{IsDrained, receipt, all_received, firing, AreLinksOf, StopsAtRest, RestShows, PutsNothing, PutsNothingAt, NonePut, HasTries, RestsOrIsOut, Heals, MayHeal, HealsWhereNonePut, DrainsWhereNonePut}
-use Rattle.x25_world.proofs.Known.{IsConfigured, is_configured, links_joined}
-use Rattle.x25_world.proofs.WorldLemmas.{refusal-swapped}
-use Rattle.x25_world.proofs.sessions.SessionReaches.{both_down, known_sessions, links_append, timely_append}
-use Rattle.x25_world.proofs.sessions.SessionJoined.{SessionsJoined}
-use Rattle.x25_peer.proofs.Granted.{timer_silent}
-use Rattle.x25_world.proofs.Growing.{octets_put}
-use Rattle.x25_world.proofs.sessions.SessionFollows.{silent}
-use Rattle.x25_world.proofs.sessions.SessionRuns.{throughout_joined}
 
 -- ---- links that have the links and the lines of a world
 
@@ -129,7 +112,7 @@ all_alike : (cfg : Cfg) (ends : List Role) (w : World) (v : Sessions) → Alike 
 all_alike cfg [] w v h none = h
 all_alike cfg (at ∷ ends) w v h none = all_alike cfg ends (after w (happens cfg w (receipt at))) (links.happens (c_of cfg) (d_of cfg) (at_end at line.Deliver) v) (receipt_alike cfg at w v h none.0) none.1
 
-are_deliveries : (ends : List Role) → AreDeliveries (received ends)
+are_deliveries : (ends : List Role) → Each IsDelivery (received ends)
 are_deliveries [] = tt
 are_deliveries (Dte ∷ ends) = (tt, are_deliveries ends)
 are_deliveries (Dce ∷ ends) = (tt, are_deliveries ends)
@@ -293,7 +276,7 @@ module _ (laws : SessionLaws) (keeps : ConnectKeeps) where
     abbrev HealsOnce : LinkSettings → LinkSettings → Sessions → Type 0
     HealsOnce c d x =
         x.out ≡ [] → x.back ≡ [] → OneIsFree x.near.station x.far.station
-        → (deliveries : List line.Event) → AreDeliveries deliveries
+        → (deliveries : List line.Event) → Each IsDelivery deliveries
         → (let v = links.run c d (line.Near line.T1 ∷ line.Far line.T1 ∷ deliveries) x in v.out ≡ [] → v.back ≡ [] → EachSessionHeals c d x v)
 
     each : (u : World) → Alike u gone → IsDrained u → EachSessionHeals c d h.links gone
@@ -302,20 +285,14 @@ module _ (laws : SessionLaws) (keeps : ConnectKeeps) where
         (subst (λ (s : LinkStation). OneIsFree s h.links.far.station) (sym h.near.link) (subst (λ (s : LinkStation). OneIsFree w.near.link s) (sym h.far.link) may.free))
         (received ends) (are_deliveries ends) (none_of gone.out (alike.out ∙ after_all.out)) (none_of gone.back (alike.back ∙ after_all.back))
 
-    near_may : is_up w.near.link.phase ≡ true → HasTries cfg w.near.link → SessionHasTries c h.links.near
-    near_may up tries = record { up = ap (λ (s : LinkStation). is_up s.phase) h.near.link ∙ up; tries = subst (HasTries cfg) (sym h.near.link) tries }
-
-    far_may : is_up w.far.link.phase ≡ true → HasTries cfg w.far.link → SessionHasTries d h.links.far
-    far_may up tries = record { up = ap (λ (s : LinkStation). is_up s.phase) h.far.link ∙ up; tries = subst (HasTries cfg) (sym h.far.link) tries }
-
     heals_at : (u : World) → Alike u gone → IsDrained u → Heals cfg w u
     heals_at u alike after_all =
         let r = each u alike after_all in
         record {
-          dte = subst RestsOrIsOut alike.near r.near;
-          dce = subst RestsOrIsOut alike.far r.far;
-          healed = λ near_up far_up near_tries far_tries.
-              let healed = r.healed (near_may near_up near_tries) (far_may far_up far_tries) in
+          dte = subst IsAtRestOrOut alike.near r.near;
+          dce = subst IsAtRestOrOut alike.far r.far;
+          healed = λ near_may far_may.
+              let healed = r.healed (subst (HasTries cfg.n2) (sym h.near.link) near_may) (subst (HasTries cfg.n2) (sym h.far.link) far_may) in
               record {
                 dte = subst IsAtRest alike.near healed.near_rest;
                 dce = subst IsAtRest alike.far healed.far_rest;

@@ -1,43 +1,29 @@
 -- How the two links of a world heal while the layers put packets: each event of the world is a delivery to a link, where octets come, and then packets
 -- that are handed down to it.
 use Rattle.std.proofs.Common.{◌≡◌, ℕ, List, [], ◌∷◌, ◌++◌, map, Bool, true, false, if◌then◌else◌, option_to_list, refl, sym, ap, ◌∙◌, subst}
-use Rattle.x25_bits.specs.declared.role.Role.{Role}
-use Rattle.x25_bits.specs.declared.role.Role.TheVariants.{Dte, Dce}
+use Rattle.x25_bits.specs.{declared.role.Role.{Role}, declared.role.Role.TheVariants.{Dte, Dce}}
 use Rattle.x25_frame.specs.Spelling.{spelling_of}
-use Rattle.x25_link.specs.declared.phase.Phase.{Phase}
-use Rattle.x25_link.specs.declared.phase.Phase.TheVariants.{Waiting}
-use Rattle.x25_link.specs.Station.{Settings as LinkSettings, LinkStation, Side, is_up, is_busy, awaits_ua}
-use Rattle.x25_link.specs.Link.{alone, take_step, abandon_step}
-use Rattle.x25_link.specs.laws.RestLaw.{IsAtRest}
-use Rattle.x25_line.specs.laws.Stations as line
-use Rattle.x25_line.specs.laws.Sessions as links
-use Rattle.x25_line.specs.laws.Sessions.{SessionEnd, Meeting, Sessions, begun_by, IsTimely, AreTimely}
-use Rattle.x25_line.specs.laws.SessionClaims.{octets_of}
-use Rattle.x25_line.specs.laws.HealingPuts.{SessionMayHeal, AreFree, IsDeliverOrPut, AreDeliveriesAndPuts, SessionsFreeThroughout, SessionsHaveArrived, PutsHealSessions}
+use Rattle.x25_link.specs.{declared.phase.Phase.{Phase}, declared.phase.Phase.TheVariants.{Waiting}, laws.RestLaw.{IsAtRest}}
+use Rattle.x25_line.specs.{laws.Sessions.{SessionEnd, Meeting, Sessions, begun_by, IsTimely, AreTimely}, laws.SessionClaims.{Each, octets_of}}
+use Rattle.x25_line.specs.laws.HealingPuts.{LinkMayHeal, AreFree, IsDeliverOrPut, IsDeliveryOrPut, SessionsFreeThroughout, SessionsHaveArrived, PutsHealSessions}
 use Rattle.x25_given.specs.Given.{PlainGiven}
 use Rattle.x25_layer.specs.Calls.{LayerRequest}
-use Rattle.x25_station.specs.declared.config.Cfg.{Cfg}
-use Rattle.x25_station.specs.Command as command
-use Rattle.x25_station.specs.Config.{Settings, settings_from}
-use Rattle.x25_station.specs.Step.{Step, Outcome, Did, Refused, follows, requests, gives}
-use Rattle.x25_station.specs.laws.GivenLaw.{GivesOctets}
-use Rattle.x25_station.specs.laws.KeepLaw.{ConnectKeeps}
-use Rattle.x25_station.specs.laws.ReadLaw.{RequestsOctets}
+use Rattle.x25_station.specs.{declared.config.Cfg.{Cfg}, Config.{Settings, settings_from}, Step.{Step, Outcome, Did, Refused, follows, requests, gives}}
+use Rattle.x25_station.specs.{laws.GivenLaw.{GivesOctets}, laws.KeepLaw.{ConnectKeeps}, laws.ReadLaw.{RequestsOctets}}
 use Rattle.x25_world.specs.World.{World, swapped, Act, Commands, Receives, Fires, Event, acts, delivered, of_station, happens, after, after_step, run}
-use Rattle.x25_world.specs.laws.Claims.{ActsInOctets, AreInOctets, link_of}
-use Rattle.x25_world.specs.laws.LawsBelow.{SessionLaws}
-use Rattle.x25_world.specs.laws.SessionClaims.{Throughout}
+use Rattle.x25_world.specs.{laws.Claims.{ActsInOctets, AreInOctets, link_of}, laws.LawsBelow.{SessionLaws}, laws.SessionClaims.{Throughout}}
 use Rattle.x25_world.specs.laws.WindowGoes.{all_at}
-use Rattle.x25_world.specs.Healing.{firing, HasTries, IsReceiptOrRequest, AreReceiptsAndRequests, ComeFreely, ActsFreely, FreeAt, FreeThroughout, LinkMayHeal, HealsWithPuts}
-use Rattle.x25_world.proofs.Known.{IsConfigured, is_configured, true_false}
-use Rattle.x25_world.proofs.sessions.SessionReaches.{both_down, twice, known_sessions, links_append}
-use Rattle.x25_world.proofs.sessions.SessionJoined.{SessionsJoined, sessions_swapped}
-use Rattle.x25_peer.proofs.sessions.LinkSteps.{SessionGoes, StepGoes, stays_goes, deliver_goes, puts_of, all_act, puts_go, HasPut}
-use Rattle.x25_world.proofs.Growing.{octets_put, front_entry}
+use Rattle.x25_world.specs.Healing.{firing, IsReceiptOrRequest, AreReceiptsAndRequests, ComeFreely, ActsFreely, FreeAt, FreeThroughout, HealsWithPuts}
+use Rattle.x25_world.proofs.{Known.{IsConfigured, is_configured, true_false}, sessions.SessionReaches.{both_down, twice, known_sessions, links_append}}
+use Rattle.x25_world.proofs.{sessions.SessionJoined.{SessionsJoined, sessions_swapped}, Growing.{octets_put, front_entry}}
 use Rattle.x25_world.proofs.sessions.SessionRuns.{event_joined, throughout_joined, down_at_none, not_set_up}
-use Rattle.x25_world.proofs.sessions.acts.SessionRequests.{request_puts, given_puts, said_octets}
-use Rattle.x25_world.proofs.sessions.acts.SessionReceives.{taken_puts}
+use Rattle.x25_world.proofs.{sessions.acts.SessionRequests.{request_puts, given_puts, said_octets}, sessions.acts.SessionReceives.{taken_puts}}
 use Rattle.x25_world.proofs.HealingLemmas.{Alike, turned, back_after, c_of, d_of, both_alike, none_of, joined_alike, links_are, fired_then, gone_are}
+use Rattle.x25_peer.proofs.sessions.LinkSteps.{SessionGoes, StepGoes, stays_goes, deliver_goes, puts_of, all_act, puts_go, HasPut}
+use Rattle.x25_link.specs.{Station.{Settings as LinkSettings, LinkStation, Side, is_up, is_busy, awaits_ua}, Link.{alone, take_step, abandon_step}}
+use Rattle.x25_line.specs.laws.Stations as line
+use Rattle.x25_line.specs.laws.Sessions as links
+use Rattle.x25_station.specs.Command as command
 
 -- ---- what a link is asked in an event
 
@@ -167,12 +153,12 @@ event_asked laws cfg fine Dce act w h v like are octets free =
 
 -- ---- events are deliveries and packets that are put
 
-puts_are : (at : Role) (packets : List (List ℕ)) (rest : List line.Event) → AreDeliveriesAndPuts rest → AreDeliveriesAndPuts (all_at at (puts_of packets) ++ rest)
+puts_are : (at : Role) (packets : List (List ℕ)) (rest : List line.Event) → Each IsDeliveryOrPut rest → Each IsDeliveryOrPut (all_at at (puts_of packets) ++ rest)
 puts_are at [] rest h = h
 puts_are Dte (p ∷ packets) rest h = (tt, puts_are Dte packets rest h)
 puts_are Dce (p ∷ packets) rest h = (tt, puts_are Dce packets rest h)
 
-asked_are : (at : Role) (comes : Bool) (packets : List (List ℕ)) (rest : List line.Event) → AreDeliveriesAndPuts rest → AreDeliveriesAndPuts (all_at at (asked_of comes packets) ++ rest)
+asked_are : (at : Role) (comes : Bool) (packets : List (List ℕ)) (rest : List line.Event) → Each IsDeliveryOrPut rest → Each IsDeliveryOrPut (all_at at (asked_of comes packets) ++ rest)
 asked_are at false packets rest h = puts_are at packets rest h
 asked_are Dte true packets rest h = (tt, puts_are Dte packets rest h)
 asked_are Dce true packets rest h = (tt, puts_are Dce packets rest h)
@@ -197,7 +183,7 @@ free_alike w v like free = (ap is_busy like.near ∙ free.0, ap is_busy like.far
 -- the links go by such events where the world goes by these
 record AllAsked (cfg : Cfg) (u : World) (v : Sessions) : Type 0 where
   pub asked : List line.Event
-  pub are : AreDeliveriesAndPuts asked
+  pub are : Each IsDeliveryOrPut asked
   pub free : SessionsFreeThroughout (c_of cfg) (d_of cfg) asked v
   pub alike : Alike u (links.run (c_of cfg) (d_of cfg) asked v)
 
@@ -230,22 +216,14 @@ timely_act c d line.Deliver v is = tt
 timely_act c d (line.Put packet) v is = tt
 timely_act c d act v is = absurd is
 
-asked_timely : (c d : LinkSettings) (es : List line.Event) (v : Sessions) → AreDeliveriesAndPuts es → AreTimely c d es v
+asked_timely : (c d : LinkSettings) (es : List line.Event) (v : Sessions) → Each IsDeliveryOrPut es → AreTimely c d es v
 asked_timely c d [] v are = tt
 asked_timely c d (line.Near act ∷ es) v are = (timely_act c d act v are.0, asked_timely c d es (links.acts c act v) are.1)
 asked_timely c d (line.Far act ∷ es) v are = (timely_act d c act (links.swapped v) are.0, asked_timely c d es (links.happens c d (line.Far act) v) are.1)
 
--- the links behind a link that may heal may heal
-may_heal : (cfg : Cfg) (end : Role) (s : LinkStation) (k : SessionEnd) → k.station ≡ s → LinkMayHeal cfg s → SessionMayHeal (link_of cfg end) k
-may_heal cfg end s k is may = record {
-  up = ap (λ (x : LinkStation). is_up x.phase) is ∙ may.up;
-  free = ap is_busy is ∙ may.free;
-  tries = subst (HasTries cfg) (sym is) may.tries;
-}
-
 abbrev HealsOnce : LinkSettings → LinkSettings → Sessions → Type 0
 HealsOnce c d x =
-    x.out ≡ [] → x.back ≡ [] → SessionMayHeal c x.near → SessionMayHeal d x.far → (more : List line.Event) → AreDeliveriesAndPuts more
+    x.out ≡ [] → x.back ≡ [] → LinkMayHeal c.retries x.near.station → LinkMayHeal d.retries x.far.station → (more : List line.Event) → Each IsDeliveryOrPut more
     → (let fired = links.run c d (line.Near line.T1 ∷ line.Far line.T1 ∷ []) x in SessionsFreeThroughout c d more fired → (let v = links.run c d more fired in v.out ≡ [] → v.back ≡ [] → SessionsHaveArrived x v))
 
 module _ (laws : SessionLaws) (keeps : ConnectKeeps) where
@@ -301,5 +279,5 @@ module _ (laws : SessionLaws) (keeps : ConnectKeeps) where
       arrived : SessionsHaveArrived h.links gone
       arrived =
           known_sessions HealsOnce law cfg configured Dte h.links h.reach (none_of h.links.out (h.out ∙ may.drained.out)) (none_of h.links.back (h.back ∙ may.drained.back))
-          (may_heal cfg Dte w.near.link h.links.near h.near.link may.near) (may_heal cfg Dce w.far.link h.links.far h.far.link may.far) all.asked all.are all.free
+          (subst (LinkMayHeal cfg.n2) (sym h.near.link) may.near) (subst (LinkMayHeal cfg.n2) (sym h.far.link) may.far) all.asked all.are all.free
           (none_of gone.out (all.alike.out ∙ after_all.out)) (none_of gone.back (all.alike.back ∙ after_all.back))

@@ -2,29 +2,17 @@
 use Rattle.std.proofs.Common.{◌≡◌, ℕ, zero, suc, ◌+◌, ◌-◌, ◌*◌, ◌≤◌, ◌<◌, Bool, true, false, List, [], ◌∷◌, ◌++◌, length, ◌&&◌, inl, Option, Some, None, refl, sym, ap, ◌∙◌, subst, arith}
 use Rattle.std.proofs.lemmas.Bool.{and_parts, not-true}
 use Rattle.std.specs.Prelude.{is_none, is_some, not, option_map}
-use Rattle.x25_bits.specs.declared.role.Role.{Role}
-use Rattle.x25_bits.specs.declared.role.Role.TheVariants.{Dte, Dce}
-use Rattle.x25_station.specs.declared.config.Cfg.{Cfg}
-use Rattle.x25_link.specs.Station.{LinkStation, is_up}
-use Rattle.x25_link.specs.Link.{is_idle, timer_runs}
-use Rattle.x25_link.specs.laws.RestLaw.{IsAtRest}
-use Rattle.x25_layer.specs.Calls.{PullsAll}
-use Rattle.x25_layer.specs.laws.WaitLaw.{PullsNone}
-use Rattle.x25_station.specs.Config.{settings_from, layer_settings, config_refusal}
-use Rattle.x25_station.specs.Command.{Requests}
-use Rattle.x25_station.specs.Station.{Station}
-use Rattle.x25_station.specs.Station.Told.{is_at_rest}
-use Rattle.x25_station.specs.Step.{Outcome, Did, Refused, commands}
+use Rattle.x25_bits.specs.{declared.role.Role.{Role}, declared.role.Role.TheVariants.{Dte, Dce}}
+use Rattle.x25_station.specs.{declared.config.Cfg.{Cfg}, Config.{settings_from, layer_settings, config_refusal}, Command.{Requests}, Station.{Station}}
+use Rattle.x25_station.specs.{Station.Told.{is_at_rest}, Step.{Outcome, Did, Refused, commands}}
+use Rattle.x25_link.specs.{Station.{LinkStation, is_up}, Link.{is_idle, timer_runs}, laws.RestLaw.{IsAtRest}}
+use Rattle.x25_layer.specs.{Calls.{PullsAll}, laws.WaitLaw.{PullsNone}}
 use Rattle.x25_world.specs.World.{World, AtEnd, swapped, WorldOutcome, Happened, Declined, of_station, swapped_back, Event, happens, after, run}
-use Rattle.x25_world.specs.laws.Claims.{AreInOctets, IsBeginning}
-use Rattle.x25_world.specs.laws.SessionClaims.{Throughout}
+use Rattle.x25_world.specs.{laws.Claims.{AreInOctets, IsBeginning}, laws.SessionClaims.{Throughout}}
 use Rattle.x25_world.specs.laws.WaitClaims.{pull_at, AllWaitForUsers, HasNoneToPull, PullsLeaveNone, UnpulledWaitForUsers}
 use Rattle.x25_world.specs.Healing.{receipt, all_received, firing, next_end, arrivals, deliveries, one_if, if_accepted, behind, both_tried, pull_round, unless_empty, pull_rounds, fire_and_pull, healing, received_by, received_in, IsDrained, AreReceiptsAndRequests, FreeThroughout, BothMayHeal, HaveArrived, HealsWithPuts, RestShows, ArrivesByHealing, AllArrives, RestShowsAll}
-use Rattle.x25_world.specs.code.ShownWorld.{ShownWorld}
-use Rattle.x25_world.specs.code.FitsWorld.{FitsWorld, FitsRun, Leaves}
-use Rattle.x25_world.specs.code.FitsHealing.{most_times, TellingWorld, GoesBy}
-use Rattle.x25_world.proofs.WorldLemmas.{run_append, accepted_append, octets_append}
-use Rattle.x25_world.proofs.HealingSchedule.{count_append, tried_is, Begun, goes_on, rest_is}
+use Rattle.x25_world.specs.{code.ShownWorld.{ShownWorld}, code.FitsWorld.{FitsWorld, FitsRun, Leaves}, code.FitsHealing.{most_times, TellingWorld, GoesBy}}
+use Rattle.x25_world.proofs.{WorldLemmas.{run_append, accepted_append, octets_append}, HealingSchedule.{count_append, tried_is, Begun, goes_on, rest_is}}
 
 -- ---- rounds
 

@@ -1,8 +1,7 @@
 -- Frames on the line, as clauses see them: one that is taken off, and one in the place of another.
-use Rattle.std.proofs.Common.{◌≡◌, ℕ, zero, suc, List, [], ◌∷◌, map, take, drop, refl, ap, ◌∙◌}
-use Rattle.std.specs.List.{remove}
-use Rattle.std.proofs.Math.ListN.{set}
+use Rattle.std.proofs.{Common.{◌≡◌, ℕ, zero, suc, List, [], ◌∷◌, map, take, drop, refl, ap, ◌∙◌}, Math.ListN.{set}}
 use Rattle.std.proofs.lemmas.List.{map-append, map-set, take-map, drop-map}
+use Rattle.std.specs.List.{remove}
 use Rattle.x25_line.specs.laws.Stations.{replaced}
 
 pub map-remove : {X Y : Type 0} (f : X → Y) (xs : List X) (k : ℕ) → map f (remove xs k) ≡ remove (map f xs) k

@@ -1,18 +1,15 @@
 -- Two stations from a link just set up do as two links with their sessions do from there: the same acts lead to the same stations and lines.
 -- An end came up anew where it began a session behind the first.
 use Rattle.std.proofs.Common.{◌≡◌, ℕ, ◌<◌, ◌⊎◌, inl, inr, List, [], ◌∷◌, ◌++◌, Bool, true, false, ◌||◌, refl, sym, ap, ◌∙◌, subst, arith}
-use Rattle.x25_bits.specs.declared.role.Role.{Role}
-use Rattle.x25_bits.specs.declared.role.Role.TheVariants.{Dte, Dce}
-use Rattle.x25_link.specs.Hearing.{other}
-use Rattle.x25_link.specs.Station.{Settings as LinkSettings}
-use Rattle.x25_line.specs.laws.Stations as line
-use Rattle.x25_line.specs.laws.Stations.{StationEnd}
-use Rattle.x25_line.specs.laws.StationClaims.{AcceptsNoConnect, AcceptsNoConnectAt, NoneConnects}
-use Rattle.x25_line.specs.laws.Sessions as links
+use Rattle.x25_bits.specs.{declared.role.Role.{Role}, declared.role.Role.TheVariants.{Dte, Dce}}
+use Rattle.x25_link.specs.{Hearing.{other}, Station.{Settings as LinkSettings}}
+use Rattle.x25_line.specs.{laws.Stations.{StationEnd}, laws.StationClaims.{AcceptsNoConnect, AcceptsNoConnectAt, NoneConnects}}
 use Rattle.x25_line.specs.laws.Sessions.{SessionEnd, Sessions, begun_by}
 use Rattle.x25_line.proofs.sessions.SessionsForgotten.{Lasts, Alike, happens_alike, turned_alike}
 use Rattle.x25_station.specs.declared.config.Cfg.{Cfg}
 use Rattle.x25_world.specs.laws.Claims.{link_of}
+use Rattle.x25_line.specs.laws.Stations as line
+use Rattle.x25_line.specs.laws.Sessions as links
 
 -- ---- the same stations and lines
 

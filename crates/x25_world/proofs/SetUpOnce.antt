@@ -1,35 +1,19 @@
 -- Where the link is set up once, each end has one session, these are in order, and all that the ends told of their layers is in them.
 use Rattle.std.proofs.Common.{◌≡◌, ℕ, zero, suc, ◌+◌, ◌≤◌, ◌⊎◌, inl, inr, List, [], ◌∷◌, Bool, true, false, refl, sym, ap, ◌∙◌, subst, arith}
-use Rattle.x25_bits.specs.declared.role.Role.{Role}
-use Rattle.x25_bits.specs.declared.role.Role.TheVariants.{Dte, Dce}
-use Rattle.x25_link.specs.Hearing.{other}
-use Rattle.x25_line.specs.laws.StationClaims.{IsSetUpOnce, OneLinkUnlessConnected}
-use Rattle.x25_line.specs.laws.Sessions.{SessionEnd}
-use Rattle.x25_line.specs.laws.SessionClaims.{OnlyBegunHaveLists}
-use Rattle.x25_layer.specs.Layer.{LayerNotice}
-use Rattle.x25_layer.specs.laws.Law.{HandsUpLawfully, HasAllOf}
-use Rattle.x25_layer.specs.laws.NameLaw.{first_name, counted}
-use Rattle.x25_layer.specs.laws.Transcript.{Entry}
-use Rattle.x25_layer.specs.Layer.{goes_up}
-use Rattle.x25_layer.specs.laws.Apart.{OwnMove, own_run}
-use Rattle.x25_layer.specs.laws.TwoLayers.{started}
-use Rattle.x25_link.specs.Station.{is_up}
-use Rattle.x25_station.specs.declared.config.Cfg.{Cfg}
-use Rattle.x25_station.specs.Entry.{StationEntry, link_up, link_down, layer_entries}
-use Rattle.x25_station.specs.Station.{Station}
+use Rattle.x25_bits.specs.{declared.role.Role.{Role}, declared.role.Role.TheVariants.{Dte, Dce}}
+use Rattle.x25_link.specs.{Hearing.{other}, Station.{is_up}}
+use Rattle.x25_line.specs.{laws.StationClaims.{IsSetUpOnce, OneLinkUnlessConnected}, laws.Sessions.{SessionEnd}, laws.SessionClaims.{OnlyBegunHaveLists}}
+use Rattle.x25_layer.specs.{Layer.{LayerNotice, goes_up}, laws.Law.{HandsUpLawfully, HasAllOf}, laws.NameLaw.{first_name, counted}, laws.Transcript.{Entry}}
+use Rattle.x25_layer.specs.{laws.Apart.{OwnMove, own_run}, laws.TwoLayers.{started}}
+use Rattle.x25_station.specs.{declared.config.Cfg.{Cfg}, Entry.{StationEntry, link_up, link_down, layer_entries}, Station.{Station}}
 use Rattle.x25_world.specs.World.{World}
 use Rattle.x25_world.specs.laws.Claims.{station_at, entries_at, ups_in, IsUpOnce, IsUpAtMostOnce, handed_at, link_of, IsLawful, IsNamed, ArrivesAll}
-use Rattle.x25_world.specs.laws.Sessions.{Progress, none_begun, after_entry, after_entries, session_at, last_session, handed_in}
-use Rattle.x25_world.proofs.Known.{IsConfigured}
-use Rattle.x25_world.proofs.OneLink.{IsAnew, OneLink}
-use Rattle.x25_world.proofs.sessions.SessionTrace.{Done, layer_of, own}
+use Rattle.x25_world.specs.{laws.Sessions.{Progress, none_begun, after_entry, after_entries, session_at, last_session, handed_in}, laws.LawsBelow.{SessionLaws}}
+use Rattle.x25_world.proofs.{Known.{IsConfigured}, OneLink.{IsAnew, OneLink}, sessions.SessionTrace.{Done, layer_of, own}}
 use Rattle.x25_world.proofs.sessions.SessionReaches.{Beginning, set_up, known_sessions, joined_at}
 use Rattle.x25_world.proofs.sessions.SessionJoined.{HaveAll, IsEnd, HasMet, PairIsInOrder, SessionsJoined}
-use Rattle.x25_world.specs.laws.LawsBelow.{SessionLaws}
-use Rattle.x25_world.proofs.sessions.SessionKnown.{met_in_order, nothing_in_order}
-use Rattle.x25_world.proofs.sessions.claims.SessionMeets.{begun_both, meet_in_step}
-use Rattle.x25_world.proofs.sessions.claims.SessionLawful.{own_lawful, are_named}
-use Rattle.x25_world.proofs.sessions.claims.SessionArrives.{all_arrive, open_stretches_meet}
+use Rattle.x25_world.proofs.{sessions.SessionKnown.{met_in_order, nothing_in_order}, sessions.claims.SessionMeets.{begun_both, meet_in_step}}
+use Rattle.x25_world.proofs.{sessions.claims.SessionLawful.{own_lawful, are_named}, sessions.claims.SessionArrives.{all_arrive, open_stretches_meet}}
 
 -- ---- how many sessions an end began
 

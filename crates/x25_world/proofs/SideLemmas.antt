@@ -1,28 +1,20 @@
 -- What an end did is its act by the definition, and its refusal is due.
 use Rattle.std.proofs.Common.{◌≡◌, ℕ, Bool, true, false, ◌&&◌, if◌then◌else◌, List, [], ◌∷◌, ◌++◌, map, Some, None, slice_get, Result, Ok, Err, OnOk, OnErr, IfErr, ◌⊎◌, inl, inr, refl, ap, sym, ◌∙◌}
-use Rattle.std.specs.List.{remove}
 use Rattle.std.proofs.lemmas.List.{append-nil}
-use Rattle.x25_bits.specs.Role.{other}
-use Rattle.x25_bits.specs.declared.role.Role.{Role}
-use Rattle.x25_bits.specs.declared.role.Role.TheVariants.{Dte, Dce}
+use Rattle.std.specs.List.{remove}
+use Rattle.x25_bits.specs.{Role.{other}, declared.role.Role.{Role}, declared.role.Role.TheVariants.{Dte, Dce}}
 use Rattle.x25_frame.specs.Spelling.{spelling_of}
 use Rattle.x25_link.specs.Station.{awaits_ua}
-use Rattle.x25_station.specs.declared.config.Cfg.{Cfg}
-use Rattle.x25_station.specs.declared.error.StationError.{StationError}
+use Rattle.x25_station.specs.{declared.config.Cfg.{Cfg}, declared.error.StationError.{StationError}, Entry.{StationEntry}}
+use Rattle.x25_station.specs.{code.FitsStation.{FitsStation, Leaves, Sends, Enters, Refuses}, code.PlainEntry.{plain_entry}, Config.{Settings, settings_from}}
+use Rattle.x25_station.specs.Step.{Step, Outcome, Did, Refused, fires, receives}
+use Rattle.x25_world.specs.{declared.error.WorldError.{WorldError}, Error.{error_of}}
+use Rattle.x25_world.specs.World.{World, WorldOutcome, Happened, Declined, after_step, of_station, delivered, on_line, is_on_line, fired, refusal_of, entered}
+use Rattle.x25_world.specs.{code.ShownLine.{ShownLine, line_to, with_line_to, with_room_of, put_by, TakesFew}, code.FitsWorld.{FitsSide, HasHappened}}
 use Rattle.x25_station.specs.declared.error.StationError.TheVariants as station
 use Rattle.x25_station.specs.declared.station.Station as code
 use Rattle.x25_station.specs.declared.step.Step as code_step
-use Rattle.x25_station.specs.Entry.{StationEntry}
-use Rattle.x25_station.specs.code.FitsStation.{FitsStation, Leaves, Sends, Enters, Refuses}
-use Rattle.x25_station.specs.code.PlainEntry.{plain_entry}
-use Rattle.x25_station.specs.Config.{Settings, settings_from}
-use Rattle.x25_station.specs.Step.{Step, Outcome, Did, Refused, fires, receives}
-use Rattle.x25_world.specs.declared.error.WorldError.{WorldError}
 use Rattle.x25_world.specs.declared.error.WorldError.TheVariants as error
-use Rattle.x25_world.specs.Error.{error_of}
-use Rattle.x25_world.specs.World.{World, WorldOutcome, Happened, Declined, after_step, of_station, delivered, on_line, is_on_line, fired, refusal_of, entered}
-use Rattle.x25_world.specs.code.ShownLine.{ShownLine, line_to, with_line_to, with_room_of, put_by, TakesFew}
-use Rattle.x25_world.specs.code.FitsWorld.{FitsSide, HasHappened}
 
 -- what an end shares with the other, where this is left on the line to it
 pub record FitsShared (at : Role) (line : ShownLine) (w : World) (left : List (List ℕ)) : Type 0 where

@@ -2,25 +2,18 @@
 use Rattle.std.proofs.Common.{◌≡◌, ℕ, List, [], ◌∷◌, ◌++◌, false, refl, sym, ap, ◌∙◌, subst, append_assoc, append-nil}
 use Rattle.x25_bits.specs.declared.role.Role.TheVariants.{Dte, Dce}
 use Rattle.x25_link.specs.Station.{Settings as LinkSettings}
-use Rattle.x25_line.specs.laws.Line.{Line}
-use Rattle.x25_line.specs.laws.Stations as line
-use Rattle.x25_line.specs.laws.StationClaims.{IsSetUpOnce}
-use Rattle.x25_line.specs.laws.Sessions as links
-use Rattle.x25_line.specs.laws.Sessions.{Sessions, AreTimely}
-use Rattle.x25_line.specs.laws.WholeNumbers.{machine_run, machine_at_start, machine_happens, MachineGoesAlong, OnceStaysOnce}
-use Rattle.x25_station.specs.declared.config.Cfg.{Cfg}
-use Rattle.x25_station.specs.laws.KeepLaw.{ConnectKeeps}
-use Rattle.x25_world.specs.World.{World, Event, happens, after, run, established}
-use Rattle.x25_world.specs.laws.Claims.{ActsInOctets, AreInOctets, IsUpOnce, link_of}
-use Rattle.x25_world.specs.laws.WindowGoes.{AsksAll, all_at, IsBehindWorld, GoesAlong, both_put, StaysInWindow}
-use Rattle.x25_world.proofs.Known.{IsConfigured}
-use Rattle.x25_line.proofs.sessions.SessionsForgotten.{runs_alike}
-use Rattle.x25_world.proofs.OneLink.{IsLike, AreAlike, like_lasts, run_append}
-use Rattle.x25_world.proofs.sessions.SessionReaches.{Beginning, both_down, set_up, at_event, joined_at}
-use Rattle.x25_world.proofs.sessions.SessionJoined.{SessionsJoined, retold}
-use Rattle.x25_world.specs.laws.LawsBelow.{SessionLaws}
+use Rattle.x25_line.specs.{laws.Line.{Line}, laws.StationClaims.{IsSetUpOnce}, laws.Sessions.{Sessions, AreTimely}}
+use Rattle.x25_line.specs.{laws.WholeNumbers.{machine_run, machine_at_start, machine_happens, MachineGoesAlong, OnceStaysOnce}, laws.SessionClaims.{Each}}
+use Rattle.x25_station.specs.{declared.config.Cfg.{Cfg}, laws.KeepLaw.{ConnectKeeps}}
+use Rattle.x25_world.specs.{World.{World, Event, happens, after, run, established}, laws.Claims.{ActsInOctets, AreInOctets, IsUpOnce, link_of}}
+use Rattle.x25_world.specs.{laws.WindowGoes.{Asks, all_at, IsBehindWorld, GoesAlong, both_put, StaysInWindow}, laws.LawsBelow.{SessionLaws}}
+use Rattle.x25_world.proofs.{Known.{IsConfigured}, OneLink.{IsLike, AreAlike, like_lasts, run_append}}
+use Rattle.x25_world.proofs.{sessions.SessionReaches.{Beginning, both_down, set_up, at_event, joined_at}, sessions.SessionJoined.{SessionsJoined, retold}}
 use Rattle.x25_world.proofs.sessions.SessionRuns.{event_joined, established_joined, set_up_alike, down_at_none, not_set_up}
 use Rattle.x25_world.proofs.SetUpOnce.{ups_are_begun, not_anew}
+use Rattle.x25_line.proofs.sessions.SessionsForgotten.{runs_alike}
+use Rattle.x25_line.specs.laws.Stations as line
+use Rattle.x25_line.specs.laws.Sessions as links
 
 machine_append : (c d : LinkSettings) (xs ys : List line.Event) (s : line.Stations) (l : Line (List ℕ))
     → machine_run c d (xs ++ ys) s l ≡ machine_run c d ys (line.run c d xs s) (machine_run c d xs s l)
@@ -47,7 +40,7 @@ event_is_none asks v e is = absurd (never is)
 pub record Next (cfg : Cfg) (w : World) (v : Sessions) (e : Event) : Type 0 where
   pub joined : SessionsJoined both_down cfg Dte (after w (happens cfg w e))
   pub asked : List line.Act
-  pub may : AsksAll e.act asked
+  pub may : Each (Asks e.act) asked
   pub timely : AreTimely (link_of cfg Dte) (link_of cfg Dce) (all_at e.at asked) v
   pub run : links.run (link_of cfg Dte) (link_of cfg Dce) (all_at e.at asked) v ≡ joined.links
 

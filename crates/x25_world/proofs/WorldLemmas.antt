@@ -1,32 +1,23 @@
 -- An end that acts, in its world: the other end is as it was. And lists of events, one more at a time.
 use Rattle.std.proofs.Common.{◌≡◌, IfOk, ℕ, ◌≤◌, nat_lt, ◌&&◌, Bool, true, false, if◌then◌else◌, List, [], ◌∷◌, ◌++◌, length, map, drop, Option, Some, None, Result, Ok, Err, OnOk, OnErr, IfErr, ◌⊎◌, inl, inr, refl, ap, sym, ◌∙◌, subst, append_assoc, arith}
+use Rattle.std.proofs.{Math.Seq.{drop-append_seam}, lemmas.List.{append-nil, drop_all}}
 use Rattle.std.specs.List.{remove}
-use Rattle.std.proofs.Math.Seq.{drop-append_seam}
-use Rattle.std.proofs.lemmas.List.{append-nil, drop_all}
-use Rattle.x25_bits.specs.declared.role.Role.{Role}
-use Rattle.x25_bits.specs.declared.role.Role.TheVariants.{Dte, Dce}
+use Rattle.x25_bits.specs.{declared.role.Role.{Role}, declared.role.Role.TheVariants.{Dte, Dce}}
 use Rattle.x25_frame.specs.Spelling.{spelling_of}
 use Rattle.x25_link.specs.Station.{awaits_ua}
 use Rattle.x25_line.specs.laws.Stations.{is_visible, replaced}
-use Rattle.x25_station.specs.declared.config.Cfg.{Cfg}
-use Rattle.x25_station.specs.declared.error.StationError.{StationError}
-use Rattle.x25_station.specs.declared.station.Station as code
-use Rattle.x25_station.specs.Entry.{StationEntry}
-use Rattle.x25_station.specs.code.FitsStation.{FitsStation}
-use Rattle.x25_station.specs.Config.{Settings, settings_from, config_refusal}
-use Rattle.x25_station.specs.Step.{Step, Outcome, Did, Refused, commands, fires, receives}
+use Rattle.x25_station.specs.{declared.config.Cfg.{Cfg}, declared.error.StationError.{StationError}, Entry.{StationEntry}, code.FitsStation.{FitsStation}}
+use Rattle.x25_station.specs.{Config.{Settings, settings_from, config_refusal}, Step.{Step, Outcome, Did, Refused, commands, fires, receives}}
 use Rattle.x25_world.specs.declared.error.WorldError.{WorldError}
-use Rattle.x25_world.specs.declared.error.WorldError.TheVariants as error
 use Rattle.x25_world.specs.World.{World, swapped, Event, Act, Commands, Receives, Fires, Loses, Damages, WorldOutcome, Happened, Declined, after_step, of_station, delivered, on_line, is_on_line, acts, acts_at, tapped, entered, swapped_back, AtEnd, happens, after, refusal_of, run, AreAccepted, connected, established, start}
 use Rattle.x25_world.specs.laws.Claims.{ActsInOctets, AreInOctets, entries_at, ups_in, IsUpOnce, IsUpAtMostOnce, IsBeginning, UpOnceUnlessConnected, Always, UntilSecondUp, IsLawful, IsNamed, ArrivesAll, HasNoProcedureError}
-use Rattle.x25_world.proofs.Established.{connected_tells}
 use Rattle.x25_world.specs.laws.SessionClaims.{Throughout, ThroughoutAlong, MeetInStep, AreLawfulWhereMet, AreNamedInSessions, AllArrive, UnmetAreToldNothing, OpenStretchesMeet, SessionsKeepOrder}
-use Rattle.x25_world.specs.laws.BesideClaims.{BesideIsGiven}
-use Rattle.x25_world.specs.laws.SessionWindow.{SessionsStayInWindow}
-use Rattle.x25_world.specs.laws.WindowGoes.{StaysInWindow}
-use Rattle.x25_world.specs.code.ShownLine.{ShownLine}
-use Rattle.x25_world.specs.code.ShownWorld.{ShownWorld, shown_with, line_from}
+use Rattle.x25_world.specs.{laws.BesideClaims.{BesideIsGiven}, laws.SessionWindow.{SessionsStayInWindow}, laws.WindowGoes.{StaysInWindow}}
+use Rattle.x25_world.specs.{code.ShownLine.{ShownLine}, code.ShownWorld.{ShownWorld, shown_with, line_from}}
 use Rattle.x25_world.specs.code.FitsWorld.{FitsWorld, FitsRun, Claims, ClaimsOfNew, ClaimsOfSetUp, and_then, HasHappened, HasActed, HasActedAt, RefusesConfig}
+use Rattle.x25_world.proofs.Established.{connected_tells}
+use Rattle.x25_station.specs.declared.station.Station as code
+use Rattle.x25_world.specs.declared.error.WorldError.TheVariants as error
 
 -- ---- the far end is as it was
 

@@ -1,11 +1,8 @@
 -- Damage to the bits of the line: others come in the place of those between the flags of a frame. Profile.
 use Rattle.std.specs.Prelude.{ℕ, ◌<◌, ◌≤◌, Bool, List, length}
-use Rattle.x25_bits.specs.Found.{found_of}
-use Rattle.x25_bits.specs.HarmlessBits.{between_flags, IsHarmless, first_content}
-use Rattle.x25_bits.specs.declared.direction.Direction.{Direction}
-use Rattle.x25_bits.specs.Role.{end_of}
-use Rattle.x25_world.specs.World.{Event, Damages}
-use Rattle.x25_world.specs.declared.error.WorldError.{WorldError}
+use Rattle.x25_bits.specs.{Found.{found_of}, HarmlessBits.{between_flags, IsHarmless, first_content}}
+use Rattle.x25_bits.specs.{declared.direction.Direction.{Direction}, Role.{end_of}}
+use Rattle.x25_world.specs.{World.{Event, Damages}, declared.error.WorldError.{WorldError}}
 use Rattle.x25_world.specs.declared.error.WorldError.TheVariants.{NoSuchFrame, Unseen, NoMemory}
 
 -- it is damage to the octets: the first content that is found between these flags comes in the place of the frame's, or

@@ -1,10 +1,10 @@
 -- The number of each refusal of a world (profile).
 use Rattle.std.specs.Prelude.{ℕ}
 use Rattle.x25_station.specs.declared.error.StationError.{StationError}
-use Rattle.x25_station.specs.declared.error.StationError.TheVariants as station
 use Rattle.x25_world.specs.declared.error.WorldError.{WorldError}
 use Rattle.x25_world.specs.declared.error.WorldError.TheVariants.{BadConfig, Empty, NoSuchFrame, Unseen, Station}
 use Rattle.x25_world.specs.declared.error.WorldError.TheVariants.{OnLine, NoMemory}
+use Rattle.x25_station.specs.declared.error.StationError.TheVariants as station
 
 abbrev pub number_of : WorldError → ℕ
 number_of BadConfig = 14

@@ -1,35 +1,27 @@
 -- Healing of two stations: once the line is good for a moment, what their links were handed down arrives. What is on
 -- the line arrives; timer T1 runs out once at each end where it runs; and then all that is on the line arrives, while
 -- nothing is lost. What still waits in circuits is pulled then, and arrives too.
-use Rattle.std.specs.Prelude.{◌≡◌, ℕ, zero, suc, ◌+◌, ◌<◌, ◌≤◌, length, ◌⊎◌, Bool, true, false, ◌&&◌, List, [], ◌∷◌}
+use Rattle.std.specs.Prelude.{◌≡◌, ℕ, zero, suc, ◌+◌, ◌<◌, ◌≤◌, length, Bool, true, false, ◌&&◌, List, [], ◌∷◌}
 use Rattle.std.specs.Prelude.{◌++◌, Option, Some, None}
-use Rattle.x25_bits.specs.declared.role.Role.{Role}
-use Rattle.x25_bits.specs.declared.role.Role.TheVariants.{Dte, Dce}
-use Rattle.x25_link.specs.Hearing.{other}
-use Rattle.x25_link.specs.Station.{LinkStation, is_up, is_busy, awaits_ua}
-use Rattle.x25_link.specs.Link.{timer_runs, take_step}
+use Rattle.x25_bits.specs.{declared.role.Role.{Role}, declared.role.Role.TheVariants.{Dte, Dce}}
+use Rattle.x25_link.specs.{Hearing.{other}, Station.{LinkStation, is_up, awaits_ua}, Link.{timer_runs, take_step}}
 use Rattle.x25_link.specs.laws.RestLaw.{IsAtRest}
-use Rattle.x25_line.specs.laws.Stations as line
-use Rattle.x25_line.specs.laws.Sessions as links
-use Rattle.x25_line.specs.laws.Sessions.{Sessions}
-use Rattle.x25_line.specs.laws.SessionNumbers.{Standing}
-use Rattle.x25_line.specs.Healing.{EachRestShows, SessionsAreHealed, OneIsFree}
-use Rattle.x25_line.specs.laws.HealingPuts.{AreFree, AreDeliveriesAndPuts, SessionsHaveArrived}
-use Rattle.x25_layer.specs.laws.Law.{HasAllOf}
-use Rattle.x25_layer.specs.code.FitsLayer.{waits_up_to}
+use Rattle.x25_line.specs.{laws.Sessions.{Sessions}, laws.SessionNumbers.{Standing}}
+use Rattle.x25_line.specs.Healing.{EachRestShows, SessionsAreHealed, OneIsFree, HasTries, IsAtRestOrOut}
+use Rattle.x25_line.specs.laws.HealingPuts.{LinkMayHeal, AreFree, IsDeliveryOrPut, SessionsHaveArrived}
+use Rattle.x25_line.specs.laws.SessionClaims.{Each, Each}
+use Rattle.x25_layer.specs.{laws.Law.{HasAllOf}, code.FitsLayer.{waits_up_to}}
 use Rattle.x25_handshakes.specs.laws.Names.{Name}
-use Rattle.x25_station.specs.declared.config.Cfg.{Cfg}
-use Rattle.x25_station.specs.Command.{Requests, RequestsWith}
+use Rattle.x25_station.specs.{declared.config.Cfg.{Cfg}, Command.{Requests, RequestsWith}}
 use Rattle.x25_station.specs.Config.{Settings, settings_from, link_settings, layer_settings}
-use Rattle.x25_station.specs.Station.{Station, view_of}
-use Rattle.x25_station.specs.Step.{abandons, layer_at}
+use Rattle.x25_station.specs.{Station.{Station, view_of}, Step.{abandons, layer_at}}
 use Rattle.x25_station.specs.Station.Told.{is_at_rest, stretch}
 use Rattle.x25_world.specs.World.{World, WorldOutcome, Happened, Declined, Act, Commands, Receives, Fires, Event}
-use Rattle.x25_world.specs.World.{happens, after, run, AreAccepted}
-use Rattle.x25_world.specs.laws.Claims.{AreInOctets, link_of, station_at}
-use Rattle.x25_world.specs.laws.SessionWindow.{IsRunOfSessions}
-use Rattle.x25_world.specs.laws.Sessions.{last_session, handed_in}
+use Rattle.x25_world.specs.{World.{happens, after, run, AreAccepted}, laws.Claims.{AreInOctets, link_of, station_at}}
+use Rattle.x25_world.specs.{laws.SessionWindow.{IsRunOfSessions}, laws.Sessions.{last_session, handed_in}}
 use Rattle.x25_world.specs.laws.WaitClaims.{pull_at, AllWaitForUsers}
+use Rattle.x25_line.specs.laws.Stations as line
+use Rattle.x25_line.specs.laws.Sessions as links
 
 -- nothing is on the line
 pub record IsDrained (w : World) : Type 0 where
@@ -166,13 +158,6 @@ NonePut cfg (at ∷ ends) w = PutsNothingAt cfg at w × NonePut cfg ends (after 
 
 -- ---- healing
 
--- timer T1 of the end has run out fewer than N2 times where it runs
-abbrev pub HasTries : Cfg → LinkStation → Type 0
-HasTries cfg s = timer_runs s.phase s ≡ true → s.tries < cfg.n2
-
-abbrev pub RestsOrIsOut : LinkStation → Type 0
-RestsOrIsOut s = IsAtRest s ⊎ (is_up s.phase ≡ false)
-
 -- Both links are at rest, and all that they were handed down in their sessions has been handed up at the other end: two
 -- links behind the first world have gone on to two behind the second.
 pub record IsHealed (cfg : Cfg) (w u : World) : Type 0 where
@@ -187,10 +172,9 @@ pub record IsHealed (cfg : Cfg) (w u : World) : Type 0 where
 -- Each link is at rest, or not up. If both were up, and timer T1 had run out fewer than N2 times where it ran, both are
 -- at rest, and all has arrived.
 pub record Heals (cfg : Cfg) (w u : World) : Type 0 where
-  pub dte : RestsOrIsOut u.near.link
-  pub dce : RestsOrIsOut u.far.link
-  pub healed : is_up w.near.link.phase ≡ true → is_up w.far.link.phase ≡ true → HasTries cfg w.near.link
-      → HasTries cfg w.far.link → IsHealed cfg w u
+  pub dte : IsAtRestOrOut u.near.link
+  pub dce : IsAtRestOrOut u.far.link
+  pub healed : HasTries cfg.n2 w.near.link → HasTries cfg.n2 w.far.link → IsHealed cfg w u
 
 -- a moment in which nothing is on the line, no link is being set up, and not both ends are busy
 pub record MayHeal (w : World) : Type 0 where
@@ -218,8 +202,7 @@ IsReceiptOrRequest act = ⊥
 
 -- each of them is so, at either end, in any order
 abbrev pub AreReceiptsAndRequests : List Event → Type 0
-AreReceiptsAndRequests [] = Unit {0}
-AreReceiptsAndRequests (e ∷ events) = IsReceiptOrRequest e.act × AreReceiptsAndRequests events
+AreReceiptsAndRequests events = Each (λ (e : Event). IsReceiptOrRequest e.act) events
 
 -- as octets come to a station, neither link is busy, and no count of the station is at its most
 abbrev pub ComeFreely : Settings → Station → LinkStation → List (List ℕ) → Type 0
@@ -239,17 +222,12 @@ abbrev pub FreeThroughout : Cfg → List Event → World → Type 0
 FreeThroughout cfg [] w = AreFree w.near.link w.far.link
 FreeThroughout cfg (e ∷ events) w = FreeAt cfg e.at e.act w × FreeThroughout cfg events (after w (happens cfg w e))
 
--- a link is up, and isn't busy. Where its timer T1 runs, it has tries left.
-pub record LinkMayHeal (cfg : Cfg) (s : LinkStation) : Type 0 where
-  pub up : is_up s.phase ≡ true
-  pub free : is_busy s ≡ false
-  pub tries : HasTries cfg s
-
--- a moment in which nothing is on the line, and both links are so
+-- a moment in which nothing is on the line, and both links are up, neither is busy, and where timer T1 runs, tries are
+-- left
 pub record BothMayHeal (cfg : Cfg) (w : World) : Type 0 where
   pub drained : IsDrained w
-  pub near : LinkMayHeal cfg w.near.link
-  pub far : LinkMayHeal cfg w.far.link
+  pub near : LinkMayHeal cfg.n2 w.near.link
+  pub far : LinkMayHeal cfg.n2 w.far.link
 
 -- Both links are at rest, in the same sessions as before, and all that they were handed down in these, then and since,
 -- has been handed up at the other end: two links behind the first world have gone on to two behind the second.
@@ -261,7 +239,7 @@ pub record HaveArrived (cfg : Cfg) (w u : World) : Type 0 where
   pub before_are : AreLinksOf cfg w before
   pub behind_are : AreLinksOf cfg u behind
   pub asked : List line.Event
-  pub are : AreDeliveriesAndPuts asked
+  pub are : Each IsDeliveryOrPut asked
   pub goes : links.run (link_of cfg Dte) (link_of cfg Dce) (line.Near line.T1 ∷ line.Far line.T1 ∷ asked) before
       ≡ behind
   pub arrived : SessionsHaveArrived before behind

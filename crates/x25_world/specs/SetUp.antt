@@ -1,13 +1,9 @@
 -- The frames of a set-up that are on the line: by what their octets read as now, whatever P or F.
-use Rattle.std.specs.Prelude.{ℕ, Bool, true, false, List, Result, Ok}
-use Rattle.std.specs.List.{list_any}
+use Rattle.std.specs.{Prelude.{ℕ, Bool, true, false, List, Result, Ok}, List.{list_any}}
 use Rattle.x25_bits.specs.declared.role.Role.{Role}
-use Rattle.x25_frame.specs.Frame.{PlainFrame, sabm, ua}
-use Rattle.x25_frame.specs.Reading.{frame_of}
-use Rattle.x25_frame.specs.declared.error.FrameError.{FrameError}
+use Rattle.x25_frame.specs.{Frame.{PlainFrame, sabm, ua}, Reading.{frame_of}, declared.error.FrameError.{FrameError}}
 use Rattle.x25_station.specs.Config.{longest_packet}
-use Rattle.x25_world.specs.declared.set_up.SetUpFrame.{SetUpFrame}
-use Rattle.x25_world.specs.declared.set_up.SetUpFrame.TheVariants.{Sabm, Ua}
+use Rattle.x25_world.specs.{declared.set_up.SetUpFrame.{SetUpFrame}, declared.set_up.SetUpFrame.TheVariants.{Sabm, Ua}}
 
 abbrev pub is_a : SetUpFrame → Result PlainFrame FrameError → Bool
 is_a Sabm (Ok (sabm p)) = true

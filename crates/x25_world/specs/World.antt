@@ -2,20 +2,14 @@
 -- line). Each act is of the near end, or of the line to it. The far end's acts are those of the two ends swapped.
 use Rattle.std.specs.Prelude.{◌≡◌, ℕ, nat_lt, ◌&&◌, ◌||◌, Bool, List, [], ◌∷◌, ◌++◌, length, map, remove, Option, Some}
 use Rattle.std.specs.Prelude.{None, if◌then◌else◌}
-use Rattle.x25_bits.specs.Role.{end_of, other}
-use Rattle.x25_bits.specs.declared.role.Role.{Role}
-use Rattle.x25_bits.specs.declared.role.Role.TheVariants.{Dte, Dce}
+use Rattle.x25_bits.specs.{Role.{end_of, other}, declared.role.Role.{Role}, declared.role.Role.TheVariants.{Dte, Dce}}
 use Rattle.x25_frame.specs.Spelling.{spelling_of}
 use Rattle.x25_link.specs.Station.{awaits_ua}
 use Rattle.x25_line.specs.laws.Stations.{is_visible, replaced}
-use Rattle.x25_station.specs.declared.config.Cfg.{Cfg}
-use Rattle.x25_station.specs.Config.{Settings, settings_from}
-use Rattle.x25_station.specs.Command.{Command, command_of}
-use Rattle.x25_station.specs.Entry.{StationEntry}
-use Rattle.x25_station.specs.Station.{Station, new_station}
+use Rattle.x25_station.specs.{declared.config.Cfg.{Cfg}, Config.{Settings, settings_from}}
+use Rattle.x25_station.specs.{Command.{Command, command_of}, Entry.{StationEntry}, Station.{Station, new_station}}
 use Rattle.x25_station.specs.Step.{Step, Outcome, Did, Refused, connects, fires, receives, commands}
-use Rattle.x25_world.specs.SetUp.{carries}
-use Rattle.x25_world.specs.declared.set_up.SetUpFrame.TheVariants.{Sabm, Ua}
+use Rattle.x25_world.specs.{SetUp.{carries}, declared.set_up.SetUpFrame.TheVariants.{Sabm, Ua}}
 use Rattle.x25_world.specs.declared.error.WorldError.{WorldError}
 use Rattle.x25_world.specs.declared.error.WorldError.TheVariants as error
 use Rattle.x25_world.specs.declared.event.Event as code

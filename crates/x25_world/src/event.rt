@@ -29,7 +29,6 @@ impl<'a> Event<'a> {
     ghost use Rattle.x25_world.specs.World.{event_of};
 
     /// The end at which it happens, or that its direction leads to.
-    #[inline(always)]
     pub fn at(self) -> Role
         ensures { result ≡ (event_of self.entry).at }
     {

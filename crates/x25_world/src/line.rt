@@ -15,11 +15,8 @@ use x25_station::MOST_FRAMES;
 /// The most octets of a frame: those of a packet, address, control and frame check sequence.
 const LONGEST_FRAME: usize = 4103;
 
-/// The most frames of a direction that are in blanks.
-const FEW_FRAMES: usize = 12;
-
-/// The most blanks that are kept: those that a step may need, and the others for frames on the line.
-const MOST_BLANKS: usize = 34;
+/// Of how many frames that left the line the memory is kept.
+const MOST_LEFT: usize = 25;
 
 // A frame on the line, in memory for its octets, or for those of the longest frame.
 #[derive(Drop)]
@@ -36,15 +33,24 @@ struct Blank {
     ghost room: { vec_capacity octets ≡ 4103 },
 }
 
+// Memory of a frame that left the line.
+#[derive(Drop)]
+struct Left {
+    octets: Vec<u8>,
+    ghost empty: { octets.items ≡ [] },
+    ghost room: { vec_capacity octets ≤ 4103 },
+}
+
 /// The line between two ends in both directions.
 ///
-/// Its frames are copies of those that an end sent. They come in blanks, made before the end sends them; behind few
-/// others they come in memory of their own length, while there is some.
+/// Its frames are copies of those that an end sent. They come in memory of frames that left, or of their own length,
+/// and where there is none in blanks, made before the end sends them.
 #[derive(Drop)]
 pub struct Line {
     to_dce: VecDeque<Laid>,
     to_dte: VecDeque<Laid>,
     blanks: Vec<Blank>,
+    left: Vec<Left>,
     room: usize,
     alloc: Global,
 }
@@ -66,7 +72,7 @@ impl Model for Line {
 
     ghost invariant = { λ l. (deque_len l.to_dce + l.room ≤ deque_capacity l.to_dce) ×
         (deque_len l.to_dte + l.room ≤ deque_capacity l.to_dte) × (l.room ≤ vec_len l.blanks) ×
-        (vec_capacity l.blanks ≤ 34) };
+        (vec_capacity l.blanks ≤ 9) × (vec_capacity l.left ≤ 25) };
 }
 
 impl Line {
@@ -78,6 +84,7 @@ impl Line {
             to_dce: VecDeque::from_vec(Vec::new(alloc)),
             to_dte: VecDeque::from_vec(Vec::new(alloc)),
             blanks: Vec::new(alloc),
+            left: Vec::new(alloc),
             room: 0,
             alloc,
         }
@@ -106,6 +113,7 @@ impl Line {
         grow(&mut self.to_dce)?;
         grow(&mut self.to_dte)?;
         if self.blanks.len() < MOST_FRAMES {
+            self.left.reserve_exact(MOST_LEFT - self.left.len())?;
             make_blanks(&mut self.blanks, self.alloc)?;
         }
         self.room = MOST_FRAMES;
@@ -120,8 +128,7 @@ impl Line {
         ensures { self.new ≡ put_by self.old from (octets.now ∷ []) }
     {
         self.room -= 1;
-        let is_long = self.len(from.other()) >= FEW_FRAMES;
-        let memory = memory(&mut self.blanks, self.alloc, is_long, octets.len());
+        let memory = memory(&mut self.blanks, &mut self.left, self.alloc, octets.len());
         let own = with_octets(memory, octets);
         match from {
             Role::Dte => lay(&mut self.to_dce, own),
@@ -155,8 +162,8 @@ impl Line {
         ensures { self.new ≡ with_line_to self.old to (remove (line_to self.old to) place) }
     {
         match to {
-            Role::Dce => keep(&mut self.blanks, take_off(&mut self.to_dce, place)),
-            Role::Dte => keep(&mut self.blanks, take_off(&mut self.to_dte, place)),
+            Role::Dce => keep(&mut self.left, take_off(&mut self.to_dce, place)),
+            Role::Dte => keep(&mut self.left, take_off(&mut self.to_dte, place)),
         }
     }
 
@@ -176,45 +183,45 @@ impl Line {
     }
 }
 
-// Makes blanks, as many as are kept. Err: no memory.
+// Makes blanks, as many as a step may need. Err: no memory.
 #[cold]
 fn make_blanks(blanks: &mut Vec<Blank>, alloc: Global) -> Result<(), AllocError>
-    requires places { vec_capacity blanks.old ≤ 34 }
-    requires fewer { vec_len blanks.old < 34 }
-    ensures enough { OnOk result (34 ≤ vec_len blanks.new) }
+    requires places { vec_capacity blanks.old ≤ 9 }
+    ensures enough { OnOk result (9 ≤ vec_len blanks.new) }
     ensures no_fewer { vec_len blanks.old ≤ vec_len blanks.new }
-    ensures few { vec_capacity blanks.new ≤ 34 }
+    ensures few { vec_capacity blanks.new ≤ 9 }
 {
-    blanks.reserve_exact(MOST_BLANKS - blanks.len())?;
-    while blanks.len() < MOST_BLANKS {
+    blanks.reserve_exact(MOST_FRAMES - blanks.len())?;
+    while blanks.len() < MOST_FRAMES {
         let octets = Vec::with_capacity(alloc, LONGEST_FRAME)?;
         blanks.push_reserved(Blank { octets });
     }
     Ok(())
 }
 
-// Memory for so many octets: a blank, but on a long line, or where a step may need all of them, of its own, if there is
-// some.
-#[inline(always)]
-fn memory(blanks: &mut Vec<Blank>, alloc: Global, is_long: bool, length: usize) -> Vec<u8>
+// Memory for so many octets: of the frame that left last, where that is enough, or of its own, or else a blank.
+fn memory(blanks: &mut Vec<Blank>, left: &mut Vec<Left>, alloc: Global, length: usize) -> Vec<u8>
     requires some { 0 < vec_len blanks.old }
     requires short { length ≤ 4103 }
     ensures one { vec_len blanks.old ≤ vec_len blanks.new + 1 }
     ensures places { vec_capacity blanks.new ≡ vec_capacity blanks.old }
+    ensures places_left { vec_capacity left.new ≡ vec_capacity left.old }
     ensures empty { result.items ≡ [] }
     ensures enough { length ≤ vec_capacity result }
     ensures few { vec_capacity result ≤ 4103 }
 {
-    if (is_long || blanks.len() <= MOST_FRAMES)
-        && let Ok(octets) = Vec::with_capacity(alloc, length)
+    if let Some(Left { octets }) = left.pop()
+        && octets.capacity() >= length
     {
         return octets;
     }
-    blanks.pop().unwrap().octets
+    match Vec::with_capacity(alloc, length) {
+        Ok(octets) => octets,
+        Err(AllocError) => blanks.pop().unwrap().octets,
+    }
 }
 
 // A frame goes behind the others, in the memory that it is in.
-#[inline(always)]
 fn lay(queue: &mut VecDeque<Laid>, octets: Vec<u8>)
     requires place { deque_len queue.old < deque_capacity queue.old }
     requires memory { vec_capacity octets ≤ max (vec_len octets) 4103 }
@@ -226,18 +233,17 @@ fn lay(queue: &mut VecDeque<Laid>, octets: Vec<u8>)
     queue.push_back_reserved(Laid { octets });
 }
 
-// The blank of a frame that left the line serves again.
+// The memory of a frame that left the line serves again.
 #[inline(always)]
-fn keep(blanks: &mut Vec<Blank>, frame: Option<Laid>)
-    ensures no_fewer { vec_len blanks.old ≤ vec_len blanks.new }
-    ensures places { vec_capacity blanks.new ≡ vec_capacity blanks.old }
+fn keep(left: &mut Vec<Left>, frame: Option<Laid>)
+    ensures { vec_capacity left.new ≡ vec_capacity left.old }
 {
     if let Some(Laid { mut octets }) = frame
-        && octets.capacity() == LONGEST_FRAME
-        && blanks.len() < blanks.capacity()
+        && octets.capacity() <= LONGEST_FRAME
+        && left.len() < left.capacity()
     {
         octets.clear();
-        blanks.push_reserved(Blank { octets });
+        left.push_reserved(Left { octets });
     }
 }
 

@@ -1,8 +1,7 @@
 -- Where nothing is on the way and nothing waits, everything of a stretch has arrived.
 use Rattle.std.specs.Prelude.{◌≡◌, ℕ, List, [], Option, Some, None}
 use Rattle.x25_circuit.specs.Message.{wholes}
-use Rattle.x25_handshakes.specs.laws.Handshake.{Side, Live, Left, At, state_of}
-use Rattle.x25_handshakes.specs.laws.Stretch.{Stretch}
+use Rattle.x25_handshakes.specs.{laws.Handshake.{Side, Live, Left, At, state_of}, laws.Stretch.{Stretch}}
 use Rattle.x25_handshakes.specs.laws.Calls.{Phase, Talking, Connection}
 use Rattle.x25_handshakes.specs.laws.Layers.{Channels, Event, pair_run, pair_start}
 use Rattle.x25_handshakes.specs.laws.Histories.{messages, name_at}

@@ -1,25 +1,26 @@
 -- A circuit between two clears: p1, call sent, call received, collided (p5) and p4, with the calls made and indicated.
-use Rattle.std.specs.Prelude.{ℕ, List, [], ◌∷◌, ◌++◌, Option, Some, None, if◌then◌else◌}
-use Rattle.x25_handshakes.specs.laws.Handshake.{At}
-use Rattle.x25_bits.specs.declared.role.Role.{Role}
-use Rattle.x25_bits.specs.declared.role.Role.TheVariants.{Dte, Dce}
+use Rattle.std.specs.Prelude.{List, [], ◌∷◌, ◌++◌, Option, Some, None, if◌then◌else◌}
+use Rattle.x25_handshakes.specs.{laws.Handshake.{At, Step}, laws.Stretch.{Packet, Call, Accept, Stretch}}
+use Rattle.x25_handshakes.specs.laws.Transfer.{fresh_transfer, transfer_takes, TransferAct, transfer_acts}
+use Rattle.x25_bits.specs.{declared.role.Role.{Role}, declared.role.Role.TheVariants.{Dte, Dce}}
 use Rattle.x25_circuit.specs.declared.params.Params.{Params}
 use Rattle.x25_circuit.specs.Params.{Terms, Proposal, may_propose, may_answer, field_for, said_in, called_terms}
-use Rattle.x25_circuit.specs.Params.{calling_terms}
-use Rattle.x25_circuit.specs.Notice.{CallRequest}
-use Rattle.x25_handshakes.specs.laws.Stretch.{Packet, Call, Accept, Stretch}
-use Rattle.x25_handshakes.specs.laws.Transfer.{TransferStep, fresh_transfer, transfer_takes, TransferAct, transfer_acts}
+use Rattle.x25_circuit.specs.{Params.{calling_terms}, Notice.{CallRequest}}
 
-pub data Phase : Type 0 where
-  Unused : Phase
-  -- with what this end proposes
-  Waiting : (mine : Params) → Phase
-  -- with what the other end proposes
-  Offered : (theirs : Params) → Phase
-  -- p5, with what this end proposes
-  Crossed : (mine : Params) → Phase
+-- Where the call of an end stands; S is what an end of its kind is in p4.
+pub data Stage (S : Type 0) : Type 0 where
+  Unused : Stage S
+  -- its CALL is out, with what it proposes
+  Waiting : (mine : Params) → Stage S
+  -- CALL came, with what the other end proposes
+  Offered : (theirs : Params) → Stage S
+  -- p5: CALL came while its own is out
+  Crossed : (mine : Params) → Stage S
   -- p4, with the terms of what this end sends, and of what it takes
-  Talking : (t b : Terms) → (at : At Stretch) → Phase
+  Talking : (t b : Terms) → (at : S) → Stage S
+
+abbrev pub Phase : Type 0
+Phase = Stage (At Stretch)
 
 -- the phase, and the items of `call` and `incoming` of this clear epoch
 pub record Connection : Type 0 where
@@ -27,26 +28,22 @@ pub record Connection : Type 0 where
   pub made : List CallRequest
   pub indicated : List CallRequest
 
-pub record CallStep : Type 0 where
-  pub next : Connection
-  pub out : List Packet
-  pub error : Option ℕ
-
-abbrev pub goes : Phase → List CallRequest → List CallRequest → List Packet → CallStep
+abbrev pub goes : Phase → List CallRequest → List CallRequest → List Packet → Step Connection Packet
 goes p m i o = record { next = record { phase = p; made = m; indicated = i }; out = o; error = None }
 
 -- a packet that the phase doesn't allow
-abbrev pub unexpected : Phase → List CallRequest → List CallRequest → CallStep
+abbrev pub unexpected : Phase → List CallRequest → List CallRequest → Step Connection Packet
 unexpected p m i = record { next = record { phase = p; made = m; indicated = i }; out = []; error = Some 0 }
 
-abbrev pub in_transfer : Terms → Terms → List CallRequest → List CallRequest → TransferStep → CallStep
+abbrev pub in_transfer : Terms → Terms → List CallRequest → List CallRequest → Step (At Stretch) Packet
+    → Step Connection Packet
 in_transfer t b m i s = record {
   next = record { phase = Talking t b s.next; made = m; indicated = i };
   out = s.out;
   error = s.error;
 }
 
-abbrev pub call_crosses : Role → Params → List CallRequest → List CallRequest → CallRequest → CallStep
+abbrev pub call_crosses : Role → Params → List CallRequest → List CallRequest → CallRequest → Step Connection Packet
 call_crosses Dte mine m i n = goes (Crossed mine) m i []
 call_crosses Dce mine m i n = goes (Offered n.params) m (i ++ n ∷ []) []
 
@@ -59,10 +56,10 @@ called_talk q = Talking (called_terms q) (calling_terms q) fresh_transfer
 
 -- ACCEPT with this answer to what this end proposed; an answer that isn't allowed is as a packet that the phase doesn't
 -- allow
-abbrev pub is_answered : Phase → Params → List CallRequest → List CallRequest → Params → CallStep
+abbrev pub is_answered : Phase → Params → List CallRequest → List CallRequest → Params → Step Connection Packet
 is_answered p mine m i q = if may_answer mine q then goes (calling_talk q) m i [] else unexpected p m i
 
-abbrev pub phase_takes : Role → Phase → List CallRequest → List CallRequest → Packet → CallStep
+abbrev pub phase_takes : Role → Phase → List CallRequest → List CallRequest → Packet → Step Connection Packet
 phase_takes r Unused m i (Call n) = goes (Offered n.params) m (i ++ n ∷ []) []
 phase_takes r Unused m i other = unexpected Unused m i
 phase_takes r (Waiting mine) m i (Call n) = call_crosses r mine m i n
@@ -73,7 +70,7 @@ phase_takes r (Crossed mine) m i (Accept field) = is_answered (Crossed mine) min
 phase_takes r (Crossed mine) m i other = unexpected (Crossed mine) m i
 phase_takes r (Talking t b x) m i p = in_transfer t b m i (transfer_takes b.size x p)
 
-abbrev pub call_takes : Role → Connection → Packet → CallStep
+abbrev pub call_takes : Role → Connection → Packet → Step Connection Packet
 call_takes r x p = phase_takes r x.phase x.made x.indicated p
 
 pub data CallAct : Type 0 where
@@ -82,17 +79,17 @@ pub data CallAct : Type 0 where
   AcceptsCall : (answer : Option Proposal) → CallAct
   Talks : (act : TransferAct) → CallAct
 
-abbrev pub places : List CallRequest → List CallRequest → CallRequest → CallStep
+abbrev pub places : List CallRequest → List CallRequest → CallRequest → Step Connection Packet
 places m i n = if may_propose n.params then goes (Waiting n.params) (m ++ n ∷ []) i (Call n ∷ [])
     else goes Unused m i []
 
-abbrev pub accepts : Params → List CallRequest → List CallRequest → Option Proposal → CallStep
+abbrev pub accepts : Params → List CallRequest → List CallRequest → Option Proposal → Step Connection Packet
 accepts theirs m i None = goes (called_talk theirs) m i (Accept [] ∷ [])
 accepts theirs m i (Some q) =
     if may_answer theirs q.params then goes (called_talk q.params) m i (Accept (field_for theirs q) ∷ [])
     else goes (Offered theirs) m i []
 
-abbrev pub phase_acts : Phase → List CallRequest → List CallRequest → CallAct → CallStep
+abbrev pub phase_acts : Phase → List CallRequest → List CallRequest → CallAct → Step Connection Packet
 phase_acts Unused m i (PlacesCall n) = places m i n
 phase_acts Unused m i other = goes Unused m i []
 phase_acts (Waiting mine) m i a = goes (Waiting mine) m i []
@@ -103,7 +100,7 @@ phase_acts (Talking t b x) m i (Talks a) = in_transfer t b m i (transfer_acts t 
 phase_acts (Talking t b x) m i other = goes (Talking t b x) m i []
 
 -- a call of the user or a pull; a refused one changes nothing
-abbrev pub call_acts : Connection → CallAct → CallStep
+abbrev pub call_acts : Connection → CallAct → Step Connection Packet
 call_acts x a = phase_acts x.phase x.made x.indicated a
 
 abbrev pub fresh_call : Connection

@@ -1,13 +1,9 @@
 -- Where nothing is on the way, each end knows of the other what it has to know: what may still wait.
 use Rattle.std.specs.Prelude.{◌≡◌, ◌⊎◌, ℕ, List, [], length, Bool, true, false, Some}
-use Rattle.x25_handshakes.specs.laws.Handshake.{Side, Live, Left, At, state_of}
-use Rattle.x25_handshakes.specs.laws.Stretch.{Stretch, Pull}
-use Rattle.x25_handshakes.specs.laws.Transfer.{Inside}
-use Rattle.x25_handshakes.specs.laws.Calls.{Talks}
-use Rattle.x25_handshakes.specs.laws.Channel.{Within}
+use Rattle.x25_handshakes.specs.{laws.Handshake.{Side, Live, Left, At, state_of}, laws.Stretch.{Stretch, Pull}}
+use Rattle.x25_handshakes.specs.{laws.Transfer.{Inside}, laws.Calls.{Talks}, laws.Channel.{Within}}
 use Rattle.x25_handshakes.specs.laws.Layers.{Channels, LayerPacket, OnChannel, layer_acts, Event, pair_run, pair_start}
-use Rattle.x25_handshakes.specs.laws.Histories.{messages, name_at}
-use Rattle.x25_handshakes.specs.laws.Arrivals.{open_at}
+use Rattle.x25_handshakes.specs.{laws.Histories.{messages, name_at}, laws.Arrivals.{open_at}}
 
 -- the link of the end is up
 abbrev pub is_up : Side (At Channels) → Bool

@@ -1,11 +1,8 @@
 -- What each end handed down and up on a channel, written under the names of its stretches.
 use Rattle.std.specs.Prelude.{◌≡◌, ℕ, List, [], ◌∷◌, ◌++◌, if◌then◌else◌}
-use Rattle.x25_circuit.specs.declared.message.Message.{Message}
-use Rattle.x25_bits.specs.declared.role.Role.{Role}
-use Rattle.x25_bits.specs.declared.role.Role.TheVariants.{Dte, Dce}
-use Rattle.x25_circuit.specs.Notice.{CallRequest}
-use Rattle.x25_handshakes.specs.laws.Handshake.{At, state_of}
-use Rattle.x25_handshakes.specs.laws.Stretch.{Stretch}
+use Rattle.x25_circuit.specs.{declared.message.Message.{Message}, Notice.{CallRequest}}
+use Rattle.x25_bits.specs.{declared.role.Role.{Role}, declared.role.Role.TheVariants.{Dte, Dce}}
+use Rattle.x25_handshakes.specs.{laws.Handshake.{At, state_of}, laws.Stretch.{Stretch}}
 use Rattle.x25_handshakes.specs.laws.Calls.{Phase, Talking, Connection}
 use Rattle.x25_handshakes.specs.laws.Layers.{Channels, Pair, Move, Event, turned, pair_moves, pair_start}
 use Rattle.x25_handshakes.specs.laws.Names.{Name, same_name, IsEarlier}

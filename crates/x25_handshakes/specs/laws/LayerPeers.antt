@@ -1,16 +1,12 @@
 -- Our own layer keeps the rules of a peer: of two of our layers, as long as both links are up, each is a peer of the
 -- other, which acknowledges and confirms at once.
 use Rattle.std.specs.Prelude.{List, length, None}
-use Rattle.x25_bits.specs.declared.role.Role.{Role}
-use Rattle.x25_bits.specs.declared.role.Role.TheVariants.{Dte, Dce}
-use Rattle.x25_handshakes.specs.laws.Handshake.{Side, Live, Left, At}
-use Rattle.x25_handshakes.specs.laws.Stretch.{Stretch}
-use Rattle.x25_handshakes.specs.laws.Calls.{Phase, Unused, Waiting, Offered, Crossed, Talking, Connection}
+use Rattle.x25_bits.specs.{declared.role.Role.{Role}, declared.role.Role.TheVariants.{Dte, Dce}}
+use Rattle.x25_handshakes.specs.{laws.Handshake.{Side, Live, Left, At}, laws.Stretch.{Stretch}}
+use Rattle.x25_handshakes.specs.laws.Calls.{Phase, Unused, Waiting, Offered, Crossed, Talking, Connection, Stage}
 use Rattle.x25_handshakes.specs.laws.Layers.{LayerPacket, Channels, Event, Pair, pair_run, pair_start}
-use Rattle.x25_handshakes.specs.laws.PeerStretch.{PeerStretch}
-use Rattle.x25_handshakes.specs.laws.PeerCalls.{Stage, Free, Calling, Called, Collided, InData, PeerCall}
-use Rattle.x25_handshakes.specs.laws.PeerLayer.{PeerChannels}
-use Rattle.x25_handshakes.specs.laws.PeerLayers.{IsReached}
+use Rattle.x25_handshakes.specs.{laws.PeerStretch.{PeerStretch}, laws.PeerCalls.{PeerCall}}
+use Rattle.x25_handshakes.specs.{laws.PeerLayer.{PeerChannels}, laws.PeerLayers.{IsReached}}
 
 -- what a peer is that stands where our own end stands, level by level
 abbrev pub as_peer_stretch : Stretch → PeerStretch
@@ -33,11 +29,11 @@ abbrev pub as_at : {S T : Type 0} → (S → T) → At S → At T
 as_at f x = record { epoch = x.epoch; side = as_side f x.side }
 
 abbrev pub as_stage : Phase → Stage (At PeerStretch)
-as_stage Unused = Free
-as_stage (Waiting mine) = Calling mine
-as_stage (Offered theirs) = Called theirs
-as_stage (Crossed mine) = Collided mine
-as_stage (Talking t b at) = InData t b (as_at as_peer_stretch at)
+as_stage Unused = Unused
+as_stage (Waiting mine) = Waiting mine
+as_stage (Offered theirs) = Offered theirs
+as_stage (Crossed mine) = Crossed mine
+as_stage (Talking t b at) = Talking t b (as_at as_peer_stretch at)
 
 abbrev pub as_peer_call : Connection → PeerCall
 as_peer_call x = record { stage = as_stage x.phase; made = x.made; indicated = x.indicated }

@@ -1,12 +1,10 @@
 -- All channels of an end within the handshake of RESTART; and two ends that may each be out, with the packets on the
 -- way.
 use Rattle.std.specs.Prelude.{ℕ, suc, List, [], ◌∷◌, ◌++◌, Option, Some, None, Bool, if◌then◌else◌, ◌==◌}
-use Rattle.x25_handshakes.specs.laws.Handshake.{Side, Live, Left, At}
-use Rattle.x25_bits.specs.declared.role.Role.{Role}
-use Rattle.x25_bits.specs.declared.role.Role.TheVariants.{Dte, Dce}
-use Rattle.x25_handshakes.specs.laws.Stretch.{Packet}
-use Rattle.x25_handshakes.specs.laws.Calls.{Connection}
-use Rattle.x25_handshakes.specs.laws.Channel.{ChannelStep, channel_takes, ChannelAct, channel_acts, fresh_channel}
+use Rattle.x25_handshakes.specs.laws.Handshake.{Side, Live, Left, At, Step, live, left, first_error}
+use Rattle.x25_handshakes.specs.{laws.Stretch.{Packet}, laws.Calls.{Connection}}
+use Rattle.x25_handshakes.specs.laws.Channel.{channel_takes, ChannelAct, channel_acts, fresh_channel}
+use Rattle.x25_bits.specs.{declared.role.Role.{Role}, declared.role.Role.TheVariants.{Dte, Dce}}
 
 -- a packet of a channel; RESTART and its confirmation
 pub data LayerPacket : Type 0 where
@@ -28,32 +26,19 @@ addressed h (p ∷ o) = On h p ∷ addressed h o
 abbrev pub all_fresh : Channels
 all_fresh h = fresh_channel
 
--- what a step leaves, the packets that it sends, and the number of the error of procedure, if it is one
-pub record LayerStep : Type 0 where
-  pub next : At Channels
-  pub out : List LayerPacket
-  pub error : Option ℕ
+abbrev pub on_channel : ℕ → Channels → ℕ → Step (At Connection) Packet → Step (At Channels) LayerPacket
+on_channel e x h s = record { next = live e (put x h s.next); out = addressed h s.out; error = s.error }
 
--- r1 in this epoch; and RESTART sent, which left it
-abbrev pub ready : ℕ → Channels → At Channels
-ready e x = record { epoch = e; side = Live x }
-
-abbrev pub restarting : ℕ → Channels → At Channels
-restarting e x = record { epoch = e; side = Left x }
-
-abbrev pub on_channel : ℕ → Channels → ℕ → ChannelStep → LayerStep
-on_channel e x h s = record { next = ready e (put x h s.next); out = addressed h s.out; error = s.error }
-
-abbrev pub layer_side_takes : Role → ℕ → Side Channels → LayerPacket → LayerStep
+abbrev pub layer_side_takes : Role → ℕ → Side Channels → LayerPacket → Step (At Channels) LayerPacket
 layer_side_takes r e (Live x) (On h p) = on_channel e x h (channel_takes r (x h) p)
-layer_side_takes r e (Live x) Restart = record { next = ready (suc e) all_fresh; out = RestartConf ∷ []; error = None }
-layer_side_takes r e (Live x) RestartConf = record { next = restarting e x; out = Restart ∷ []; error = Some 17 }
-layer_side_takes r e (Left x) (On h p) = record { next = restarting e x; out = []; error = None }
-layer_side_takes r e (Left x) Restart = record { next = ready (suc e) all_fresh; out = []; error = None }
-layer_side_takes r e (Left x) RestartConf = record { next = ready (suc e) all_fresh; out = []; error = None }
+layer_side_takes r e (Live x) Restart = record { next = live (suc e) all_fresh; out = RestartConf ∷ []; error = None }
+layer_side_takes r e (Live x) RestartConf = record { next = left e x; out = Restart ∷ []; error = Some 17 }
+layer_side_takes r e (Left x) (On h p) = record { next = left e x; out = []; error = None }
+layer_side_takes r e (Left x) Restart = record { next = live (suc e) all_fresh; out = []; error = None }
+layer_side_takes r e (Left x) RestartConf = record { next = live (suc e) all_fresh; out = []; error = None }
 
 -- a packet taken
-abbrev pub layer_takes : Role → At Channels → LayerPacket → LayerStep
+abbrev pub layer_takes : Role → At Channels → LayerPacket → Step (At Channels) LayerPacket
 layer_takes r x p = layer_side_takes r x.epoch x.side p
 
 -- what an end may do by itself: on a channel, or to all
@@ -61,12 +46,12 @@ pub data LayerAct : Type 0 where
   OnChannel : (channel : ℕ) → (act : ChannelAct) → LayerAct
   SendsRestart : LayerAct
 
-abbrev pub layer_side_acts : ℕ → Side Channels → LayerAct → LayerStep
+abbrev pub layer_side_acts : ℕ → Side Channels → LayerAct → Step (At Channels) LayerPacket
 layer_side_acts e (Live x) (OnChannel h a) = on_channel e x h (channel_acts (x h) a)
-layer_side_acts e (Live x) SendsRestart = record { next = restarting e x; out = Restart ∷ []; error = None }
-layer_side_acts e (Left x) a = record { next = restarting e x; out = []; error = None }
+layer_side_acts e (Live x) SendsRestart = record { next = left e x; out = Restart ∷ []; error = None }
+layer_side_acts e (Left x) a = record { next = left e x; out = []; error = None }
 
-abbrev pub layer_acts : At Channels → LayerAct → LayerStep
+abbrev pub layer_acts : At Channels → LayerAct → Step (At Channels) LayerPacket
 layer_acts x a = layer_side_acts x.epoch x.side a
 
 -- The end that moves and the other one, each of which may be out (Left); the packets on the way from the one that
@@ -89,11 +74,7 @@ pub data Move : Type 0 where
 abbrev pub turned : Pair → Pair
 turned w = record { near = w.far; far = w.near; out = w.back; back = w.out; error = w.error }
 
-abbrev pub first_error : Option ℕ → Option ℕ → Option ℕ
-first_error None e = e
-first_error (Some n) e = Some n
-
-abbrev pub stepped : Pair → List LayerPacket → LayerStep → Pair
+abbrev pub stepped : Pair → List LayerPacket → Step (At Channels) LayerPacket → Pair
 stepped w back s = record {
   near = Live s.next;
   far = w.far;
@@ -130,8 +111,8 @@ pair_run (e ∷ events) w = pair_run events (pair_happens w e)
 -- both links are up, and each end has sent its RESTART
 abbrev pub pair_start : Pair
 pair_start = record {
-  near = Live (restarting 0 all_fresh);
-  far = Live (restarting 0 all_fresh);
+  near = Live (left 0 all_fresh);
+  far = Live (left 0 all_fresh);
   out = Restart ∷ [];
   back = Restart ∷ [];
   error = None;

@@ -1,20 +1,14 @@
 -- What holds of our own end and any peer: of a circuit in p4, and of a whole packet layer.
 use Rattle.std.specs.Prelude.{◌≡◌, ◌⊎◌, ℕ, suc, ◌≤◌, [], length, Bool, true, false, not, Some, None}
 use Rattle.x25_bits.specs.declared.role.Role.{Role}
-use Rattle.x25_circuit.specs.Message.{carried, wholes}
-use Rattle.x25_circuit.specs.Params.{Terms}
+use Rattle.x25_circuit.specs.{Message.{carried, wholes}, Params.{Terms}}
 use Rattle.x25_handshakes.specs.laws.Handshake.{Side, Live, Left, At, has_left, state_of}
-use Rattle.x25_handshakes.specs.laws.Stretch.{Stretch, fresh}
-use Rattle.x25_handshakes.specs.laws.Transfer.{fresh_transfer}
-use Rattle.x25_handshakes.specs.laws.Calls.{Phase, Talking, Connection, fresh_call}
-use Rattle.x25_handshakes.specs.laws.Layers.{Channels, all_fresh}
-use Rattle.x25_handshakes.specs.laws.Histories.{IsPrefix}
-use Rattle.x25_handshakes.specs.laws.Arrivals.{open_channel}
-use Rattle.x25_handshakes.specs.laws.PeerStretch.{PeerStretch, fresh_peer}
-use Rattle.x25_handshakes.specs.laws.PeerTransfer.{fresh_peer_transfer}
-use Rattle.x25_handshakes.specs.laws.PeerCalls.{Stage, InData, PeerCall, fresh_peer_call}
-use Rattle.x25_handshakes.specs.laws.PeerLayer.{PeerChannels, peer_fresh}
-use Rattle.x25_handshakes.specs.laws.PeerJoined.{Joined, IsReached}
+use Rattle.x25_handshakes.specs.{laws.Stretch.{Stretch, fresh}, laws.Transfer.{fresh_transfer}}
+use Rattle.x25_handshakes.specs.laws.Calls.{Phase, Talking, Connection, fresh_call, Stage}
+use Rattle.x25_handshakes.specs.{laws.Layers.{Channels, all_fresh}, laws.Histories.{IsPrefix}}
+use Rattle.x25_handshakes.specs.{laws.Arrivals.{open_channel}, laws.PeerStretch.{PeerStretch, fresh_peer}}
+use Rattle.x25_handshakes.specs.{laws.PeerTransfer.{fresh_peer_transfer}, laws.PeerCalls.{PeerCall, fresh_peer_call}}
+use Rattle.x25_handshakes.specs.{laws.PeerLayer.{PeerChannels, peer_fresh}, laws.PeerJoined.{Joined, IsReached}}
 use Rattle.x25_handshakes.specs.laws.PeerLayers.{JoinedLayers, IsReached as LayersAreReached}
 
 -- Two ends of a handshake, of which R is said in one epoch, also where an end or both have left it. Their counts differ
@@ -44,13 +38,15 @@ abbrev pub StretchesAreInOrder : At Stretch → At PeerStretch → Type 0
 StretchesAreInOrder x y = InEpochs AreInOrder fresh fresh_peer x y
 
 -- what an end is in p4, and outside of it what it will be there
+abbrev pub in_stage : {S : Type 0} → S → Stage S → S
+in_stage a (Talking t b at) = at
+in_stage a other = a
+
 abbrev pub transfer_of : Phase → At Stretch
-transfer_of (Talking t b at) = at
-transfer_of other = fresh_transfer
+transfer_of p = in_stage fresh_transfer p
 
 abbrev pub peer_transfer_of : Stage (At PeerStretch) → At PeerStretch
-peer_transfer_of (InData t b at) = at
-peer_transfer_of other = fresh_peer_transfer
+peer_transfer_of c = in_stage fresh_peer_transfer c
 
 -- between two clears: calls, and what is in p4
 pub record CallIsInOrder (x : Connection) (y : PeerCall) : Type 0 where
@@ -72,7 +68,7 @@ LayersAreInOrder x y = InEpochs ChannelsAreInOrder all_fresh peer_fresh x y
 
 -- on a channel the peer is in p4, and no restart, clear or reset of its own is out
 abbrev pub is_open_stage : Stage (At PeerStretch) → Bool
-is_open_stage (InData t b at) = not (has_left at.side)
+is_open_stage (Talking t b at) = not (has_left at.side)
 is_open_stage other = false
 
 abbrev pub is_open_call : Side PeerCall → Bool

@@ -1,12 +1,12 @@
 -- A peer's packet layer, whatever station it is: its channels within the handshake of RESTART. ITU-T X.25 (10/96),
 -- section 3.3.
-use Rattle.std.specs.Prelude.{ℕ, suc, List, [], ◌∷◌, if◌then◌else◌, ◌==◌}
-use Rattle.x25_handshakes.specs.laws.Handshake.{Side, Live, Left, At}
-use Rattle.x25_bits.specs.declared.role.Role.{Role}
+use Rattle.std.specs.Prelude.{ℕ, suc, [], ◌∷◌, if◌then◌else◌, ◌==◌}
+use Rattle.x25_handshakes.specs.laws.Handshake.{Side, Live, Left, At, PeerStep, live, left}
 use Rattle.x25_handshakes.specs.laws.Layers.{LayerPacket, On, Restart, RestartConf, addressed}
 use Rattle.x25_handshakes.specs.laws.PeerCalls.{PeerCall}
 use Rattle.x25_handshakes.specs.laws.PeerChannel.{fresh_peer_channel, ChannelDeed, MayDoChannel, does_channel}
-use Rattle.x25_handshakes.specs.laws.PeerChannel.{channel_packet_of, PeerChannelStep, channel_taking}
+use Rattle.x25_handshakes.specs.{laws.PeerChannel.{channel_packet_of, channel_taking}, laws.Stretch.{Packet}}
+use Rattle.x25_bits.specs.declared.role.Role.{Role}
 
 -- the channels of a peer, by number
 abbrev pub PeerChannels : Type 0
@@ -17,14 +17,6 @@ put_peer y h a k = if k == h then a else y k
 
 abbrev pub peer_fresh : PeerChannels
 peer_fresh h = fresh_peer_channel
-
--- it is ready
-abbrev pub peer_ready : ℕ → PeerChannels → At PeerChannels
-peer_ready e y = record { epoch = e; side = Live y }
-
--- it has sent RESTART
-abbrev pub peer_restarting : ℕ → PeerChannels → At PeerChannels
-peer_restarting e y = record { epoch = e; side = Left y }
 
 -- ---- what it sends by itself
 
@@ -39,9 +31,9 @@ MayDoLayer (Live y) Restarts = Unit {0}
 MayDoLayer (Left y) d = ⊥
 
 abbrev pub does_layer : ℕ → Side PeerChannels → LayerDeed → At PeerChannels
-does_layer e (Live y) (InChannel h d) = peer_ready e (put_peer y h (does_channel (y h).epoch (y h).side d))
-does_layer e (Live y) Restarts = peer_restarting e y
-does_layer e (Left y) d = peer_restarting e y
+does_layer e (Live y) (InChannel h d) = live e (put_peer y h (does_channel (y h).epoch (y h).side d))
+does_layer e (Live y) Restarts = left e y
+does_layer e (Left y) d = left e y
 
 abbrev pub layer_packet_of : Side PeerChannels → LayerDeed → LayerPacket
 layer_packet_of (Live y) (InChannel h d) = On h (channel_packet_of (y h).side d)
@@ -50,26 +42,22 @@ layer_packet_of (Left y) d = Restart
 
 -- ---- what it makes of what comes
 
-pub record PeerLayerStep : Type 0 where
-  pub next : At PeerChannels
-  pub out : List LayerPacket
-
-abbrev pub in_channel : ℕ → PeerChannels → ℕ → PeerChannelStep → PeerLayerStep
-in_channel e y h s = record { next = peer_ready e (put_peer y h s.next); out = addressed h s.out }
+abbrev pub in_channel : ℕ → PeerChannels → ℕ → PeerStep (At PeerCall) Packet → PeerStep (At PeerChannels) LayerPacket
+in_channel e y h s = record { next = live e (put_peer y h s.next); out = addressed h s.out }
 
 -- it confirms RESTART, and all channels begin anew (section 3.3.2)
-abbrev pub ready_taking : Role → ℕ → PeerChannels → LayerPacket → PeerLayerStep
+abbrev pub ready_taking : Role → ℕ → PeerChannels → LayerPacket → PeerStep (At PeerChannels) LayerPacket
 ready_taking r e y (On h p) = in_channel e y h (channel_taking r (y h).epoch (y h).side p)
-ready_taking r e y Restart = record { next = peer_ready (suc e) peer_fresh; out = RestartConf ∷ [] }
-ready_taking r e y RestartConf = record { next = peer_ready e y; out = [] }
+ready_taking r e y Restart = record { next = live (suc e) peer_fresh; out = RestartConf ∷ [] }
+ready_taking r e y RestartConf = record { next = live e y; out = [] }
 
 -- while its own RESTART is out, RESTART or its confirmation ends that, and all else is dropped (sections 3.3.1 and
 -- 3.3.3)
-abbrev pub restarting_taking : ℕ → PeerChannels → LayerPacket → PeerLayerStep
-restarting_taking e y (On h p) = record { next = peer_restarting e y; out = [] }
-restarting_taking e y Restart = record { next = peer_ready (suc e) peer_fresh; out = [] }
-restarting_taking e y RestartConf = record { next = peer_ready (suc e) peer_fresh; out = [] }
+abbrev pub restarting_taking : ℕ → PeerChannels → LayerPacket → PeerStep (At PeerChannels) LayerPacket
+restarting_taking e y (On h p) = record { next = left e y; out = [] }
+restarting_taking e y Restart = record { next = live (suc e) peer_fresh; out = [] }
+restarting_taking e y RestartConf = record { next = live (suc e) peer_fresh; out = [] }
 
-abbrev pub layer_taking : Role → ℕ → Side PeerChannels → LayerPacket → PeerLayerStep
+abbrev pub layer_taking : Role → ℕ → Side PeerChannels → LayerPacket → PeerStep (At PeerChannels) LayerPacket
 layer_taking r e (Live y) p = ready_taking r e y p
 layer_taking r e (Left y) p = restarting_taking e y p

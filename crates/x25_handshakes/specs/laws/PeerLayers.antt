@@ -1,13 +1,12 @@
 -- A packet layer of ours and any peer, over lines that keep order, from the link's set-up on, as long as it is up.
 use Rattle.std.specs.Prelude.{◌≡◌, ℕ, List, [], ◌∷◌, ◌++◌, Option, None, false, ◌==◌}
-use Rattle.x25_handshakes.specs.laws.Handshake.{Live, At}
-use Rattle.x25_bits.specs.declared.role.Role.{Role}
-use Rattle.x25_bits.specs.declared.role.Role.TheVariants.{Dte, Dce}
+use Rattle.x25_handshakes.specs.laws.Handshake.{Live, live, left, Beside, near_stepped, peer_stepped}
 use Rattle.x25_handshakes.specs.laws.Stretch.{Packet, Clear}
-use Rattle.x25_handshakes.specs.laws.Layers.{LayerPacket, On, Restart, Channels, all_fresh, LayerStep}
-use Rattle.x25_handshakes.specs.laws.Layers.{restarting, layer_takes, LayerAct, layer_acts, first_error}
-use Rattle.x25_handshakes.specs.laws.PeerLayer.{PeerChannels, peer_fresh, peer_ready, LayerDeed, MayDoLayer, does_layer}
-use Rattle.x25_handshakes.specs.laws.PeerLayer.{layer_packet_of, PeerLayerStep, layer_taking, ready_taking}
+use Rattle.x25_handshakes.specs.laws.Layers.{LayerPacket, On, Restart, Channels, all_fresh}
+use Rattle.x25_handshakes.specs.laws.Layers.{layer_takes, LayerAct, layer_acts}
+use Rattle.x25_handshakes.specs.laws.PeerLayer.{PeerChannels, peer_fresh, LayerDeed, MayDoLayer, does_layer}
+use Rattle.x25_handshakes.specs.laws.PeerLayer.{layer_packet_of, layer_taking, ready_taking}
+use Rattle.x25_bits.specs.{declared.role.Role.{Role}, declared.role.Role.TheVariants.{Dte, Dce}}
 
 abbrev pub other_role : Role → Role
 other_role Dte = Dce
@@ -23,36 +22,18 @@ abbrev pub layer_found : LayerPacket → Option ℕ → Option ℕ
 layer_found (On h p) e = found p e
 layer_found p e = e
 
--- Our layer, the peer, the packets on the way from our layer and to it, front first, and the number of the first error
--- of procedure that our layer found, if there was one.
-pub record JoinedLayers : Type 0 where
-  pub near : At Channels
-  pub peer : At PeerChannels
-  pub out : List LayerPacket
-  pub back : List LayerPacket
-  pub error : Option ℕ
+abbrev pub JoinedLayers : Type 0
+JoinedLayers = Beside Channels PeerChannels LayerPacket
 
 -- the link was just set up, and our layer has sent RESTART (profile); the peer need not
 abbrev pub start : JoinedLayers
 start = record {
-  near = restarting 0 all_fresh;
-  peer = peer_ready 0 peer_fresh;
+  near = left 0 all_fresh;
+  peer = live 0 peer_fresh;
   out = Restart ∷ [];
   back = [];
   error = None;
 }
-
-abbrev pub near_stepped : JoinedLayers → List LayerPacket → LayerStep → Option ℕ → JoinedLayers
-near_stepped w back s e = record {
-  near = s.next;
-  peer = w.peer;
-  out = w.out ++ s.out;
-  back = back;
-  error = first_error w.error e;
-}
-
-abbrev pub peer_stepped : JoinedLayers → List LayerPacket → PeerLayerStep → JoinedLayers
-peer_stepped w out s = record w { peer = s.next; out = out; back = w.back ++ s.out }
 
 -- no RESTART, no confirmation of one, and no packet of this channel
 abbrev pub IsElsewhere : ℕ → LayerPacket → Type 0

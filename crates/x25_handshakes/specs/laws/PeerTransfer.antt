@@ -1,20 +1,13 @@
 -- A peer in p4 (data transfer), whatever station it is: a stretch within the handshake of RESET. ITU-T X.25 (10/96),
 -- section 4.4.3.
 use Rattle.std.specs.Prelude.{ℕ, suc, List, [], ◌∷◌}
-use Rattle.x25_handshakes.specs.laws.Handshake.{Side, Live, Left, At}
+use Rattle.x25_handshakes.specs.laws.Handshake.{Side, Live, Left, At, PeerStep, live, left}
 use Rattle.x25_handshakes.specs.laws.Stretch.{Packet, Reset, ResetConf}
 use Rattle.x25_handshakes.specs.laws.PeerStretch.{PeerStretch, fresh_peer, Deed, MayDo, does, packet_of, taking}
 
-abbrev pub peer_d1 : ℕ → PeerStretch → At PeerStretch
-peer_d1 e y = record { epoch = e; side = Live y }
-
--- it has sent RESET
-abbrev pub peer_rst : ℕ → PeerStretch → At PeerStretch
-peer_rst e y = record { epoch = e; side = Left y }
-
 -- numbers begin anew, and no interrupt is out (section 4.4.3)
 abbrev pub fresh_peer_transfer : At PeerStretch
-fresh_peer_transfer = peer_d1 0 fresh_peer
+fresh_peer_transfer = live 0 fresh_peer
 
 -- ---- what it sends by itself
 
@@ -29,9 +22,9 @@ MayDoTransfer size (Live y) Resets = Unit {0}
 MayDoTransfer size (Left y) d = ⊥
 
 abbrev pub does_transfer : ℕ → Side PeerStretch → TransferDeed → At PeerStretch
-does_transfer e (Live y) (InStretch d) = peer_d1 e (does y d)
-does_transfer e (Live y) Resets = peer_rst e y
-does_transfer e (Left y) d = peer_rst e y
+does_transfer e (Live y) (InStretch d) = live e (does y d)
+does_transfer e (Live y) Resets = left e y
+does_transfer e (Left y) d = left e y
 
 abbrev pub transfer_packet_of : Side PeerStretch → TransferDeed → Packet
 transfer_packet_of (Live y) (InStretch d) = packet_of y d
@@ -40,22 +33,18 @@ transfer_packet_of (Left y) d = Reset
 
 -- ---- what it makes of what comes
 
-pub record PeerStep : Type 0 where
-  pub next : At PeerStretch
-  pub out : List Packet
-
 -- it confirms RESET, and the next stretch begins anew (section 4.4.3.4)
-abbrev pub live_taking : ℕ → PeerStretch → Packet → PeerStep
-live_taking e y Reset = record { next = peer_d1 (suc e) fresh_peer; out = ResetConf ∷ [] }
-live_taking e y p = record { next = peer_d1 e (taking y p); out = [] }
+abbrev pub live_taking : ℕ → PeerStretch → Packet → PeerStep (At PeerStretch) Packet
+live_taking e y Reset = record { next = live (suc e) fresh_peer; out = ResetConf ∷ [] }
+live_taking e y p = record { next = live e (taking y p); out = [] }
 
 -- while its own RESET is out, RESET or its confirmation ends that, and all else is dropped (4.4.3.3 and 4.4.3.4)
-abbrev pub left_taking : ℕ → PeerStretch → Packet → PeerStep
-left_taking e y Reset = record { next = peer_d1 (suc e) fresh_peer; out = [] }
-left_taking e y ResetConf = record { next = peer_d1 (suc e) fresh_peer; out = [] }
-left_taking e y p = record { next = peer_rst e y; out = [] }
+abbrev pub left_taking : ℕ → PeerStretch → Packet → PeerStep (At PeerStretch) Packet
+left_taking e y Reset = record { next = live (suc e) fresh_peer; out = [] }
+left_taking e y ResetConf = record { next = live (suc e) fresh_peer; out = [] }
+left_taking e y p = record { next = left e y; out = [] }
 
-abbrev pub transfer_taking : ℕ → Side PeerStretch → Packet → PeerStep
+abbrev pub transfer_taking : ℕ → Side PeerStretch → Packet → PeerStep (At PeerStretch) Packet
 transfer_taking e (Live y) p = live_taking e y p
 transfer_taking e (Left y) p = left_taking e y p
 

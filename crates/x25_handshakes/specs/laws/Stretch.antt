@@ -4,10 +4,10 @@ use Rattle.std.specs.Prelude.{ℕ, ◌+◌, ◌%◌, List, [], ◌∷◌, ◌++�
 use Rattle.std.specs.Prelude.{nat_le, if◌then◌else◌, ◌==◌}
 use Rattle.x25_packet.specs.declared.marks.Marks.{Marks}
 use Rattle.x25_circuit.specs.declared.message.Message.{Message}
-use Rattle.x25_circuit.specs.Message.{Piece, no_part, joining, completed, piece_ground, cut, wholes}
-use Rattle.x25_window.specs.code.Modulo.{resolved}
-use Rattle.x25_circuit.specs.Params.{Terms}
+use Rattle.x25_circuit.specs.{Message.{Piece, no_part, joining, completed, piece_ground, cut, wholes}, Params.{Terms}}
 use Rattle.x25_circuit.specs.Notice.{CallRequest}
+use Rattle.x25_window.specs.code.Modulo.{resolved}
+use Rattle.x25_handshakes.specs.laws.Handshake.{Step}
 
 -- the packets of a channel, with what the two ends' order depends on: no channel, cause or diagnostic. A CALL has what
 -- its facilities say, an ACCEPT its facility field.
@@ -54,16 +54,10 @@ fresh = record {
   int_up = [];
 }
 
--- what a step leaves, the packets that it sends, and the number of the error of procedure, if it is one
-pub record StretchStep : Type 0 where
-  pub next : Stretch
-  pub out : List Packet
-  pub error : Option ℕ
-
-abbrev pub stretch_does : Stretch → List Packet → StretchStep
+abbrev pub stretch_does : Stretch → List Packet → Step Stretch Packet
 stretch_does x o = record { next = x; out = o; error = None }
 
-abbrev pub stretch_fails : Stretch → ℕ → StretchStep
+abbrev pub stretch_fails : Stretch → ℕ → Step Stretch Packet
 stretch_fails x n = record { next = x; out = []; error = Some n }
 
 pub data StretchAct : Type 0 where
@@ -78,7 +72,7 @@ abbrev pub status : Bool → ℕ → Packet
 status true n = Rr (n % 8)
 status false n = Rnr (n % 8)
 
-abbrev pub sends : Terms → Stretch → Marks → List ℕ → StretchStep
+abbrev pub sends : Terms → Stretch → Marks → List ℕ → Step Stretch Packet
 sends t x marks xs =
     if nat_le (length xs) 65535
     then (if nat_lt (wholes x.rest) 8
@@ -90,7 +84,7 @@ sends t x marks xs =
     else stretch_does x [])
     else stretch_does x []
 
-abbrev pub pulls : Terms → Stretch → List Piece → StretchStep
+abbrev pub pulls : Terms → Stretch → List Piece → Step Stretch Packet
 pulls t x [] = stretch_does x []
 pulls t x (p ∷ ps) =
     if x.peer_ready
@@ -103,7 +97,7 @@ pulls t x (p ∷ ps) =
     else stretch_does x [])
     else stretch_does x []
 
-abbrev pub interrupts : Stretch → List ℕ → StretchStep
+abbrev pub interrupts : Stretch → List ℕ → Step Stretch Packet
 interrupts x xs =
     if nat_le 1 (length xs)
     then (if nat_le (length xs) 32
@@ -114,7 +108,7 @@ interrupts x xs =
     else stretch_does x []
 
 -- a call of the user, or a pull. A refused one changes nothing
-abbrev pub stretch_acts : Terms → Stretch → StretchAct → StretchStep
+abbrev pub stretch_acts : Terms → Stretch → StretchAct → Step Stretch Packet
 stretch_acts t x (Send marks xs) = sends t x marks xs
 stretch_acts t x Pull = pulls t x x.rest
 stretch_acts t x Ready = stretch_does (record x { own_ready = true }) (Rr (length x.taken % 8) ∷ [])
@@ -130,11 +124,11 @@ data_ground size x s r p =
     then (if s == length x.taken % 8 then piece_ground size (joining no_part x.taken) p else Some 1)
     else Some 2
 
-abbrev pub by_ground : Option ℕ → Stretch → StretchStep → StretchStep
+abbrev pub by_ground : Option ℕ → Stretch → Step Stretch Packet → Step Stretch Packet
 by_ground None x good = good
 by_ground (Some n) x good = stretch_fails x n
 
-abbrev pub takes_data : Stretch → ℕ → Piece → StretchStep
+abbrev pub takes_data : Stretch → ℕ → Piece → Step Stretch Packet
 takes_data x r p =
     stretch_does (record x {
       acked = resolved x.acked r;
@@ -142,11 +136,11 @@ takes_data x r p =
       up = x.up ++ completed (joining no_part x.taken) p;
     }) (status x.own_ready (length x.taken + 1) ∷ [])
 
-abbrev pub takes_status : Stretch → Bool → ℕ → StretchStep
+abbrev pub takes_status : Stretch → Bool → ℕ → Step Stretch Packet
 takes_status x ready r = stretch_does (record x { acked = resolved x.acked r; peer_ready = ready }) []
 
 -- a packet taken in d1; the size is that of the direction to this end. What the levels above take is 0 here
-abbrev pub stretch_takes : ℕ → Stretch → Packet → StretchStep
+abbrev pub stretch_takes : ℕ → Stretch → Packet → Step Stretch Packet
 stretch_takes size x (Data s r p) = by_ground (data_ground size x s r p) x (takes_data x r p)
 stretch_takes size x (Rr r) = by_ground (ack_ground x r) x (takes_status x true r)
 stretch_takes size x (Rnr r) = by_ground (ack_ground x r) x (takes_status x false r)

@@ -2,27 +2,19 @@
 use Rattle.std.specs.Prelude.{◌≡◌, false, true, List, [], ◌∷◌, ◌++◌, None}
 use Rattle.x25_bits.specs.declared.role.Role.TheVariants.{Dte, Dce}
 use Rattle.x25_packet.specs.Marks.{with_q}
-use Rattle.x25_circuit.specs.Message.{Last}
-use Rattle.x25_circuit.specs.Params.{Terms, default_params}
-use Rattle.x25_circuit.specs.Notice.{CallRequest}
-use Rattle.x25_handshakes.specs.laws.Handshake.{state_of}
+use Rattle.x25_circuit.specs.{Message.{Last}, Params.{Terms, default_params}, Notice.{CallRequest}}
+use Rattle.x25_handshakes.specs.laws.Handshake.{state_of, near_stepped, peer_stepped}
 use Rattle.x25_handshakes.specs.laws.Stretch.{Data, Call, Accept, Send, Pull}
-use Rattle.x25_handshakes.specs.laws.Transfer.{Inside, transfer_acts, transfer_takes}
-use Rattle.x25_handshakes.specs.laws.PeerStretch.{Sends, Says}
+use Rattle.x25_handshakes.specs.{laws.Transfer.{Inside, transfer_acts, transfer_takes}, laws.PeerStretch.{Sends, Says}}
 use Rattle.x25_handshakes.specs.laws.PeerTransfer.{InStretch, TransferDeed, does_transfer, transfer_packet_of}
-use Rattle.x25_handshakes.specs.laws.PeerTransfer.{transfer_taking}
-use Rattle.x25_handshakes.specs.laws.PeerJoined.{Joined, start, near_stepped, peer_stepped, IsReached}
-use Rattle.x25_handshakes.specs.laws.Calls.{AcceptsCall}
-use Rattle.x25_handshakes.specs.laws.Channel.{Within}
+use Rattle.x25_handshakes.specs.{laws.PeerTransfer.{transfer_taking}, laws.PeerJoined.{Joined, start, IsReached}}
+use Rattle.x25_handshakes.specs.{laws.Calls.{AcceptsCall}, laws.Channel.{Within}}
 use Rattle.x25_handshakes.specs.laws.Layers.{LayerPacket, On, Restart, RestartConf, layer_takes, LayerAct, OnChannel}
-use Rattle.x25_handshakes.specs.laws.Layers.{layer_acts}
-use Rattle.x25_handshakes.specs.laws.PeerCalls.{PlacesCall, InTransfer}
+use Rattle.x25_handshakes.specs.{laws.Layers.{layer_acts}, laws.PeerCalls.{PlacesCall, InTransfer}}
 use Rattle.x25_handshakes.specs.laws.PeerChannel.{InCall}
 use Rattle.x25_handshakes.specs.laws.PeerLayer.{LayerDeed, InChannel, does_layer, layer_packet_of, layer_taking}
 use Rattle.x25_handshakes.specs.laws.PeerLayers.{layer_found, JoinedLayers, start as layers_start}
-use Rattle.x25_handshakes.specs.laws.PeerLayers.{near_stepped as layer_stepped, peer_stepped as layer_peer_stepped}
-use Rattle.x25_handshakes.specs.laws.PeerLayers.{IsReached as LayersAreReached}
-use Rattle.x25_handshakes.specs.laws.PeerClaims.{transfer_of}
+use Rattle.x25_handshakes.specs.{laws.PeerLayers.{IsReached as LayersAreReached}, laws.PeerClaims.{transfer_of}}
 
 abbrev pub terms : Terms
 terms = record { window = 1; size = 128 }
@@ -35,10 +27,10 @@ peer_does w deed = record w {
 
 -- the user hands down an octet, and it goes
 abbrev pub handed_down : Joined
-handed_down = near_stepped start [] (transfer_acts terms start.near (Inside (Send (with_q false) (5 ∷ []))))
+handed_down = near_stepped start [] (transfer_acts terms start.near (Inside (Send (with_q false) (5 ∷ [])))) None
 
 abbrev pub pulled : Joined
-pulled = near_stepped handed_down [] (transfer_acts terms handed_down.near (Inside Pull))
+pulled = near_stepped handed_down [] (transfer_acts terms handed_down.near (Inside Pull)) None
 
 -- the peer takes it, says nothing, and sends one of its own, by which it acknowledges none
 abbrev pub heard : Joined
@@ -49,7 +41,7 @@ answered = peer_does heard (InStretch (Sends (Last (with_q false) (7 ∷ [])) 0)
 
 -- the circuit takes it, and only then the peer acknowledges
 abbrev pub taken : Joined
-taken = near_stepped answered [] (transfer_takes 128 answered.near (Data 0 0 (Last (with_q false) (7 ∷ []))))
+taken = near_stepped answered [] (transfer_takes 128 answered.near (Data 0 0 (Last (with_q false) (7 ∷ [])))) None
 
 abbrev pub acknowledged : Joined
 acknowledged = peer_does taken (InStretch (Says true 1))
@@ -73,13 +65,13 @@ layer_does w deed = record w {
 
 -- the peer takes the packet in front, and so does our layer
 abbrev pub peer_hears : JoinedLayers → LayerPacket → JoinedLayers
-peer_hears w p = layer_peer_stepped w [] (layer_taking Dce w.peer.epoch w.peer.side p)
+peer_hears w p = peer_stepped w [] (layer_taking Dce w.peer.epoch w.peer.side p)
 
 abbrev pub layer_hears : JoinedLayers → LayerPacket → List LayerPacket → JoinedLayers
-layer_hears w p rest = layer_stepped w rest (layer_takes Dte w.near p) (layer_found p (layer_takes Dte w.near p).error)
+layer_hears w p rest = near_stepped w rest (layer_takes Dte w.near p) (layer_found p (layer_takes Dte w.near p).error)
 
 abbrev pub layer_does_itself : JoinedLayers → LayerAct → JoinedLayers
-layer_does_itself w act = layer_stepped w w.back (layer_acts w.near act) (layer_acts w.near act).error
+layer_does_itself w act = near_stepped w w.back (layer_acts w.near act) (layer_acts w.near act).error
 
 abbrev pub restarted : JoinedLayers
 restarted = layer_hears (peer_hears layers_start Restart) RestartConf []

@@ -21,6 +21,7 @@ use Rattle.x25_line.specs.laws.Sessions.{Entry, Meeting}
 use Rattle.x25_line.specs.laws.Peer.{Peer, numbered_to, told_to, taking, hearing}
 use Rattle.x25_line.specs.laws.Peer as once
 use Rattle.x25_line.specs.laws.PeerSessions.{PeerEnd, begins, now, with_now, hears, numbered, takes_sabm}
+use Rattle.x25_line.specs.laws.PeerSessions as peers
 use Rattle.x25_handshakes.specs.laws.PeerCalls.{PlacesCall}
 use Rattle.x25_handshakes.specs.laws.PeerChannel.{InCall}
 use Rattle.x25_handshakes.specs.laws.Handshake.{At}
@@ -136,7 +137,7 @@ call_is_accepted =
     let e2 : PeerEnd = begins p0.peer in
     let p2 : Program = record p1 { peer = e2; out = []; back = sent 1 ua_octets ∷ [] } in
     let r2 : IsReached ours p2 = goes_on p1 p2 r1 (Elsewhere (record (bare ours p1) { peer = e2; out = []; back = sent 1 ua_octets ∷ [] })
-    (beside.AnswersByUa (sent 0 sabm_octets) [] ua_octets true e2 refl ua_reads (takes_sabm true sabm_reads)) tt) in
+    (beside.Links _ (peers.Answers (sent 0 sabm_octets) [] ua_octets true e2 refl ua_reads (takes_sabm true sabm_reads))) tt) in
     let p3 : Program = record p2 { read = codes "dte connect\n< 01738357\n"; out = sent 1 restart_octets ∷ []; back = [] } in
     let r3 : IsReached ours p3 = goes_on p2 p3 r2 (Takes (sent 1 ua_octets) [] refl ua_fits) in
     let x4 : Peer = taking true restart_packet (hearing true 0 (now e2)) in
@@ -144,7 +145,7 @@ call_is_accepted =
     let met : Meeting = record { near = 1; far = 1 } in
     let p4 : Program = record p3 { peer = e4; out = []; met = met ∷ [] } in
     let r4 : IsReached ours p4 = goes_on p3 p4 r3 (Elsewhere (record (bare ours p3) { peer = e4; out = []; met = met ∷ [] })
-    (beside.Hears (sent 1 restart_octets) [] e4 refl (hears x4 refl (subst (λ (r : Result PlainFrame FrameError). once.MayHear (now e2) r x4) (sym restart_reads) (true, true, refl, refl)))) tt) in
+    (beside.Links _ (peers.Hears (sent 1 restart_octets) [] e4 refl (hears x4 refl (subst (λ (r : Result PlainFrame FrameError). once.MayHear (now e2) r x4) (sym restart_reads) (true, true, refl, refl))))) tt) in
     let v5 : BesideSessions = layer_heard (bare ours p4) (layer_after ours p4) [] (confirmation_packet ∷ []) in
     let p5 : Program = record p4 { peer = v5.peer; theirs = v5.theirs } in
     let r5 : IsReached ours p5 = goes_on p4 p5 r4 (Elsewhere v5 (beside.LayerHears (restart 0 0) (restart 0 0 ∷ []) [] (restart_conf ∷ []) (confirmation_packet ∷ []) refl (refl, tt) refl (record { are = refl; configured = (λ has. absurd has, tt) }) (refl, tt)) tt) in
@@ -156,14 +157,14 @@ call_is_accepted =
     let e7 : PeerEnd = with_now x7 p6.peer in
     let p7 : Program = record p6 { peer = e7; back = sent 1 confirmation_octets ∷ [] } in
     let r7 : IsReached ours p7 = goes_on p6 p7 r6 (Elsewhere (record (bare ours p6) { peer = e7; back = sent 1 confirmation_octets ∷ [] })
-    (beside.Sends confirmation_octets e7 (numbered (info 0 1 false confirmation_packet) x7 refl refl (subst (λ (r : Result PlainFrame FrameError). once.MaySend (Unit {0}) (now p6.peer) r x7) (sym confirmation_reads)
-    (0, 1, record { number = refl; same = refl; window = omega arith; again = omega arith }, record { number = refl; rising = omega arith; taken = omega arith }, refl)))) tt) in
+    (beside.Links _ (peers.Sends confirmation_octets e7 (numbered (info 0 1 false confirmation_packet) x7 refl refl (subst (λ (r : Result PlainFrame FrameError). once.MaySend (Unit {0}) (now p6.peer) r x7) (sym confirmation_reads)
+    (0, 1, record { number = refl; same = refl; window = omega arith; again = omega arith }, record { number = refl; rising = omega arith; taken = omega arith }, refl))))) tt) in
     let x8 : Peer = told_to 1 (numbered_to 1 (now p7.peer)) in
     let e8 : PeerEnd = with_now x8 p7.peer in
     let p8 : Program = record p7 { peer = e8; back = sent 1 confirmation_octets ∷ sent 1 call_octets ∷ [] } in
     let r8 : IsReached ours p8 = goes_on p7 p8 r7 (Elsewhere (record (bare ours p7) { peer = e8; back = sent 1 confirmation_octets ∷ sent 1 call_octets ∷ [] })
-    (beside.Sends call_octets e8 (numbered (info 1 1 false call_packet) x8 refl refl (subst (λ (r : Result PlainFrame FrameError). once.MaySend (Unit {0}) (now p7.peer) r x8) (sym call_reads)
-    (1, 1, record { number = refl; same = refl; window = omega arith; again = omega arith }, record { number = refl; rising = omega arith; taken = omega arith }, refl)))) tt) in
+    (beside.Links _ (peers.Sends call_octets e8 (numbered (info 1 1 false call_packet) x8 refl refl (subst (λ (r : Result PlainFrame FrameError). once.MaySend (Unit {0}) (now p7.peer) r x8) (sym call_reads)
+    (1, 1, record { number = refl; same = refl; window = omega arith; again = omega arith }, record { number = refl; rising = omega arith; taken = omega arith }, refl))))) tt) in
     let p9 : Program = reads ours p8 (codes "< 03201000ff05d7\n") (sent 1 call_octets ∷ []) (met ∷ met ∷ []) in
     let r9 : IsReached ours p9 = goes_on p8 p9 r8 (Takes (sent 1 confirmation_octets) (sent 1 call_octets ∷ []) refl confirmation_fits) in
     let p10 : Program = reads ours p9 (codes "< 032210010b00007528\n") [] (met ∷ met ∷ met ∷ []) in

@@ -1,5 +1,5 @@
 -- SABM and UA begin a session of both ends.
-use Rattle.x25_judge.proofs.verdicts.Names.{◌≡◌, ◌==◌, ◌⊎◌, inl, inr, ℕ, arith, Bool, true, false, zero, suc, List, [], ◌∷◌, ◌++◌, length, drop, Option, Some, None, Result, Ok, Err, refl, sym, ap, ◌∙◌, subst, nat_le, not, ◌&&◌, ◌||◌, nat_lt, both_ways, cond_both, or_parts, and_parts, Role, Dte, Dce, gap_in, n1, sent_in, Reading, PlainFrame, sabm, ua, frame_of, FrameError, other, Held, no_octets, differs, all_told, answer_to, book_by, gap_of, missed_by, next_missed, no_frame, other_of, own_of, past_gap, read_of, seen_by, sent_of, tallies, Judge, Strictness, End, Rule, come, comes, has_answer, has_number, is_new, is_number, is_of_order, IsBegun, rule_of, Shows, after, IsClear, SetUpsBegin, PacketRule, IsIn, Place, at, At, Owes, State, fresh, has_ua, heard, is_asking, may_answer, owes, passes, sends, is_plain, onward, settled, upward, hastened, is_below, numbers_below, sends_to, set_as, shows_to, spot_at, trimmed, Frame, Before, Disc, Info, Ready, Sabm, Ua, Unread, LinkSet, Told, Broken, Nothing, Spot, Numbers, Stand, Asking, Free, Out, Up, AllAre, sent_all, shown_all, AreBelow, Below, below_on, below_self, HoldsAt, Leads, Stays, Steps, Has, HasIn, blind_sends, blind_shows, has_less, has_sent, has_shown, has_taken, shows_by, trim_has, is_of_manners, NoPoll, RejectAgain, OverWindow, Repeats, Packet}
+use Rattle.x25_judge.proofs.verdicts.Names.{◌≡◌, ◌==◌, ◌⊎◌, inl, inr, ℕ, arith, Bool, true, false, zero, suc, List, [], ◌∷◌, ◌++◌, length, drop, Option, Some, None, Result, Ok, Err, refl, sym, ap, ◌∙◌, subst, nat_le, not, ◌&&◌, ◌||◌, nat_lt, both_ways, cond_both, or_parts, and_parts, and_from, Role, Dte, Dce, gap_in, n1, sent_in, Reading, PlainFrame, sabm, ua, frame_of, FrameError, other, Held, no_octets, differs, all_told, answer_to, book_by, gap_of, missed_by, other_of, own_of, past_gap, read_of, seen_by, sent_of, Judge, Strictness, End, Rule, come, comes, has_answer, has_number, is_new, is_number, is_of_order, IsBegun, rule_of, Shows, after, IsClear, SetUpsBegin, PacketRule, IsIn, Place, at, At, Owes, State, fresh, has_ua, heard, is_asking, may_answer, owes, passes, sends, is_plain, onward, settled, upward, hastened, is_below, numbers_below, sends_to, set_as, shows_to, spot_at, trimmed, Frame, Before, Disc, Info, Ready, Sabm, Ua, Unread, LinkSet, Told, Broken, Nothing, Spot, Numbers, Stand, Asking, Free, Out, Up, AllAre, sent_all, shown_all, AreBelow, Below, below_on, below_self, HoldsAt, Leads, Stays, Steps, Has, HasIn, blind_sends, blind_shows, has_less, has_sent, has_shown, has_taken, shows_by, trim_has, is_of_manners, NoPoll, RejectAgain, OverWindow, Repeats, Packet}
 use Rattle.std.specs.Prelude.{if◌then◌else◌}
 use Rattle.std.proofs.lemmas.Bool.{eq-eqb, le-leb}
 use Rattle.x25_judge.specs.Judge.{begins as judge_begins}
@@ -11,10 +11,10 @@ use Rattle.x25_judge.specs.declared.rule.Rule.TheVariants.{Skips}
 use Rattle.std.specs.List.{list_any}
 use Rattle.std.proofs.lemmas.List.Folds.{list_any-append}
 use Rattle.x25_possible_links.proofs.Covers.{Covers, Here, Asked, Later, Begins}
-use Rattle.x25_judge.proofs.verdicts.Lines.{Goes, goes, next_goes, other_twice}
+use Rattle.x25_judge.proofs.verdicts.Lines.{Goes, goes, next_goes, next_past, other_twice}
 use Rattle.x25_judge.proofs.verdicts.Octets.{HasRoom, each_room, keeps_room}
 use Rattle.x25_judge.proofs.verdicts.Silences.{no_numbers, saw}
-use Rattle.x25_judge.proofs.verdicts.Silent.{Fits, IsWithin, comes_on, heard_sent, heard_told, settled_comes, settled_within, upward_within}
+use Rattle.x25_judge.proofs.verdicts.Silent.{Fits, IsWithin, comes_on, settled_comes, up_below, settled_within, upward_within}
 use Rattle.x25_judge.proofs.verdicts.Following.{owed_first}
 use Rattle.x25_judge.proofs.verdicts.Innocents.{sent_end}
 use Rattle.x25_judge.proofs.verdicts.Manners.{IsFair, minds_has, small_window}
@@ -24,21 +24,10 @@ use Rattle.x25_possible_links.specs.code.Steps.{set_of}
 
 -- ---- a place from which a session may begin
 
-up_fresh : (k : Numbers) → k.sent ≡ 0 → k.told ≡ 0 → Below fresh (Up k)
-up_fresh k s t = record { sent = s; acked = omega arith; taken = omega arith; told = omega (arith, t) }
-
-up_comes : (way : List Frame) (k : Numbers) → k.sent ≡ 0 → k.told ≡ 0 → Below fresh (comes way (Up k))
-up_comes [] k s t = up_fresh k s t
-up_comes (x ∷ way) k s t = up_comes way (heard true true k x) (heard_sent k x ∙ s) (heard_told k x ∙ t)
-
 step_comes : (u : Stand) (x : Frame) (way : List Frame) → Below fresh (comes way (onward u x)) → Below fresh (comes way (upward u x))
-step_comes Asking x way b = cond_both (may_answer x) fresh Asking (λ (u : Stand). Below fresh (comes way u)) (λ _. up_comes way _ refl refl) (λ _. b)
+step_comes Asking x way b =
+    cond_both (may_answer x) fresh Asking (λ (u : Stand). Below fresh (comes way u)) (λ _. up_below way no_numbers) (λ _. b)
 step_comes u x way b = b
-
-begins_come : (x : Frame) (way : List Frame) → may_answer x ≡ true → Below fresh (comes way (upward Asking x))
-begins_come x way may =
-    cond_both (may_answer x) fresh Asking (λ (u : Stand). Below fresh (comes way u)) (λ _. up_comes way _ refl refl)
-    (λ no. absurd (both_ways (may_answer x) no may))
 
 at_same : (s g : Stand) → At s ≡ At g → s ≡ g
 at_same s g e = cc
@@ -51,7 +40,8 @@ covers_come _ _ _ _ (Here s u way below) g e none b =
     subst (λ w. Below fresh (comes w u)) (sym none) (below_on fresh s u (subst (λ r. Below fresh r) (sym (at_same s g e)) b) below)
 covers_come _ _ _ _ (Asked s u r x way below is) g e none b = absurd (owes_not r g e)
 covers_come _ _ _ _ (Later u x way s end c) g e none b = step_comes u x way (covers_come (onward u x) way s end c g e none b)
-covers_come _ _ _ _ (Begins x way s end may c) g e none b = begins_come x way may
+covers_come _ _ _ _ (Begins x way s end may c) g e none b =
+    subst (λ b. Below fresh (comes way (if b then fresh else Asking))) (sym may) (up_below way no_numbers)
 
 leads_none : (u : Stand) (way : List Frame) (t : Stand) (end : List Frame) → Leads u way t end → way ≡ [] → (t ≡ u) × (end ≡ [])
 leads_none _ _ _ _ (Stays u way) e = (refl, e)
@@ -66,11 +56,10 @@ holds_come u way h =
     covers_come u way (At h.stand) h.end h.covers h.stand refl l.1 (subst (λ s. Below fresh s) (sym l.0) h.below)
 
 numbers_true : (k j : Numbers) → AreBelow k j → numbers_below k j ≡ true
-numbers_true k j b = both (j.sent == k.sent) (nat_le k.acked j.acked) (nat_le k.taken j.taken) (nat_le j.told k.told)
-    (eq-eqb j.sent k.sent b.sent) (le-leb k.acked j.acked b.acked) (le-leb k.taken j.taken b.taken) (le-leb j.told k.told b.told)
-  where
-    both : (a b c d : Bool) → a ≡ true → b ≡ true → c ≡ true → d ≡ true → (a && (b && (c && d))) ≡ true
-    both a b c d e f g h = ap (λ (x : Bool). x && (b && (c && d))) e ∙ (ap (λ (x : Bool). x && (c && d)) f ∙ (ap (λ (x : Bool). x && d) g ∙ h))
+numbers_true k j b =
+    and_from (j.sent == k.sent) _ (eq-eqb j.sent k.sent b.sent)
+    (and_from (nat_le k.acked j.acked) _ (le-leb k.acked j.acked b.acked)
+    (and_from (nat_le k.taken j.taken) (nat_le j.told k.told) (le-leb k.taken j.taken b.taken) (le-leb j.told k.told b.told)))
 
 below_is : (s : Stand) → Below fresh s → is_below fresh s ≡ true
 below_is (Up j) b = numbers_true _ j b
@@ -353,24 +342,18 @@ told_room told h g = g
 abbrev RoomOf : End → Type 0
 RoomOf e = HasRoom e.held
 
-goes_stay : (j k : Judge) (from : Role) (frame : PlainFrame) → Goes k from (seen_by j from frame).own (seen_by j from frame).other → AreRoomy j → AreRoomy k
-goes_stay j k from frame g stays =
-    by_roles from k RoomOf
-    (subst RoomOf (sym g.own) (keeps_room _ frame (told_room _ (own_of from j).held (stays from))))
-    (subst RoomOf (sym g.opposite) (subst RoomOf (sym (opposite_is from j)) (stays (other from))))
-
-missed_stay : (j : Judge) (from : Role) (e : FrameError) (in_doubt : Bool) → AreRoomy j → AreRoomy (tallies in_doubt (no_frame e) (next_missed from e (missed_by j from) j))
-missed_stay j Dte e in_doubt stays =
-    by_roles Dte (tallies in_doubt (no_frame e) (next_missed Dte e (missed_by j Dte) j)) RoomOf (each_room j.dte.set.spots.items j.dte.held (stays Dte)) (stays Dce)
-missed_stay j Dce e in_doubt stays =
-    by_roles Dce (tallies in_doubt (no_frame e) (next_missed Dce e (missed_by j Dce) j)) RoomOf (each_room j.dce.set.spots.items j.dce.held (stays Dce)) (stays Dte)
+goes_room : (k : Judge) (from : Role) (sender hearer : End) → Goes k from sender hearer → RoomOf sender → RoomOf hearer → AreRoomy k
+goes_room k from sender hearer g a b = by_roles from k RoomOf (subst RoomOf (sym g.own) a) (subst RoomOf (sym g.opposite) b)
 
 read_stays : (j : Judge) (from : Role) (octets : List ℕ) (r : Result PlainFrame FrameError) → AreRoomy j → AreRoomy (read_of j from octets r).next
 read_stays j from octets (Ok frame) h =
     let t = seen_by j from frame in
     let s = book_by j from frame t in
-    goes_stay j _ from frame (next_goes from j frame t s _ (all_told t.seen.rule s.verdict.rule)) h
-read_stays j from octets (Err e) h = missed_stay j from e _ h
+    goes_room _ from t.own t.other (next_goes from j frame t s _ (all_told t.seen.rule s.verdict.rule))
+    (keeps_room _ frame (told_room _ (own_of from j).held (h from))) (subst RoomOf (sym (opposite_is from j)) (h (other from)))
+read_stays j from octets (Err e) h =
+    goes_room _ from (missed_by j from).own (missed_by j from).other (next_past from e _ j)
+    (each_room (own_of from j).set.spots.items (own_of from j).held (h from)) (subst RoomOf (sym (opposite_is from j)) (h (other from)))
 
 gap_stays : (j : Judge) (gap : Option Role) → AreRoomy j → AreRoomy (gap_of j gap).next
 gap_stays j None h = h

@@ -1,5 +1,6 @@
 -- What a line makes of the judge, where it is a frame.
-use Rattle.x25_judge.proofs.verdicts.Names.{◌≡◌, inl, inr, ℕ, Bool, true, false, List, Option, Some, None, Err, refl, sym, ap, ◌∙◌, subst, is_some, not, ◌&&◌, both_ways, or_parts, cond_both, Role, Dte, Dce, PlainFrame, info, other, PacketRule, Answer, own_of, counts_packet, counts_on, counts_carried, all_told, is_open, told_frame, remark_of, next_by, seen_by, missed_by, next_missed, no_frame, tallies, read_of, sent_of, answer_to, Both, breaks_order, is_of_manners, Judge, Rule, Packet, Shows, IsDamaged, is_of_order, gap_in, n1, frame_of, FrameError, Short, BadFcs, visible_reads, End}
+use Rattle.x25_judge.proofs.verdicts.Names.{◌≡◌, inl, inr, ℕ, Bool, true, false, List, Option, Some, None, Err, refl, sym, ap, ◌∙◌, subst, is_some, not, ◌&&◌, both_ways, or_parts, cond_both, Role, Dte, Dce, PlainFrame, info, other, PacketRule, Answer, own_of, counts_packet, counts_carried, all_told, is_open, told_frame, remark_of, next_by, seen_by, missed_by, next_missed, no_frame, tallies, read_of, sent_of, answer_to, Both, breaks_order, is_of_manners, Judge, Rule, Packet, Shows, IsDamaged, is_of_order, gap_in, n1, frame_of, FrameError, Short, BadFcs, visible_reads, End}
+use Rattle.std.specs.Prelude.{unwrap_or}
 use Rattle.x25_packet.specs.Reading.{channel_in}
 use Rattle.x25_packet_judge.specs.Book as book
 
@@ -22,15 +23,10 @@ pub record Goes (k : Judge) (from : Role) (sender hearer : End) : Type 0 where
   pub own : own_of from k ≡ sender
   pub opposite : own_of (other from) k ≡ hearer
 
-on_any : (from : Role) (channel : Option ℕ) (is_judged : Bool) (j : Judge) (P : Judge → Type 0)
-    → ((c : ℕ) → P (counts_packet from c is_judged j)) → P (counts_on from channel is_judged j)
-on_any from (Some channel) is_judged j P h = h channel
-on_any from None is_judged j P h = h 0
-
 carried_any : (from : Role) (frame : PlainFrame) (is_again is_judged : Bool) (j : Judge) (P : Judge → Type 0) → P j
     → ((c : ℕ) → P (counts_packet from c is_judged j)) → P (counts_carried from frame is_again is_judged j)
 unfolding counts_carried
-carried_any from (info ns nr p octets) false is_judged j P h g = on_any from (channel_in octets) is_judged j P g
+carried_any from (info ns nr p octets) false is_judged j P h g = g (unwrap_or (channel_in octets) 0)
 carried_any from frame is_again is_judged j P h g = h
 
 pub next_goes : (from : Role) (j : Judge) (frame : PlainFrame) (t : Both) (s : book.Seen) (in_doubt : Bool) (rule : Option Rule)
@@ -55,7 +51,7 @@ goes j line from octets frame shows =
 abbrev Past : Judge → Judge → Role → Type 0
 Past j k from = Goes k from (missed_by j from).own (missed_by j from).other
 
-next_past : (from : Role) (e : FrameError) (in_doubt : Bool) (j : Judge)
+pub next_past : (from : Role) (e : FrameError) (in_doubt : Bool) (j : Judge)
     → Past j (tallies in_doubt (no_frame e) (next_missed from e (missed_by j from) j)) from
 next_past Dte e in_doubt j = record { own = refl; opposite = refl }
 next_past Dce e in_doubt j = record { own = refl; opposite = refl }

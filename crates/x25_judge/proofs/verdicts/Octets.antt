@@ -1,5 +1,5 @@
 -- The octets that the judge holds of an end's last eight numbers.
-use Rattle.x25_judge.proofs.verdicts.Names.{◌≡◌, ◌⊎◌, inl, inr, ℕ, ◌+◌, ◌%◌, ◌<◌, ◌≤◌, arith, max, Bool, true, zero, suc, List, [], ◌∷◌, ◌++◌, length, Some, refl, sym, ap, ◌∙◌, subst, slice_get, slice_index_or, slice_set, nat_le, not, ◌&&◌, replicate, both_ways, cases_eq, cond-true, get_or-set_same, get_or-set_other, get_or-replicate, length-set, PlainFrame, info, rr, ROOM, Held, differs, forgets, forgets_all, is_held, kept, keeps, forgets_each, forgets_in, IsSupervisory, IsIn, Spot, Stand, Up}
+use Rattle.x25_judge.proofs.verdicts.Names.{◌≡◌, ◌⊎◌, inl, inr, ℕ, ◌+◌, ◌%◌, ◌<◌, ◌≤◌, arith, max, Bool, true, zero, suc, List, [], ◌∷◌, ◌++◌, length, Some, refl, sym, ap, ◌∙◌, subst, slice_get, slice_index_or, slice_set, nat_le, not, ◌&&◌, replicate, both_ways, cases_eq, cond-true, get_or-set_same, get_or-set_other, get_or-replicate, length-set, PlainFrame, info, rr, ROOM, Held, differs, forgets, forgets_all, is_held, kept, keeps, forgets_each, forgets_in, IsIn, Spot, Stand, Up}
 use Rattle.std.specs.Prelude.{false}
 use Rattle.std.proofs.lemmas.Bool.{le-leb}
 use Rattle.std.specs.Str.{bytes_eq}
@@ -98,12 +98,6 @@ same_octets h given m n ns nr pf packet number before near same is = go (is_held
     go : (b : Bool) → is_held h ns ≡ b → (b && not (bytes_eq (slice_index_or h.octets (ns % 8) []) packet)) ≡ false
     go false e = refl
     go true e = ap not (octets_are e)
-
--- a frame that carries nothing
-pub bare_held : (h : Held) (frame : PlainFrame) → IsSupervisory frame → keeps h frame ≡ h
-unfolding keeps
-bare_held h (info ns nr pf packet) g = absurd g
-bare_held h frame g = refl
 
 -- ---- octets of numbers that are known no longer
 

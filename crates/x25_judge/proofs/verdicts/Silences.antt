@@ -58,7 +58,7 @@ pub record Given (p : Peer) (frame : PlainFrame) (q : Peer) : Type 0 where
   pub may : MaySend before frame q
 
 -- the rules of the tape tell nothing, and this is known then
-record Passes (set : LinkSet) (h : Held) (p : Peer) (frame : PlainFrame) : Type 0 where
+pub record Passes (set : LinkSet) (h : Held) (p : Peer) (frame : PlainFrame) : Type 0 where
   pub q : Peer
   pub sends : Given p frame q
   pub passes : judges (Ok frame) p ≡ Some q
@@ -253,14 +253,6 @@ module _ (set : LinkSet) (h : Held) (p : Peer) (e : Knows set h p) where
 
 -- ---- lines
 
-number_shown : (frame : PlainFrame) (d : Bool) → IsNumbered frame → IsNumber (shown frame d)
-unfolding shown
-number_shown (info ns nr pf packet) d is = tt
-number_shown (rr command nr pf) d is = tt
-number_shown (rnr command nr pf) d is = tt
-number_shown (rej command nr pf) d is = tt
-number_shown frame d is = absurd is
-
 pub saw : (b c : Bool) → (b ≡ true → c ≡ true) → c ≡ false → b ≡ false
 saw true c h e = absurd (both_ways c e (h refl))
 saw false c h e = refl
@@ -348,15 +340,9 @@ noted_line from j line octets frame p shows is room e =
     (sym (noted frame (differs (own_of (other from) j).held frame) p is)) (notes_given (said (Ok frame)) p) e
 
 -- a line of the end, of which nothing is told
-pub record PassesOf (from : Role) (j : Judge) (line : List ℕ) (p : Peer) (frame : PlainFrame) : Type 0 where
-  pub q : Peer
-  pub sends : Given p frame q
-  pub passes : judges (Ok frame) p ≡ Some q
-  pub shown : q.given ≡ more frame p.given
-  pub knows : Explains (own_of from (answer_to j line).next) q
-
 pub passes_line : ReadsWhatIsSpelled → (from : Role) (j : Judge) (line octets : List ℕ) (frame : PlainFrame) (p : Peer) → Shows line from octets frame
-    → IsNumbered frame → OwnLine from j line frame → Explains (own_of from j) p → PassesOf from j line p frame
+    → IsNumbered frame → OwnLine from j line frame → Explains (own_of from j) p
+    → Passes (own_of from (answer_to j line).next).set (own_of from (answer_to j line).next).held p frame
 passes_line reads from j line octets frame p shows is own e =
     let spelled = (reads from n1 frame octets shows.low).0 shows.reads in
     let g = frame_passes (own_of from j).set (own_of from j).held p e frame (is_short frame spelled.within) is own.room own.told in

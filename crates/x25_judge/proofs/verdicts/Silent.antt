@@ -51,7 +51,7 @@ pub heard_sent : (k : Numbers) (x : Frame) → (heard true true k x).sent ≡ k.
 heard_sent k (Info ns nr d) = refl
 heard_sent k x = refl
 
-pub heard_told : (k : Numbers) (x : Frame) → (heard true true k x).told ≡ k.told
+heard_told : (k : Numbers) (x : Frame) → (heard true true k x).told ≡ k.told
 heard_told k (Info ns nr d) = refl
 heard_told k x = refl
 
@@ -98,6 +98,9 @@ up_better [] k = below_self (Up k)
 up_better (x ∷ way) k =
     below_on (Up k) (Up (heard true true k x)) (Up (hears_all way (heard true true k x))) (onward_up (Up k) x)
     (up_better way (heard true true k x))
+
+pub up_below : (way : List Frame) (k : Numbers) → Below (Up k) (comes way (Up k))
+up_below way k = subst (Below (Up k)) (sym (up_comes way k)) (up_better way k)
 
 free_comes : (way : List Frame) → comes way Free ≡ Free
 free_comes [] = refl

@@ -1,5 +1,5 @@
 -- A station of ours keeps the rules, whatever the other end and the line do.
-use Rattle.x25_judge.proofs.verdicts.Names.{◌≡◌, ℕ, ◌+◌, ◌<◌, ◌≤◌, le_trans, List, [], ◌∷◌, ◌++◌, inl, length, false, Option, Some, None, Result, Ok, Err, refl, sym, ap, ◌∙◌, subst, arith, length-append, same_Some, slice_get_within, n1, PlainFrame, info, rr, rnr, rej, frame_of, ReadsSpelled, FrameError, Short, BadFcs, BadAddress, Settings, other, Peer, fresh_peer, MayHear, Said, Tells, Odd, number_in, EachEventHandsOne, HandsOne, Near, acts, Judge, MayStand, numbered, In, Way, NoSessionIsAccused, NoStationIsAccused, Watched, our_end, IsAny, Begins, Acts, Rests, Says, Comes, Fails}
+use Rattle.x25_judge.proofs.verdicts.Names.{◌≡◌, ℕ, ◌+◌, ◌<◌, ◌≤◌, le_trans, remove, replaced, List, [], ◌∷◌, ◌++◌, inl, length, false, Option, Some, None, Result, Ok, Err, refl, sym, ap, ◌∙◌, subst, arith, length-append, same_Some, slice_get_within, n1, PlainFrame, info, rr, rnr, rej, frame_of, ReadsSpelled, FrameError, Short, BadFcs, BadAddress, Settings, other, Peer, fresh_peer, MayHear, Said, Tells, Odd, number_in, EachEventHandsOne, HandsOne, Near, acts, Judge, MayStand, numbered, In, Way, NoSessionIsAccused, NoStationIsAccused, Watched, our_end, IsAny, Begins, Acts, Rests, Says, Comes, Fails}
 use Rattle.x25_line.specs.laws.Said.{said as read_as}
 use Rattle.std.specs.List.{slice_get}
 use Rattle.x25_line.specs.laws.LawsBelow.{Laws}
@@ -8,7 +8,7 @@ use Rattle.x25_line.proofs.StationRuns.{noted_before}
 use Rattle.x25_line.proofs.StationSays.{MayDo}
 use Rattle.x25_line.proofs.StationSends.{AllWithin, within_push, item_at}
 use Rattle.x25_judge.proofs.verdicts.Following.{heard_keeps}
-use Rattle.x25_judge.proofs.verdicts.Lag.{Did, did_nothing, was_given, said, freed, comes_behind, front, at_front, OnLine, empty, one_more, one_more_damaged, one_lost, one_damaged, taken, all_lost}
+use Rattle.x25_judge.proofs.verdicts.Lag.{Did, Front, Sends, at_front, both, comes_behind, did_more, did_send, freed, nothing, numbered_front, said, was_given, OnLine, one_more, one_more_damaged, one_lost, one_damaged}
 use Rattle.x25_line.specs.laws.Peer as once
 use Rattle.x25_judge.specs.laws.Sessions as sessions
 
@@ -20,7 +20,7 @@ module _ (c : Settings) (longest : c.longest ≡ n1) (j : Judge) (since : ℕ) w
     pub may : MayStand c.role j In before way
     pub left : Way
     pub did : Did c.role before way p left out
-    pub line : OnLine (other c.role) left os
+    pub line : OnLine c.role left os
     pub within : AllWithin c.longest p.given
     pub few : length way ≤ since
 
@@ -38,47 +38,46 @@ module _ (c : Settings) (longest : c.longest ≡ n1) (j : Judge) (since : ℕ) w
   same_given p q Odd may = absurd may.0
   same_given p q s may = ap (λ (z : Peer). z.given) may
 
-  sends : (before p q : Peer) (way left : Way) (out : List (List ℕ)) (octets : List ℕ) (r : Result PlainFrame FrameError) → frame_of c.role n1 octets ≡ r → once.MaySend ⊥ p r q → q.sent ≤ p.sent + 1
-      → AllWithin c.longest p.given → Did c.role before way p left out → Did c.role before way q left (out ++ octets ∷ [])
-  sends before p q way left out octets (Ok (info ns nr pf x)) read may next within d =
+  sends : (p q : Peer) (octets : List ℕ) (r : Result PlainFrame FrameError) → frame_of c.role n1 octets ≡ r → once.MaySend ⊥ p r q → q.sent ≤ p.sent + 1
+      → AllWithin c.longest p.given → Sends c.role p octets q
+  sends p q octets (Ok (info ns nr pf x)) read may next within =
       let number = may.2 in
       let few = ap (λ (z : Peer). z.sent) may.4 in
-      said p q (info ns nr pf x) octets left out read (may.0, may.1, number, omega (arith, few, next), room p may.0 x number.same within, may.3, may.4) d
-  sends before p q way left out octets (Ok (rr command nr pf)) read may next within d = said p q (rr command nr pf) octets left out read may d
-  sends before p q way left out octets (Ok (rnr command nr pf)) read may next within d = said p q (rnr command nr pf) octets left out read may d
-  sends before p q way left out octets (Ok (rej command nr pf)) read may next within d = said p q (rej command nr pf) octets left out read may d
-  sends before p q way left out octets (Ok f) read may next within d = subst (λ (z : Peer). Did c.role before way z left (out ++ octets ∷ [])) (sym may) (freed p octets left out (ap number_in read) d)
-  sends before p q way left out octets (Err Short) read may next within d = subst (λ (z : Peer). Did c.role before way z left (out ++ octets ∷ [])) (sym may) (freed p octets left out (ap number_in read) d)
-  sends before p q way left out octets (Err BadFcs) read may next within d = subst (λ (z : Peer). Did c.role before way z left (out ++ octets ∷ [])) (sym may) (freed p octets left out (ap number_in read) d)
-  sends before p q way left out octets (Err BadAddress) read may next within d = subst (λ (z : Peer). Did c.role before way z left (out ++ octets ∷ [])) (sym may) (freed p octets left out (ap number_in read) d)
-  sends before p q way left out octets (Err e) read may next within d = absurd may.0
+      said (info ns nr pf x) read (may.0, may.1, number, omega (arith, few, next), room p may.0 x number.same within, may.3, may.4)
+  sends p q octets (Ok (rr command nr pf)) read may next within = said (rr command nr pf) read may
+  sends p q octets (Ok (rnr command nr pf)) read may next within = said (rnr command nr pf) read may
+  sends p q octets (Ok (rej command nr pf)) read may next within = said (rej command nr pf) read may
+  sends p q octets (Ok f) read may next within = freed (ap number_in read) may
+  sends p q octets (Err Short) read may next within = freed (ap number_in read) may
+  sends p q octets (Err BadFcs) read may next within = freed (ap number_in read) may
+  sends p q octets (Err BadAddress) read may next within = freed (ap number_in read) may
+  sends p q octets (Err e) read may next within = absurd may.0
 
-  goes_on : {os is : List (List ℕ)} {p q : Peer} {out now : List (List ℕ)} → (h : OnTrace os p out)
-      → Did c.role h.before h.way q h.left now → OnLine (other c.role) h.left is → AllWithin c.longest q.given → OnTrace is q now
-  goes_on h did line within =
+  goes_on : (os is : List (List ℕ)) (p q : Peer) (out now : List (List ℕ)) (h : OnTrace os p out)
+      → Did c.role h.before h.way q h.left now → OnLine c.role h.left is → AllWithin c.longest q.given → OnTrace is q now
+  goes_on os is p q out now h did line within =
       record { before = h.before; way = h.way; may = h.may; left = h.left; did = did; line = line; within = within; few = h.few }
 
   trace_may : MayDo c ⊥ OnTrace
   trace_may = record {
     handed = λ os p out packet short h.
-        goes_on h (was_given p h.left out packet h.did) h.line (within_push c.longest p.given packet h.within short);
+        goes_on os os p _ out out h (did_more c.role h.before p _ h.way h.left h.left out (was_given c.role p h.left packet) h.did) h.line
+        (within_push c.longest p.given packet h.within short);
     sends = λ os p q out octets may next h.
-        goes_on h (sends h.before p q h.way h.left out octets (frame_of c.role n1 octets) refl (subst (λ (n : ℕ). once.MaySend ⊥ p (frame_of c.role n octets) q) longest may) next h.within h.did)
+        goes_on os os p q out _ h (did_send c.role h.before p q h.way h.left out octets (sends p q octets (frame_of c.role n1 octets) refl (subst (λ (n : ℕ). once.MaySend ⊥ p (frame_of c.role n octets) q) longest may) next h.within) h.did)
         h.line (subst (AllWithin c.longest) (sym (same_given p q (read_as (frame_of c.role c.longest octets)) may)) h.within);
-    hears = λ o os p q out may h.
-        (let t = taken c.role h.before p h.way h.left o (o ∷ os) os out refl h.line h.did in
-        record {
-          before = h.before;
-          way = h.way;
-          may = h.may;
-          left = t.left;
-          did = t.did q (subst (λ (n : ℕ). MayHear p (frame_of (other c.role) n o) q) longest may);
-          line = t.on_line;
-          within = heard_keeps (λ given sent. AllWithin c.longest given) p q (read_as (frame_of (other c.role) c.longest o)) may h.within;
-          few = h.few;
-        });
-    loses = λ os p out i h. goes_on h h.did (one_lost (other c.role) h.left os i h.line) h.within;
-    damages = λ os p out i octets visible h. goes_on h h.did (one_damaged (other c.role) h.left os i octets visible h.line) h.within;
+    hears = λ o os p q out may h. record {
+      before = h.before;
+      way = h.way;
+      may = h.may;
+      left = h.line.left;
+      did = did_more c.role h.before p q h.way h.left h.line.left out (h.line.did p q (subst (λ (n : ℕ). MayHear p (frame_of (other c.role) n o) q) longest may)) h.did;
+      line = h.line.line;
+      within = heard_keeps (λ given sent. AllWithin c.longest given) p q (read_as (frame_of (other c.role) c.longest o)) may h.within;
+      few = h.few;
+    };
+    loses = λ os p out i h. goes_on os (remove os i) p p out out h h.did (one_lost c.role h.left os i h.line) h.within;
+    damages = λ os p out i octets visible h. goes_on os (replaced os i octets) p p out out h h.did (one_damaged c.role h.left os i octets visible h.line) h.within;
     faultless = λ o os p out ending h never. never;
   }
 
@@ -103,7 +102,7 @@ module _ (c : Settings) (high : c.window ≤ 7) (longest : c.longest ≡ n1) (re
   watched w (Begins j up) once =
       record {
         peer = fresh_peer;
-        reached = record { before = fresh_peer; way = []; may = sessions.SetUp j (up c.role); left = []; did = did_nothing; line = empty; within = tt; few = omega arith };
+        reached = record { before = fresh_peer; way = []; may = sessions.SetUp j (up c.role); left = []; did = nothing c.role fresh_peer []; line = λ p. nothing c.role p []; within = tt; few = omega arith };
         fits = inl (record { up = refl; sound = record { place_low = omega arith; place_high = omega arith; sent_high = omega arith; room = omega arith }; same = refl });
         room = omega arith;
         told = omega arith;
@@ -120,23 +119,26 @@ module _ (c : Settings) (high : c.window ≤ 7) (longest : c.longest ≡ n1) (re
   watched w (Rests v out back h) once =
       let k = watched v h once in
       let r = k.reached in
+      let done = both c.role (subst (λ (o : List (List ℕ)). Did c.role r.before r.way k.peer r.left o) out r.did)
+      (subst (λ (o : List (List ℕ)). OnLine c.role r.left o) back r.line k.peer) in
       moved v k v.judge v.shown v.out v.back 0
       (record {
         before = k.peer;
         way = [];
-        may = all_lost c.role (other c.role) v.judge k.peer r.left v.back back r.line (at_front c.role v.judge r.before r.way k.peer r.left v.out out r.did r.may);
+        may = at_front c.role v.judge r.before k.peer r.way [] done r.may;
         left = [];
-        did = subst (λ (o : List (List ℕ)). Did c.role k.peer [] k.peer [] o) (sym out) did_nothing;
-        line = subst (λ (o : List (List ℕ)). OnLine (other c.role) [] o) (sym back) empty;
+        did = subst (λ (o : List (List ℕ)). Did c.role k.peer [] k.peer [] o) (sym out) (nothing c.role k.peer []);
+        line = subst (λ (o : List (List ℕ)). OnLine c.role [] o) (sym back) (λ p. nothing c.role p []);
         within = r.within;
         few = omega arith;
       })
   watched w (Says v line octets frame rest out shows is h) once =
       let k = watched v h once in
       let r = k.reached in
-      let f = front c.role v.judge r.before r.way octets frame shows.reads is r.may k.peer r.left v.out rest out r.did in
+      let f : Front c.role octets r.before r.way (λ s way. Did c.role s way k.peer r.left rest) = subst (λ (o : List (List ℕ)). Did c.role r.before r.way k.peer r.left o) out r.did in
+      let may = at_front c.role v.judge r.before f.before r.way f.on_way f.quiet r.may in
       moved v k w.judge v.shown rest v.back v.since
-      (record { before = f.after; way = f.on_way; may = sessions.Says v.judge In In f.before f.after f.on_way f.on_way line octets frame shows (numbered frame f.after refl f.sends) f.may; left = r.left; did = f.did; line = r.line; within = r.within; few = le_trans f.few r.few })
+      (record { before = f.after; way = f.on_way; may = sessions.Says v.judge In In f.before f.after f.on_way f.on_way line octets frame shows (numbered frame f.after refl (numbered_front c.role f.before f.after octets frame shows.reads is f.sends)) may; left = r.left; did = f.did; line = r.line; within = r.within; few = le_trans f.quiet.few r.few })
   watched w (Comes v line octets frame shows is passes lags h) once =
       let k = watched v h once in
       let r = k.reached in
@@ -146,8 +148,8 @@ module _ (c : Settings) (high : c.window ≤ 7) (longest : c.longest ≡ n1) (re
         way = r.way ++ Some frame ∷ [];
         may = sessions.Shown v.judge In r.before r.way line octets frame shows (timely r.way v.since r.few lags) r.may;
         left = r.left ++ Some frame ∷ [];
-        did = comes_behind c.role r.before r.way k.peer r.left v.out (Some frame) r.did;
-        line = one_more (other c.role) r.left v.back frame octets shows.reads r.line;
+        did = comes_behind c.role r.before k.peer r.way r.left v.out (Some frame) r.did;
+        line = one_more c.role r.left v.back octets frame shows.reads r.line;
         within = r.within;
         few = one_longer r.way (Some frame) v.since r.few;
       })
@@ -160,8 +162,8 @@ module _ (c : Settings) (high : c.window ≤ 7) (longest : c.longest ≡ n1) (re
         way = r.way ++ None ∷ [];
         may = sessions.Fails v.judge In r.before r.way line octets None broken (timely r.way v.since r.few lags) r.may;
         left = r.left ++ None ∷ [];
-        did = comes_behind c.role r.before r.way k.peer r.left v.out None r.did;
-        line = one_more_damaged (other c.role) r.left v.back octets broken.visible r.line;
+        did = comes_behind c.role r.before k.peer r.way r.left v.out None r.did;
+        line = one_more_damaged c.role r.left v.back octets broken.visible r.line;
         within = r.within;
         few = one_longer r.way None v.since r.few;
       })
@@ -170,5 +172,6 @@ pub no_station_is_accused : ReadsSpelled → Laws → EachEventHandsOne → NoSe
 no_station_is_accused reads laws hands fair c high longest w any once line octets frame rest out shows is =
     let k = watched c high longest reads laws hands w any once in
     let r = k.reached in
-    let f = front c.role w.judge r.before r.way octets frame shows.reads is r.may k.peer r.left w.out rest out r.did in
-    fair c.role w.judge In In f.before f.after f.on_way f.on_way line octets frame f.may shows (numbered frame f.after refl f.sends)
+    let f : Front c.role octets r.before r.way (λ s way. Did c.role s way k.peer r.left rest) = subst (λ (o : List (List ℕ)). Did c.role r.before r.way k.peer r.left o) out r.did in
+    fair c.role w.judge In In f.before f.after f.on_way f.on_way line octets frame (at_front c.role w.judge r.before f.before r.way f.on_way f.quiet r.may) shows
+    (numbered frame f.after refl (numbered_front c.role f.before f.after octets frame shows.reads is f.sends))

@@ -1,11 +1,12 @@
 -- What stands in the midst of an input.
-use Rattle.std.specs.Prelude.{◌≡◌, ℕ, Bool, ◌||◌, List, ◌++◌, Option}
+use Rattle.std.specs.Prelude.{◌≡◌, ℕ, Bool, ◌||◌, List, ◌++◌, Option, Result, OnOk}
 use Rattle.std.specs.Io.KnownBytes.{Appends}
 use Rattle.x25_io.specs.Lines.{lines_of}
 use Rattle.x25_io.specs.code.LinesLead.{LinesEnded}
 use Rattle.x25_io.specs.code.Runs.{Program}
-use Rattle.x25_io.specs.code.Written.{Tells}
+use Rattle.x25_io.specs.code.Written.{Tells, TellsMore}
 use Rattle.x25_judge.specs.Answerer.{output_by, status_by, text_of, has_fault}
+use Rattle.x25_judge.specs.Judge.{Answer}
 use Rattle.x25_judge.specs.declared.answerer.Answerer.{Answerer}
 use Rattle.x25_judge.specs.declared.judge.Judge.{Judge}
 
@@ -17,6 +18,14 @@ pub record JudgesOn (loose : Bool) (j : Judge) (a : Answerer) (old now : Option 
   pub tells : Tells old now a.output told
   pub same : told ++ text_of loose a.judge lines ≡ output_by loose j input
   pub status : (a.is_faulty || has_fault loose a.judge lines) ≡ has_fault loose j (lines_of input)
+
+-- a line was answered: what is told, and the judge, and whether a line was faulty, behind it
+pub record Replies {T E : Type 0} (r : Result T E) (was now : Option (List ℕ)) (a b : Answerer)
+    (answer : Answer) : Type 0 where
+  pub tells : TellsMore r was now a.output b.output answer.text
+  pub next : OnOk r (b.judge ≡ answer.next)
+  pub is_faulty : OnOk r (b.is_faulty ≡ (a.is_faulty || answer.counts))
+  pub reads : b.loose ≡ a.loose
 
 -- Written is all of the text but the answers to the lines to come.
 pub record WritesLines (loose : Bool) (old now : Option (List ℕ)) (lines : List (List ℕ))

@@ -4,10 +4,10 @@ use Rattle.std.specs.Prelude.{◌≡◌, List, [], ◌∷◌, ◌++◌, Bool, tr
 use Rattle.x25_bits.specs.declared.role.Role.{Role}
 use Rattle.x25_packet.specs.Packet.{PlainPacket}
 use Rattle.x25_packet.specs.Spelling.{channel_of, HasChannel}
-use Rattle.x25_handshakes.specs.laws.Handshake.{Live, At}
-use Rattle.x25_handshakes.specs.laws.Layers.{On}
-use Rattle.x25_handshakes.specs.laws.PeerLayer.{PeerChannels, peer_fresh, peer_ready, LayerDeed, MayDoLayer, does_layer}
-use Rattle.x25_handshakes.specs.laws.PeerLayer.{layer_packet_of, PeerLayerStep, layer_taking, ready_taking}
+use Rattle.x25_handshakes.specs.laws.Handshake.{Live, At, PeerStep, live}
+use Rattle.x25_handshakes.specs.laws.Layers.{On, LayerPacket}
+use Rattle.x25_handshakes.specs.laws.PeerLayer.{PeerChannels, peer_fresh, LayerDeed, MayDoLayer, does_layer}
+use Rattle.x25_handshakes.specs.laws.PeerLayer.{layer_packet_of, layer_taking, ready_taking}
 use Rattle.x25_handshakes.specs.laws.PeerLayers.{other_role, AreElsewhere}
 use Rattle.x25_layer.specs.declared.ranges.Ranges.{Ranges}
 use Rattle.x25_layer.specs.Layer.{is_channel, goes_up}
@@ -26,7 +26,7 @@ pub record Joined : Type 0 where
 abbrev pub start : Role → Bool → Ranges → Joined
 start r long_data channels =
     let near = started (goes_up (settings_of r long_data channels)) in
-    record { near = near; peer = peer_ready 0 peer_fresh; out = near.given; back = [] }
+    record { near = near; peer = live 0 peer_fresh; out = near.given; back = [] }
 
 -- our layer's end, as two layers have it: a move of the near end changes nothing of the far one
 abbrev pub our_end : Joined → TwoLayers
@@ -44,11 +44,12 @@ AreConfigured channels [] = Unit {0}
 AreConfigured channels (p ∷ ps) = IsConfigured channels p × AreConfigured channels ps
 
 -- the peer goes on to this, with these packets, as its step has it
-pub record Answers (channels : Ranges) (packets : List PlainPacket) (s : PeerLayerStep) : Type 0 where
+pub record Answers (channels : Ranges) (packets : List PlainPacket)
+    (s : PeerStep (At PeerChannels) LayerPacket) : Type 0 where
   pub are : bare_layers packets ≡ s.out
   pub configured : AreConfigured channels packets
 
-abbrev pub peer_stepped : Joined → List PlainPacket → List PlainPacket → PeerLayerStep → Joined
+abbrev pub peer_stepped : Joined → List PlainPacket → List PlainPacket → PeerStep (At PeerChannels) LayerPacket → Joined
 peer_stepped w out packets s = record w { peer = s.next; out = out; back = w.back ++ packets }
 
 abbrev pub StaysUp : Move → Type 0

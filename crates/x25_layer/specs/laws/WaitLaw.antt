@@ -5,7 +5,7 @@ use Rattle.x25_circuit.specs.Circuit.{is_open, waits}
 use Rattle.x25_layer.specs.declared.ranges.Ranges.{Ranges}
 use Rattle.x25_layer.specs.Layer.{LayerSettings, Layer, is_channel}
 use Rattle.x25_layer.specs.Calls.{PullsAll, layer_pulled}
-use Rattle.x25_layer.specs.Rounds.{LinkView, Putting, rounds, Went, calls}
+use Rattle.x25_layer.specs.laws.Rounds.{LinkView, Putting, rounds, Went, calls}
 use Rattle.x25_layer.specs.laws.Transcript.{name_of}
 use Rattle.x25_layer.specs.laws.TwoLayers.{End, TwoLayers, settings_of}
 use Rattle.x25_layer.specs.laws.Law.{HasAllOf}

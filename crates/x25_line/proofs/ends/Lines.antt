@@ -1,7 +1,15 @@
 -- The lines between two ends over sessions, and what is said of them.
 use Rattle.std.proofs.Common.{◌≡◌, ◌≤◌, ◌<◌, ◌+◌, ◌⊎◌, inl, inr, ℕ, zero, suc, List, [], ◌∷◌, ◌++◌, remove, refl, sym, subst, arith}
-use Rattle.x25_line.specs.{laws.Said.{Said, Tells, Sabm, Else}, laws.Ends.{Letter, letter, spoilt, sabm_in, ua_in, how_many, OfSabm, OfTells, AreOf}}
-use Rattle.x25_line.proofs.sessions.SessionHeld.{choose, choose_map}
+use Rattle.x25_line.specs.{laws.Said.{sabm_of, ua_of, Said, Tells, Sabm, Else}, laws.Ends.{Letter, letter, spoilt, how_many, OfSabm, OfTells, AreOf}}
+
+-- one or the other
+abbrev pub choose : ℕ → Type 0 → Type 0 → Type 0
+choose zero A B = A
+choose (suc n) A B = B
+
+choose_map : (n : ℕ) (A B C D : Type 0) → (A → C) → (B → D) → choose n A B → choose n C D
+choose_map zero A B C D f g h = f h
+choose_map (suc n) A B C D f g h = g h
 
 pub count_push : (k : Said → ℕ) (es : List Letter) (e : Letter) → how_many k (es ++ e ∷ []) ≡ how_many k es + k e.said
 count_push k [] e = omega arith
@@ -82,11 +90,11 @@ of_sabm : (s : Said) (P Q : Type 0) → (P → Q) → OfSabm s P → OfSabm s Q
 of_sabm Sabm P Q f h = f h
 of_sabm s P Q f h = tt
 
-pub sabm_free : (s : Said) (P : Type 0) → sabm_in s ≡ 0 → OfSabm s P
+pub sabm_free : (s : Said) (P : Type 0) → sabm_of s ≡ 0 → OfSabm s P
 sabm_free Sabm P h = absurd (omega (arith, h))
 sabm_free s P h = tt
 
-pub are_none : (b : ℕ) (es : List Letter) → how_many sabm_in es ≡ 0 → AreOf b es
+pub are_none : (b : ℕ) (es : List Letter) → how_many sabm_of es ≡ 0 → AreOf b es
 are_none b [] h = tt
 are_none b (e ∷ es) h = (sabm_free e.said (e.session ≡ b) (omega (arith, h)), are_none b es (omega (arith, h)))
 
@@ -108,12 +116,12 @@ Clean q b es = AllTold (Of q) es × AreOf b es
 
 abbrev pub AfterUa : ℕ → ℕ → List Letter → Type 0
 AfterUa q b [] = Unit {0}
-AfterUa q b (e ∷ es) = choose (ua_in e.said) (AfterUa q b es) (Clean q b es)
+AfterUa q b (e ∷ es) = choose (ua_of e.said) (AfterUa q b es) (Clean q b es)
 
-pub after_none : (q b : ℕ) (es : List Letter) → how_many ua_in es ≡ 0 → AfterUa q b es
+pub after_none : (q b : ℕ) (es : List Letter) → how_many ua_of es ≡ 0 → AfterUa q b es
 after_none q b [] h = tt
 after_none q b (e ∷ es) h =
-    let here : ua_in e.said ≡ 0 = omega (arith, h) in
+    let here : ua_of e.said ≡ 0 = omega (arith, h) in
     subst (λ (n : ℕ). choose n (AfterUa q b es) (Clean q b es)) (sym here) (after_none q b es (omega (arith, h)))
 
 both : (n : ℕ) (P Q : Type 0) → P → Q → choose n P Q
@@ -122,34 +130,34 @@ both (suc n) P Q p q = q
 
 pub after_clean : (q b : ℕ) (es : List Letter) → Clean q b es → AfterUa q b es
 after_clean q b [] h = tt
-after_clean q b (e ∷ es) h = (let rest : Clean q b es = (h.0.1, h.1.1) in both (ua_in e.said) (AfterUa q b es) (Clean q b es) (after_clean q b es rest) rest)
+after_clean q b (e ∷ es) h = (let rest : Clean q b es = (h.0.1, h.1.1) in both (ua_of e.said) (AfterUa q b es) (Clean q b es) (after_clean q b es rest) rest)
 
 pub after_push : (q b : ℕ) (es : List Letter) (e : Letter) → AfterUa q b es → OfTells e.said (e.session ≡ q) → OfSabm e.said (e.session ≡ b) → AfterUa q b (es ++ e ∷ [])
-after_push q b [] e h t s = both (ua_in e.said) (Unit {0}) (Clean q b []) tt (tt, tt)
+after_push q b [] e h t s = both (ua_of e.said) (Unit {0}) (Clean q b []) tt (tt, tt)
 after_push q b (x ∷ es) e h t s =
-    choose_map (ua_in x.said) (AfterUa q b es) (Clean q b es) (AfterUa q b (es ++ e ∷ [])) (Clean q b (es ++ e ∷ [])) (λ k. after_push q b es e k t s)
+    choose_map (ua_of x.said) (AfterUa q b es) (Clean q b es) (AfterUa q b (es ++ e ∷ [])) (Clean q b (es ++ e ∷ [])) (λ k. after_push q b es e k t s)
     (λ k. (told_push (Of q) es e k.0 t, are_push b es e k.1 s)) h
 
-after_rest : (q b : ℕ) (e : Letter) (es : List Letter) → how_many ua_in (e ∷ es) ≤ 1 → AfterUa q b (e ∷ es) → AfterUa q b es
-after_rest q b e es few h = go (ua_in e.said) refl h
+after_rest : (q b : ℕ) (e : Letter) (es : List Letter) → how_many ua_of (e ∷ es) ≤ 1 → AfterUa q b (e ∷ es) → AfterUa q b es
+after_rest q b e es few h = go (ua_of e.said) refl h
   where
-    go : (n : ℕ) → ua_in e.said ≡ n → choose n (AfterUa q b es) (Clean q b es) → AfterUa q b es
+    go : (n : ℕ) → ua_of e.said ≡ n → choose n (AfterUa q b es) (Clean q b es) → AfterUa q b es
     go zero is k = k
     go (suc n) is k = after_none q b es (omega (arith, few, is))
 
-pub after_less : (q b : ℕ) (es fs : List Letter) → Less es fs → how_many ua_in es ≤ 1 → AfterUa q b es → AfterUa q b fs
+pub after_less : (q b : ℕ) (es fs : List Letter) → Less es fs → how_many ua_of es ≤ 1 → AfterUa q b es → AfterUa q b fs
 after_less q b es fs (whole xs) few h = h
 after_less q b es fs (gone e xs) few h = after_rest q b e xs few h
 after_less q b es fs (hurt e xs) few h = after_rest q b e xs few h
 after_less q b es fs (deeper e xs ys l) few h =
-    choose_map (ua_in e.said) (AfterUa q b xs) (Clean q b xs) (AfterUa q b ys) (Clean q b ys) (λ k. after_less q b xs ys l (omega (arith, few)) k)
+    choose_map (ua_of e.said) (AfterUa q b xs) (Clean q b xs) (AfterUa q b ys) (Clean q b ys) (λ k. after_less q b xs ys l (omega (arith, few)) k)
     (λ k. (told_less (Of q) xs ys l k.0, are_less b xs ys l k.1)) h
 
 -- without a SABM the session that it is of is any
-pub after_base : (q b c : ℕ) (es : List Letter) → how_many sabm_in es ≡ 0 → AfterUa q b es → AfterUa q c es
+pub after_base : (q b c : ℕ) (es : List Letter) → how_many sabm_of es ≡ 0 → AfterUa q b es → AfterUa q c es
 after_base q b c [] none h = tt
 after_base q b c (e ∷ es) none h =
-    choose_map (ua_in e.said) (AfterUa q b es) (Clean q b es) (AfterUa q c es) (Clean q c es) (λ k. after_base q b c es (omega (arith, none)) k) (λ k. (k.0, are_none c es (omega (arith, none)))) h
+    choose_map (ua_of e.said) (AfterUa q b es) (Clean q b es) (AfterUa q c es) (Clean q c es) (λ k. after_base q b c es (omega (arith, none)) k) (λ k. (k.0, are_none c es (omega (arith, none)))) h
 
 -- ---- SABMs
 
@@ -162,7 +170,7 @@ abbrev pub AllAsked : Type 0 → Type 0 → ℕ → ℕ → List Letter → Type
 AllAsked Now Older b q [] = Unit {0}
 AllAsked Now Older b q (e ∷ es) = OfSabm e.said (IsAsked Now Older b q e es) × AllAsked Now Older b q es
 
-pub asked_none : (N O : Type 0) (b q : ℕ) (es : List Letter) → how_many sabm_in es ≡ 0 → AllAsked N O b q es
+pub asked_none : (N O : Type 0) (b q : ℕ) (es : List Letter) → how_many sabm_of es ≡ 0 → AllAsked N O b q es
 asked_none N O b q [] h = tt
 asked_none N O b q (e ∷ es) h = (sabm_free e.said (IsAsked N O b q e es) (omega (arith, h)), asked_none N O b q es (omega (arith, h)))
 

@@ -1,14 +1,14 @@
 -- Which sessions meet: one to one, and in order at both ends; and the same as the other end has it.
 use Rattle.std.proofs.Common.{◌≡◌, ◌≤◌, ◌<◌, ℕ, List, [], ◌∷◌, ◌⊎◌, inl, inr, map, refl, ap, ◌∙◌, arith}
-use Rattle.x25_line.specs.{laws.Sessions.{Meeting, turned}, laws.SessionClaims.{AllMet, SomeMet, IsNoEarlier, IsAbove, InStep}}
+use Rattle.x25_line.specs.{laws.Sessions.{Meeting, turned}, laws.SessionClaims.{Each, SomeMet, IsNoEarlier, IsAbove, InStep}}
 
 -- ---- of all that met, and of some
 
-pub all_map : (P Q : Meeting → Type 0) → ((m : Meeting) → P m → Q m) → (ms : List Meeting) → AllMet P ms → AllMet Q ms
+pub all_map : (P Q : Meeting → Type 0) → ((m : Meeting) → P m → Q m) → (ms : List Meeting) → Each P ms → Each Q ms
 all_map P Q f [] h = tt
 all_map P Q f (m ∷ ms) h = (f m h.0, all_map P Q f ms h.1)
 
-pub all_some : (P Q : Meeting → Type 0) (R : Type 0) → ((m : Meeting) → P m → Q m → R) → (ms : List Meeting) → AllMet P ms → SomeMet Q ms → R
+pub all_some : (P Q : Meeting → Type 0) (R : Type 0) → ((m : Meeting) → P m → Q m → R) → (ms : List Meeting) → Each P ms → SomeMet Q ms → R
 all_some P Q R f [] h g = absurd g
 all_some P Q R f (m ∷ ms) h g = elim g [ inl here ↦ f m h.0 here | inr there ↦ all_some P Q R f ms h.1 there ]
 
@@ -19,7 +19,7 @@ no_earlier_trans a b c (inr less) (inl same) = inr (omega (arith, same.0, less.0
 no_earlier_trans a b c (inr less) (inr more) = inr (omega (arith, less.0, more.0), omega (arith, less.1, more.1))
 
 -- all that met before are the same two sessions or earlier ones
-pub all_no_earlier : (m : Meeting) (ms : List Meeting) → InStep (m ∷ ms) → AllMet (IsNoEarlier m) ms
+pub all_no_earlier : (m : Meeting) (ms : List Meeting) → InStep (m ∷ ms) → Each (IsNoEarlier m) ms
 all_no_earlier m [] h = tt
 all_no_earlier m (n ∷ ms) h = (h.0, all_map (IsNoEarlier n) (IsNoEarlier m) (λ (x : Meeting) before. no_earlier_trans m n x h.0 before) ms (all_no_earlier n ms h.1))
 
@@ -32,15 +32,15 @@ IsPaired p q m = ((m.near ≡ p) × (m.far ≡ q)) ⊎ ((m.near < p) × (m.far <
 abbrev pub IsBegun : ℕ → ℕ → Meeting → Type 0
 IsBegun p q m = (m.near ≤ p) × (m.far ≤ q)
 
-pub begun_later : (near far p q : ℕ) (met : List Meeting) → near ≤ p → far ≤ q → AllMet (IsBegun near far) met → AllMet (IsBegun p q) met
+pub begun_later : (near far p q : ℕ) (met : List Meeting) → near ≤ p → far ≤ q → Each (IsBegun near far) met → Each (IsBegun p q) met
 begun_later near far p q [] f g h = tt
 begun_later near far p q (m ∷ ms) f g h = ((omega (arith, h.0.0, f), omega (arith, h.0.1, g)), begun_later near far p q ms f g h.1)
 
-pub paired_anew : (near far p q : ℕ) (met : List Meeting) → near < p → far < q → AllMet (IsBegun near far) met → AllMet (IsPaired p q) met
+pub paired_anew : (near far p q : ℕ) (met : List Meeting) → near < p → far < q → Each (IsBegun near far) met → Each (IsPaired p q) met
 paired_anew near far p q [] f g h = tt
 paired_anew near far p q (m ∷ ms) f g h = (inr (omega (arith, h.0.0, f), omega (arith, h.0.1, g)), paired_anew near far p q ms f g h.1)
 
-pub above_paired : (p q : ℕ) (met : List Meeting) → AllMet (IsPaired p q) met → IsAbove (record { near = p; far = q }) met
+pub above_paired : (p q : ℕ) (met : List Meeting) → Each (IsPaired p q) met → IsAbove (record { near = p; far = q }) met
 above_paired p q [] h = tt
 above_paired p q (m ∷ ms) h = h.0
 
@@ -50,11 +50,11 @@ pub twice_turned : (met : List Meeting) → map turned (map turned met) ≡ met
 twice_turned [] = refl
 twice_turned (m ∷ ms) = ap (λ (xs : List Meeting). m ∷ xs) (twice_turned ms)
 
-pub begun_turned : (p q : ℕ) (met : List Meeting) → AllMet (IsBegun p q) met → AllMet (IsBegun q p) (map turned met)
+pub begun_turned : (p q : ℕ) (met : List Meeting) → Each (IsBegun p q) met → Each (IsBegun q p) (map turned met)
 begun_turned p q [] h = tt
 begun_turned p q (m ∷ ms) h = ((h.0.1, h.0.0), begun_turned p q ms h.1)
 
-pub paired_turned : (p q : ℕ) (met : List Meeting) → AllMet (IsPaired p q) met → AllMet (IsPaired q p) (map turned met)
+pub paired_turned : (p q : ℕ) (met : List Meeting) → Each (IsPaired p q) met → Each (IsPaired q p) (map turned met)
 paired_turned p q [] h = tt
 paired_turned p q (m ∷ ms) h = (elim h.0 [ inl same ↦ inl (same.1, same.0) | inr less ↦ inr (less.1, less.0) ], paired_turned p q ms h.1)
 
@@ -81,11 +81,11 @@ pub meets : (p q near far : ℕ) (m : Meeting) → near ≡ p → far ≤ q → 
 meets p q near far m is high begun (inl same) here = (omega (arith, same.1, begun.1, high), omega (arith, same.1, begun.1, high))
 meets p q near far m is high begun (inr less) here = absurd (omega (arith, less.0, is, here))
 
-pub all_meet : (p q near far : ℕ) (met : List Meeting) → near ≡ p → far ≤ q → AllMet (IsBegun near far) met → AllMet (IsPaired p q) met → AllMet (λ (m : Meeting). m.near ≡ near → m.far ≡ far) met
+pub all_meet : (p q near far : ℕ) (met : List Meeting) → near ≡ p → far ≤ q → Each (IsBegun near far) met → Each (IsPaired p q) met → Each (λ (m : Meeting). m.near ≡ near → m.far ≡ far) met
 all_meet p q near far [] is high begun paired = tt
 all_meet p q near far (m ∷ ms) is high begun paired = (λ here. (meets p q near far m is high begun.0 paired.0 here).0, all_meet p q near far ms is high begun.1 paired.1)
 
-pub some_meets : (p q near far : ℕ) (met : List Meeting) → near ≡ p → far ≤ q → AllMet (IsBegun near far) met → AllMet (IsPaired p q) met → SomeMet (λ (m : Meeting). m.near ≡ near) met → q ≡ far
+pub some_meets : (p q near far : ℕ) (met : List Meeting) → near ≡ p → far ≤ q → Each (IsBegun near far) met → Each (IsPaired p q) met → SomeMet (λ (m : Meeting). m.near ≡ near) met → q ≡ far
 some_meets p q near far [] is high begun paired some = absurd some
 some_meets p q near far (m ∷ ms) is high begun paired some =
     elim some [ inl here ↦ (meets p q near far m is high begun.0 paired.0 here).1 | inr there ↦ some_meets p q near far ms is high begun.1 paired.1 there ]

@@ -1,16 +1,15 @@
 -- The session that stands has a line of its own: what of the line has its number. So what holds of a link set up once holds of it.
 use Rattle.std.proofs.Common.{◌≡◌, ◌≤◌, ◌<◌, ◌==◌, ◌⊎◌, inl, inr, ℕ, suc, List, [], ◌∷◌, ◌++◌, map, Bool, true, false, Option, Some, None, refl, sym, ap, ◌∙◌, subst, arith, append-nil, length}
 use Rattle.x25_window.specs.code.Modulo.{resolved}
-use Rattle.x25_line.specs.{laws.InWindow.{IsPrefix}, laws.Said.{Said, Carried, Tells, Sabm, Disc, Ua, Else, Odd}, laws.Sessions.{Meeting, turned}}
-use Rattle.x25_line.specs.{laws.SessionClaims.{AllMet, SomeMet}, laws.Peer.{Peer, fresh_peer, MaySay, MayMake}}
+use Rattle.x25_line.specs.{laws.InWindow.{IsPrefix}, laws.Said.{sabm_of, Said, Carried, Tells, Sabm, Disc, Ua, Else, Odd}, laws.Sessions.{Meeting, turned}}
+use Rattle.x25_line.specs.{laws.SessionClaims.{Each, SomeMet}, laws.Peer.{Peer, fresh_peer, MaySay, MayMake}}
 use Rattle.x25_line.specs.laws.PeerSessions.{Stand, Out, Asking, In, put_for}
-use Rattle.x25_line.specs.laws.Ends.{Stander, Letter, letter, Two, sabm_in, how_many, meets, heard, OfTells, AreOf, Moves, free, odd, asks, closes, hears, takes_ua, takes_sabm, waits_on, takes_disc, loses, damages, Ends, ends_swapped, near_now, with_near, begins, fresh_where, Does, is_handed, sends, listens, moves, begin_at, IsReached, at_start, set_up, near_does, far_does}
+use Rattle.x25_line.specs.laws.Ends.{Letter, letter, Two, how_many, meets, heard, OfTells, AreOf, Moves, free, odd, asks, closes, hears, takes_ua, takes_sabm, waits_on, takes_disc, loses, damages, Ends, ends_swapped, near_now, with_near, begins, fresh_where, Does, is_handed, sends, listens, moves, begin_at, IsReached, at_start, set_up, near_does, far_does}
 use Rattle.x25_line.specs.laws.EndClaims.{InOrder, MetInOrder, KeepSessions, OfAnyTwoEnds}
 use Rattle.x25_line.proofs.Order.{Told, told, only, IsApart, only_append, only_quiet, Left, left_front, left_deeper, Hold, starts, hold_turned, handed, says, left, makes, in_order, valid_front}
-use Rattle.x25_line.proofs.{sessions.SessionHeld.{View, Live, Soon, Gone}, ends.Meetings.{IsPaired, near_turned, far_turned, all_meet, some_meets}}
-use Rattle.x25_line.proofs.ends.Lines.{Less, whole, gone, hurt, deeper, less_removes, less_spoils, AllTold, AllTags, Of, tags_less}
-use Rattle.x25_line.proofs.ends.Held.{Side, NotIn, ViewIs}
-use Rattle.x25_line.proofs.ends.Moves.{Held, held_turned, in_session, nothing_held, set_up_held, moves_held, told_held, come_held, popped}
+use Rattle.x25_line.proofs.ends.Meetings.{IsPaired, near_turned, far_turned, all_meet, some_meets}
+use Rattle.x25_line.proofs.{ends.Lines.{Less, whole, gone, hurt, deeper, less_removes, less_spoils, AllTags, tags_less}, ends.Held.{Side, near_at, near_stands}}
+use Rattle.x25_line.proofs.ends.Moves.{Held, held_turned, first_held, moves_held, told_held, come_held, popped}
 use Rattle.x25_line.proofs.ends.Puts.{same_or_other, put_same, put_other, put_apart, put_alike}
 
 -- ---- the line of one session
@@ -61,7 +60,7 @@ kept_deeper true s xs ys h = left_deeper s xs ys h
 of_less : (q : ℕ) (es fs : List Letter) → Less es fs → Left (of q es) (of q fs)
 of_less q es fs (whole xs) = (None, refl)
 of_less q es fs (gone e xs) = kept_front (e.session == q) e.said (of q xs)
-of_less q es fs (hurt e xs) = subst (λ (ys : List Told). Left (of q (e ∷ xs)) ys) (sym (keep_quiet (e.session == q) Else (of q xs) tt)) (kept_front (e.session == q) e.said (of q xs))
+of_less q es fs (hurt e xs) = rw (keep_quiet (e.session == q) Else (of q xs) tt) (kept_front (e.session == q) e.said (of q xs))
 of_less q es fs (deeper e xs ys l) = kept_deeper (e.session == q) e.said (of q xs) (of q ys) (of_less q xs ys l)
 
 -- ---- what a move does to the lines, and to who met whom
@@ -114,7 +113,7 @@ pub record All (w : Ends) : Type 0 where
   pub near_later : (n : ℕ) → w.two.near.begun < n → w.near_of n ≡ fresh_peer
   pub far_later : (n : ℕ) → w.two.far.begun < n → w.far_of n ≡ fresh_peer
   pub line : Hold (w.near_of held.p) (w.far_of held.q) (of held.p w.two.out) (of held.q w.two.back)
-  pub order : AllMet (MetInOrder w.near_of w.far_of) w.two.met
+  pub order : Each (MetInOrder w.near_of w.far_of) w.two.met
   pub near_unmet : (n : ℕ) → ((w.near_of n).taken ≡ []) ⊎ SomeMet (λ (m : Meeting). m.near ≡ n) w.two.met
   pub far_unmet : (n : ℕ) → ((w.far_of n).taken ≡ []) ⊎ SomeMet (λ (m : Meeting). m.far ≡ n) w.two.met
 
@@ -124,7 +123,7 @@ both_orders p q out back h = (ordered (in_order p q h.there h.here h.ways.from_n
     ordered : {p q : Peer} → IsPrefix q.taken p.given × (p.acked ≤ length q.taken) × (p.acked ≡ length p.given → q.taken ≡ p.given) → InOrder p q
     ordered h = record { begins = h.0; acked = h.1; all = h.2 }
 
-order_turned : (near_of far_of : ℕ → Peer) (ms : List Meeting) → AllMet (MetInOrder near_of far_of) ms → AllMet (MetInOrder far_of near_of) (map turned ms)
+order_turned : (near_of far_of : ℕ → Peer) (ms : List Meeting) → Each (MetInOrder near_of far_of) ms → Each (MetInOrder far_of near_of) (map turned ms)
 order_turned near_of far_of [] h = tt
 order_turned near_of far_of (m ∷ ms) h = ((h.0.1, h.0.0), order_turned near_of far_of ms h.1)
 
@@ -142,19 +141,15 @@ all_turned w h =
 
 -- ---- a move without an N(R)
 
-met_heard : (near_of far_of : ℕ → Peer) (v : View) (stand : Stand) (b p c q : ℕ) (st : Stand) (out rest : List Letter) (s : Said) (t : ℕ) → Side v stand b p st c q out (letter t s ∷ rest)
-    → InOrder (near_of p) (far_of q) × InOrder (far_of q) (near_of p) → (ms : List Meeting) → AllMet (MetInOrder near_of far_of) ms → AllMet (MetInOrder near_of far_of) (heard stand b (letter t s) ms)
-met_heard near_of far_of Live In b p c q st out rest (Tells carried n) t h orders ms m =
-    (subst (λ (x : ℕ). InOrder (near_of x) (far_of t) × InOrder (far_of t) (near_of x)) (sym h.view.1) (subst (λ (y : ℕ). InOrder (near_of p) (far_of y) × InOrder (far_of y) (near_of p)) (sym h.live.0) orders), m)
-met_heard near_of far_of Soon In b p c q st out rest (Tells carried n) t h orders ms m = absurd h.view.0
-met_heard near_of far_of Gone In b p c q st out rest (Tells carried n) t h orders ms m = absurd h.view.0
-met_heard near_of far_of v stand b p c q st out rest s t h orders ms m = m
+met_heard : {b p c q t : ℕ} {st : Stand} {out rest : List Letter} (near_of far_of : ℕ → Peer) (stand : Stand) (s : Said) → Side stand b p st c q out (letter t s ∷ rest)
+    → InOrder (near_of p) (far_of q) × InOrder (far_of q) (near_of p) → (ms : List Meeting) → Each (MetInOrder near_of far_of) ms → Each (MetInOrder near_of far_of) (heard stand b (letter t s) ms)
+met_heard {b} {p} {c} {q} {t} {st} {out} {rest} near_of far_of In (Tells carried n) h orders ms m =
+    (rw (h.is_in refl, (h.live refl).0) orders, m)
+met_heard {b} {p} {c} {q} {t} {st} {out} {rest} near_of far_of stand s h orders ms m = m
 
-met_moves : (w : Ends) (v : Two) → Moves w.two v → All w → AllMet (MetInOrder w.near_of w.far_of) v.met
+met_moves : (w : Ends) (v : Two) → Moves w.two v → All w → Each (MetInOrder w.near_of w.far_of) v.met
 met_moves w v (hears e rest is) h =
-    met_heard w.near_of w.far_of h.held.near_view w.two.near.stand w.two.near.begun h.held.p w.two.far.begun h.held.q w.two.far.stand w.two.out rest e.said e.session
-    (subst (λ (l : List Letter). Side h.held.near_view w.two.near.stand w.two.near.begun h.held.p w.two.far.stand w.two.far.begun h.held.q w.two.out l) is h.held.near)
-    (both_orders _ _ _ _ h.line) w.two.met h.order
+    met_heard w.near_of w.far_of w.two.near.stand e.said (near_at is h.held.near) (both_orders _ _ _ _ h.line) w.two.met h.order
 met_moves w v m h = h.order
 
 moves_all : (w : Ends) (v : Two) (m : Moves w.two v) → All w → All (record w { two = v })
@@ -164,7 +159,7 @@ moves_all w v m h =
     record {
       held = on.held;
       near_later = λ n less. h.near_later n (omega (arith, less, rises));
-      far_later = λ n less. h.far_later n (subst (λ (x : Stander). x.begun < n) (far_same w.two v m) less);
+      far_later = λ n less. h.far_later n (rw (sym (far_same w.two v m)) less);
       line = go on.held.p on.held.q on.pair;
       order = met_moves w v m h;
       near_unmet = λ n. elim (h.near_unmet n) [ inl none ↦ inl none | inr some ↦ inr (met_more (λ (x : Meeting). x.near ≡ n) w.two v m some) ];
@@ -185,8 +180,7 @@ moves_all w v m h =
 
     same : Hold (w.near_of p) (w.far_of q) (of p v.out) (of q v.back)
     same =
-        subst (λ (xs : List Told). Hold (w.near_of p) (w.far_of q) xs (of q v.back)) (sym (out_same w.two v m p))
-        (left (w.near_of p) (w.far_of q) (of p w.two.out) (of q w.two.back) (of q v.back) (of_less q w.two.back v.back (back_less w.two v m)) h.line)
+        rw (out_same w.two v m p) (left (w.near_of p) (w.far_of q) (of p w.two.out) (of q w.two.back) (of q v.back) (of_less q w.two.back v.back (back_less w.two v m)) h.line)
 
     anew : Hold (w.near_of b) (w.far_of c) (of b v.out) (of c v.back)
     anew =
@@ -199,13 +193,13 @@ moves_all w v m h =
         starts
 
     go : (x y : ℕ) → ((x ≡ p) × (y ≡ q)) ⊎ ((x ≡ b) × (y ≡ c)) → Hold (w.near_of x) (w.far_of y) (of x v.out) (of y v.back)
-    go x y (inl e) = subst (λ (x : ℕ). Hold (w.near_of x) (w.far_of y) (of x v.out) (of y v.back)) (sym e.0) (subst (λ (y : ℕ). Hold (w.near_of p) (w.far_of y) (of p v.out) (of y v.back)) (sym e.1) same)
-    go x y (inr e) = subst (λ (x : ℕ). Hold (w.near_of x) (w.far_of y) (of x v.out) (of y v.back)) (sym e.0) (subst (λ (y : ℕ). Hold (w.near_of b) (w.far_of y) (of b v.out) (of y v.back)) (sym e.1) anew)
+    go x y (inl e) = rw (e.0, e.1) same
+    go x y (inr e) = rw (e.0, e.1) anew
 
 -- the same, but for functions of the same values
-order_alike : (near_of far_of f : ℕ → Peer) → ((n : ℕ) → f n ≡ near_of n) → (ms : List Meeting) → AllMet (MetInOrder near_of far_of) ms → AllMet (MetInOrder f far_of) ms
+order_alike : (near_of far_of f : ℕ → Peer) → ((n : ℕ) → f n ≡ near_of n) → (ms : List Meeting) → Each (MetInOrder near_of far_of) ms → Each (MetInOrder f far_of) ms
 order_alike near_of far_of f same [] h = tt
-order_alike near_of far_of f same (m ∷ ms) h = (subst (λ (x : Peer). InOrder x (far_of m.far) × InOrder (far_of m.far) x) (sym (same m.near)) h.0, order_alike near_of far_of f same ms h.1)
+order_alike near_of far_of f same (m ∷ ms) h = (rw (same m.near) h.0, order_alike near_of far_of f same ms h.1)
 
 alike_all : (w : Ends) (f : ℕ → Peer) → ((n : ℕ) → f n ≡ w.near_of n) → All w → All (record w { near_of = f })
 alike_all w f same h =
@@ -213,7 +207,7 @@ alike_all w f same h =
       held = h.held;
       near_later = λ n less. same n ∙ h.near_later n less;
       far_later = h.far_later;
-      line = subst (λ (x : Peer). Hold x (w.far_of h.held.q) (of h.held.p w.two.out) (of h.held.q w.two.back)) (sym (same h.held.p)) h.line;
+      line = rw (same h.held.p) h.line;
       order = order_alike w.near_of w.far_of f same w.two.met h.order;
       near_unmet = λ n. elim (h.near_unmet n) [ inl none ↦ inl (ap (λ (x : Peer). x.taken) (same n) ∙ none) | inr some ↦ inr some ];
       far_unmet = h.far_unmet;
@@ -232,13 +226,12 @@ begun_all w v m h = alike_all (record w { two = v }) (fresh_where (begins m) w.t
 
 -- ---- what is done in a session
 
-order_again : (near_of far_of : ℕ → Peer) (b p q : ℕ) (r : Peer) → b ≡ p → InOrder r (far_of q) × InOrder (far_of q) r → (ms : List Meeting) → AllMet (IsPaired p q) ms → AllMet (MetInOrder near_of far_of) ms
-    → AllMet (MetInOrder (put_for b r near_of) far_of) ms
+order_again : (near_of far_of : ℕ → Peer) (b p q : ℕ) (r : Peer) → b ≡ p → InOrder r (far_of q) × InOrder (far_of q) r → (ms : List Meeting) → Each (IsPaired p q) ms → Each (MetInOrder near_of far_of) ms
+    → Each (MetInOrder (put_for b r near_of) far_of) ms
 order_again near_of far_of b p q r is orders [] paired h = tt
 order_again near_of far_of b p q r is orders (m ∷ ms) paired h = (
   elim paired.0 [
-    | inl same ↦ subst (λ (x : Peer). InOrder x (far_of m.far) × InOrder (far_of m.far) x) (sym (put_same b m.near r near_of (same.0 ∙ sym is)))
-        (subst (λ (y : ℕ). InOrder r (far_of y) × InOrder (far_of y) r) (sym same.1) orders)
+    | inl same ↦ rw (put_same b m.near r near_of (same.0 ∙ sym is)) (rw same.1 orders)
     | inr less ↦ (let low = less.0 in subst (λ (x : Peer). InOrder x (far_of m.far) × InOrder (far_of m.far) x) (sym (put_other b m.near r near_of (λ here. omega (arith, low, is, here)))) h.0)
   ],
   order_again near_of far_of b p q r is orders ms paired.1 h.1,
@@ -246,25 +239,24 @@ order_again near_of far_of b p q r is orders (m ∷ ms) paired h = (
 
 -- the near end is r in the session that it is in; the session's lines are then these
 updated : (w : Ends) (v : Two) (h : All w) (on : Held v) (r : Peer) → w.two.near.stand ≡ In → on.p ≡ h.held.p → on.q ≡ h.held.q → v.near.begun ≡ w.two.near.begun → v.far ≡ w.two.far
-    → Hold r (w.far_of h.held.q) (of h.held.p v.out) (of h.held.q v.back) → AllMet (MetInOrder w.near_of w.far_of) v.met → AllMet (IsPaired h.held.p h.held.q) v.met
+    → Hold r (w.far_of h.held.q) (of h.held.p v.out) (of h.held.q v.back) → Each (MetInOrder w.near_of w.far_of) v.met → Each (IsPaired h.held.p h.held.q) v.met
     → ((n : ℕ) → ((with_near r w n).taken ≡ []) ⊎ SomeMet (λ (m : Meeting). m.near ≡ n) v.met) → ((n : ℕ) → ((w.far_of n).taken ≡ []) ⊎ SomeMet (λ (m : Meeting). m.far ≡ n) v.met)
     → All (record { two = v; near_of = with_near r w; far_of = w.far_of })
 updated w v h on r is same_p same_q begun far hold order paired near_unmet far_unmet =
     let b = w.two.near.begun in
-    let at = in_session h.held.near_view w.two.near.stand b h.held.p is h.held.near.view in
+    let at = h.held.near.is_in is in
     record {
       held = on;
       near_later = λ n less. put_other b n r w.near_of (λ here. omega (arith, less, begun, here)) ∙ h.near_later n (omega (arith, less, begun));
-      far_later = λ n less. h.far_later n (subst (λ (x : Stander). x.begun < n) far less);
-      line = subst (λ (x : Peer). Hold x (w.far_of on.q) (of on.p v.out) (of on.q v.back)) (sym (put_same b on.p r w.near_of (same_p ∙ sym at)))
-          (subst (λ (x : ℕ). Hold r (w.far_of on.q) (of x v.out) (of on.q v.back)) (sym same_p) (subst (λ (y : ℕ). Hold r (w.far_of y) (of h.held.p v.out) (of y v.back)) (sym same_q) hold));
+      far_later = λ n less. h.far_later n (rw (sym far) less);
+      line = rw (put_same b on.p r w.near_of (same_p ∙ sym at), same_p, same_q) hold;
       order = order_again w.near_of w.far_of b h.held.p h.held.q r at (both_orders _ _ _ _ hold) v.met paired order;
       near_unmet = near_unmet;
       far_unmet = far_unmet;
     }
 
 at_now : (w : Ends) (h : All w) → w.two.near.stand ≡ In → Hold (near_now w) (w.far_of h.held.q) (of h.held.p w.two.out) (of h.held.q w.two.back)
-at_now w h is = subst (λ (x : ℕ). Hold (w.near_of x) (w.far_of h.held.q) (of h.held.p w.two.out) (of h.held.q w.two.back)) (sym (in_session h.held.near_view w.two.near.stand w.two.near.begun h.held.p is h.held.near.view)) h.line
+at_now w h is = rw (h.held.near.is_in is) h.line
 
 still_unmet : (w : Ends) (h : All w) (r : Peer) → r.taken ≡ (near_now w).taken → (n : ℕ) → ((with_near r w n).taken ≡ []) ⊎ SomeMet (λ (m : Meeting). m.near ≡ n) w.two.met
 still_unmet w h r same n = elim (h.near_unmet n) [ inl none ↦ inl (put_alike (λ (p : Peer). p.taken) w.two.near.begun r w.near_of same n ∙ none) | inr some ↦ inr some ]
@@ -283,7 +275,7 @@ sent_all : (w : Ends) (carried : Option Carried) (nr : ℕ) (r : Peer) → w.two
     → All (record w { two = record w.two { out = w.two.out ++ letter w.two.near.begun (Tells carried nr) ∷ [] }; near_of = with_near r w })
 sent_all w carried nr r is may h =
     let b = w.two.near.begun in
-    let at = in_session h.held.near_view w.two.near.stand b h.held.p is h.held.near.view in
+    let at = h.held.near.is_in is in
     let one : of h.held.p (letter b (Tells carried nr) ∷ []) ≡ told carried nr ∷ [] =
     ap (λ (x : ℕ). keep (b == x) (Tells carried nr) []) (sym at) ∙ ap (λ (x : Bool). keep x (Tells carried nr) []) (equal b) in
     let lines = of_append h.held.p w.two.out (letter b (Tells carried nr) ∷ []) ∙ ap (λ (ys : List Told). of h.held.p w.two.out ++ ys) one in
@@ -292,18 +284,12 @@ sent_all w carried nr r is may h =
     updated w (record w.two { out = w.two.out ++ letter b (Tells carried nr) ∷ [] }) h (told_held w.two carried nr is h.held) r is refl refl refl refl hold
     h.order h.held.meets.paired (still_unmet w h r (says_same (near_now w) r carried nr may)) h.far_unmet
 
--- what is on the line to an end that is in the session that stands has its number
-pub live : (v : View) (stand : Stand) (b p c q : ℕ) (st : Stand) (out back : List Letter) → stand ≡ In → Side v stand b p st c q out back → AllTold (Of q) back
-live Live stand b p c q st out back is h = h.live
-live Soon stand b p c q st out back is h = absurd (subst NotIn is h.view.0)
-live Gone stand b p c q st out back is h = absurd (subst NotIn is h.view.0)
-
 in_front : (q t : ℕ) (c : Option Carried) (n : ℕ) (rest : List Letter) → t ≡ q → of q (letter t (Tells c n) ∷ rest) ≡ told c n ∷ of q rest
 in_front q t c n rest is = ap (λ (z : ℕ). keep (z == q) (Tells c n) (of q rest)) is ∙ ap (λ (z : Bool). keep z (Tells c n) (of q rest)) (equal q)
 
 came : (x y r : Peer) (out : List Told) (q t : ℕ) (s : Said) (rest : List Letter) → OfTells s (t ≡ q) → Hold x y out (of q (letter t s ∷ rest)) → MayMake x s r → Hold r y out (of q rest)
-came x y r out q t (Tells c n) rest to hold may = makes x y out (Tells c n) (of q rest) r may (subst (λ (ys : List Told). Hold x y out ys) (in_front q t c n rest to) hold)
-came x y r out q t s rest to hold may = makes x y out s (of q rest) r may (subst (λ (ys : List Told). Hold x y out ys) (keep_quiet (t == q) s (of q rest) tt) hold)
+came x y r out q t (Tells c n) rest to hold may = makes x y out (Tells c n) (of q rest) r may (rw (sym (in_front q t c n rest to)) hold)
+came x y r out q t s rest to hold may = makes x y out s (of q rest) r may (rw (sym (keep_quiet (t == q) s (of q rest) tt)) hold)
 
 -- a session that takes a packet meets one
 heard_unmet : (b t : ℕ) (f : ℕ → Peer) (r : Peer) (s : Said) (ms : List Meeting) → MayMake (f b) s r → (n : ℕ) → ((f n).taken ≡ []) ⊎ SomeMet (λ (m : Meeting). m.near ≡ n) ms
@@ -322,15 +308,15 @@ heard_all : (w : Ends) (e : Letter) (rest : List Letter) (r : Peer) → w.two.ba
 heard_all w e rest r is on may h =
     let b = w.two.near.begun in
     let met = heard w.two.near.stand b e w.two.met in
-    let near = subst (λ (l : List Letter). Side h.held.near_view w.two.near.stand b h.held.p w.two.far.stand w.two.far.begun h.held.q w.two.out l) is h.held.near in
-    let to = (live h.held.near_view w.two.near.stand b h.held.p w.two.far.begun h.held.q w.two.far.stand w.two.out (e ∷ rest) on near).0 in
+    let near = near_at is h.held.near in
+    let to = (near.live on).0 in
     let hold = came (near_now w) (w.far_of h.held.q) r (of h.held.p w.two.out) h.held.q e.session e.said rest to
     (subst (λ (l : List Letter). Hold (near_now w) (w.far_of h.held.q) (of h.held.p w.two.out) (of h.held.q l)) is (at_now w h on)) may in
     let next = come_held w.two e rest is h.held in
     updated w (record w.two { back = rest; met = met }) h next r on refl refl refl refl hold
-    (met_heard w.near_of w.far_of h.held.near_view w.two.near.stand b h.held.p w.two.far.begun h.held.q w.two.far.stand w.two.out rest e.said e.session near (both_orders _ _ _ _ h.line) w.two.met h.order)
+    (met_heard w.near_of w.far_of w.two.near.stand e.said near (both_orders _ _ _ _ h.line) w.two.met h.order)
     next.meets.paired
-    (λ n. subst (λ (s : Stand). ((with_near r w n).taken ≡ []) ⊎ SomeMet (λ (m : Meeting). m.near ≡ n) (heard s b e w.two.met)) (sym on) (heard_unmet b e.session w.near_of r e.said w.two.met may n (h.near_unmet n)))
+    (λ n. rw on (heard_unmet b e.session w.near_of r e.said w.two.met may n (h.near_unmet n)))
     (λ n. elim (h.far_unmet n) [ inl none ↦ inl none | inr some ↦ inr (heard_more (λ (m : Meeting). m.far ≡ n) w.two.near.stand b e w.two.met some) ])
 
 does_all : (w v : Ends) → Does w v → All w → All v
@@ -339,12 +325,12 @@ does_all w v (sends carried nr r is may) h = sent_all w carried nr r is may h
 does_all w v (listens e rest r is on may) h = heard_all w e rest r is on may h
 does_all w v (moves u m) h = begun_all w u m h
 
-starts_all : (stand : Stand) (b : ℕ) (held : Held (begin_at stand b).two) → All (begin_at stand b)
-starts_all stand b held = record { held = held; near_later = λ n less. refl; far_later = λ n less. refl; line = starts; order = tt; near_unmet = λ n. inl refl; far_unmet = λ n. inl refl }
+starts_all : (stand : Stand) (b : ℕ) → All (begin_at stand b)
+starts_all stand b = record { held = first_held stand b; near_later = λ n less. refl; far_later = λ n less. refl; line = starts; order = tt; near_unmet = λ n. inl refl; far_unmet = λ n. inl refl }
 
 pub reached_all : (w : Ends) → IsReached w → All w
-reached_all w at_start = starts_all Out 0 nothing_held
-reached_all w set_up = starts_all In 1 set_up_held
+reached_all w at_start = starts_all Out 0
+reached_all w set_up = starts_all In 1
 reached_all w (near_does v u r m) = does_all v u m (reached_all v r)
 reached_all w (far_does v u r m) = all_turned u (does_all (ends_swapped v) u m (all_turned v (reached_all v r)))
 
@@ -352,48 +338,38 @@ reached_all w (far_does v u r m) = all_turned u (does_all (ends_swapped v) u m (
 
 -- a session that is over, or that stands, is none that its end is about to begin
 pub far_high : (w : Ends) (h : All w) → w.two.far.begun ≤ h.held.q
-far_high w h = go h.held.far_view h.held.far.view
-  where
-    go : (v : View) → ViewIs v w.two.far.stand w.two.far.begun h.held.q → w.two.far.begun ≤ h.held.q
-    go Live is = (let e = is.1 in omega (arith, e))
-    go Soon is = (let e = is.1 in omega (arith, e))
-    go Gone is = (let e = is.1 in omega (arith, e))
+far_high w h = elim h.held.far.view [ inl is ↦ omega (arith, is) | inr is ↦ omega (arith, is) ]
 
 -- who meets the session in which the near end is: the far end's latest, which stands
-pub latest : (w : Ends) (h : All w) → w.two.near.stand ≡ In → AllMet (λ (m : Meeting). m.near ≡ w.two.near.begun → m.far ≡ w.two.far.begun) w.two.met
+pub latest : (w : Ends) (h : All w) → w.two.near.stand ≡ In → Each (λ (m : Meeting). m.near ≡ w.two.near.begun → m.far ≡ w.two.far.begun) w.two.met
 latest w h on =
-    all_meet h.held.p h.held.q w.two.near.begun w.two.far.begun w.two.met (in_session h.held.near_view w.two.near.stand w.two.near.begun h.held.p on h.held.near.view) (far_high w h) h.held.meets.begun h.held.meets.paired
+    all_meet h.held.p h.held.q w.two.near.begun w.two.far.begun w.two.met (h.held.near.is_in on) (far_high w h) h.held.meets.begun h.held.meets.paired
 
 -- and it stands where the near end met one
 pub some_stands : (w : Ends) (h : All w) → w.two.near.stand ≡ In → SomeMet (λ (m : Meeting). m.near ≡ w.two.near.begun) w.two.met → h.held.q ≡ w.two.far.begun
 some_stands w h on =
-    some_meets h.held.p h.held.q w.two.near.begun w.two.far.begun w.two.met (in_session h.held.near_view w.two.near.stand w.two.near.begun h.held.p on h.held.near.view) (far_high w h) h.held.meets.begun h.held.meets.paired
+    some_meets h.held.p h.held.q w.two.near.begun w.two.far.begun w.two.met (h.held.near.is_in on) (far_high w h) h.held.meets.begun h.held.meets.paired
 
 -- all that an end was handed down in its session was taken, where all is acknowledged
 pub all_taken : (w : Ends) (h : All w) → w.two.near.stand ≡ In → h.held.q ≡ w.two.far.begun → (near_now w).acked ≡ length (near_now w).given → (w.far_of w.two.far.begun).taken ≡ (near_now w).given
 all_taken w h on latest acked =
-    subst (λ (y : ℕ). (w.far_of y).taken ≡ (near_now w).given) latest ((both_orders _ _ _ _ (at_now w h on)).0.all acked)
+    rw (sym latest) ((both_orders _ _ _ _ (at_now w h on)).0.all acked)
 
 pub valid : (w : Ends) (h : All w) → w.two.near.stand ≡ In → (e : Letter) (rest : List Letter) (carried : Option Carried) (nr : ℕ) → w.two.back ≡ e ∷ rest → e.said ≡ Tells carried nr
     → resolved (near_now w).acked nr ≤ (near_now w).sent
 valid w h on e rest carried nr is says =
     let q = h.held.q in
-    let near = subst (λ (l : List Letter). Side h.held.near_view w.two.near.stand w.two.near.begun h.held.p w.two.far.stand w.two.far.begun q w.two.out l) is h.held.near in
-    let to = subst (λ (z : Said). OfTells z (e.session ≡ q)) says (live h.held.near_view w.two.near.stand w.two.near.begun h.held.p w.two.far.begun q w.two.far.stand w.two.out (e ∷ rest) on near).0 in
+    let near = near_at is h.held.near in
+    let to = subst (λ (z : Said). OfTells z (e.session ≡ q)) says (near.live on).0 in
     let front : of q w.two.back ≡ told carried nr ∷ of q rest = ap (of q) is ∙ ap (λ (z : Said). keep (e.session == q) z (of q rest)) says ∙ in_front q e.session carried nr rest to in
-    valid_front (near_now w) (w.far_of q) (of h.held.p w.two.out) (of q rest) (told carried nr) (subst (λ (ys : List Told). Hold (near_now w) (w.far_of q) (of h.held.p w.two.out) ys) front (at_now w h on))
+    valid_front (near_now w) (w.far_of q) (of h.held.p w.two.out) (of q rest) (told carried nr) (rw (sym front) (at_now w h on))
 
 -- behind the UA that an end awaits no SABM of the other is older than its session, and no SABM of the end is on the line
-pub ua_present : (w : Ends) (h : All w) (s : ℕ) (rest : List Letter) → w.two.near.stand ≡ Asking → w.two.back ≡ letter s Ua ∷ rest → AreOf w.two.far.begun rest × (how_many sabm_in w.two.out ≡ 0)
+pub ua_present : (w : Ends) (h : All w) (s : ℕ) (rest : List Letter) → w.two.near.stand ≡ Asking → w.two.back ≡ letter s Ua ∷ rest → AreOf w.two.far.begun rest × (how_many sabm_of w.two.out ≡ 0)
 ua_present w h s rest asking is =
-    go h.held.near_view
-    (subst (λ (z : Stand). Side h.held.near_view z w.two.near.begun h.held.p w.two.far.stand w.two.far.begun h.held.q w.two.out (letter s Ua ∷ rest)) asking
-    (subst (λ (l : List Letter). Side h.held.near_view w.two.near.stand w.two.near.begun h.held.p w.two.far.stand w.two.far.begun h.held.q w.two.out l) is h.held.near))
-  where
-    go : (v : View) → Side v Asking w.two.near.begun h.held.p w.two.far.stand w.two.far.begun h.held.q w.two.out (letter s Ua ∷ rest) → AreOf w.two.far.begun rest × (how_many sabm_in w.two.out ≡ 0)
-    go Live near = absurd near.view.0
-    go Gone near = (let none = near.left in absurd (omega (arith, none)))
-    go Soon near = (let once = near.asks_once.0 in (near.soon.1, omega (arith, once)))
+    let near = near_stands asking (near_at is h.held.near) in
+    let once = (near.asks_once refl).0 in
+    elim near.view [ inl here ↦ (let none = near.left refl here in absurd (omega (arith, none))) | inr less ↦ ((near.soon refl less).1, omega (arith, once)) ]
 
 pub keep_sessions : OfAnyTwoEnds KeepSessions
 keep_sessions w r =

@@ -1,11 +1,10 @@
 -- The worked rows, by computing.
-use Rattle.std.proofs.Common.{◌≡◌, [], ◌∷◌, ◌++◌, true, false, Result, Ok, arith, refl, sym, ap, subst}
+use Rattle.std.proofs.Common.{◌≡◌, [], ◌∷◌, ◌++◌, true, false, Result, Ok, arith, refl, ap}
 use Rattle.x25_bits.specs.declared.role.Role.TheVariants.{Dte, Dce}
 use Rattle.x25_frame.specs.{Frame.{PlainFrame, rr}, Spelling.{spelling_of}, Reading.{frame_of}, laws.ReadingLaw.{ReadsSpelled}}
 use Rattle.x25_frame.specs.declared.error.FrameError.{FrameError}
 use Rattle.x25_link.specs.Station.{pumped}
-use Rattle.x25_line.specs.{laws.Stations.{Stations, Put, Deliver, acts}, rows.StationRows.{dte}}
-use Rattle.x25_line.specs.laws.Peer.{Peer, fresh_peer, MaySend, MayHear, numbered_to, told_to}
+use Rattle.x25_line.specs.{laws.Stations.{Stations, Put, Deliver, acts}, rows.StationRows.{dte}, laws.Peer.{Peer, fresh_peer, numbered_to, told_to}}
 use Rattle.x25_line.specs.laws.PeerJoined.{Joined, start, our_end, with_peer, Ours, HandsDown, Sends, Hears, IsReached, at_start, goes_on}
 use Rattle.x25_line.specs.laws.Tape.{judges, notes, IsSilent, Begins, Acts, Shows, Comes}
 use Rattle.x25_line.specs.rows.PeerRows.{polling_frame, OddPeerMoves, SilentTapeMoves, TapeTells}
@@ -25,13 +24,12 @@ module _ (reads : ReadsSpelled) where
       let p3 : Peer = record w2.peer { taken = (5 ∷ []) ∷ [] } in
       let w3 : Joined = record w2 { peer = p3; out = [] } in
       let r3 : IsReached ⊥ dte w3 = goes_on w2 w3 r2
-      (Hears (spelling_of Dte packet_frame) [] p3 refl (subst (λ (r : Result PlainFrame FrameError). MayHear w2.peer r p3) (sym (packet_reads reads Dte)) (false, true, refl, refl)))
+      (Hears (spelling_of Dte packet_frame) [] p3 refl (rw (packet_reads reads Dte) (false, true, refl, refl)))
       in
       let q : Peer = told_to 0 (numbered_to 0 p3) in
       let w4 : Joined = record w3 { peer = q; back = spelling_of Dce polling_frame ∷ [] } in
       let r4 : IsReached ⊥ dte w4 = goes_on w3 w4 r3
-      (Sends (spelling_of Dce polling_frame) q (subst (λ (r : Result PlainFrame FrameError). MaySend ⊥ p3 r q) (sym polling_reads)
-      (0, 0, record { number = refl; same = refl; window = omega arith; again = omega arith }, record { number = refl; rising = omega arith; taken = omega arith }, refl)))
+      (Sends (spelling_of Dce polling_frame) q (rw polling_reads (0, 0, record { number = refl; same = refl; window = omega arith; again = omega arith }, record { number = refl; rising = omega arith; taken = omega arith }, refl)))
       in
       let w5 : Joined = with_peer q (acts dte Deliver (our_end w4)) in
       let r5 : IsReached ⊥ dte w5 = goes_on w4 w5 r4 (Ours Deliver) in

@@ -13,16 +13,35 @@ pub data Less : List Entry → List Entry → Type 0 where
   hurt : (e : Entry) (es : List Entry) (o : List ℕ) → is_visible o ≡ true → Less (e ∷ es) (record { session = e.session; octets = o } ∷ es)
   deeper : (e : Entry) (es fs : List Entry) → Less es fs → Less (e ∷ es) (e ∷ fs)
 
-unfoldable pub less_removes : (es : List Entry) (i : ℕ) → Less es (remove es i)
-less_removes [] zero = whole []
-less_removes [] (suc i) = whole []
-less_removes (e ∷ es) zero = gone e es
-less_removes (e ∷ es) (suc i) = deeper e es (remove es i) (less_removes es i)
+-- the same, at this place of the line
+pub data LessAt : ℕ → List Entry → List Entry → Type 0 where
+  nothing : (i : ℕ) → LessAt i [] []
+  gone_at : (e : Entry) (es : List Entry) → LessAt 0 (e ∷ es) es
+  hurt_at : (e : Entry) (es : List Entry) (o : List ℕ) → is_visible o ≡ true → LessAt 0 (e ∷ es) (record { session = e.session; octets = o } ∷ es)
+  deeper_at : (i : ℕ) (e : Entry) (es fs : List Entry) → LessAt i es fs → LessAt (suc i) (e ∷ es) (e ∷ fs)
 
-unfoldable pub less_replaces : (o : List ℕ) → is_visible o ≡ true → (es : List Entry) (i : ℕ) → Less es (replaced es i o)
-less_replaces o visible [] i = whole []
-less_replaces o visible (e ∷ es) zero = hurt e es o visible
-less_replaces o visible (e ∷ es) (suc i) = deeper e es (replaced es i o) (less_replaces o visible es i)
+pub removes_at : (es : List Entry) (i : ℕ) → LessAt i es (remove es i)
+removes_at [] zero = nothing 0
+removes_at [] (suc i) = nothing (suc i)
+removes_at (e ∷ es) zero = gone_at e es
+removes_at (e ∷ es) (suc i) = deeper_at i e es (remove es i) (removes_at es i)
+
+pub replaces_at : (o : List ℕ) → is_visible o ≡ true → (es : List Entry) (i : ℕ) → LessAt i es (replaced es i o)
+replaces_at o visible [] i = nothing i
+replaces_at o visible (e ∷ es) zero = hurt_at e es o visible
+replaces_at o visible (e ∷ es) (suc i) = deeper_at i e es (replaced es i o) (replaces_at o visible es i)
+
+pub less_at : (i : ℕ) (es fs : List Entry) → LessAt i es fs → Less es fs
+less_at i es fs (nothing j) = whole []
+less_at i es fs (gone_at e xs) = gone e xs
+less_at i es fs (hurt_at e xs o visible) = hurt e xs o visible
+less_at i es fs (deeper_at j e xs ys l) = deeper e xs ys (less_at j xs ys l)
+
+pub less_removes : (es : List Entry) (i : ℕ) → Less es (remove es i)
+less_removes es i = less_at i es (remove es i) (removes_at es i)
+
+pub less_replaces : (o : List ℕ) → is_visible o ≡ true → (es : List Entry) (i : ℕ) → Less es (replaced es i o)
+less_replaces o visible es i = less_at i es (replaced es i o) (replaces_at o visible es i)
 
 -- of no kind there is more
 pub many_less : (kind : Result PlainFrame FrameError → ℕ) → kind (Err Short) ≡ 0 → kind (Err BadFcs) ≡ 0 → (from : Role) (n1 : ℕ) (es fs : List Entry) → Less es fs → how_many kind from n1 fs ≤ how_many kind from n1 es

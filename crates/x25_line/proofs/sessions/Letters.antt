@@ -1,33 +1,15 @@
 -- What the rules look at in the octets on a line.
-use Rattle.std.proofs.Common.{◌≡◌, ◌⊎◌, inl, inr, ℕ, zero, suc, List, [], ◌∷◌, ◌++◌, map, remove, true, Option, Some, None, Ok, Err, refl, sym, ap, ◌∙◌, arith}
+use Rattle.std.proofs.Common.{◌≡◌, ◌⊎◌, inl, inr, ℕ, zero, suc, ◌+◌, List, [], ◌∷◌, ◌++◌, map, remove, true, Option, Some, None, Ok, Err, refl, sym, ap, ◌∙◌, arith}
 use Rattle.x25_bits.specs.declared.role.Role.{Role}
-use Rattle.x25_frame.specs.{Frame.{PlainFrame, sabm, disc, ua}, Reading.{frame_of}, declared.error.FrameError.TheVariants.{Short}}
+use Rattle.x25_frame.specs.{Frame.{PlainFrame, sabm}, Reading.{frame_of}, declared.error.FrameError.TheVariants.{Short}}
 use Rattle.x25_link.specs.{declared.phase.Phase.{Phase}, declared.phase.Phase.TheVariants.{Up}, Station.{is_up}}
-use Rattle.x25_line.specs.{laws.Stations.{is_visible}, laws.StationClaims.{number_in}, laws.Said.{Said, Else, said}}
+use Rattle.x25_line.specs.{laws.Stations.{is_visible}, laws.StationClaims.{number_in}, laws.Said.{Said, Else, said, sabm_of, ua_of, disc_of}}
 use Rattle.x25_line.specs.laws.Sessions.{Entry, Meeting, turned, sabm_in, ua_in, disc_in, how_many, heard, replaced}
 use Rattle.x25_line.specs.{laws.PeerSessions.{Stand, In, is_in, AllAskedIn}, laws.Ends.{Letter, letter, OfSabm, AreOf, meets, spoilt}}
 use Rattle.x25_line.proofs.{StationLines.{visible_reads}, ends.Meetings.{twice_turned}, sessions.SessionLines.{Read}, sessions.SessionMay.{entry, stand_of}}
 use Rattle.x25_line.specs.laws.Ends as ends
 
 -- ---- one of them
-
-sabm_said : (r : Read) → sabm_in r ≡ ends.sabm_in (said r)
-sabm_said (Ok (sabm p)) = refl
-sabm_said (Ok f) = refl
-sabm_said (Err Short) = refl
-sabm_said (Err e) = refl
-
-ua_said : (r : Read) → ua_in r ≡ ends.ua_in (said r)
-ua_said (Ok (ua f)) = refl
-ua_said (Ok f) = refl
-ua_said (Err Short) = refl
-ua_said (Err e) = refl
-
-disc_said : (r : Read) → disc_in r ≡ ends.disc_in (said r)
-disc_said (Ok (disc p)) = refl
-disc_said (Ok f) = refl
-disc_said (Err Short) = refl
-disc_said (Err e) = refl
 
 meets_said : (r : Read) (m : Meeting) (met : List Meeting) → heard true (number_in r) m met ≡ meets (said r) m met
 meets_said (Ok (sabm p)) m met = refl
@@ -74,17 +56,19 @@ module _ (from : Role) (n1 : ℕ) where
   letters_replaced o visible (e ∷ es) zero = ap (λ (s : Said). letter e.session s ∷ letters es) (visible_said o visible)
   letters_replaced o visible (e ∷ es) (suc i) = ap (λ (xs : List Letter). letter e.session (said (frame_of from n1 e.octets)) ∷ xs) (letters_replaced o visible es i)
 
-  pub sabms : (es : List Entry) → how_many sabm_in from n1 es ≡ ends.how_many ends.sabm_in (letters es)
-  sabms [] = refl
-  sabms (e ∷ es) = (let here = sabm_said (frame_of from n1 e.octets) in let there = sabms es in omega (arith, here, there))
+  -- how many there are of a kind
+  many_said : (kind : Said → ℕ) (es : List Entry) → how_many (λ r. kind (said r)) from n1 es ≡ ends.how_many kind (letters es)
+  many_said kind [] = refl
+  many_said kind (e ∷ es) = ap (λ (n : ℕ). kind (said (frame_of from n1 e.octets)) + n) (many_said kind es)
 
-  pub uas : (es : List Entry) → how_many ua_in from n1 es ≡ ends.how_many ends.ua_in (letters es)
-  uas [] = refl
-  uas (e ∷ es) = (let here = ua_said (frame_of from n1 e.octets) in let there = uas es in omega (arith, here, there))
+  pub sabms : (es : List Entry) → how_many sabm_in from n1 es ≡ ends.how_many sabm_of (letters es)
+  sabms es = many_said sabm_of es
 
-  pub discs : (es : List Entry) → how_many disc_in from n1 es ≡ ends.how_many ends.disc_in (letters es)
-  discs [] = refl
-  discs (e ∷ es) = (let here = disc_said (frame_of from n1 e.octets) in let there = discs es in omega (arith, here, there))
+  pub uas : (es : List Entry) → how_many ua_in from n1 es ≡ ends.how_many ua_of (letters es)
+  uas es = many_said ua_of es
+
+  pub discs : (es : List Entry) → how_many disc_in from n1 es ≡ ends.how_many disc_of (letters es)
+  discs es = many_said disc_of es
 
   -- no SABM is of an earlier session
   pub asked_letters : (b : ℕ) (es : List Entry) → AllAskedIn from n1 b es → AreOf b (letters es)
@@ -104,4 +88,5 @@ module _ (from : Role) (n1 : ℕ) where
       one : (r : Read) → OfSabm (said r) (e.session ≡ b) → (sabm_in r ≡ 0) ⊎ (e.session ≡ b)
       one (Ok (sabm p)) k = inr k
       one (Ok f) k = inl refl
+      one (Err Short) k = inl refl
       one (Err x) k = inl refl

@@ -1,20 +1,19 @@
 -- A station over sessions and a peer are two ends that keep the rules, whatever the peer does within these and the line to it loses.
 use Rattle.std.proofs.Common.{◌≡◌, ◌⊎◌, inl, inr, ℕ, suc, ◌+◌, List, [], ◌∷◌, ◌++◌, map, remove, Bool, true, Option, Some, None, Ok, Err, refl, sym, ap, ◌∙◌, subst, arith}
 use Rattle.x25_bits.specs.declared.role.Role.{Role}
-use Rattle.x25_frame.specs.{Frame.{info, rr, rnr, rej, sabm, disc, ua, dm, frmr}, Reading.{frame_of}}
-use Rattle.x25_frame.specs.declared.error.FrameError.TheVariants.{Short, BadFcs, BadAddress}
+use Rattle.x25_frame.specs.{Frame.{info, rr, rnr, rej, sabm, disc, ua}, Reading.{frame_of}}
 use Rattle.x25_link.specs.{declared.phase.Phase.{Phase}, declared.phase.Phase.TheVariants.{Down, Waiting, Up, Closed}, Station.{Settings}, Hearing.{other}}
 use Rattle.x25_line.specs.laws.Sessions.{Entry, Meeting, turned, sabm_in, ua_in, disc_in, how_many, replaced, acts}
 use Rattle.x25_line.specs.laws.PeerSessions.{Stand, Out, Asking, PeerEnd, PeerSessions, now, with_now, begins, stands, both_ends, with_peer, AllAskedIn, IsFree, heard_by}
 use Rattle.x25_line.specs.laws.PeerSessionClaims.{frmr_in}
 use Rattle.x25_line.specs.laws.Ends.{Letter, letter, free, odd, asks, closes, leaves, hears, takes_ua, takes_sabm, waits_on, takes_disc, loses, damages, Ends, ends_swapped, Does, is_handed, sends, listens, moves, IsReached, far_does}
+use Rattle.x25_line.specs.{laws.Stations.{Act}, laws.StationClaims.{number_in}, laws.Said.{Said, Carried, Tells, Sabm, Disc, Ua, Else, Odd as OddSaid, said, ua_of}}
 use Rattle.x25_line.proofs.{sessions.SessionLines.{Read, none_is_some, many_append}, sessions.SessionHeld.{Owes, owes_less}}
 use Rattle.x25_line.proofs.{sessions.EntryLines.{Less, whole, gone, less_removes, less_replaces, many_less, asked_fewer}, ends.Meetings.{twice_turned}}
 use Rattle.x25_line.proofs.sessions.Letters.{heard_turned, letters_push, letters_removed, letters_replaced, sabms, uas, discs, asked_letters, letters_asked}
 use Rattle.x25_line.proofs.{sessions.SessionMay.{stand_of, hears_read}, sessions.SessionSeen.{Seen}}
 use Rattle.x25_line.proofs.{sessions.SessionWith.{NoneOdd, Where, outs, backs, Kept, at, IsWith}, ends.Lines.{are_none}}
 use Rattle.x25_line.proofs.ends.Sessions.{all_turned, reached_all, ua_present}
-use Rattle.x25_line.specs.{laws.Stations.{Act}, laws.StationClaims.{number_in}, laws.Said.{Said, Carried, Tells, Sabm, Disc, Ua, Else, Odd as OddSaid, said}}
 use Rattle.x25_line.specs.laws.Peer as once
 use Rattle.x25_line.specs.laws.PeerSessions as sessions
 use Rattle.x25_line.specs.laws.Ends as ends
@@ -46,14 +45,10 @@ owes_answered Waiting P m ms d ds us bs which more owes = (let sum = owes.0 in l
 ])
 owes_answered p P m ms d ds us bs which more owes = (let sum = owes.0 in let none = owes.1 in elim which [ inl one ↦ absurd (omega (arith, sum, one)) | inr one ↦ absurd (omega (arith, none, one)) ])
 
-free_said : (Odd : Type 0) (r : Read) → IsFree Odd r → (said r ≡ Else) ⊎ ((said r ≡ OddSaid) × Odd)
-free_said Odd (Ok (dm f)) h = inl refl
-free_said Odd (Ok (frmr f why)) h = inl refl
-free_said Odd (Ok f) h = absurd h
-free_said Odd (Err Short) h = inl refl
-free_said Odd (Err BadFcs) h = inl refl
-free_said Odd (Err BadAddress) h = inl refl
-free_said Odd (Err e) h = inr (refl, h)
+free_said : (Odd : Type 0) (s : Said) → IsFree Odd s → (s ≡ Else) ⊎ ((s ≡ OddSaid) × Odd)
+free_said Odd Else h = inl refl
+free_said Odd OddSaid h = inr (refl, h)
+free_said Odd s h = absurd h
 
 module _ (Odd : Type 0) (c : Settings) (w : PeerSessions) (h : Seen c (IsWith Odd c w.peer) (both_ends w)) where
   abbrev p : Phase
@@ -85,7 +80,7 @@ module _ (Odd : Type 0) (c : Settings) (w : PeerSessions) (h : Seen c (IsWith Od
 
   -- who met whom is turned twice
   met_back : (q : PeerEnd) (back out : List Letter) (met : List Meeting) → IsReached (at Odd c q back (map turned (map turned met)) (stand_of p) b h.all out) → IsReached (at Odd c q back met (stand_of p) b h.all out)
-  met_back q back out met r = subst (λ (ms : List Meeting). IsReached (at Odd c q back ms (stand_of p) b h.all out)) (twice_turned met) r
+  met_back q back out met r = rw (sym (twice_turned met)) r
 
   does : (v : Ends) → Does (ends_swapped before) v → IsReached (ends_swapped v)
   does v m = far_does before v h.reached.reached m
@@ -95,8 +90,7 @@ module _ (Odd : Type 0) (c : Settings) (w : PeerSessions) (h : Seen c (IsWith Od
   put : (q : PeerEnd) (octets : List ℕ) (s : Said) → said (hears_read c octets) ≡ s → IsReached (at Odd c q (bs ++ letter q.begun s ∷ []) w.met (stand_of p) b h.all os)
       → IsReached (at Odd c q (backs Odd c (w.back ++ sessions.entry q octets ∷ [])) w.met (stand_of p) b h.all os)
   put q octets s is r =
-      subst (λ (xs : List Letter). IsReached (at Odd c q xs w.met (stand_of p) b h.all os))
-      (sym (letters_push (other c.role) c.longest w.back q.begun octets (hears_read c octets) refl ∙ ap (λ (x : Said). bs ++ letter q.begun x ∷ []) is)) r
+      rw (letters_push (other c.role) c.longest w.back q.begun octets (hears_read c octets) refl ∙ ap (λ (x : Said). bs ++ letter q.begun x ∷ []) is) r
 
   -- what it puts is no UA, and not answered by FRMR where it sends none such
   kept_put : (n : ℕ) (octets : List ℕ) → n ≡ w.peer.begun → ua_in (hears_read c octets) ≡ 0 → ((Odd → ⊥) → said (hears_read c octets) ≡ OddSaid → ⊥)
@@ -106,7 +100,7 @@ module _ (Odd : Type 0) (c : Settings) (w : PeerSessions) (h : Seen c (IsWith Od
       let all = many_append (other c.role) c.longest ua_in w.back (record { session = n; octets = octets } ∷ []) in
       record {
         owes = owes_less p _ _ _ _ (omega (arith, all, no_ua)) (omega arith) k.owes;
-        present = where_push p (subst (λ (m : ℕ). Where p (AllAskedIn (other c.role) c.longest m w.back)) (sym same) k.present);
+        present = where_push p (rw same k.present);
         frmr = k.frmr;
         lapb = λ lapb. odd_push (other c.role) c.longest w.back (record { session = n; octets = octets }) (k.lapb lapb) (never lapb);
       }
@@ -152,18 +146,18 @@ module _ (Odd : Type 0) (c : Settings) (w : PeerSessions) (h : Seen c (IsWith Od
       after (stands Out w.peer) w.out (w.back ++ sessions.entry w.peer octets ∷ []) w.met (whole w.out)
       (put (stands Out w.peer) octets Disc (ap said read) (met_back (stands Out w.peer) (bs ++ letter w.peer.begun Disc ∷ []) os w.met (does _ (moves _ closes))))
       (kept_put w.peer.begun octets refl (ap ua_in read) (λ lapb. not_odd _ Disc (ap said read) refl))
-  sends_held octets q (sessions.free may) = elim (free_said Odd (hears_read c octets) may) [
+  sends_held octets q (sessions.free may) = elim (free_said Odd (said (hears_read c octets)) may) [
     | inl is ↦ after w.peer w.out (w.back ++ sessions.entry w.peer octets ∷ []) w.met (whole w.out)
         (put w.peer octets Else is (met_back w.peer (bs ++ letter w.peer.begun Else ∷ []) os w.met (does _ (moves _ free))))
-        (kept_put w.peer.begun octets refl (free_ua (hears_read c octets) may) (λ lapb. not_odd _ Else is refl))
+        (kept_put w.peer.begun octets refl (free_ua (said (hears_read c octets)) may) (λ lapb. not_odd _ Else is refl))
     | inr is ↦ after w.peer w.out (w.back ++ sessions.entry w.peer octets ∷ []) w.met (whole w.out)
         (put w.peer octets OddSaid is.0 (met_back w.peer (bs ++ letter w.peer.begun OddSaid ∷ []) os w.met (does _ (moves _ odd))))
-        (kept_put w.peer.begun octets refl (free_ua (hears_read c octets) may) (λ lapb. absurd (lapb is.1)))
+        (kept_put w.peer.begun octets refl (free_ua (said (hears_read c octets)) may) (λ lapb. absurd (lapb is.1)))
   ]
     where
-      free_ua : (r : Read) → IsFree Odd r → ua_in r ≡ 0
-      free_ua (Ok (ua f)) may = absurd may
-      free_ua r may = refl
+      free_ua : (s : Said) → IsFree Odd s → ua_of s ≡ 0
+      free_ua Ua may = absurd may
+      free_ua s may = refl
 
   -- less from the station
   kept_out : (out : List Entry) → Less w.out out → Kept Odd c w.peer.begun p w.back out
@@ -188,7 +182,7 @@ module _ (Odd : Type 0) (c : Settings) (w : PeerSessions) (h : Seen c (IsWith Od
     rs = outs Odd c rest
 
     less : Less w.out rest
-    less = subst (λ (l : List Entry). Less l rest) (sym is) (gone e rest)
+    less = rw is (gone e rest)
 
     line : (x : Read) → r ≡ x → os ≡ letter e.session (said x) ∷ rs
     line x read = ap (outs Odd c) is ∙ ap (λ (y : Read). letter e.session (said y) ∷ rs) read
@@ -199,20 +193,17 @@ module _ (Odd : Type 0) (c : Settings) (w : PeerSessions) (h : Seen c (IsWith Od
     hears_held : (q : PeerEnd) → sessions.MayHear w.peer r q → S (record w { peer = q; out = rest; met = heard_by w.peer r e w.met })
     hears_held q sessions.passes_over =
         after w.peer rest w.back (heard_by w.peer r e w.met) less
-        (subst (λ (ms : List Meeting). IsReached (at Odd c w.peer bs ms (stand_of p) b h.all rs)) (heard_turned w.peer.stand w.peer.begun e.session r w.met)
-        (does _ (moves _ (hears (letter e.session (said r)) rs (line r refl))))) kept_front
+        (rw (sym (heard_turned w.peer.stand w.peer.begun e.session r w.met)) (does _ (moves _ (hears (letter e.session (said r)) rs (line r refl))))) kept_front
     hears_held q (sessions.hears x on may) =
         after (with_now x w.peer) rest w.back (heard_by w.peer r e w.met) less
-        (subst (λ (ms : List Meeting). IsReached (at Odd c (with_now x w.peer) bs ms (stand_of p) b h.all rs)) (heard_turned w.peer.stand w.peer.begun e.session r w.met)
-        (does _ (listens (letter e.session (said r)) rs x (line r refl) on may))) kept_front
+        (rw (sym (heard_turned w.peer.stand w.peer.begun e.session r w.met)) (does _ (listens (letter e.session (said r)) rs x (line r refl) on may))) kept_front
     hears_held q (sessions.takes_ua asking read) =
         let k = kept_front in
         let front = line (Ok (ua true)) read in
         let no_sabm = (ua_present (ends_swapped before) (all_turned before (reached_all before h.reached.reached)) e.session rs asking front).1 in
         let same = sabms (other c.role) c.longest w.back in
         after (begins w.peer) rest w.back (heard_by w.peer r e w.met) less
-        (subst (λ (ms : List Meeting). IsReached (at Odd c (begins w.peer) bs ms (stand_of p) b h.all rs)) (sym (ap (λ (s : Stand). sessions.heard_by (stands s w.peer) r e w.met) asking))
-        (met_back (begins w.peer) bs rs w.met (does _ (moves _ (takes_ua e.session rs front asking)))))
+        (rw (ap (λ (s : Stand). sessions.heard_by (stands s w.peer) r e w.met) asking) (met_back (begins w.peer) bs rs w.met (does _ (moves _ (takes_ua e.session rs front asking)))))
         (record { owes = k.owes; present = where_none p (suc w.peer.begun) (omega (arith, no_sabm, same)); frmr = k.frmr; lapb = k.lapb })
       where
         where_none : (p : Phase) (n : ℕ) → how_many sabm_in (other c.role) c.longest w.back ≡ 0 → Where p (AllAskedIn (other c.role) c.longest n w.back)
@@ -240,7 +231,7 @@ module _ (Odd : Type 0) (c : Settings) (w : PeerSessions) (h : Seen c (IsWith Od
     answered : (q : PeerEnd) (octets : List ℕ) (f : Bool) → hears_read c octets ≡ Ok (ua f) → IsReached (at Odd c q (bs ++ letter q.begun Ua ∷ []) w.met (stand_of p) b h.all rs)
         → IsReached (at Odd c q (backs Odd c (w.back ++ sessions.entry q octets ∷ [])) w.met (stand_of p) b h.all rs)
     answered q octets f read reached =
-        subst (λ (xs : List Letter). IsReached (at Odd c q xs w.met (stand_of p) b h.all rs)) (sym (letters_push (other c.role) c.longest w.back q.begun octets (Ok (ua f)) read)) reached
+        rw (letters_push (other c.role) c.longest w.back q.begun octets (Ok (ua f)) read) reached
 
     answers_held : (octets : List ℕ) (f : Bool) (q : PeerEnd) → hears_read c octets ≡ Ok (ua f) → sessions.MayAnswer w.peer r q → S (record w { peer = q; out = rest; back = w.back ++ sessions.entry q octets ∷ [] })
     answers_held octets f q answer (sessions.takes_sabm pf read) =
@@ -267,14 +258,14 @@ module _ (Odd : Type 0) (c : Settings) (w : PeerSessions) (h : Seen c (IsWith Od
       let q = with_now (record (now w.peer) { given = (now w.peer).given ++ packet ∷ [] }) w.peer in
       let k = before_line in
       after q w.out w.back w.met (whole w.out) (met_back q bs os w.met (does _ (is_handed packet is))) (record { owes = k.owes; present = k.present; frmr = k.frmr; lapb = k.lapb })
-  peer_held v sessions.Leaves ours =
+  peer_held v (sessions.Theirs _ sessions.Leaves) ours =
       let k = before_line in
       after (stands Out w.peer) w.out w.back w.met (whole w.out) (met_back (stands Out w.peer) bs os w.met (does _ (moves _ leaves))) (record { owes = k.owes; present = k.present; frmr = k.frmr; lapb = k.lapb })
-  peer_held v (sessions.Sends octets q may) ours = sends_held octets q may
-  peer_held v (sessions.Hears e rest q is may) ours = hears_held e rest is q may
-  peer_held v (sessions.Answers e rest octets f q is answer may) ours = answers_held e rest is octets f q answer may
-  peer_held v (sessions.Loses i) ours =
-      shorter (remove w.out i) (less_removes w.out i) (subst (λ (xs : List Letter). IsReached (at Odd c w.peer bs w.met (stand_of p) b h.all xs)) (sym (letters_removed c.role c.longest w.out i)) (met_back w.peer bs (remove os i) w.met (does _ (moves _ (loses i)))))
-  peer_held v (sessions.Damages i octets visible) ours =
+  peer_held v (sessions.Theirs _ (sessions.Sends octets q may)) ours = sends_held octets q may
+  peer_held v (sessions.Theirs _ (sessions.Hears e rest q is may)) ours = hears_held e rest is q may
+  peer_held v (sessions.Theirs _ (sessions.Answers e rest octets f q is answer may)) ours = answers_held e rest is octets f q answer may
+  peer_held v (sessions.Theirs _ (sessions.Loses i)) ours =
+      shorter (remove w.out i) (less_removes w.out i) (rw (letters_removed c.role c.longest w.out i) (met_back w.peer bs (remove os i) w.met (does _ (moves _ (loses i)))))
+  peer_held v (sessions.Theirs _ (sessions.Damages i octets visible)) ours =
       shorter (replaced w.out i octets) (less_replaces octets visible w.out i)
-      (subst (λ (xs : List Letter). IsReached (at Odd c w.peer bs w.met (stand_of p) b h.all xs)) (sym (letters_replaced c.role c.longest octets visible w.out i)) (met_back w.peer bs (ends.spoilt os i) w.met (does _ (moves _ (damages i)))))
+      (rw (letters_replaced c.role c.longest octets visible w.out i) (met_back w.peer bs (ends.spoilt os i) w.met (does _ (moves _ (damages i)))))

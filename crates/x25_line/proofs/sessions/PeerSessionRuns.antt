@@ -1,28 +1,27 @@
 -- What a station and a peer reach are two ends that keep the rules, and that says the claims.
-use Rattle.std.proofs.{Common.{◌≡◌, inl, inr, ◌≤◌, ℕ, List, [], ◌∷◌, map, length, true, refl, sym, ap, ◌∙◌, subst}, lemmas.Bool.{and_parts}}
+use Rattle.std.proofs.{Common.{◌≡◌, inl, inr, ◌≤◌, ℕ, List, [], ◌∷◌, map, length, true, refl, sym, ap, ◌∙◌}, lemmas.Bool.{and_parts}}
 use Rattle.x25_frame.specs.laws.ReadingLaw.{ReadsSpelled}
 use Rattle.x25_link.specs.{declared.phase.Phase.{Phase}, declared.phase.Phase.TheVariants.{Down, Up}, Station.{Settings, is_up}, Hearing.{other}}
 use Rattle.x25_link.specs.{Link.{is_idle}, laws.WindowMachine.{Window}}
-use Rattle.x25_line.specs.{laws.Stations.{Act, T1}, laws.InWindow.{IsPrefix}, laws.Sessions.{Meeting, turned, acts, start_with}}
-use Rattle.x25_line.specs.{laws.SessionClaims.{AllMet, IsInOrder, MeetInStep, MetAreInOrder, UnmetHandNothingUp}, laws.LawsBelow.{SessionLaws}}
+use Rattle.x25_line.specs.{laws.Stations.{Act, T1}, laws.Sessions.{Meeting, turned, acts, start_with}}
+use Rattle.x25_line.specs.{laws.SessionClaims.{Each, IsInOrder, MeetInStep, MetAreInOrder, UnmetHandNothingUp}, laws.LawsBelow.{SessionLaws}}
 use Rattle.x25_line.specs.laws.Peer.{fresh_peer}
 use Rattle.x25_line.specs.laws.PeerSessions.{Stand, PeerSessions, Out, In, both_ends, as_end, with_peer, begin_with, IsReached, at_start, set_up, goes_on}
 use Rattle.x25_line.specs.laws.PeerSessionClaims.{WithAnyPeer, WithAnyLapbPeer, OfBothEnds, IdleHasArrived, EachMeetsLatest, SendsNoFrmr}
 use Rattle.x25_line.specs.{laws.Ends.{Ends, ends_swapped}, laws.EndClaims.{MetInOrder, KeepSessions}}
-use Rattle.x25_line.proofs.{StationClaimLemmas.{idle_all}, StationAway.{is_up_phase}, sessions.SessionHeld.{View, Live, Soon, Gone}}
-use Rattle.x25_line.proofs.{sessions.SessionMay.{stand_of}, sessions.SessionSeen.{Seen, start_seen}, sessions.SessionSeenSteps.{IsTimely, station_acts}}
-use Rattle.x25_line.proofs.{sessions.SessionWith.{outs, backs, at, IsWith, station_may, Kept}, sessions.PeerMoves.{peer_held}, ends.Held.{ViewIs, NotIn}}
-use Rattle.x25_line.proofs.ends.Sessions.{All, all_turned, reached_all, keep_sessions, latest, some_stands, all_taken}
+use Rattle.x25_line.proofs.{StationClaimLemmas.{idle_all}, StationAway.{is_up_phase}, sessions.SessionMay.{stand_of}, sessions.SessionSeen.{Seen, start_seen}}
+use Rattle.x25_line.proofs.{sessions.SessionSeenSteps.{IsTimely, station_acts}, sessions.SessionWith.{outs, backs, at, IsWith, station_may, Kept}}
+use Rattle.x25_line.proofs.{sessions.PeerMoves.{peer_held}, ends.Sessions.{All, all_turned, reached_all, keep_sessions, latest, some_stands, all_taken}}
 use Rattle.x25_line.specs.laws.PeerSessions as sessions
 use Rattle.x25_line.specs.laws.Ends as ends
 
 -- what holds of a station and a peer
-abbrev Joined : Type 0 → Settings → PeerSessions → Type 0
-Joined Odd c w = Seen c (IsWith Odd c w.peer) (both_ends w)
+abbrev SeenWith : Type 0 → Settings → PeerSessions → Type 0
+SeenWith Odd c w = Seen c (IsWith Odd c w.peer) (both_ends w)
 
 -- as a run begins
-joined_at_start : (Odd : Type 0) (c : Settings) (stand : Stand) (p : Phase) (b : ℕ) → (let peer = (begin_with stand (start_with p b)).peer in IsWith Odd c peer [] [] p b (λ n. fresh_peer) []) → Joined Odd c (begin_with stand (start_with p b))
-joined_at_start Odd c stand p b reached = start_seen c (IsWith Odd c (begin_with stand (start_with p b)).peer) p b (as_end (begin_with stand (start_with p b)).peer) reached
+seen_at_start : (Odd : Type 0) (c : Settings) (stand : Stand) (p : Phase) (b : ℕ) → (let peer = (begin_with stand (start_with p b)).peer in IsWith Odd c peer [] [] p b (λ n. fresh_peer) []) → SeenWith Odd c (begin_with stand (start_with p b))
+seen_at_start Odd c stand p b reached = start_seen c (IsWith Odd c (begin_with stand (start_with p b)).peer) p b (as_end (begin_with stand (start_with p b)).peer) reached
 
 module _ (reads : ReadsSpelled) (rests : SessionLaws) where
   station_timely : (Odd : Type 0) (c : Settings) (high : c.window ≤ 7) (w : PeerSessions) (act : Act) → sessions.IsTimely c act w
@@ -30,24 +29,24 @@ module _ (reads : ReadsSpelled) (rests : SessionLaws) where
   station_timely Odd c high w T1 timely = λ waiting. (let due = timely waiting in (due.sabm, due.ua, due.crossing))
   station_timely Odd c high w act timely = tt
 
-  station_held : (Odd : Type 0) (c : Settings) (high : c.window ≤ 7) (w : PeerSessions) → Joined Odd c w → (act : Act) → sessions.IsTimely c act w → Joined Odd c (with_peer w.peer (acts c act (both_ends w)))
+  station_held : (Odd : Type 0) (c : Settings) (high : c.window ≤ 7) (w : PeerSessions) → SeenWith Odd c w → (act : Act) → sessions.IsTimely c act w → SeenWith Odd c (with_peer w.peer (acts c act (both_ends w)))
   station_held Odd c high w h act timely =
       let k = station_acts c high reads rests (λ es. sessions.AllAskedIn (other c.role) c.longest w.peer.begun es) (IsWith Odd c w.peer) (station_may Odd c w.peer) act (both_ends w)
       (station_timely Odd c high w act timely) h.reached.kept.owes h in
       record { all = k.all; reached = k.reached; up = k.up; given = k.given; taken = k.taken; later = k.later; tags = k.tags }
 
-  reached_joined : (Odd : Type 0) (c : Settings) → c.window ≤ 7 → (w : PeerSessions) → IsReached Odd c w → Joined Odd c w
-  reached_joined Odd c high w at_start = joined_at_start Odd c Out Down 0 (record { reached = ends.at_start; kept = record { owes = (refl, refl); present = tt; frmr = λ lapb. refl; lapb = λ lapb. tt } })
-  reached_joined Odd c high w set_up = joined_at_start Odd c In Up 1 (record { reached = ends.set_up; kept = record { owes = (refl, refl); present = tt; frmr = λ lapb. refl; lapb = λ lapb. tt } })
-  reached_joined Odd c high w (goes_on v u reached event) =
-      let h = reached_joined Odd c high v reached in
+  reached_seen : (Odd : Type 0) (c : Settings) → c.window ≤ 7 → (w : PeerSessions) → IsReached Odd c w → SeenWith Odd c w
+  reached_seen Odd c high w at_start = seen_at_start Odd c Out Down 0 (record { reached = ends.at_start; kept = record { owes = (refl, refl); present = tt; frmr = λ lapb. refl; lapb = λ lapb. tt } })
+  reached_seen Odd c high w set_up = seen_at_start Odd c In Up 1 (record { reached = ends.set_up; kept = record { owes = (refl, refl); present = tt; frmr = λ lapb. refl; lapb = λ lapb. tt } })
+  reached_seen Odd c high w (goes_on v u reached event) =
+      let h = reached_seen Odd c high v reached in
       peer_held Odd c v h w event (station_held Odd c high v h)
 
   -- ---- the claims
 
   module _ (Odd : Type 0) (c : Settings) (high : c.window ≤ 7) (w : PeerSessions) (reached : IsReached Odd c w) where
-    pub h : Joined Odd c w
-    h = reached_joined Odd c high w reached
+    pub h : SeenWith Odd c w
+    h = reached_seen Odd c high w reached
 
     abbrev pub two : Ends
     two = at Odd c w.peer (backs Odd c w.back) w.met (stand_of w.near.station.phase) w.near.begun h.all (outs Odd c w.out)
@@ -64,11 +63,11 @@ module _ (reads : ReadsSpelled) (rests : SessionLaws) where
 
     in_order : (m : Meeting) → MetInOrder h.all w.peer.of_session m → IsInOrder w.near (as_end w.peer) m
     in_order m k = record {
-      there = subst (λ (xs : List (List ℕ)). IsPrefix (w.peer.of_session m.far).taken xs) (h.given m.near) k.0.begins;
-      back = subst (λ (xs : List (List ℕ)). IsPrefix xs (w.peer.of_session m.far).given) (h.taken m.near) k.1.begins;
+      there = rw (sym (h.given m.near)) k.0.begins;
+      back = rw (sym (h.taken m.near)) k.1.begins;
     }
 
-    all_in_order : (ms : List Meeting) → AllMet (MetInOrder h.all w.peer.of_session) ms → AllMet (IsInOrder w.near (as_end w.peer)) ms
+    all_in_order : (ms : List Meeting) → Each (MetInOrder h.all w.peer.of_session) ms → Each (IsInOrder w.near (as_end w.peer)) ms
     all_in_order [] k = tt
     all_in_order (m ∷ ms) k = (in_order m k.0, all_in_order ms k.1)
 
@@ -81,7 +80,7 @@ module _ (reads : ReadsSpelled) (rests : SessionLaws) where
     pub up_in : is_up w.near.station.phase ≡ true → stand_of w.near.station.phase ≡ In
     up_in up = ap stand_of (is_up_phase w.near.station.phase up)
 
-    peer_latest : (ms : List Meeting) → AllMet (λ (m : Meeting). m.near ≡ w.peer.begun → m.far ≡ w.near.begun) (map turned ms) → AllMet (λ (m : Meeting). m.far ≡ w.peer.begun → m.near ≡ w.near.begun) ms
+    peer_latest : (ms : List Meeting) → Each (λ (m : Meeting). m.near ≡ w.peer.begun → m.far ≡ w.near.begun) (map turned ms) → Each (λ (m : Meeting). m.far ≡ w.peer.begun → m.near ≡ w.near.begun) ms
     peer_latest [] k = tt
     peer_latest (m ∷ ms) k = (k.0, peer_latest ms k.1)
 
@@ -98,15 +97,10 @@ module _ (reads : ReadsSpelled) (rests : SessionLaws) where
     idle_is idle which =
         let on = up_in (and_parts _ _ idle).0 in
         let stands : all_of.held.q ≡ w.peer.begun = elim which [
-          | inl is ↦ sym (in_now all_of.held.far_view is all_of.held.far.view)
+          | inl is ↦ sym (all_of.held.far.is_in is)
           | inr some ↦ some_stands two all_of on some
         ] in
         all_taken two all_of on stands (idle_acked idle) ∙ h.given w.near.begun
-      where
-        in_now : (v : View) → w.peer.stand ≡ In → ViewIs v w.peer.stand w.peer.begun all_of.held.q → w.peer.begun ≡ all_of.held.q
-        in_now Live is k = k.1
-        in_now Soon is k = absurd (subst NotIn is k.0)
-        in_now Gone is k = absurd (subst NotIn is k.0)
 
     pub latest_is : EachMeetsLatest c w
     latest_is = record {
@@ -130,4 +124,4 @@ module _ (reads : ReadsSpelled) (rests : SessionLaws) where
   meets_latest c low high w reached = latest_is (Unit {0}) c high w reached
 
   pub sends_no_frmr : WithAnyLapbPeer SendsNoFrmr
-  sends_no_frmr c low high w reached = (reached_joined ⊥ c high w reached).reached.kept.frmr (λ never. never)
+  sends_no_frmr c low high w reached = (reached_seen ⊥ c high w reached).reached.kept.frmr (λ never. never)

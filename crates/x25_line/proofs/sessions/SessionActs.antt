@@ -9,35 +9,30 @@ use Rattle.x25_link.specs.{Hearing.{Step, other}, Link.{put_step, timer_step, co
 use Rattle.x25_link.specs.{laws.WindowMachine.{hands_down, nothing}, laws.NoteLaw.{Tells}, laws.WindowLaw.{IsRunning, IsSound, IsOut, Ends}}
 use Rattle.x25_line.specs.{laws.StationClaims.{AreJoined}, laws.SessionNumbers.{Standing}}
 use Rattle.x25_line.specs.{laws.Sessions.{Entry, Meeting, Sessions, sabm_in, ua_in, how_many, begun_by, after_step}, laws.LawsBelow.{Laws}}
-use Rattle.x25_line.proofs.{sessions.SessionSeenActs.{by_disc, by_reset, by_neither}, StationLines.{AreParting}}
-use Rattle.x25_line.proofs.{StationSteps.{AsUp, Leads, Leaves, not_both, ends_joint}, StationRuns.{put_up, timer_by}, StationClaimLemmas.{up_of}}
-use Rattle.x25_line.proofs.{sessions.SessionLines.{count}, sessions.SessionHeld.{OnLine, View, Live, Soon, Gone, IsView, IsHeard, Comes, Owes, Held, near_high}}
-use Rattle.x25_line.proofs.{sessions.SessionSteps.{stepped, went_by, apart_held}, sessions.SessionUp.{stays_answers, follows_answers, live_goes_on}}
+use Rattle.x25_line.proofs.{sessions.SessionSeenActs.{by_disc, by_reset, by_neither}, StationLines.{AreParting}, StationSteps.{AsUp, Leaves, ends_joint}}
+use Rattle.x25_line.proofs.{StationRuns.{put_up, timer_by}, StationClaimLemmas.{up_of}, sessions.SessionLines.{count}}
+use Rattle.x25_line.proofs.{sessions.SessionHeld.{IsOf, Owes, OnLine, Held, is_out}, sessions.SessionSteps.{waiting_is_closed, stepped, went_by, apart_held}}
+use Rattle.x25_line.proofs.sessions.SessionUp.{stays_answers, follows_answers, live_goes_on}
 use Rattle.x25_link.specs.declared.error.LinkError.TheVariants as error
 use Rattle.x25_line.specs.laws.Stations as one
 
 -- what holds of a step in which no LinkUp is noted
 pub quiet_held : {stand : Standing} (c d : Settings) (w : Sessions) (es : List Entry) (met : List Meeting) (down : List (List ℕ)) (step : Step) → step.notes.up ≡ false
     → Held stand c d (stepped c w es met down w.near.begun step) → Held stand c d (after_step c w es met down step)
-quiet_held {stand} c d w es met down step quiet h = subst (λ (n : ℕ). Held stand c d (stepped c w es met down n step)) (sym (ap (λ (b : Bool). begun_by b w.near.begun) quiet)) h
+quiet_held {stand} c d w es met down step quiet h = rw (ap (λ (b : Bool). begun_by b w.near.begun) quiet) h
 
 -- ---- an end that is Up is in the session
 
 pub record InSession (stand : Standing) (c d : Settings) (w : Sessions) (h : Held stand c d w) : Type 0 where
-  pub view : IsView Live w.near h.alone.near.station stand.near
-  pub comes : Comes (other c.role) c.longest w.back h.alone.back stand.far
+  pub is : IsOf (other c.role) c.longest w.near.station w.near.begun w.back h.alone.near.station h.alone.back stand.near stand.far
   pub machine : AsUp c h.alone.near.station stand.machine.near
   pub running : IsRunning c.window w.near.station
 
 pub in_session : {stand : Standing} (c d : Settings) (w : Sessions) (h : Held stand c d w) → is_up w.near.station.phase ≡ true → InSession stand c d w h
-in_session {stand} c d w h up = go h.near_view h.near h.back
-  where
-    go : (v : View) → IsView v w.near h.alone.near.station stand.near → IsHeard v (other c.role) c.longest w.near.station.phase w.back h.alone.back stand.far → InSession stand c d w h
-    go Live view heard =
-        let u = up_of ⊥ c h.alone.near.station stand.machine.near h.holds.near (ap (λ (s : LinkStation). is_up s.phase) view.1 ∙ up) in
-        record { view = view; comes = heard; machine = u; running = record { up = up; sound = subst (λ (s : LinkStation). IsSound c.window s.outgoing) view.1 u.sound } }
-    go Soon view heard = not_both (is_up w.near.station.phase) up (ap is_up view.0)
-    go Gone view heard = not_both (is_up w.near.station.phase) up view.0
+in_session {stand} c d w h up =
+    let is = h.near.up up in
+    let u = up_of ⊥ c h.alone.near.station stand.machine.near h.holds.near (ap (λ (s : LinkStation). is_up s.phase) is.station ∙ up) in
+    record { is = is; machine = u; running = record { up = up; sound = subst (λ (s : LinkStation). IsSound c.window s.outgoing) is.station u.sound } }
 
 -- ---- by the phase
 
@@ -47,12 +42,6 @@ down_owes p n m is h = subst (λ (z : Phase). Owes z n m) is h
 pub waiting_owes : (p : Phase) (n m : ℕ) → p ≡ Waiting → Owes p n m → (n ≤ 1) × (m ≡ 0)
 waiting_owes p n m is h = subst (λ (z : Phase). Owes z n m) is h
 
-closed_is_waiting : {A : Type 0} (p : Phase) → p ≡ Closed → p ≡ Waiting → A
-closed_is_waiting p e f = absurd (never (sym e ∙ f))
-  where
-    never : Closed ≡ Waiting → ⊥
-    never k = cc
-
 module _ (c d : Settings) (joined : AreJoined c d) (reads : ReadsSpelled) (laws : Laws) where
   -- ---- in Up
 
@@ -61,10 +50,9 @@ module _ (c d : Settings) (joined : AreJoined c d) (reads : ReadsSpelled) (laws 
   put_held {stand} w h up packet short =
       let i = in_session c d w h up in
       let stays = laws.window.put c packet w.near.station i.running in
-      live_goes_on c d joined reads w h i.view w.back h.alone.back w.met (packet ∷ []) (put_step c packet w.near.station) None
-      (subst (λ (s : LinkStation). Leads ⊥ c d h.alone stand.machine stand.machine.back (one.after_step c h.alone h.alone.back (packet ∷ []) (put_step c packet s))) i.view.1
-      (put_up ⊥ c d joined reads laws h.alone stand.machine packet h.holds i.machine short))
-      i.comes (stays_answers w c.window (hands_down packet) w.near.station (put_step c packet w.near.station) stays)
+      live_goes_on c d joined reads w h i.is.session w.back h.alone.back w.met (packet ∷ []) (put_step c packet w.near.station) None
+      (rw (sym i.is.station) (put_up ⊥ c d joined reads laws h.alone stand.machine packet h.holds i.machine short))
+      i.is.comes i.is.of (stays_answers w c.window (hands_down packet) w.near.station (put_step c packet w.near.station) stays)
 
   pub timer_up_held : {stand : Standing} (w : Sessions) → Held stand c d w → is_up w.near.station.phase ≡ true → Held (went_by c (timer_step c w.near.station) None stand) c d (after_step c w w.back w.met [] (timer_step c w.near.station))
   timer_up_held {stand} w h up =
@@ -74,11 +62,10 @@ module _ (c d : Settings) (joined : AreJoined c d) (reads : ReadsSpelled) (laws 
       let step = timer_step c s in
       let o : Option Reason = if nat_lt s.tries c.retries then None else Some Retries in
       let follows = laws.window.timer c s i.running in
-      live_goes_on c d joined reads w h i.view w.back h.alone.back w.met [] step None
-      (subst (λ (z : LinkStation). Leads ⊥ c d h.alone stand.machine stand.machine.back (one.after_step c h.alone h.alone.back [] (timer_step c z))) i.view.1
-      (timer_by ⊥ c d joined reads laws h.alone stand.machine h.holds i.machine (nat_lt t.tries c.retries) (timer_step c t) (laws.timer_tells c t)
+      live_goes_on c d joined reads w h i.is.session w.back h.alone.back w.met [] step None
+      (rw (sym i.is.station) (timer_by ⊥ c d joined reads laws h.alone stand.machine h.holds i.machine (nat_lt t.tries c.retries) (timer_step c t) (laws.timer_tells c t)
       (laws.window.timer c t (record { up = i.machine.up; sound = i.machine.sound }))))
-      i.comes (follows_answers w o c.window nothing s step (λ one. (let none = by_neither by_disc None (Some Retries) refl refl (nat_lt s.tries c.retries) in absurd (omega (arith, one, none)))) (by_neither by_reset None (Some Retries) refl refl (nat_lt s.tries c.retries)) follows)
+      i.is.comes i.is.of (follows_answers w o c.window nothing s step (λ one. (let none = by_neither by_disc None (Some Retries) refl refl (nat_lt s.tries c.retries) in absurd (omega (arith, one, none)))) (by_neither by_reset None (Some Retries) refl refl (nat_lt s.tries c.retries)) follows)
 
   -- it leaves, by a call of its user
   leaves_held : {stand : Standing} (w : Sessions) → Held stand c d w → is_up w.near.station.phase ≡ true → (reason : Reason) → Leaves reason → by_disc (Some reason) ≡ 0 → by_reset (Some reason) ≡ 0
@@ -87,10 +74,9 @@ module _ (c d : Settings) (joined : AreJoined c d) (reads : ReadsSpelled) (laws 
   leaves_held {stand} w h up reason leaves by_own stays f tells ends =
       let i = in_session c d w h up in
       let t = h.alone.near.station in
-      live_goes_on c d joined reads w h i.view w.back h.alone.back w.met [] (f w.near.station) None
-      (subst (λ (z : LinkStation). Leads ⊥ c d h.alone stand.machine stand.machine.back (one.after_step c h.alone h.alone.back [] (f z))) i.view.1
-      (ends_joint ⊥ c d joined reads h.alone stand.machine h.holds i.machine.up h.alone.back (f t) reason leaves h.holds.back h.holds.back_orderly (tells t) (ends t (record { up = i.machine.up; sound = i.machine.sound }))))
-      i.comes (follows_answers w (Some reason) c.window nothing w.near.station (f w.near.station) (λ one. absurd (omega (arith, one, by_own))) stays (ends w.near.station i.running))
+      live_goes_on c d joined reads w h i.is.session w.back h.alone.back w.met [] (f w.near.station) None
+      (rw (sym i.is.station) (ends_joint ⊥ c d joined reads h.alone stand.machine h.holds i.machine.up h.alone.back (f t) reason leaves h.holds.back h.holds.back_orderly (tells t) (ends t (record { up = i.machine.up; sound = i.machine.sound }))))
+      i.is.comes i.is.of (follows_answers w (Some reason) c.window nothing w.near.station (f w.near.station) (λ one. absurd (omega (arith, one, by_own))) stays (ends w.near.station i.running))
 
   pub disconnect_up_held : {stand : Standing} (w : Sessions) → Held stand c d w → is_up w.near.station.phase ≡ true → Held (went_by c (disconnect_step c w.near.station) None stand) c d (after_step c w w.back w.met [] (disconnect_step c w.near.station))
   disconnect_up_held w h up = leaves_held w h up Local tt refl refl (disconnect_step c) (laws.disconnect_tells c) (laws.window.disconnect c)
@@ -106,14 +92,16 @@ module _ (c d : Settings) (joined : AreJoined c d) (reads : ReadsSpelled) (laws 
   out_held {stand} w h near frames ends step i off none parting no_ua =
       let same : step.side.near.phase ≡ near.phase = ap (λ (s : LinkStation). s.phase) i.near in
       quiet_held c d w w.back w.met [] step i.up
-      (apart_held c d joined reads w h w.back w.met w.near.begun step Gone i.packet (ap is_up same ∙ off, near_high c d w h) (λ waiting. none (sym same ∙ waiting))
+      (apart_held c d joined reads w h w.back w.met w.near.begun step i.packet
+      (is_out step.side.near.phase (ap is_up same ∙ off) (λ waiting. none (sym same ∙ waiting)))
       (subst (AreParting (Unit {0})) (sym i.out) parting) (ap (count ua_in) i.out ∙ no_ua))
 
   closes_held : {stand : Standing} (w : Sessions) → Held stand c d w → (step : Step) → step.side.near.phase ≡ Closed → step.side.out ≡ disc true ∷ [] → step.packet ≡ None → step.notes.up ≡ false
       → Held (went_by c step None stand) c d (after_step c w w.back w.met [] step)
   closes_held {stand} w h step closed sent none quiet =
       quiet_held c d w w.back w.met [] step quiet
-      (apart_held c d joined reads w h w.back w.met w.near.begun step Gone none (ap is_up closed, near_high c d w h) (λ waiting. closed_is_waiting step.side.near.phase closed waiting)
+      (apart_held c d joined reads w h w.back w.met w.near.begun step none
+      (is_out step.side.near.phase (ap is_up closed) (λ waits. waiting_is_closed step.side.near.phase waits closed))
       (subst (AreParting (Unit {0})) (sym sent) tt) (ap (count ua_in) sent))
 
   pub connect_held : {stand : Standing} (w : Sessions) → Held stand c d w → OnLine c d w → w.near.station.phase ≡ Down → Held (went_by c (connect_step c w.near.station) None stand) c d (after_step c w w.back w.met [] (connect_step c w.near.station))

@@ -1,26 +1,24 @@
 -- A SABM that comes to an end that isn't Closed begins two sessions, and keeps what holds of two stations.
-use Rattle.std.proofs.Common.{◌≡◌, ◌≤◌, ℕ, suc, ◌+◌, List, [], ◌∷◌, ◌++◌, inl, inr, map, Bool, None, refl, sym, ap, ◌∙◌, subst, arith}
-use Rattle.x25_bits.specs.declared.role.Role.{Role}
+use Rattle.std.proofs.Common.{◌≡◌, ◌≤◌, ℕ, suc, ◌+◌, List, [], ◌∷◌, ◌++◌, inl, inr, Bool, None, refl, sym, ap, ◌∙◌, subst, arith}
 use Rattle.x25_frame.specs.{Frame.{PlainFrame, ua}, Spelling.{spelling_of}, Reading.{frame_of}, laws.ReadingLaw.{ReadsSpelled}}
-use Rattle.x25_link.specs.{Station.{Settings, is_up, fresh}, Hearing.{Step, other}}
-use Rattle.x25_line.specs.{laws.Stations.{start}, laws.StationClaims.{AreJoined, NoFrmr, numbered_on}}
-use Rattle.x25_line.specs.{laws.Sessions.{Entry, Meeting, Sessions, sabm_in, ua_in, how_many, sent_in}, laws.SessionNumbers.{Standing, anew}}
-use Rattle.x25_line.proofs.{StationLines.{AreParting, no_frmr_append, parting_numbered, parting_whole}, StationRuns.{start_machine}}
-use Rattle.x25_line.proofs.sessions.SessionLines.{Read, octets_sent, numbers}
-use Rattle.x25_line.proofs.sessions.SessionHeld.{View, Soon, Gone, IsView, IsHeard, AfterUa, OnLine, HasLists, SameLists, Held, whole_apart, after_answer}
+use Rattle.x25_link.specs.{Station.{Settings, fresh, is_up}, Hearing.{Step, other}}
+use Rattle.x25_line.specs.{laws.Stations.{start}, laws.StationClaims.{AreJoined}, laws.Sessions.{Entry, Meeting, Sessions, sabm_in, ua_in, how_many, sent_in}}
+use Rattle.x25_line.specs.{laws.SessionNumbers.{Standing, anew}, laws.SessionClaims.{AllOf}}
+use Rattle.x25_line.proofs.{StationLines.{AreParting, no_frmr_append, parting_whole}, StationRuns.{start_machine}}
+use Rattle.x25_line.proofs.sessions.SessionLines.{Read, numbers, behind_ua, behind_last}
+use Rattle.x25_line.proofs.sessions.SessionHeld.{IsThere, EndIsThere, is_soon, is_out, OnLine, HasLists, SameLists, Held, whole_apart}
 use Rattle.x25_line.proofs.sessions.SessionSteps.{end_after, stepped, nothing_handed, waiting_is_closed, asked_by, many_out}
 
 module _ (c d : Settings) (joined : AreJoined c d) (reads : ReadsSpelled) where
   -- the near end answers UA; the far end asked, so that it is about to be in its session, or it is Closed
-  pub begins_held : {stand : Standing} (w : Sessions) (h : Held stand c d w) (line : OnLine c d w) (e : Entry) (es : List Entry) (met : List Meeting) → w.back ≡ e ∷ es → sabm_in (frame_of (other c.role) c.longest e.octets) ≡ 1 → (n : ℕ) (f : Bool) (step : Step) (v : View)
+  pub begins_held : {stand : Standing} (w : Sessions) (h : Held stand c d w) (line : OnLine c d w) (e : Entry) (es : List Entry) (met : List Meeting) → w.back ≡ e ∷ es → sabm_in (frame_of (other c.role) c.longest e.octets) ≡ 1 → (n : ℕ) (f : Bool) (step : Step)
       → step.packet ≡ None → step.side.out ≡ ua f ∷ []
-      → IsView v (end_after w.near n [] step) fresh (suc w.near.begun) → IsHeard v (other c.role) c.longest step.side.near.phase es [] (suc w.far.begun)
+      → IsThere step.side.near.phase (other c.role) c.longest step.side.near n es fresh [] (suc w.near.begun) (suc w.far.begun)
       → Held (anew c d w) c d (stepped c w es met [] n step)
-  begins_held {stand} w h line e es met is one n f step v none answer view heard = elim (asked_by w.far.station.phase _ _ some line.far_owes) [
-    | inl waits ↦ by Soon (waits.0, refl, refl) (subst (λ (fs : List PlainFrame). AfterUa (other d.role) d.longest (w.out ++ sent_in n c.role fs) [] (suc w.near.begun)) (sym answer)
-        (after_answer (other d.role) d.longest w.out [] (record { session = n; octets = spelling_of c.role (ua f) }) [] (suc w.near.begun) (omega (arith, waits.1, some_back)) ua_reads (refl, tt)))
-    | inr closed ↦ by Gone (ap is_up closed, omega arith) (λ waiting. waiting_is_closed w.far.station.phase waiting closed)
-  ]
+  begins_held {stand} w h line e es met is one n f step none answer there = by (elim (asked_by w.far.station.phase _ _ some line.far_owes) [
+    | inl waits ↦ is_soon w.far.station.phase waits.0 (λ _. record { station = refl; session = refl; comes = ap (numbers (other d.role) d.longest) (last waits.1); of = subst (AllOf (other d.role) d.longest (suc w.near.begun)) (sym (last waits.1)) tt })
+    | inr closed ↦ is_out w.far.station.phase (ap is_up closed) (λ waits. waiting_is_closed w.far.station.phase waits closed)
+  ])
     where
       fs : List PlainFrame
       fs = step.side.out
@@ -37,15 +35,14 @@ module _ (c d : Settings) (joined : AreJoined c d) (reads : ReadsSpelled) where
       some : 1 ≤ how_many sabm_in (other c.role) c.longest w.back + how_many ua_in (other d.role) d.longest w.out
       some = omega (arith, some_back)
 
-      parting_quiet : numbers (other d.role) d.longest more ≡ []
-      parting_quiet =
-          ap (numbered_on (other d.role) d.longest) (octets_sent n c.role step.side.out ∙ ap (map (spelling_of c.role)) answer)
-          ∙ subst (λ (r : Role). numbered_on r d.longest (map (spelling_of c.role) (ua f ∷ [])) ≡ []) (sym joined.near_role) (parting_numbered reads c.role d.longest (Unit {0}) (ua f ∷ []) tt)
-
       ua_reads : ua_in (frame_of (other d.role) d.longest (spelling_of c.role (ua f))) ≡ 1
       ua_reads =
           let one_ua = many_out c d joined reads ua_in n [] (ua f ∷ []) (parting_whole (Unit {0}) d.longest [] (ua f ∷ []) tt) in
           omega (arith, one_ua)
+
+      -- the UA is the last on the line
+      last : how_many sabm_in (other c.role) c.longest w.back + how_many ua_in (other d.role) d.longest w.out ≤ 1 → behind_ua (other d.role) d.longest (w.out ++ more) ≡ []
+      last few = rw answer (behind_last (other d.role) d.longest w.out (record { session = n; octets = spelling_of c.role (ua f) }) (omega (arith, few, some_back)) ua_reads)
 
       same : SameLists w.near (end_after w.near n [] step)
       same = nothing_handed w.near n step none
@@ -53,19 +50,15 @@ module _ (c d : Settings) (joined : AreJoined c d) (reads : ReadsSpelled) where
       near_lists : HasLists (end_after w.near n [] step) (suc w.near.begun) start.near
       near_lists = record { down = same.down (suc w.near.begun) ∙ line.near_next.0; up = same.up (suc w.near.begun) ∙ line.near_next.1 }
 
-      by : (u : View) → IsView u w.far fresh (suc w.far.begun) → IsHeard u (other d.role) d.longest w.far.station.phase (w.out ++ more) [] (suc w.near.begun) → Held (anew c d w) c d (stepped c w es met [] n step)
-      by u far_view out =
+      by : EndIsThere d w.far (w.out ++ more) fresh [] (suc w.far.begun) (suc w.near.begun) → Held (anew c d w) c d (stepped c w es met [] n step)
+      by far =
           record {
             alone = start;
             holds = start_machine ⊥ c d joined;
-            near_view = v;
-            far_view = u;
-            near = view;
-            far = far_view;
-            back = heard;
-            out = out;
+            near = there;
+            far = far;
             near_lists = near_lists;
             far_lists = record { down = line.far_next.0; up = line.far_next.1 };
-            no_frmr = subst (λ (xs : List PlainFrame). NoFrmr (w.sent ++ xs)) (sym answer) (no_frmr_append w.sent (ua f ∷ []) h.no_frmr tt);
+            no_frmr = rw answer (no_frmr_append w.sent (ua f ∷ []) h.no_frmr tt);
             whole = whole_apart d.longest w.near (end_after w.near n [] step) w.far w.sent fs same (subst (AreParting (Unit {0})) (sym answer) tt) h.whole;
           }

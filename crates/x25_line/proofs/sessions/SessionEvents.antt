@@ -30,8 +30,7 @@ stays e = record { begun = refl; down = sym (append-nil (e.down e.begun)); up = 
 -- no LinkUp is noted
 step_goes : (e : SessionEnd) (down : List (List ℕ)) (step : Step) → step.notes.up ≡ false → GoesOn down (option_to_list step.packet) e (end_by e down step)
 step_goes e down step low =
-    subst (λ (b : Bool). GoesOn down (option_to_list step.packet) e (end_after e (begun_by b e.begun) down step)) (sym low)
-    (record {
+    rw low (record {
       begun = refl;
       down = extended_same e.down e.begun down;
       up = extended_same e.up e.begun (option_to_list step.packet);

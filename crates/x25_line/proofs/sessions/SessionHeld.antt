@@ -1,10 +1,10 @@
 -- What holds of two stations over set-up and re-set-up at any moment.
-use Rattle.std.proofs.Common.{◌≡◌, ◌≤◌, ◌==◌, ℕ, zero, suc, ◌+◌, List, [], ◌∷◌, ◌++◌, ◌⊎◌, inl, inr, Bool, true, false, if◌then◌else◌, length, Option, None, refl, sym, ap, ◌∙◌, subst, arith, append-nil}
+use Rattle.std.proofs.Common.{◌≡◌, ◌≤◌, ◌==◌, ℕ, suc, ◌+◌, List, [], ◌∷◌, ◌++◌, ◌⊎◌, inl, inr, Bool, true, false, if◌then◌else◌, length, Option, None, refl, sym, ap, ◌∙◌, subst, arith, append-nil}
 use Rattle.std.proofs.{lemmas.Bool.{eq-eqb, eqb-true}, lemmas.List.Elements.{Contains-append_left, Contains-append_right, Contains-append_cases}}
 use Rattle.std.specs.List.{Contains}
 use Rattle.x25_bits.specs.declared.role.Role.{Role}
 use Rattle.x25_frame.specs.{Frame.{PlainFrame}, Reading.{frame_of}}
-use Rattle.x25_window.specs.laws.Window.{End, Frame}
+use Rattle.x25_window.specs.laws.Window.{End}
 use Rattle.x25_link.specs.{declared.phase.Phase.{Phase}, declared.phase.Phase.TheVariants.{Waiting, Closed}, Station.{Settings, LinkStation, is_up, fresh}}
 use Rattle.x25_link.specs.Hearing.{other}
 use Rattle.x25_line.specs.{laws.Stations.{StationEnd, Stations}, laws.StationClaims.{NoFrmr, AreWhole, numbered_on}}
@@ -12,49 +12,25 @@ use Rattle.x25_line.specs.{laws.Sessions.{Entry, SessionEnd, Sessions, sabm_in, 
 use Rattle.x25_line.specs.{laws.WholeNumbers.{given, taken_out, counted}, laws.SessionNumbers.{Standing, standing_after}}
 use Rattle.x25_line.specs.laws.SessionClaims.{AllOf, AreWholeIn}
 use Rattle.x25_line.proofs.StationLines.{numbered_append, AreParting, whole_more, whole_append, parting_whole, IsOrderly}
-use Rattle.x25_line.proofs.StationSteps.{Joint, FitsEnd, counted_off, counted_fits, none_put, not_both}
-use Rattle.x25_line.proofs.sessions.SessionLines.{numbers, numbers_append, quiet_tail, quiet_of, of_append, many_append}
+use Rattle.x25_line.proofs.StationSteps.{Joint, FitsEnd, machine_is, counted_off, counted_fits, none_put, not_both}
+use Rattle.x25_line.proofs.sessions.SessionLines.{numbers, numbers_append, of_append, many_append, by_first, behind_ua, behind_append}
 
 -- ---- the session that stands, and how an end is in it
 
--- An end that is Up is in the session that stands. One that waits with a UA on the way to it is about to be in it, afresh.
--- Any other is out of it, and began no later one.
-pub data View : Type 0 where
-  Live : View
-  Soon : View
-  Gone : View
+-- the station of the session alone is this one, and the frames with a number that are to come to it are those on its line
+pub record IsOf (from : Role) (n1 : ℕ) (s : LinkStation) (begun : ℕ) (es : List Entry) (a : LinkStation) (os : List (List ℕ)) (p q : ℕ) : Type 0 where
+  pub station : a ≡ s
+  pub session : begun ≡ p
+  pub comes : numbers from n1 es ≡ numbered_on from n1 os
+  pub of : AllOf from n1 q es
 
--- the end, the station of that session alone, and its number
-abbrev pub IsView : View → SessionEnd → LinkStation → ℕ → Type 0
-IsView Live e s session = (is_up e.station.phase ≡ true) × (s ≡ e.station) × (e.begun ≡ session)
-IsView Soon e s session = (e.station.phase ≡ Waiting) × (s ≡ fresh) × (suc e.begun ≡ session)
-IsView Gone e s session = (is_up e.station.phase ≡ false) × (e.begun ≤ session)
+-- An end that is Up is in the session that stands. One that waits with a UA on the way to it is about to be in it, afresh. Any other is out of it.
+pub record IsThere (phase : Phase) (from : Role) (n1 : ℕ) (s : LinkStation) (begun : ℕ) (es : List Entry) (a : LinkStation) (os : List (List ℕ)) (p q : ℕ) : Type 0 where
+  pub up : is_up phase ≡ true → IsOf from n1 s begun es a os p q
+  pub awaits : phase ≡ Waiting → 1 ≤ how_many ua_in from n1 es → IsOf from n1 fresh (suc begun) (behind_ua from n1 es) a os p q
 
-pub view_begun : (v : View) (e : SessionEnd) (s : LinkStation) (session : ℕ) → IsView v e s session → e.begun ≤ session
-view_begun Gone e s session h = h.1
-view_begun v e s session h = omega (arith, h.2)
-
--- the frames with a number are those on the line of the session alone
-abbrev pub Comes : Role → ℕ → List Entry → List (List ℕ) → ℕ → Type 0
-Comes from n1 es os session = (numbers from n1 es ≡ numbered_on from n1 os) × AllOf from n1 session es
-
-abbrev pub choose : ℕ → Type 0 → Type 0 → Type 0
-choose zero A B = A
-choose (suc n) A B = B
-
-pub choose_map : (n : ℕ) (A B C D : Type 0) → (A → C) → (B → D) → choose n A B → choose n C D
-choose_map zero A B C D f g h = f h
-choose_map (suc n) A B C D f g h = g h
-
--- the same behind the first UA
-abbrev pub AfterUa : Role → ℕ → List Entry → List (List ℕ) → ℕ → Type 0
-AfterUa from n1 [] os session = ⊥
-AfterUa from n1 (e ∷ es) os session = choose (ua_in (frame_of from n1 e.octets)) (AfterUa from n1 es os session) (Comes from n1 es os session)
-
-abbrev pub IsHeard : View → Role → ℕ → Phase → List Entry → List (List ℕ) → ℕ → Type 0
-IsHeard Live from n1 phase es os session = Comes from n1 es os session
-IsHeard Soon from n1 phase es os session = AfterUa from n1 es os session
-IsHeard Gone from n1 phase es os session = phase ≡ Waiting → how_many ua_in from n1 es ≡ 0
+abbrev pub EndIsThere : Settings → SessionEnd → List Entry → LinkStation → List (List ℕ) → ℕ → ℕ → Type 0
+EndIsThere c e es a os p q = IsThere e.station.phase (other c.role) c.longest e.station e.begun es a os p q
 
 -- ---- set-up
 
@@ -99,22 +75,12 @@ pub record Held (stand : Standing) (c d : Settings) (w : Sessions) : Type 0 wher
   -- these sessions by themselves
   pub alone : Stations
   pub holds : Joint ⊥ c d alone stand.machine
-  pub near_view : View
-  pub far_view : View
-  pub near : IsView near_view w.near alone.near.station stand.near
-  pub far : IsView far_view w.far alone.far.station stand.far
-  pub back : IsHeard near_view (other c.role) c.longest w.near.station.phase w.back alone.back stand.far
-  pub out : IsHeard far_view (other d.role) d.longest w.far.station.phase w.out alone.out stand.near
+  pub near : EndIsThere c w.near w.back alone.near.station alone.back stand.near stand.far
+  pub far : EndIsThere d w.far w.out alone.far.station alone.out stand.far stand.near
   pub near_lists : HasLists w.near stand.near alone.near
   pub far_lists : HasLists w.far stand.far alone.far
   pub no_frmr : NoFrmr w.sent
   pub whole : AreWholeIn d.longest w.near w.far w.sent
-
--- the machine stands still where the end isn't in the session
-pub counted_view : (v : View) (c : Settings) (e : SessionEnd) (t : LinkStation) (session : ℕ) (l : End (List ℕ)) → IsView v e t session → FitsEnd ⊥ c t l → counted c.window e.station l ≡ l
-counted_view Live c e t session l h fits = ap (λ (z : LinkStation). counted c.window z l) (sym h.1) ∙ counted_fits ⊥ c t l fits
-counted_view Soon c e t session l h fits = counted_off c.window e.station l (ap is_up h.0)
-counted_view Gone c e t session l h fits = counted_off c.window e.station l h.0
 
 -- the same two sessions, with this machine
 abbrev pub with_machine : Standing → Line (List ℕ) → Standing
@@ -124,31 +90,13 @@ with_machine stand m = record { near = stand.near; far = stand.far; machine = m 
 pub standing_after_is : (c : Settings) (station : LinkStation) (put : List (List ℕ)) (place : Option ℕ) (stand : Standing) (m : Line (List ℕ)) → m.near ≡ counted c.window station stand.machine.near → m.far ≡ stand.machine.far
     → m.out ≡ stand.machine.out ++ given m.near.acked (length m.near.taken) stand.machine.near.sent (numbered_on c.role c.longest put) → m.back ≡ taken_out place stand.machine.back
     → with_machine stand m ≡ standing_after c station put place stand
-standing_after_is c station put place stand m near far out back =
-    let l = stand.machine in
-    let frames : List PlainFrame = numbered_on c.role c.longest put in
-    let made : End (List ℕ) → End (List ℕ) → List (Frame (List ℕ)) → List (Frame (List ℕ)) → Line (List ℕ) = λ near far out back. record { near = near; far = far; out = out; back = back } in
-    ap (with_machine stand)
-    (ap (λ (out : List (Frame (List ℕ))). made m.near m.far out m.back) out
-    ∙ ap (λ (e : End (List ℕ)). made e m.far (l.out ++ given e.acked (length e.taken) l.near.sent frames) m.back) near
-    ∙ ap (λ (far : End (List ℕ)). (let e = counted c.window station l.near in made e far (l.out ++ given e.acked (length e.taken) l.near.sent frames) m.back)) far
-    ∙ ap (λ (back : List (Frame (List ℕ))). (let e = counted c.window station l.near in made e l.far (l.out ++ given e.acked (length e.taken) l.near.sent frames) back)) back)
+standing_after_is c station put place stand m near far out back = ap (with_machine stand) (machine_is c station put place stand.machine m near far out back)
 
 -- an end that is no part of it goes on, and puts no frame with a number
 pub stays_on : (c : Settings) (station : LinkStation) (put : List (List ℕ)) (stand : Standing) → counted c.window station stand.machine.near ≡ stand.machine.near → numbered_on c.role c.longest put ≡ []
     → stand ≡ standing_after c station put None stand
 stays_on c station put stand still none =
     standing_after_is c station put None stand stand.machine (sym still) refl (none_put stand.machine stand.machine.near.acked (length stand.machine.near.taken) (numbered_on c.role c.longest put) none) refl
-
--- an end that is Up began the session that stands
-pub up_begun : (v : View) (e : SessionEnd) (s : LinkStation) (session : ℕ) → IsView v e s session → is_up e.station.phase ≡ true → e.begun ≡ session
-up_begun Live e s session h up = h.2
-up_begun Soon e s session h up = not_both (is_up e.station.phase) up (ap is_up h.0)
-up_begun Gone e s session h up = not_both (is_up e.station.phase) up h.0
-
--- no end began a session later than the one that stands
-pub near_high : {stand : Standing} (c d : Settings) (w : Sessions) (h : Held stand c d w) → w.near.begun ≤ stand.near
-near_high {stand} c d w h = view_begun h.near_view w.near h.alone.near.station stand.near h.near
 
 -- ---- lists by sessions
 
@@ -199,52 +147,48 @@ whole_on n1 e f far more fs es grows of whole h =
 -- none of them carries a packet
 pub whole_apart : (n1 : ℕ) (e f far : SessionEnd) (fs es : List PlainFrame) → SameLists e f → AreParting (Unit {0}) es → AreWholeIn n1 e far fs → AreWholeIn n1 f far (fs ++ es)
 whole_apart n1 e f far fs es same parting h =
-    whole_on n1 e f far [] fs es (λ n x old. subst (λ (xs : List (List ℕ)). Contains xs x) (sym (same.down n)) old) (λ x new. absurd (omega (arith, new.1))) (parting_whole (Unit {0}) n1 [] es parting) h
+    whole_on n1 e f far [] fs es (λ n x old. rw (same.down n) old) (λ x new. absurd (omega (arith, new.1))) (parting_whole (Unit {0}) n1 [] es parting) h
 
--- ---- what is on the way
+-- ---- by the phase
 
-module _ (from : Role) (n1 : ℕ) where
-  pub comes_more : (es more : List Entry) (os xs : List (List ℕ)) (s : ℕ) → numbers from n1 more ≡ numbered_on from n1 xs → AllOf from n1 s more → Comes from n1 es os s
-      → Comes from n1 (es ++ more) (os ++ xs) s
-  comes_more es more os xs s same of h = (
-    numbers_append from n1 es more ∙ ap (λ (fs : List _). fs ++ numbers from n1 more) h.0 ∙ ap (λ (fs : List _). numbered_on from n1 os ++ fs) same ∙ sym (numbered_append from n1 os xs),
-    of_append from n1 s es more h.1 of,
-  )
+module _ {from : Role} {n1 : ℕ} {s : LinkStation} {begun : ℕ} {es : List Entry} {a : LinkStation} {os : List (List ℕ)} {p q : ℕ} (phase : Phase) where
+  pub is_there : is_up phase ≡ true → IsOf from n1 s begun es a os p q → IsThere phase from n1 s begun es a os p q
+  is_there up h = record { up = λ _. h; awaits = λ waits. not_both (is_up phase) up (ap is_up waits) }
 
-  after_more : (es more : List Entry) (os xs : List (List ℕ)) (s : ℕ) → numbers from n1 more ≡ numbered_on from n1 xs → AllOf from n1 s more → AfterUa from n1 es os s
-      → AfterUa from n1 (es ++ more) (os ++ xs) s
-  after_more [] more os xs s same of h = absurd h
-  after_more (e ∷ es) more os xs s same of h =
-      choose_map (ua_in (frame_of from n1 e.octets)) (AfterUa from n1 es os s) (Comes from n1 es os s) (AfterUa from n1 (es ++ more) (os ++ xs) s) (Comes from n1 (es ++ more) (os ++ xs) s)
-      (λ k. after_more es more os xs s same of k) (λ k. comes_more es more os xs s same of k) h
+  pub is_soon : phase ≡ Waiting → (1 ≤ how_many ua_in from n1 es → IsOf from n1 fresh (suc begun) (behind_ua from n1 es) a os p q) → IsThere phase from n1 s begun es a os p q
+  is_soon waits h = record { up = λ up. not_both (is_up phase) up (ap is_up waits); awaits = λ _. h }
 
-  -- more goes on the line, with the same numbers on that of the session alone
-  pub heard_more : (v : View) (phase : Phase) (es more : List Entry) (os xs : List (List ℕ)) (s : ℕ) → numbers from n1 more ≡ numbered_on from n1 xs → AllOf from n1 s more
-      → (phase ≡ Waiting → how_many ua_in from n1 more ≡ 0) → IsHeard v from n1 phase es os s → IsHeard v from n1 phase (es ++ more) (os ++ xs) s
-  heard_more Live phase es more os xs s same of none h = comes_more es more os xs s same of h
-  heard_more Soon phase es more os xs s same of none h = after_more es more os xs s same of h
-  heard_more Gone phase es more os xs s same of none h =
-      λ waiting. (let all = many_append from n1 ua_in es more in let before = h waiting in let little = none waiting in omega (arith, all, before, little))
+  pub is_out : is_up phase ≡ false → (phase ≡ Waiting → how_many ua_in from n1 es ≡ 0) → IsThere phase from n1 s begun es a os p q
+  is_out off none = record { up = λ up. not_both (is_up phase) up off; awaits = λ waits some. (let no_ua = none waits in absurd (omega (arith, some, no_ua))) }
 
-  -- behind the UA that is the first
-  pub after_answer : (es more : List Entry) (e : Entry) (os : List (List ℕ)) (s : ℕ) → how_many ua_in from n1 es ≡ 0 → ua_in (frame_of from n1 e.octets) ≡ 1 → Comes from n1 more os s
-      → AfterUa from n1 (es ++ e ∷ more) os s
-  after_answer [] more e os s none one h = subst (λ (n : ℕ). choose n (AfterUa from n1 more os s) (Comes from n1 more os s)) (sym one) h
-  after_answer (x ∷ es) more e os s none one h =
-      let here : ua_in (frame_of from n1 x.octets) ≡ 0 = omega (arith, none) in
-      subst (λ (n : ℕ). choose n (AfterUa from n1 (es ++ e ∷ more) os s) (Comes from n1 (es ++ e ∷ more) os s)) (sym here) (after_answer es more e os s (omega (arith, none)) one h)
+-- more goes on the line, with the same numbers on that of the session alone
+of_more : {from : Role} {n1 : ℕ} {s : LinkStation} {begun : ℕ} {es : List Entry} {a : LinkStation} {os : List (List ℕ)} {p q : ℕ} (more : List Entry) (xs : List (List ℕ)) → numbers from n1 more ≡ numbered_on from n1 xs → AllOf from n1 q more
+    → IsOf from n1 s begun es a os p q → IsOf from n1 s begun (es ++ more) a (os ++ xs) p q
+of_more {from} {n1} {s} {begun} {es} {a} {os} {p} {q} more xs same of h = record {
+  station = h.station;
+  session = h.session;
+  comes = numbers_append from n1 es more ∙ ap (λ (fs : List _). fs ++ numbers from n1 more) h.comes ∙ ap (λ (fs : List _). numbered_on from n1 os ++ fs) same ∙ sym (numbered_append from n1 os xs);
+  of = of_append from n1 q es more h.of of;
+}
 
-  -- the front that is a UA, or none
-  pub front_answers : (e : Entry) (es : List Entry) (os : List (List ℕ)) (s : ℕ) → ua_in (frame_of from n1 e.octets) ≡ 1 → AfterUa from n1 (e ∷ es) os s → Comes from n1 es os s
-  front_answers e es os s one h = subst (λ (n : ℕ). choose n (AfterUa from n1 es os s) (Comes from n1 es os s)) one h
+module _ {phase : Phase} {from : Role} {n1 : ℕ} {s : LinkStation} {begun : ℕ} {es : List Entry} {a : LinkStation} {os : List (List ℕ)} {p q : ℕ} where
+  pub there_more : (more : List Entry) (xs : List (List ℕ)) → numbers from n1 more ≡ numbered_on from n1 xs → AllOf from n1 q more → (phase ≡ Waiting → how_many ua_in from n1 more ≡ 0)
+      → IsThere phase from n1 s begun es a os p q → IsThere phase from n1 s begun (es ++ more) a (os ++ xs) p q
+  there_more more xs same of none h = record {
+    up = λ up. of_more more xs same of (h.up up);
+    awaits = λ waits some. (let all = many_append from n1 ua_in es more in let no_ua = none waits in let before : 1 ≤ how_many ua_in from n1 es = omega (arith, all, no_ua, some) in
+        subst (λ (zs : List Entry). IsOf from n1 fresh (suc begun) zs a (os ++ xs) p q) (sym (behind_append from n1 es more before)) (of_more more xs same of (h.awaits waits before)));
+  }
 
-  pub front_passes : (e : Entry) (es : List Entry) (os : List (List ℕ)) (s : ℕ) → ua_in (frame_of from n1 e.octets) ≡ 0 → AfterUa from n1 (e ∷ es) os s → AfterUa from n1 es os s
-  front_passes e es os s none h = subst (λ (n : ℕ). choose n (AfterUa from n1 es os s) (Comes from n1 es os s)) none h
+  -- what comes to an end that waits on is passed over
+  pub there_passes : (e : Entry) → phase ≡ Waiting → how_many ua_in from n1 (e ∷ es) ≤ 1 → IsThere phase from n1 s begun (e ∷ es) a os p q → IsThere phase from n1 s begun es a os p q
+  there_passes e waits few h = is_soon phase waits (λ some. (let none : ua_in (frame_of from n1 e.octets) ≡ 0 = omega (arith, few, some) in
+      subst (λ (n : ℕ). IsOf from n1 fresh (suc begun) (by_first n (behind_ua from n1 es) es) a os p q) none (h.awaits waits (omega (arith, some)))))
 
-  -- where no number is on the line, it is one of a session that begins
-  pub after_quiet : (es : List Entry) (os : List (List ℕ)) (s t : ℕ) → numbers from n1 es ≡ [] → AfterUa from n1 es os s → AfterUa from n1 es [] t
-  after_quiet [] os s t none h = absurd h
-  after_quiet (e ∷ es) os s t none h =
-      let rest = quiet_tail from n1 e es none in
-      choose_map (ua_in (frame_of from n1 e.octets)) (AfterUa from n1 es os s) (Comes from n1 es os s) (AfterUa from n1 es [] t) (Comes from n1 es [] t)
-      (λ k. after_quiet es os s t rest k) (λ k. (rest, quiet_of from n1 t es rest)) h
+-- the machine stands still where the end isn't in the session
+pub counted_there : {es : List Entry} {os : List (List ℕ)} {p q : ℕ} (c : Settings) (e : SessionEnd) (a : LinkStation) (l : End (List ℕ)) → EndIsThere c e es a os p q → FitsEnd ⊥ c a l → counted c.window e.station l ≡ l
+counted_there c e a l h fits = go (is_up e.station.phase) refl
+  where
+    go : (b : Bool) → is_up e.station.phase ≡ b → counted c.window e.station l ≡ l
+    go true up = ap (λ (z : LinkStation). counted c.window z l) (sym (h.up up).station) ∙ counted_fits ⊥ c a l fits
+    go false off = counted_off c.window e.station l off

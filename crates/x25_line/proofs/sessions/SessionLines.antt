@@ -1,16 +1,16 @@
 -- The line between two stations, with the sessions of its frames: the numbers on it, how many there are of a kind, and what
 -- sending, loss and damage change of these.
-use Rattle.std.proofs.Common.{◌≡◌, ℕ, zero, suc, ◌+◌, List, [], ◌∷◌, ◌++◌, inl, inr, map, remove, true, Option, Some, None, Result, Ok, Err, refl, sym, ap, ◌∙◌, subst, arith}
+use Rattle.std.proofs.Common.{◌≡◌, ◌≤◌, ℕ, zero, suc, ◌+◌, List, [], ◌∷◌, ◌++◌, inl, inr, map, true, Option, Some, None, Result, Ok, Err, refl, sym, ap, ◌∙◌, subst, arith}
 use Rattle.std.proofs.lemmas.Option.{none-some}
 use Rattle.x25_bits.specs.declared.role.Role.{Role}
-use Rattle.x25_frame.specs.{Frame.{PlainFrame, info, rr, rnr, rej, sabm, disc, ua, dm, frmr}, Spelling.{spelling_of}, Reading.{frame_of}}
-use Rattle.x25_frame.specs.{laws.ReadingLaw.{ReadsSpelled}, declared.error.FrameError.{FrameError}}
+use Rattle.x25_frame.specs.{Frame.{PlainFrame, info, rr, rnr, rej, sabm, frmr}, Spelling.{spelling_of}, Reading.{frame_of}, laws.ReadingLaw.{ReadsSpelled}}
+use Rattle.x25_frame.specs.declared.error.FrameError.{FrameError}
 use Rattle.x25_window.specs.laws.Window.{Frame}
 use Rattle.x25_link.specs.laws.WindowMachine.{ShowAll}
 use Rattle.x25_line.specs.{laws.Stations.{is_visible}, laws.StationClaims.{number_in, numbered_on, AreWhole}}
-use Rattle.x25_line.specs.{laws.Sessions.{Entry, sabm_in, ua_in, disc_in, how_many, sent_in, replaced}, laws.SessionClaims.{octets_of, AllOf}}
-use Rattle.x25_line.specs.{laws.WholeNumbers.{first_of, behind, place_of, taken_out}, laws.SessionNumbers.{by_answers, place_behind_ua}}
-use Rattle.x25_line.proofs.sessions.EntryLines.{Less, whole, gone, hurt, deeper, less_removes, less_replaces}
+use Rattle.x25_line.specs.{laws.Sessions.{Entry, sabm_in, ua_in, disc_in, how_many, sent_in}, laws.SessionClaims.{octets_of, AllOf}}
+use Rattle.x25_line.specs.{laws.WholeNumbers.{place_of, taken_out}, laws.SessionNumbers.{by_answers, place_behind_ua}}
+use Rattle.x25_line.proofs.sessions.EntryLines.{LessAt, nothing, gone_at, hurt_at, deeper_at}
 use Rattle.x25_line.proofs.StationLines.{IsOrderly, AreOrderly, consed, numbered_append, shows_first, shows_behind, visible_reads}
 
 abbrev pub Read : Type 0
@@ -28,34 +28,16 @@ octets_sent s from (f ∷ fs) = ap (λ (os : List (List ℕ)). spelling_of from 
 
 -- ---- kinds
 
-pub data IsKind : (Read → ℕ) → Type 0 where
-  of_sabm : IsKind sabm_in
-  of_ua : IsKind ua_in
-  of_disc : IsKind disc_in
-
 pub none_is_some : {A : Type 0} (f : PlainFrame) → None ≡ Some f → A
 none_is_some f e = absurd (none-some f e)
 
 -- a frame with a number is no SABM, no UA and no DISC
-pub number_kind : (kind : Read → ℕ) → IsKind kind → (r : Read) (g : PlainFrame) → number_in r ≡ Some g → kind r ≡ 0
-number_kind kind k (Ok (sabm p)) g e = none_is_some g e
-number_kind kind k (Ok (disc p)) g e = none_is_some g e
-number_kind kind k (Ok (ua f)) g e = none_is_some g e
-number_kind kind k (Ok (dm f)) g e = none_is_some g e
-number_kind kind k (Ok (frmr f why)) g e = none_is_some g e
-number_kind kind k (Err x) g e = none_is_some g e
-number_kind kind of_sabm (Ok (info ns nr p x)) g e = refl
-number_kind kind of_sabm (Ok (rr command nr pf)) g e = refl
-number_kind kind of_sabm (Ok (rnr command nr pf)) g e = refl
-number_kind kind of_sabm (Ok (rej command nr pf)) g e = refl
-number_kind kind of_ua (Ok (info ns nr p x)) g e = refl
-number_kind kind of_ua (Ok (rr command nr pf)) g e = refl
-number_kind kind of_ua (Ok (rnr command nr pf)) g e = refl
-number_kind kind of_ua (Ok (rej command nr pf)) g e = refl
-number_kind kind of_disc (Ok (info ns nr p x)) g e = refl
-number_kind kind of_disc (Ok (rr command nr pf)) g e = refl
-number_kind kind of_disc (Ok (rnr command nr pf)) g e = refl
-number_kind kind of_disc (Ok (rej command nr pf)) g e = refl
+pub number_kinds : (r : Read) (g : PlainFrame) → number_in r ≡ Some g → (sabm_in r ≡ 0) × (ua_in r ≡ 0) × (disc_in r ≡ 0)
+number_kinds (Ok (info ns nr p x)) g e = (refl, refl, refl)
+number_kinds (Ok (rr command nr pf)) g e = (refl, refl, refl)
+number_kinds (Ok (rnr command nr pf)) g e = (refl, refl, refl)
+number_kinds (Ok (rej command nr pf)) g e = (refl, refl, refl)
+number_kinds r g e = none_is_some g e
 
 -- how many frames of a kind are sent
 abbrev pub count : (Read → ℕ) → List PlainFrame → ℕ
@@ -66,16 +48,21 @@ abbrev pub AllNumbered : List PlainFrame → Type 0
 AllNumbered [] = Unit {0}
 AllNumbered (f ∷ fs) = (number_in (Ok f) ≡ Some f) × AllNumbered fs
 
-pub numbered_count : (kind : Read → ℕ) → IsKind kind → (fs : List PlainFrame) → AllNumbered fs → count kind fs ≡ 0
-numbered_count kind k [] h = refl
-numbered_count kind k (f ∷ fs) h =
-    let here = number_kind kind k (Ok f) f h.0 in
-    let there = numbered_count kind k fs h.1 in
+pub numbered_no_ua : (fs : List PlainFrame) → AllNumbered fs → count ua_in fs ≡ 0
+numbered_no_ua [] h = refl
+numbered_no_ua (f ∷ fs) h =
+    let here = (number_kinds (Ok f) f h.0).1 in
+    let there = numbered_no_ua fs h.1 in
     omega (arith, here, there)
 
 quiet_rest : (m : Option PlainFrame) (fs : List PlainFrame) → consed m fs ≡ [] → (m ≡ None) × (fs ≡ [])
 quiet_rest None fs e = (refl, e)
 quiet_rest (Some f) fs e = absurd (cc)
+
+-- those before a UA, or those behind it
+abbrev pub by_first : ℕ → List Entry → List Entry → List Entry
+by_first zero before behind = before
+by_first (suc n) before behind = behind
 
 module _ (from : Role) (n1 : ℕ) where
   abbrev pub numbers : List Entry → List PlainFrame
@@ -142,64 +129,83 @@ module _ (from : Role) (n1 : ℕ) where
   damaged_number : (octets : List ℕ) → is_visible octets ≡ true → number_in (frame_of from n1 octets) ≡ None
   damaged_number octets visible = elim (visible_reads from n1 octets visible) [ inl e ↦ ap number_in e | inr e ↦ ap number_in e ]
 
-  pub change_of : (s : ℕ) (es fs : List Entry) → Less es fs → AllOf from n1 s es → AllOf from n1 s fs
-  change_of s es fs (whole xs) h = h
-  change_of s es fs (gone e xs) h = h.1
-  change_of s es fs (hurt e xs octets visible) h = (inl (damaged_number octets visible), h.1)
-  change_of s es fs (deeper e xs ys c) h = (h.0, change_of s xs ys c h.1)
+  damaged_ua : (octets : List ℕ) → is_visible octets ≡ true → ua_in (frame_of from n1 octets) ≡ 0
+  damaged_ua octets visible = elim (visible_reads from n1 octets visible) [ inl e ↦ ap ua_in e | inr e ↦ ap ua_in e ]
 
-  -- which of the numbered frames goes, where one does
-  pub change_place : (es fs : List Entry) → Less es fs → Option ℕ
-  change_place es fs (whole xs) = None
-  change_place es fs (gone e xs) = first_of (number_in (frame_of from n1 e.octets))
-  change_place es fs (hurt e xs octets visible) = first_of (number_in (frame_of from n1 e.octets))
-  change_place es fs (deeper e xs ys c) = behind (number_in (frame_of from n1 e.octets)) (change_place xs ys c)
+  -- those that come by an end that is Up, of which the frame at this place of the line goes
+  abbrev pub Come : List (Frame (List ℕ)) → ℕ → List Entry → Type 0
+  Come gs s es = ShowAll (numbers es) gs × AllOf from n1 s es
 
-  pub change_shows : (es fs : List Entry) (c : Less es fs) (gs : List (Frame (List ℕ))) → ShowAll (numbers es) gs → ShowAll (numbers fs) (taken_out (change_place es fs c) gs)
-  unfolding change_place
-  change_shows es fs (whole xs) gs h = h
-  change_shows es fs (gone e xs) gs h = shows_first (number_in (frame_of from n1 e.octets)) (numbers xs) gs h
-  change_shows es fs (hurt e xs octets visible) gs h =
-      subst (λ (m : Option PlainFrame). ShowAll (consed m (numbers xs)) (taken_out (first_of (number_in (frame_of from n1 e.octets))) gs)) (sym (damaged_number octets visible))
-      (shows_first (number_in (frame_of from n1 e.octets)) (numbers xs) gs h)
-  change_shows es fs (deeper e xs ys c) gs h =
-      shows_behind (number_in (frame_of from n1 e.octets)) (numbers xs) (numbers ys) (change_place xs ys c) gs (λ hs k. change_shows xs ys c hs k) h
+  shows_less : (i : ℕ) (es fs : List Entry) → LessAt i es fs → (gs : List (Frame (List ℕ))) → ShowAll (numbers es) gs → ShowAll (numbers fs) (taken_out (place_of from n1 (octets_of es) i) gs)
+  shows_less i es fs (nothing j) gs h = h
+  shows_less i es fs (gone_at e xs) gs h = shows_first (number_in (frame_of from n1 e.octets)) (numbers xs) gs h
+  shows_less i es fs (hurt_at e xs octets visible) gs h =
+      rw (damaged_number octets visible) (shows_first (number_in (frame_of from n1 e.octets)) (numbers xs) gs h)
+  shows_less i es fs (deeper_at j e xs ys l) gs h =
+      shows_behind (number_in (frame_of from n1 e.octets)) (numbers xs) (numbers ys) (place_of from n1 (octets_of xs) j) gs (λ hs k. shows_less j xs ys l hs k) h
 
-  -- the frame that goes is the one that stands at that place of the line
-  pub place_removes : (es : List Entry) (i : ℕ) → change_place es (remove es i) (less_removes es i) ≡ place_of from n1 (octets_of es) i
-  unfolding change_place less_removes
-  place_removes [] zero = refl
-  place_removes [] (suc i) = refl
-  place_removes (e ∷ es) zero = refl
-  place_removes (e ∷ es) (suc i) = ap (behind (number_in (frame_of from n1 e.octets))) (place_removes es i)
+  of_less : (s i : ℕ) (es fs : List Entry) → LessAt i es fs → AllOf from n1 s es → AllOf from n1 s fs
+  of_less s i es fs (nothing j) h = h
+  of_less s i es fs (gone_at e xs) h = h.1
+  of_less s i es fs (hurt_at e xs octets visible) h = (inl (damaged_number octets visible), h.1)
+  of_less s i es fs (deeper_at j e xs ys l) h = (h.0, of_less s j xs ys l h.1)
 
-  pub place_replaces : (octets : List ℕ) (visible : is_visible octets ≡ true) (es : List Entry) (i : ℕ) → change_place es (replaced es i octets) (less_replaces octets visible es i) ≡ place_of from n1 (octets_of es) i
-  unfolding change_place less_replaces
-  place_replaces octets visible [] i = refl
-  place_replaces octets visible (e ∷ es) zero = refl
-  place_replaces octets visible (e ∷ es) (suc i) = ap (behind (number_in (frame_of from n1 e.octets))) (place_replaces octets visible es i)
+  pub come_less : (s i : ℕ) (es fs : List Entry) → LessAt i es fs → (gs : List (Frame (List ℕ))) → Come gs s es → Come (taken_out (place_of from n1 (octets_of es) i) gs) s fs
+  come_less s i es fs l gs h = (shows_less i es fs l gs h.0, of_less s i es fs l h.1)
 
-  -- which of those behind the first UA goes
-  unfoldable pub change_behind_ua : (es fs : List Entry) → Less es fs → Option ℕ
-  change_behind_ua es fs (deeper e xs ys c) = by_answers (ua_in (frame_of from n1 e.octets)) (change_behind_ua xs ys c) (change_place xs ys c)
-  change_behind_ua es fs other = None
+  -- ---- behind the first UA
 
-  pub behind_removes : (es : List Entry) (i : ℕ) → change_behind_ua es (remove es i) (less_removes es i) ≡ place_behind_ua from n1 (octets_of es) i
-  unfolding change_behind_ua less_removes
-  behind_removes [] zero = refl
-  behind_removes [] (suc i) = refl
-  behind_removes (e ∷ es) zero = refl
-  behind_removes (e ∷ es) (suc i) =
-      ap (λ (o : Option ℕ). by_answers (ua_in (frame_of from n1 e.octets)) o (change_place es (remove es i) (less_removes es i))) (behind_removes es i)
-      ∙ ap (by_answers (ua_in (frame_of from n1 e.octets)) (place_behind_ua from n1 (octets_of es) i)) (place_removes es i)
+  abbrev pub behind_ua : List Entry → List Entry
+  behind_ua [] = []
+  behind_ua (e ∷ es) = by_first (ua_in (frame_of from n1 e.octets)) (behind_ua es) es
 
-  pub behind_replaces : (octets : List ℕ) (visible : is_visible octets ≡ true) (es : List Entry) (i : ℕ) → change_behind_ua es (replaced es i octets) (less_replaces octets visible es i) ≡ place_behind_ua from n1 (octets_of es) i
-  unfolding change_behind_ua less_replaces
-  behind_replaces octets visible [] i = refl
-  behind_replaces octets visible (e ∷ es) zero = refl
-  behind_replaces octets visible (e ∷ es) (suc i) =
-      ap (λ (o : Option ℕ). by_answers (ua_in (frame_of from n1 e.octets)) o (change_place es (replaced es i octets) (less_replaces octets visible es i))) (behind_replaces octets visible es i)
-      ∙ ap (by_answers (ua_in (frame_of from n1 e.octets)) (place_behind_ua from n1 (octets_of es) i)) (place_replaces octets visible es i)
+  pub behind_append : (es more : List Entry) → 1 ≤ how_many ua_in from n1 es → behind_ua (es ++ more) ≡ behind_ua es ++ more
+  behind_append [] more some = absurd (omega (arith, some))
+  behind_append (e ∷ es) more some = go (ua_in (frame_of from n1 e.octets)) refl (λ k. behind_append es more k)
+    where
+      go : (n : ℕ) → ua_in (frame_of from n1 e.octets) ≡ n → (1 ≤ how_many ua_in from n1 es → behind_ua (es ++ more) ≡ behind_ua es ++ more)
+          → by_first n (behind_ua (es ++ more)) (es ++ more) ≡ by_first n (behind_ua es) es ++ more
+      go zero is next = next (omega (arith, some, is))
+      go (suc n) is next = refl
+
+  -- the UA is the last
+  pub behind_last : (es : List Entry) (e : Entry) → how_many ua_in from n1 es ≡ 0 → ua_in (frame_of from n1 e.octets) ≡ 1 → behind_ua (es ++ e ∷ []) ≡ []
+  behind_last [] e none one = ap (λ (n : ℕ). by_first n [] []) one
+  behind_last (x ∷ es) e none one =
+      let here : ua_in (frame_of from n1 x.octets) ≡ 0 = omega (arith, none) in
+      ap (λ (n : ℕ). by_first n (behind_ua (es ++ e ∷ [])) (es ++ e ∷ [])) here ∙ behind_last es e (omega (arith, none)) one
+
+  pub behind_quiet : (es : List Entry) → numbers es ≡ [] → numbers (behind_ua es) ≡ []
+  behind_quiet [] none = refl
+  behind_quiet (e ∷ es) none = go (ua_in (frame_of from n1 e.octets)) (behind_quiet es (quiet_tail e es none))
+    where
+      go : (n : ℕ) → numbers (behind_ua es) ≡ [] → numbers (by_first n (behind_ua es) es) ≡ []
+      go zero rest = rest
+      go (suc n) rest = quiet_tail e es none
+
+  -- and the frame that goes is one of these, or none where the UA goes
+  pub behind_less : (s i : ℕ) (es fs : List Entry) → LessAt i es fs → how_many ua_in from n1 es ≤ 1 → 1 ≤ how_many ua_in from n1 fs → (gs : List (Frame (List ℕ))) → Come gs s (behind_ua es)
+      → Come (taken_out (place_behind_ua from n1 (octets_of es) i) gs) s (behind_ua fs)
+  behind_less s i es fs (nothing j) few some gs h = h
+  behind_less s i es fs (gone_at e xs) few some gs h = (let none : ua_in (frame_of from n1 e.octets) ≡ 0 = omega (arith, few, some) in subst (λ (n : ℕ). Come gs s (by_first n (behind_ua xs) xs)) none h)
+  behind_less s i es fs (hurt_at e xs octets visible) few some gs h =
+      let new = damaged_ua octets visible in
+      let none : ua_in (frame_of from n1 e.octets) ≡ 0 = omega (arith, few, some, new) in
+      subst (λ (n : ℕ). Come gs s (by_first n (behind_ua xs) xs)) (none ∙ sym new) h
+  behind_less s i es fs (deeper_at j e xs ys l) few some gs h = go (ua_in (frame_of from n1 e.octets)) refl (λ fewer more k. behind_less s j xs ys l fewer more gs k) h
+    where
+      go : (n : ℕ) → ua_in (frame_of from n1 e.octets) ≡ n
+          → (how_many ua_in from n1 xs ≤ 1 → 1 ≤ how_many ua_in from n1 ys → Come gs s (behind_ua xs) → Come (taken_out (place_behind_ua from n1 (octets_of xs) j) gs) s (behind_ua ys))
+          → Come gs s (by_first n (behind_ua xs) xs)
+          → Come (taken_out (by_answers n (place_behind_ua from n1 (octets_of xs) j) (place_of from n1 (octets_of xs) j)) gs) s (by_first n (behind_ua ys) ys)
+      go zero is next k = next (omega (arith, few, is)) (omega (arith, some, is)) k
+      go (suc n) is next k = come_less s j xs ys l gs k
+
+  pub behind_none : (i : ℕ) (es fs : List Entry) → LessAt i es fs → how_many ua_in from n1 fs ≡ 0 → place_behind_ua from n1 (octets_of es) i ≡ None
+  behind_none i es fs (deeper_at j e xs ys l) none =
+      let here : ua_in (frame_of from n1 e.octets) ≡ 0 = omega (arith, none) in
+      ap (λ (n : ℕ). by_answers n (place_behind_ua from n1 (octets_of xs) j) (place_of from n1 (octets_of xs) j)) here ∙ behind_none j xs ys l (omega (arith, none))
+  behind_none i es fs l none = refl
 
 -- ---- what is sent reads as it was spelled
 

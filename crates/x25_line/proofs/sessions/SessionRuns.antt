@@ -5,7 +5,7 @@ use Rattle.std.specs.Prelude.{nat_le}
 use Rattle.x25_bits.specs.declared.role.Role.{Role}
 use Rattle.x25_frame.specs.{Frame.{PlainFrame}, Spelling.{spelling_of}, laws.ReadingLaw.{ReadsSpelled}}
 use Rattle.x25_link.specs.{declared.error.LinkError.{LinkError}, declared.phase.Phase.{Phase}, declared.phase.Phase.TheVariants.{Down, Waiting, Up}}
-use Rattle.x25_link.specs.{Station.{Settings, is_up}, Hearing.{Step, other}}
+use Rattle.x25_link.specs.{Station.{Settings, is_up, with_nothing, fresh}, Hearing.{Step, other}}
 use Rattle.x25_link.specs.Link.{take_step, put_step, put_refusal, timer_step, timer_refusal, timer_runs, connect_step, connect_refusal, disconnect_step, disconnect_refusal, abandon_step}
 use Rattle.x25_line.specs.laws.Stations.{Stations, Act, Put, Deliver, T1, Connect, Disconnect, Abandon, Probe, Lose, Damage, Event, Near, Far, is_visible, start}
 use Rattle.x25_line.specs.laws.StationClaims.{AreJoined, AreWhole}
@@ -15,9 +15,9 @@ use Rattle.x25_line.specs.laws.SessionClaims.{Throughout, octets_of, AllOf, IsSe
 use Rattle.x25_line.specs.laws.LawsBelow.{SessionLaws}
 use Rattle.x25_line.proofs.{StationSteps.{Holds}, StationAway.{connects_from}, StationRuns.{joined_swapped, joint_swapped, start_machine}}
 use Rattle.x25_line.proofs.{StationClaimLemmas.{is_behind, holds_order, holds_lists, holds_window, holds_whole}, sessions.SessionLines.{octets_sent}}
-use Rattle.x25_line.proofs.sessions.EntryLines.{less_removes, less_replaces}
-use Rattle.x25_line.proofs.sessions.SessionHeld.{View, Live, Gone, IsView, IsHeard, OnLine, Held, counted_view, stays_on, up_begun}
-use Rattle.x25_line.proofs.{sessions.SessionSteps.{went_by}, sessions.SessionChanges.{heard_removes, heard_replaces, change_held}}
+use Rattle.x25_line.proofs.{sessions.EntryLines.{removes_at, replaces_at}, sessions.Acts.{unless_by, if_by}}
+use Rattle.x25_line.proofs.{sessions.SessionHeld.{is_there, is_out, IsThere, OnLine, Held, counted_there, stays_on}, sessions.SessionSteps.{went_by}}
+use Rattle.x25_line.proofs.sessions.SessionChanges.{change_held}
 use Rattle.x25_line.proofs.sessions.SessionActs.{in_session, put_held, timer_up_held, abandon_held, connect_held, timer_waiting_held, disconnect_held}
 use Rattle.x25_line.proofs.{sessions.SessionTakes.{read_of, heard_by, take_held}, sessions.SessionSeenSteps.{put_accepted}}
 use Rattle.x25_line.proofs.{sessions.SessionSeenRuns.{Both, both_swapped, event_both, begin_both}, sessions.TwoSessions.{on_line}}
@@ -39,26 +39,23 @@ none_put_on (e ∷ out) = none_put_on out
 step_now : (stand : Standing) (c d : Settings) (w : Sessions) (es : List Entry) (met : List Meeting) (down : List (List ℕ)) (step : Step) (gone : Option ℕ) → Held (went_by c step gone stand) c d (after_step c w es met down step)
     → HeldNow stand c d gone w (after_step c w es met down step)
 step_now stand c d w es met down step gone h =
-    subst (λ (put : List (List ℕ)). Held (standing_after c step.side.near put gone stand) c d (after_step c w es met down step)) (sym (put_is c.role (begun_by step.notes.up w.near.begun) step.side.out w.out)) h
+    rw (put_is c.role (begun_by step.notes.up w.near.begun) step.side.out w.out) h
 
 -- nothing is put
 still_now : (stand : Standing) (c d : Settings) (w v : Sessions) (gone : Option ℕ) → v.out ≡ w.out → Held (standing_after c v.near.station [] gone stand) c d v → HeldNow stand c d gone w v
 still_now stand c d w v gone same h =
-    subst (λ (put : List (List ℕ)). Held (standing_after c v.near.station put gone stand) c d v) (sym (ap (λ (out : List Entry). octets_of (drop (length w.out) out)) same ∙ none_put_on w.out)) h
+    rw (ap (λ (out : List Entry). octets_of (drop (length w.out) out)) same ∙ none_put_on w.out) h
 
 -- what is refused changes nothing
 stays_now : {stand : Standing} (c d : Settings) (w : Sessions) → Held stand c d w → HeldNow stand c d None w w
 stays_now {stand} c d w h =
-    still_now stand c d w w None refl (subst (λ (z : Standing). Held z c d w)
-    (stays_on c w.near.station [] stand (counted_view h.near_view c w.near h.alone.near.station stand.near stand.machine.near h.near h.holds.near) refl) h)
+    still_now stand c d w w None refl (rw (sym (stays_on c w.near.station [] stand (counted_there c w.near h.alone.near.station stand.machine.near h.near h.holds.near) refl)) h)
 
 now_unless : {stand : Standing} (c d : Settings) (o : Option LinkError) (w v : Sessions) → Held stand c d w → (o ≡ None → HeldNow stand c d None w v) → HeldNow stand c d None w (unless o w v)
-now_unless {stand} c d (Some e) w v h g = stays_now c d w h
-now_unless {stand} c d None w v h g = g refl
+now_unless {stand} c d o w v h g = unless_by (HeldNow stand c d None w) o w v (stays_now c d w h) g
 
 now_if : {stand : Standing} (c d : Settings) (b : Bool) (w v : Sessions) → Held stand c d w → (b ≡ true → HeldNow stand c d None w v) → HeldNow stand c d None w (if b then v else w)
-now_if {stand} c d true w v h g = g refl
-now_if {stand} c d false w v h g = stays_now c d w h
+now_if {stand} c d b w v h g = if_by (HeldNow stand c d None w) b w v (stays_now c d w h) g
 
 module _ (c d : Settings) (joined : AreJoined c d) (reads : ReadsSpelled) (rests_on : SessionLaws) where
   -- what stands once the front is taken off the line
@@ -71,7 +68,7 @@ module _ (c d : Settings) (joined : AreJoined c d) (reads : ReadsSpelled) (rests
   none_heard p = refl
 
   deliver_held : {stand : Standing} (w : Sessions) → Held stand c d w → OnLine c d w → (es : List Entry) → w.back ≡ es → Held (delivered_by w es stand) c d (delivered c es w)
-  deliver_held {stand} w h line [] is = subst (λ (gone : Option ℕ). HeldNow stand c d gone w w) (sym (none_heard w.near.station.phase)) (stays_now c d w h)
+  deliver_held {stand} w h line [] is = rw (none_heard w.near.station.phase) (stays_now c d w h)
   deliver_held {stand} w h line (e ∷ es) is = by (is_set_up w.near.station.phase (read_of c e)) (take_held c d joined reads rests_on.laws w h line e es is)
     where
       v : Sessions
@@ -128,9 +125,7 @@ module _ (c d : Settings) (joined : AreJoined c d) (reads : ReadsSpelled) (rests
       (λ up. step_now stand c d w w.back w.met [] step None (timer_up_held c d joined reads rests_on.laws w h up))
   acts_held {stand} (Lose i) w timely line h =
       let v : Sessions = record w { back = remove w.back i } in
-      still_now stand c d w v (gone_at c w (Some i)) refl
-      (subst (λ (gone : Option ℕ). Held (standing_after c w.near.station [] gone stand) c d v) (heard_removes (other c.role) c.longest w.near.station.phase w.back i)
-      (change_held c d joined reads rests_on.laws w h line (remove w.back i) (less_removes w.back i)))
+      still_now stand c d w v (gone_at c w (Some i)) refl (change_held c d joined reads rests_on.laws w h line (remove w.back i) i (removes_at w.back i))
   acts_held {stand} (Damage i octets) w timely line h = by (is_visible octets) refl
     where
       v : Sessions
@@ -138,9 +133,7 @@ module _ (c d : Settings) (joined : AreJoined c d) (reads : ReadsSpelled) (rests
 
       by : (b : Bool) → is_visible octets ≡ b → HeldNow stand c d (gone_at c w (if b then Some i else None)) w (if b then record w { back = replaced w.back i octets } else w)
       by true visible =
-          still_now stand c d w v (gone_at c w (Some i)) refl
-          (subst (λ (gone : Option ℕ). Held (standing_after c w.near.station [] gone stand) c d v) (heard_replaces (other c.role) c.longest w.near.station.phase octets visible w.back i)
-          (change_held c d joined reads rests_on.laws w h line (replaced w.back i octets) (less_replaces octets visible w.back i)))
+          still_now stand c d w v (gone_at c w (Some i)) refl (change_held c d joined reads rests_on.laws w h line (replaced w.back i octets) i (replaces_at octets visible w.back i))
       by false hidden = stays_now c d w h
 
 -- ---- the other end
@@ -150,19 +143,15 @@ held_swapped {stand} c d joined w h =
     record {
       alone = one.swapped h.alone;
       holds = joint_swapped ⊥ c d joined.longest h.alone stand.machine h.holds;
-      near_view = h.far_view;
-      far_view = h.near_view;
       near = h.far;
       far = h.near;
-      back = h.out;
-      out = h.back;
       near_lists = h.far_lists;
       far_lists = h.near_lists;
       no_frmr = h.no_frmr;
       whole = record {
         given = h.whole.given;
         handed_down = λ x there. elim (h.whole.handed_down x there) [ inl near ↦ inr near | inr far ↦ inl far ];
-        whole = subst (λ (n : ℕ). AreWhole n h.whole.given w.sent) (sym joined.longest) h.whole.whole;
+        whole = rw joined.longest h.whole.whole;
       };
     }
 
@@ -183,34 +172,24 @@ run_keeps P c d keeps (e ∷ es) w stand timely h = run_keeps P c d keeps es (ha
 
 -- ---- how a run begins
 
-start_held : (c d : Settings) → AreJoined c d → (p : Phase) (b : ℕ) (v : View) → IsView v (start_with p b).near start.near.station b → ((from : Role) (n1 : ℕ) → IsHeard v from n1 p [] [] b)
+start_held : (c d : Settings) → AreJoined c d → (p : Phase) (b : ℕ) → ((from : Role) (n1 : ℕ) → IsThere p from n1 (with_nothing p 0) b [] fresh [] b b)
     → Held (standing_at c d (start_with p b)) c d (start_with p b)
-start_held c d joined p b v view heard =
+start_held c d joined p b there =
     record {
       alone = start;
       holds = start_machine ⊥ c d joined;
-      near_view = v;
-      far_view = v;
-      near = view;
-      far = view;
-      back = heard (other c.role) c.longest;
-      out = heard (other d.role) d.longest;
+      near = there (other c.role) c.longest;
+      far = there (other d.role) d.longest;
       near_lists = record { down = refl; up = refl };
       far_lists = record { down = refl; up = refl };
       no_frmr = tt;
       whole = record { given = []; handed_down = λ x there. absurd (omega (arith, there.1)); whole = tt };
     }
 
-nothing_held : (c d : Settings) → AreJoined c d → Held (standing_at c d from_nothing) c d from_nothing
-nothing_held c d joined = start_held c d joined Down 0 Gone (refl, omega arith) (λ from n1 waiting. refl)
-
-set_up_held : (c d : Settings) → AreJoined c d → Held (standing_at c d from_set_up) c d from_set_up
-set_up_held c d joined = start_held c d joined Up 1 Live (refl, refl, refl) (λ from n1. (refl, tt))
-
 begin_held : (c d : Settings) → AreJoined c d → (begin : Sessions) → (begin ≡ from_nothing) ⊎ (begin ≡ from_set_up) → Held (standing_at c d begin) c d begin
 begin_held c d joined begin is = elim is [
-  | inl down ↦ subst (λ (w : Sessions). Held (standing_at c d w) c d w) (sym down) (nothing_held c d joined)
-  | inr up ↦ subst (λ (w : Sessions). Held (standing_at c d w) c d w) (sym up) (set_up_held c d joined)
+  | inl down ↦ rw down (start_held c d joined Down 0 (λ from n1. is_out Down refl (λ waits. absurd (cc))))
+  | inr up ↦ rw up (start_held c d joined Up 1 (λ from n1. is_there Up refl (record { station = refl; session = refl; comes = refl; of = tt })))
 ]
 
 -- ---- the claims
@@ -226,15 +205,15 @@ stands {stand} c d joined w h up =
       alone = h.alone;
       session = is_session c d joined h.alone (stand.machine, h.holds);
       other_session = stand.far;
-      station = i.view.1;
-      down = sym h.near_lists.down ∙ ap w.near.down (sym i.view.2);
-      up = sym h.near_lists.up ∙ ap w.near.up (sym i.view.2);
+      station = i.is.station;
+      down = sym h.near_lists.down ∙ ap w.near.down (sym i.is.session);
+      up = sym h.near_lists.up ∙ ap w.near.up (sym i.is.session);
       far_down = sym h.far_lists.down;
       far_up = sym h.far_lists.up;
-      line = i.comes.0;
-      of_session = i.comes.1;
+      line = i.is.comes;
+      of_session = i.is.of;
       both = λ far_up. (let j = in_session d c (swapped w) (held_swapped c d joined w h) far_up in
-          record { station = j.view.1; session = sym j.view.2; line = j.comes.0; of_session = subst (λ (n : ℕ). AllOf (other d.role) d.longest n w.out) (sym i.view.2) j.comes.1 });
+          record { station = j.is.station; session = sym j.is.session; line = j.is.comes; of_session = subst (λ (n : ℕ). AllOf (other d.role) d.longest n w.out) (sym i.is.session) j.is.of });
     }
 
 -- ---- the machine behind what stands
@@ -244,7 +223,7 @@ unfolding stands
 stands_with {stand} c d joined w h up =
     record {
       stands = stands c d joined w h up;
-      near = sym (up_begun h.near_view w.near h.alone.near.station stand.near h.near up);
+      near = sym (in_session c d w h up).is.session;
       far = refl;
       behind = is_behind ⊥ c d h.alone stand.machine h.holds;
     }

@@ -1,9 +1,9 @@
 -- What a station sends in its session, an end that keeps the rules may send.
-use Rattle.std.proofs.Common.{◌≡◌, ℕ, ◌+◌, ◌≤◌, List, [], ◌∷◌, ◌++◌, length, Ok, refl, sym, ap, ◌∙◌, subst, append_assoc, append-nil}
+use Rattle.std.proofs.Common.{◌≡◌, ℕ, ◌+◌, ◌≤◌, List, [], ◌∷◌, ◌++◌, length, refl, sym, ap, ◌∙◌, append_assoc, append-nil}
 use Rattle.x25_bits.specs.declared.role.Role.{Role}
 use Rattle.x25_frame.specs.{Frame.{PlainFrame}, Spelling.{spelling_of}, laws.ReadingLaw.{ReadsSpelled}}
 use Rattle.x25_link.specs.{Station.{Settings}, declared.phase.Phase.{Phase}, declared.phase.Phase.TheVariants.{Up}, laws.WindowMachine.{Window, Runs}}
-use Rattle.x25_line.specs.{laws.Sessions.{Entry, Meeting, sent_in}, laws.Peer.{Peer, MaySend}, laws.PeerSessions.{put_for}}
+use Rattle.x25_line.specs.{laws.Sessions.{Entry, Meeting, sent_in}, laws.Peer.{Peer}, laws.PeerSessions.{put_for}}
 use Rattle.x25_line.proofs.{StationSays.{machine_of, Said, MaySay, said_run}, StationLines.{good_reads}, StationSends.{AllWithin}}
 use Rattle.x25_line.proofs.{sessions.SessionMay.{entry, MayDo}, ends.Puts.{put_same, put_alike}}
 
@@ -36,9 +36,7 @@ module _ (d : Settings) (high : d.window ≤ 7) (reads : ReadsSpelled) (Due : Li
   speaks b before out p q frames f good says next given taken h = record {
     all = put_for b q h.all;
     now = put_same b b q h.all refl;
-    reached = subst (λ (xs : List Entry). R es met Up b (put_for b q h.all) xs)
-        (append_assoc out (sent_in b d.role frames) (entry b (spelling_of d.role f) ∷ []) ∙ ap (λ (xs : List Entry). out ++ xs) (sym (sent_append b d.role frames (f ∷ []))))
-        (does.tells es met b h.all (out ++ sent_in b d.role frames) (spelling_of d.role f) f q (good_reads reads d.role d.longest f good) good.number (subst (λ (z : Peer). MaySend ⊥ z (Ok f) q) (sym h.now) says) h.reached);
+    reached = rw (sym (append_assoc out (sent_in b d.role frames) (entry b (spelling_of d.role f) ∷ []) ∙ ap (λ (xs : List Entry). out ++ xs) (sym (sent_append b d.role frames (f ∷ []))))) (does.tells es met b h.all (out ++ sent_in b d.role frames) (spelling_of d.role f) f q (good_reads reads d.role d.longest f good) good.number (rw h.now says) h.reached);
     packets = same_put b q h.all before (given ∙ ap (λ (z : Peer). z.given) (sym h.now)) (taken ∙ ap (λ (z : Peer). z.taken) (sym h.now)) h.packets;
   }
 
@@ -48,6 +46,6 @@ module _ (d : Settings) (high : d.window ≤ 7) (reads : ReadsSpelled) (Due : Li
       said_run d high (Spoken b before out) (speaks b before out) (before b) within from (record {
         all = before;
         now = refl;
-        reached = subst (λ (xs : List Entry). R es met Up b before xs) (sym (append-nil out)) reached;
+        reached = rw (append-nil out) reached;
         packets = record { given = λ n. refl; taken = λ n. refl };
       }) is room told w frames runs

@@ -78,8 +78,7 @@ module _ (d : Settings) (high : d.window ≤ 7) (reads : ReadsSpelled) (Due : Li
       → (is_up step.side.near.phase ≡ true → UpFacts d step.side.near (all w.near.begun)) → ((n : ℕ) → (all n).given ≡ extended w.near.down w.near.begun down n)
       → ((n : ℕ) → (all n).taken ≡ extended w.near.up w.near.begun (option_to_list step.packet) n) → Seen d R (after_step d w es met down step)
   build w h es met down step all quiet reached up given taken =
-      subst (λ (n : ℕ). Seen d R (stepped d w es met down n step)) (sym (ap (λ (b : Bool). begun_by b w.near.begun) quiet))
-      (record {
+      rw (ap (λ (b : Bool). begun_by b w.near.begun) quiet) (record {
         all = all;
         reached = reached;
         up = up;
@@ -106,8 +105,8 @@ module _ (d : Settings) (high : d.window ≤ 7) (reads : ReadsSpelled) (Due : Li
       subst (λ (n : ℕ). Seen d R (stepped d w es w.met [] n step)) (sym (ap (λ (b : Bool). begun_by b w.near.begun) up))
       (record {
         all = all;
-        reached = subst (λ (p : Phase). R es w.met p b all (w.out ++ sent_in b d.role step.side.out)) (sym (ap (λ (s : LinkStation). s.phase) near)) reached;
-        up = λ _. subst (λ (s : LinkStation). UpFacts d s (all b)) (sym near) (subst (UpFacts d fresh) (sym (put_same b b fresh_peer h.all refl)) (fresh_facts d Up));
+        reached = rw (ap (λ (s : LinkStation). s.phase) near) reached;
+        up = λ _. rw near (subst (UpFacts d fresh) (sym (put_same b b fresh_peer h.all refl)) (fresh_facts d Up));
         given = λ n. put_packets b fresh_peer h.all w.near.down [] (λ (p : Peer). p.given) (sym (ap (λ (xs : List (List ℕ)). xs ++ []) (h.given b ∙ (h.later b (omega arith)).0))) h.given n;
         taken = λ n. put_packets b fresh_peer h.all w.near.up [] (λ (p : Peer). p.taken) (sym (ap (λ (xs : List (List ℕ)). xs ++ []) (h.taken b ∙ (h.later b (omega arith)).1))) h.taken n
             ∙ sym (ap (λ (o : Option (List ℕ)). extended w.near.up b (option_to_list o) n) none);
@@ -146,13 +145,13 @@ module _ (d : Settings) (high : d.window ≤ 7) (reads : ReadsSpelled) (Due : Li
       in
       let spoken = said.reached in
       build w h es met down step spoken.all (ap (λ (n : Notes). n.up) stays.quiet)
-      (subst (λ (p : Phase). R es met p b spoken.all (w.out ++ sent_in b d.role step.side.out)) (sym (is_up_phase step.side.near.phase stays.up)) spoken.reached)
+      (rw (is_up_phase step.side.near.phase stays.up) spoken.reached)
       (λ _. subst (UpFacts d step.side.near) (sym spoken.now) (record { same = said.is; sound = stays.sound; room = said.room; told = said.told; within = subst (AllWithin d.longest) (sym said.given) r.within }))
       (λ n. spoken.packets.given n ∙ r.given n) (λ n. spoken.packets.taken n ∙ r.taken n)
 
   -- the peer in its session, as it is
   pub reached_in : (w : Sessions) (h : Seen d R w) → is_up w.near.station.phase ≡ true → R w.back w.met Up w.near.begun h.all w.out
-  reached_in w h up = subst (λ (p : Phase). R w.back w.met p w.near.begun h.all w.out) (is_up_phase w.near.station.phase up) h.reached
+  reached_in w h up = rw (sym (is_up_phase w.near.station.phase up)) h.reached
 
   pub unchanged : (w : Sessions) (h : Seen d R w) → is_up w.near.station.phase ≡ true → (es : List Entry) (met : List Meeting) → R es met Up w.near.begun h.all w.out
       → (v : Window) → v ≡ window_of d.window w.near.station → (packet : Option (List ℕ)) → packet ≡ None → Ready w es met [] packet v
@@ -180,9 +179,9 @@ module _ (d : Settings) (high : d.window ≤ 7) (reads : ReadsSpelled) (Due : Li
         all = put_for b r h.all;
         reached = reached;
         is = ap (machine_of d.window) now ∙ is;
-        room = subst (λ (p : Peer). p.sent ≤ p.acked + d.window) (sym now) room;
-        told = subst (λ (p : Peer). p.told ≤ length p.taken) (sym now) told;
-        within = subst (λ (p : Peer). AllWithin d.longest p.given) (sym now) within;
+        room = rw now room;
+        told = rw now told;
+        within = rw now within;
         given = put_packets b r h.all w.near.down down (λ (p : Peer). p.given) given h.given;
         taken = put_packets b r h.all w.near.up (option_to_list packet) (λ (p : Peer). p.taken) taken h.taken;
       }

@@ -53,6 +53,7 @@ left_by (Err error) v = (refl, refl, refl)
 
 disc_or_not : (r : Read) → ((p : Bool) × (r ≡ Ok (disc p))) ⊎ (disc_in r ≡ 0)
 disc_or_not (Ok (disc p)) = inl (p, refl)
+disc_or_not (Err Short) = inr refl
 disc_or_not r = inr refl
 
 pub ends_away : (reason : Reason) → (reason ≡ Reset → ⊥) → (p : Phase) → p ≡ ends_in reason → is_up p ≡ false
@@ -86,7 +87,7 @@ module _ (d : Settings) (high : d.window ≤ 7) (reads : ReadsSpelled) (rests : 
   -- one frame
   pub put_one : (es : List Entry) (met : List Meeting) (p : Phase) (b : ℕ) (all : ℕ → Peer) (out : List Entry) (f : PlainFrame) (fs : List PlainFrame) → fs ≡ f ∷ []
       → R es met p b all (out ++ entry b (spelling_of d.role f) ∷ []) → R es met p b all (out ++ sent_in b d.role fs)
-  put_one es met p b all out f fs is reached = subst (λ (xs : List PlainFrame). R es met p b all (out ++ sent_in b d.role xs)) (sym is) reached
+  put_one es met p b all out f fs is reached = rw is reached
 
   put_declining : (es : List Entry) (met : List Meeting) (p : Phase) (b : ℕ) (all : ℕ → Peer) (out : List Entry) (fs : List PlainFrame) → AreDeclining fs → R es met p b all out → R es met p b all (out ++ sent_in b d.role fs)
   put_declining es met p b all out [] h reached = put_none es met p b all out [] refl reached
@@ -127,10 +128,10 @@ module _ (d : Settings) (high : d.window ≤ 7) (reads : ReadsSpelled) (rests : 
     met = heard_in d s.phase b e w.met
 
     came : R (e ∷ es) w.met s.phase b h.all w.out
-    came = subst (λ (xs : List Entry). R xs w.met s.phase b h.all w.out) is h.reached
+    came = rw (sym is) h.reached
 
     came_in : (p : Phase) → s.phase ≡ p → R (e ∷ es) w.met p b h.all w.out
-    came_in p phase = subst (λ (z : Phase). R (e ∷ es) w.met z b h.all w.out) phase came
+    came_in p phase = rw (sym phase) came
 
     passed : R es met s.phase b h.all w.out
     passed = does.passes e es w.met s.phase b h.all w.out came
@@ -145,8 +146,7 @@ module _ (d : Settings) (high : d.window ≤ 7) (reads : ReadsSpelled) (rests : 
     -- a SABM sets it up
     pub sets_up_seen : (p : Bool) → r ≡ Ok (sabm p) → TakesPart s.phase → Is fresh (ua p ∷ []) (reset_from s.phase) true step → how_many sabm_in d.role d.longest w.out ≡ 0 → S (after_step d w es met [] step)
     sets_up_seen p read part i unasked =
-        subst (λ (xs : List Meeting). S (after_step d w es xs [] step)) (sym (met_none (ap number_in read)))
-        (build_up d high reads Due R does w h es step i.up i.near i.packet unasked
+        rw (met_none (ap number_in read)) (build_up d high reads Due R does w h es step i.up i.near i.packet unasked
         (put_one es w.met Up (suc b) (put_for (suc b) fresh_peer h.all) w.out (ua p) step.side.out i.out
         (does.takes_sabm e es w.met s.phase b h.all w.out (spelling_of d.role (ua p)) p p read (ua_reads reads d p) part came)))
 
@@ -160,10 +160,10 @@ module _ (d : Settings) (high : d.window ≤ 7) (reads : ReadsSpelled) (rests : 
       in_it = is_up_phase s.phase up
 
       passed_in : R es met Up b h.all w.out
-      passed_in = subst (λ (x : Phase). R es met x b h.all w.out) in_it passed
+      passed_in = rw (sym in_it) passed
 
       hears_it : (q : Peer) → MayHear (h.all b) r q → R es met Up b (put_for b q h.all) w.out
-      hears_it q may = subst (λ (x : Phase). R es (heard_in d x b e w.met) Up b (put_for b q h.all) w.out) (sym in_it) (does.hears e es w.met b h.all w.out q may (came_in Up in_it))
+      hears_it q may = rw in_it (does.hears e es w.met b h.all w.out q may (came_in Up in_it))
 
       abbrev k : ℕ
       k = d.window
@@ -202,7 +202,7 @@ module _ (d : Settings) (high : d.window ≤ 7) (reads : ReadsSpelled) (rests : 
           go None none may =
               let room = facts.room in
               stays_seen d high reads Due R does w h es met [] (receives f) step
-              (changed d high reads Due R does w h es met [] step.packet (hearing true nr p) (hears_it (hearing true nr p) (subst (λ (z : Read). MayHear p z (hearing true nr p)) read (true, false, tt, refl))) (after_input (receives f) step.packet (window_of k s))
+              (changed d high reads Due R does w h es met [] step.packet (hearing true nr p) (hears_it (hearing true nr p) (rw (sym read) (true, false, tt, refl))) (after_input (receives f) step.packet (window_of k s))
               (ap (λ (z : Window). after z (Hear nr)) facts.same ∙ sym (ap (λ (o : Option (List ℕ)). after_input (receives f) o (window_of k s)) none)) (omega arith) facts.told facts.within (sym (append-nil p.given))
               (sym (ap (λ (o : Option (List ℕ)). p.taken ++ option_to_list o) none ∙ append-nil p.taken))) stays
           go (Some y) some may =
@@ -214,7 +214,7 @@ module _ (d : Settings) (high : d.window ≤ 7) (reads : ReadsSpelled) (rests : 
               let same : machine_of k q ≡ after_input (receives f) (Some y) (window_of k s) =
               ap (λ (z : Window). after (after z (Hear nr)) (Take 0 x)) facts.same ∙ ap (λ (z : List ℕ). after (after (window_of k s) (Hear nr)) (Take 0 z)) may.1 in
               stays_seen d high reads Due R does w h es met [] (receives f) step
-              (changed d high reads Due R does w h es met [] step.packet q (hears_it q (subst (λ (z : Read). MayHear p z q) read (true, true, wanted, refl))) (after_input (receives f) step.packet (window_of k s))
+              (changed d high reads Due R does w h es met [] step.packet q (hears_it q (rw (sym read) (true, true, wanted, refl))) (after_input (receives f) step.packet (window_of k s))
               (same ∙ sym (ap (λ (o : Option (List ℕ)). after_input (receives f) o (window_of k s)) some)) (omega arith) (omega arith) facts.within (sym (append-nil p.given))
               (ap (λ (z : List ℕ). p.taken ++ z ∷ []) may.1 ∙ sym (ap (λ (o : Option (List ℕ)). p.taken ++ option_to_list o) some))) stays
 
@@ -222,11 +222,11 @@ module _ (d : Settings) (high : d.window ≤ 7) (reads : ReadsSpelled) (rests : 
       brought_seen : (x : Read) → x ≡ r → sabm_in x ≡ 0 → Stays k (brought_by x) s step → S (after_step d w es met [] step)
       brought_seen (Ok (info ns nr pf x)) read no_sabm stays = info_seen ns nr pf x read stays
       brought_seen (Ok (rr command nr pf)) read no_sabm stays =
-          told_seen (rr command nr pf) nr (λ packet. refl) (λ y never. never) (subst (λ (z : Read). MayHear (h.all b) z (hearing true nr (h.all b))) read (true, refl)) stays
+          told_seen (rr command nr pf) nr (λ packet. refl) (λ y never. never) (rw (sym read) (true, refl)) stays
       brought_seen (Ok (rnr command nr pf)) read no_sabm stays =
-          told_seen (rnr command nr pf) nr (λ packet. refl) (λ y never. never) (subst (λ (z : Read). MayHear (h.all b) z (hearing true nr (h.all b))) read (true, refl)) stays
+          told_seen (rnr command nr pf) nr (λ packet. refl) (λ y never. never) (rw (sym read) (true, refl)) stays
       brought_seen (Ok (rej command nr pf)) read no_sabm stays =
-          told_seen (rej command nr pf) nr (λ packet. refl) (λ y never. never) (subst (λ (z : Read). MayHear (h.all b) z (hearing true nr (h.all b))) read (true, refl)) stays
+          told_seen (rej command nr pf) nr (λ packet. refl) (λ y never. never) (rw (sym read) (true, refl)) stays
       brought_seen (Ok (sabm p)) read no_sabm stays = absurd (omega (arith, no_sabm))
       brought_seen (Ok (disc p)) read no_sabm stays = quiet_seen (receives (disc p)) refl (λ y never. never) stays
       brought_seen (Ok (ua f)) read no_sabm stays = quiet_seen (receives (ua f)) refl (λ y never. never) stays
@@ -239,7 +239,7 @@ module _ (d : Settings) (high : d.window ≤ 7) (reads : ReadsSpelled) (rests : 
       left_seen reason no_reset ends reached =
           let off = ends_away reason no_reset step.side.near.phase ends.phase in
           build_quiet d high reads Due R does w h es met step (not_afresh s step (rests.laws.take_tells d e.octets s) off) ends.packet off
-          (subst (λ (x : Phase). R es met x b h.all (w.out ++ sent_in b d.role step.side.out)) (sym ends.phase) reached)
+          (rw ends.phase reached)
 
       -- without a frame
       gone : (fs : List PlainFrame) → fs ≡ [] → R es met Down b h.all (w.out ++ sent_in b d.role fs)
@@ -250,8 +250,7 @@ module _ (d : Settings) (high : d.window ≤ 7) (reads : ReadsSpelled) (rests : 
       disc_seen p read ends never =
           let f = ends.frames.0 in
           left_seen Disc never ends
-          (subst (λ (xs : List Meeting). R es xs Down b h.all (w.out ++ sent_in b d.role step.side.out)) (sym (met_none (ap number_in read)))
-          (put_one es w.met Down b h.all w.out (ua f) step.side.out ends.frames.1
+          (rw (met_none (ap number_in read)) (put_one es w.met Down b h.all w.out (ua f) step.side.out ends.frames.1
           (does.takes_disc e es w.met b h.all w.out (spelling_of d.role (ua f)) p f read (ua_reads reads d f) (came_in Up in_it))))
 
       ends_seen : (reason : Reason) → (reason ≡ Reset → ⊥) → ending_of r (window_of k s) ≡ Some reason → Ends reason step → S (after_step d w es met [] step)
@@ -267,8 +266,7 @@ module _ (d : Settings) (high : d.window ≤ 7) (reads : ReadsSpelled) (rests : 
           let three = frmr_three d e.octets s (is_up_phase s.phase up) r refl f why ending ends.frames.2 in
           left_seen FrmrSent never ends
           (put_one es met Down b h.all w.out (frmr f why) step.side.out ends.frames.2
-          (subst (λ (x : Phase). R es (heard_in d x b e w.met) Down b h.all (w.out ++ entry b (spelling_of d.role (frmr f why)) ∷ [])) (sym in_it)
-          (does.faults e es w.met b h.all w.out (spelling_of d.role (frmr f why)) f why (ap (ending_of r) facts.same ∙ ending)
+          (rw in_it (does.faults e es w.met b h.all w.out (spelling_of d.role (frmr f why)) f why (ap (ending_of r) facts.same ∙ ending)
           (reads d.role d.longest (frmr f why) _ (record { in_range = tt; carries = three; within = tt; spelling = refl })) (came_in Up in_it))))
       ends_seen FrmrGot never ending ends = left_seen FrmrGot never ends (gone step.side.out ends.frames)
       ends_seen Reset never ending ends = absurd (never refl)
@@ -288,7 +286,7 @@ module _ (d : Settings) (high : d.window ≤ 7) (reads : ReadsSpelled) (rests : 
     pub out_seen : is_up s.phase ≡ false → step.side.near.phase ≡ s.phase → StaysOut step → S (after_step d w es met [] step)
     out_seen off same out =
         build_quiet d high reads Due R does w h es met step (ap (λ (n : Notes). n.up) out.quiet) out.packet (ap is_up same ∙ off)
-        (put_declining es met step.side.near.phase b h.all w.out step.side.out out.frames (subst (λ (p : Phase). R es met p b h.all w.out) (sym same) passed))
+        (put_declining es met step.side.near.phase b h.all w.out step.side.out out.frames (rw same passed))
 
     -- UA, which it awaits
     pub answer_seen : s.phase ≡ Waiting → r ≡ Ok (ua true) → how_many sabm_in d.role d.longest w.out ≡ 0 → S (after_step d w es met [] step)
@@ -301,7 +299,7 @@ module _ (d : Settings) (high : d.window ≤ 7) (reads : ReadsSpelled) (rests : 
     -- anything else, while it awaits UA
     pub waiting_seen : s.phase ≡ Waiting → waiting_up r ≡ false → S (after_step d w es met [] step)
     waiting_seen waiting no_answer =
-        build_quiet d high reads Due R does w h es met step (i.up ∙ no_answer) i.packet (ap is_up phase) (subst (λ (p : Phase). R es met p b h.all (w.out ++ sent_in b d.role step.side.out)) (sym phase) (by r refl))
+        build_quiet d high reads Due R does w h es met step (i.up ∙ no_answer) i.packet (ap is_up phase) (rw phase (by r refl))
       where
         i : Is (waiting_after r s) (waiting_sends r) None (waiting_up r) step
         i = rests.laws.set_up.waits d e.octets s waiting r refl
@@ -310,7 +308,7 @@ module _ (d : Settings) (high : d.window ≤ 7) (reads : ReadsSpelled) (rests : 
         phase = ap (λ (z : LinkStation). z.phase) (i.near ∙ waits_on r s no_answer) ∙ waiting
 
         passed_waiting : R es met Waiting b h.all w.out
-        passed_waiting = subst (λ (p : Phase). R es met p b h.all w.out) waiting passed
+        passed_waiting = rw (sym waiting) passed
 
         none_put : waiting_sends r ≡ [] → R es met Waiting b h.all (w.out ++ sent_in b d.role step.side.out)
         none_put none = put_none es met Waiting b h.all w.out step.side.out (i.out ∙ none) passed_waiting

@@ -1,5 +1,5 @@
 -- Each of two stations over sessions is a peer of the other, after each list of events.
-use Rattle.std.proofs.Common.{◌≡◌, ◌<◌, ℕ, ◌+◌, List, [], ◌∷◌, ◌++◌, ◌⊎◌, inl, inr, length, map, Bool, true, false, if◌then◌else◌, Option, Some, None, Ok, refl, sym, ap, ◌∙◌, subst, arith}
+use Rattle.std.proofs.Common.{◌≡◌, ℕ, ◌+◌, List, [], ◌∷◌, ◌++◌, ◌⊎◌, inl, inr, length, map, Bool, true, false, if◌then◌else◌, Option, Some, None, Ok, refl, sym, ap, ◌∙◌, subst, arith}
 use Rattle.std.specs.Prelude.{nat_le}
 use Rattle.x25_bits.specs.declared.role.Role.{Role}
 use Rattle.x25_frame.specs.{Frame.{PlainFrame, ua}, Reading.{frame_of}, laws.ReadingLaw.{ReadsSpelled}}
@@ -13,10 +13,10 @@ use Rattle.x25_line.specs.laws.PeerSessions.{Out, Asking, PeerEnd, PeerSessions,
 use Rattle.x25_line.specs.laws.SessionPeers.{IsPeer, AreBothPeers}
 use Rattle.x25_line.proofs.{StationRuns.{joined_swapped}, sessions.SessionLines.{Read}, sessions.SessionHeld.{Owes}, sessions.EntryLines.{asked_fewer}}
 use Rattle.x25_line.proofs.{sessions.Acts.{Stays, Anything, acts_still}, sessions.SessionMay.{stand_of, sends_read, hears_read, heard_in, MayDo}}
-use Rattle.x25_line.proofs.{ends.Meetings.{twice_turned}, sessions.SessionSeen.{UpFacts, Seen, start_seen}, sessions.PeerSessionRuns.{lines}}
-use Rattle.x25_line.specs.laws.Peer as once
+use Rattle.x25_line.proofs.{ends.Meetings.{twice_turned}, sessions.SessionSeen.{Seen, start_seen}, sessions.PeerSessionRuns.{lines}}
 use Rattle.x25_line.specs.laws.PeerSessions as sessions
 use Rattle.x25_line.proofs.sessions.SessionSeenSteps as own
+use Rattle.x25_line.specs.laws.Said.{said}
 
 -- ---- a station is known as a peer
 
@@ -62,45 +62,45 @@ module _ (c d : Settings) (joined : AreJoined c d) (far : SessionEnd) where
   comes : (e : Entry) (es : List Entry) (met : List Meeting) (p : Phase) (b : ℕ) (all : ℕ → Peer) (out : List Entry) (q : PeerEnd) → sessions.MayHear (end p b all) (frame_of c.role c.longest e.octets) q
       → IsPeerOf (e ∷ es) met p b all out → IsReached ⊥ c (at es (heard_in d p b e met) q out)
   comes e es met p b all out q may h =
-      subst (λ (xs : List Meeting). IsReached ⊥ c (record { near = far; peer = q; out = es; back = out; met = xs })) (same_met p b e met) (goes_on _ _ h (sessions.Hears e es q refl may))
+      rw (sym (same_met p b e met)) (goes_on _ _ h (sessions.Theirs _ (sessions.Hears e es q refl may)))
 
   sends : (es : List Entry) (met : List Meeting) (p q : PeerEnd) (out : List Entry) (octets : List ℕ) → sessions.MaySend ⊥ c (at es met p out) (sends_read d octets) q → IsReached ⊥ c (at es met p out)
       → IsReached ⊥ c (at es met q (out ++ sessions.entry q octets ∷ []))
-  sends es met p q out octets may h = goes_on _ _ h (sessions.Sends octets q (subst (λ (r : Read). sessions.MaySend ⊥ c (at es met p out) r q) (there octets) may))
+  sends es met p q out octets may h = goes_on _ _ h (sessions.Theirs _ (sessions.Sends octets q (rw (sym (there octets)) may)))
 
   answers : (e : Entry) (es : List Entry) (met : List Meeting) (p q : PeerEnd) (out : List Entry) (octets : List ℕ) (f : Bool) → sends_read d octets ≡ Ok (ua f) → sessions.MayAnswer p (hears_read d e.octets) q
       → IsReached ⊥ c (at (e ∷ es) met p out) → IsReached ⊥ c (at es met q (out ++ sessions.entry q octets ∷ []))
   answers e es met p q out octets f read may h =
-      goes_on _ _ h (sessions.Answers e es octets f q refl (sym (there octets) ∙ read) (subst (λ (r : Read). sessions.MayAnswer p r q) (here e.octets) may))
+      goes_on _ _ h (sessions.Theirs _ (sessions.Answers e es octets f q refl (sym (there octets) ∙ read) (rw (sym (here e.octets)) may)))
 
   pub peer_may : MayDo d (λ es. Unit {0}) IsPeerOf
   peer_may = record {
     handed = λ es met b all out packet h. goes_on _ _ h (sessions.HandsDown packet refl);
     tells = λ es met b all out octets f q read number may h.
         sends es met (end Up b all) (with_now q (end Up b all)) out octets
-        (sessions.numbered f q (ap number_in read ∙ number) refl (subst (λ (r : Read). once.MaySend ⊥ (all b) r q) (sym read) may)) h;
-    declines = λ es met p b all out octets f read h. sends es met (end p b all) (end p b all) out octets (sessions.free (subst (IsFree ⊥) (sym read) tt)) h;
+        (sessions.numbered f q (ap number_in read ∙ number) refl (rw read may)) h;
+    declines = λ es met p b all out octets f read h. sends es met (end p b all) (end p b all) out octets (sessions.free (subst (λ r. IsFree ⊥ (said r)) (sym read) tt)) h;
     asks = λ es met p b all out octets pf read due clear h.
         (let sabms = sent_many sabm_in out in let discs = sent_many disc_in out in let uas = heard_many ua_in es in let sabm = clear.sabm in let disc = clear.disc in let ua = clear.ua in
         sends es met (end p b all) (stands Asking (end p b all)) out octets
         (sessions.asks pf read (record { sabm = omega (arith, sabm, sabms); disc = omega (arith, disc, discs); ua = omega (arith, ua, uas) })) h);
     closes = λ es met p b all out octets pf read h. sends es met (end p b all) (stands Out (end p b all)) out octets (sessions.closes pf read) h;
-    leaves = λ es met b all out h. goes_on _ _ h sessions.Leaves;
-    gives_up = λ es met b all out due clear h. goes_on _ _ h sessions.Leaves;
+    leaves = λ es met b all out h. goes_on _ _ h (sessions.Theirs _ sessions.Leaves);
+    gives_up = λ es met b all out due clear h. goes_on _ _ h (sessions.Theirs _ sessions.Leaves);
     passes = λ e es met p b all out h. comes e es met p b all out (end p b all) sessions.passes_over h;
     hears = λ e es met b all out q may h.
-        comes e es met Up b all out (with_now q (end Up b all)) (sessions.hears q refl (subst (λ (r : Read). once.MayHear (all b) r q) (here e.octets) may)) h;
-    takes_ua = λ e es met b all out read h. goes_on _ _ h (sessions.Hears e es (begins (end Waiting b all)) refl (sessions.takes_ua refl (sym (here e.octets) ∙ read)));
+        comes e es met Up b all out (with_now q (end Up b all)) (sessions.hears q refl (rw (sym (here e.octets)) may)) h;
+    takes_ua = λ e es met b all out read h. goes_on _ _ h (sessions.Theirs _ (sessions.Hears e es (begins (end Waiting b all)) refl (sessions.takes_ua refl (sym (here e.octets) ∙ read))));
     takes_sabm = λ e es met p b all out octets pf f read sent part h.
         answers e es met (end p b all) (begins (end p b all)) out octets f sent (sessions.takes_sabm pf read) h;
     waits_on = λ e es met b all out octets pf f read sent h. answers e es met (end Waiting b all) (end Waiting b all) out octets f sent (sessions.waits_on pf read refl) h;
     takes_disc = λ e es met b all out octets pf f read sent h.
-        goes_on _ _ (answers e es met (end Up b all) (end Up b all) out octets f sent (sessions.takes_disc pf read) h) sessions.Leaves;
+        goes_on _ _ (answers e es met (end Up b all) (end Up b all) out octets f sent (sessions.takes_disc pf read) h) (sessions.Theirs _ sessions.Leaves);
     faults = λ e es met b all out octets f why ending read h.
-        sends es (heard_in d Up b e met) (end Down b all) (end Down b all) out octets (sessions.free (subst (IsFree ⊥) (sym read) tt))
-        (goes_on _ _ (comes e es met Up b all out (end Up b all) sessions.passes_over h) sessions.Leaves);
-    loses = λ es met p b all out i h. goes_on _ _ h (sessions.Loses i);
-    damages = λ es met p b all out i octets visible h. goes_on _ _ h (sessions.Damages i octets visible);
+        sends es (heard_in d Up b e met) (end Down b all) (end Down b all) out octets (sessions.free (subst (λ r. IsFree ⊥ (said r)) (sym read) tt))
+        (goes_on _ _ (comes e es met Up b all out (end Up b all) sessions.passes_over h) (sessions.Theirs _ sessions.Leaves));
+    loses = λ es met p b all out i h. goes_on _ _ h (sessions.Theirs _ (sessions.Loses i));
+    damages = λ es met p b all out i octets visible h. goes_on _ _ h (sessions.Theirs _ (sessions.Damages i octets visible));
   }
 
 -- ---- what the other end does
@@ -143,7 +143,7 @@ module _ (c d : Settings) (joined : AreJoined c d) (reads : ReadsSpelled) (rests
   -- ---- the other end acts, which sees it as its peer
 
   pub tags_there : (b : ℕ) (es : List Entry) → AllAskedIn d.role d.longest b es → AllAskedIn (other c.role) c.longest b es
-  tags_there b es h = subst (λ (n1 : ℕ). AllAskedIn (other c.role) n1 b es) (sym joined.longest) (subst (λ (r : Role). AllAskedIn r d.longest b es) (sym joined.far_role) h)
+  tags_there b es h = rw joined.longest (rw joined.far_role h)
 
   station_timely : (a : Act) (w : Sessions) (p : PeerEnd) → AllAskedIn d.role d.longest p.begun w.back → IsTimely c d a w → sessions.IsTimely c a (with_peer p w)
   station_timely T1 w p tags timely = λ waiting.
@@ -154,11 +154,11 @@ module _ (c d : Settings) (joined : AreJoined c d) (reads : ReadsSpelled) (rests
   other_acts a w timely h = record {
     all = h.all;
     reached = reached;
-    up = λ up. subst (λ (e : SessionEnd). UpFacts d e.station (h.all e.begun)) (sym still.far) (h.up (subst (λ (e : SessionEnd). is_up e.station.phase ≡ true) still.far up));
+    up = λ up. rw still.far (h.up (rw (sym still.far) up));
     given = λ n. h.given n ∙ ap (λ (e : SessionEnd). e.down n) (sym still.far);
     taken = λ n. h.taken n ∙ ap (λ (e : SessionEnd). e.up n) (sym still.far);
-    later = subst (λ (e : SessionEnd). (n : ℕ) → e.begun < n → (e.down n ≡ []) × (e.up n ≡ [])) (sym still.far) h.later;
-    tags = subst (λ (e : SessionEnd). AllAskedIn d.role d.longest e.begun v.back) (sym still.far) (asked_fewer d.role d.longest w.far.begun w.back v.back still.less h.tags);
+    later = rw still.far h.later;
+    tags = rw still.far (asked_fewer d.role d.longest w.far.begun w.back v.back still.less h.tags);
   }
     where
       v : Sessions
@@ -174,15 +174,14 @@ module _ (c d : Settings) (joined : AreJoined c d) (reads : ReadsSpelled) (rests
       met_with x met = record { near = x.near; peer = p; out = x.out; back = x.back; met = met }
 
       before : IsReached ⊥ c (with_peer p w)
-      before = subst (λ (met : List Meeting). IsReached ⊥ c (met_with w met)) (twice_turned w.met) h.reached
+      before = rw (sym (twice_turned w.met)) h.reached
 
       acted : IsReached ⊥ c (with_peer p v)
       acted = subst (IsReached ⊥ c) (sym (alike c p a w)) (sessions.goes_on (with_peer p w) (with_peer p (acts c a (both_ends (with_peer p w)))) before (sessions.Ours a (station_timely a w p h.tags timely)))
 
       reached : IsPeerOf c d joined v.near v.out (map turned v.met) v.far.station.phase v.far.begun h.all v.back
       reached =
-          subst (λ (e : SessionEnd). IsReached ⊥ c (record { near = v.near; peer = record { stand = stand_of e.station.phase; begun = e.begun; of_session = h.all }; out = v.out; back = v.back; met = map turned (map turned v.met) })) (sym still.far)
-          (subst (λ (met : List Meeting). IsReached ⊥ c (met_with v met)) (sym (twice_turned v.met)) acted)
+          rw still.far (rw (twice_turned v.met) acted)
 
   -- ---- it acts
 
@@ -193,8 +192,7 @@ module _ (c d : Settings) (joined : AreJoined c d) (reads : ReadsSpelled) (rests
   own_acts : (a : Act) (w : Sessions) → IsTimely d c a w
       → Owes w.near.station.phase (how_many sabm_in d.role d.longest w.out + how_many ua_in (other d.role) d.longest w.back) (how_many disc_in d.role d.longest w.out) → S w → S (acts d a w)
   own_acts a w timely owed h =
-      subst (λ (far : SessionEnd). Seen d (IsPeerOf c d joined far) (acts d a w)) (sym (acts_still d a w).far)
-      (own.station_acts d joined.far_high reads rests (λ es. Unit {0}) (IsPeerOf c d joined w.far) (peer_may c d joined w.far) a w (own_timely a w timely) owed h)
+      rw (acts_still d a w).far (own.station_acts d joined.far_high reads rests (λ es. Unit {0}) (IsPeerOf c d joined w.far) (peer_may c d joined w.far) a w (own_timely a w timely) owed h)
 
   -- the other end, which sees it as its peer, with what that has on the line
   other_owes : (w : Sessions) → S w → Owes w.far.station.phase (how_many sabm_in c.role c.longest w.back + how_many ua_in (other c.role) c.longest w.out) (how_many disc_in c.role c.longest w.back)
@@ -208,7 +206,7 @@ pub record Both (c d : Settings) (near_joined : AreJoined d c) (far_joined : Are
 
 seen_twice : (c d : Settings) (joined : AreJoined c d) (w : Sessions) → SeenAt c d joined w → SeenAt c d joined (swapped (swapped w))
 seen_twice c d joined w h =
-    subst (λ (met : List Meeting). SeenAt c d joined (record { near = w.near; far = w.far; out = w.out; back = w.back; met = met; sent = w.sent })) (sym (twice_turned w.met)) h
+    rw (twice_turned w.met) h
 
 -- as the far end has it
 pub both_swapped : (c d : Settings) (near_joined : AreJoined d c) (far_joined : AreJoined c d) (w : Sessions) → Both c d near_joined far_joined w → Both d c far_joined near_joined (swapped w)

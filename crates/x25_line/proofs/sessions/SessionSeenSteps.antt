@@ -1,5 +1,5 @@
 -- Each event at a station over sessions is what an end that keeps the rules may do.
-use Rattle.std.proofs.Common.{◌≡◌, ◌≤◌, ℕ, suc, ◌+◌, List, [], ◌∷◌, ◌++◌, ◌⊎◌, inl, inr, length, remove, Bool, true, false, not, if◌then◌else◌, Option, Some, None, Ok, refl, sym, ap, ◌∙◌, subst, arith, append-nil}
+use Rattle.std.proofs.Common.{Err, ◌≡◌, ◌≤◌, ℕ, suc, ◌+◌, List, [], ◌∷◌, ◌++◌, ◌⊎◌, inl, inr, length, remove, Bool, true, false, not, if◌then◌else◌, Option, Some, None, Ok, refl, sym, ap, ◌∙◌, subst, arith, append-nil}
 use Rattle.std.proofs.lemmas.Bool.{leb-true}
 use Rattle.std.specs.Prelude.{nat_le, nat_lt, option_to_list}
 use Rattle.x25_frame.specs.{Frame.{PlainFrame, sabm, disc, ua}, laws.ReadingLaw.{ReadsSpelled}}
@@ -14,11 +14,12 @@ use Rattle.x25_line.specs.laws.Stations.{Act, Put, Deliver, T1, Connect, Disconn
 use Rattle.x25_line.specs.laws.Sessions.{Entry, Meeting, Sessions, sabm_in, ua_in, disc_in, how_many, sent_in, after_step, unless, delivered, replaced, acts}
 use Rattle.x25_line.specs.{laws.LawsBelow.{SessionLaws}, laws.Peer.{Peer}}
 use Rattle.x25_line.proofs.{StationSends.{within_push}, StationSteps.{no_packet_of, not_afresh}, StationAway.{connects_from, closed_takes}}
-use Rattle.x25_line.proofs.{sessions.SessionLines.{Read}, sessions.SessionHeld.{Owes}, sessions.SessionMay.{hears_read, IsClear, MayAsk, MayDo}}
+use Rattle.x25_line.proofs.{sessions.SessionLines.{Read}, sessions.SessionHeld.{Owes}, sessions.SessionMay.{hears_read, IsClear, MayDo}}
 use Rattle.x25_line.proofs.sessions.SessionSeen.{Seen, build_quiet, stays_seen, reached_in, unchanged, changed}
 use Rattle.x25_line.proofs.sessions.SessionSeenActs.{put_none, put_asks, put_closes, sets_up_seen, up_seen, out_seen, answer_seen, waiting_seen}
 use Rattle.x25_line.proofs.sessions.Acts.{unless_by, if_by}
 use Rattle.x25_link.specs.declared.error.LinkError.TheVariants as error
+use Rattle.x25_frame.specs.declared.error.FrameError.TheVariants.{Short}
 
 -- the UA that is awaited, or none such
 pub is_answer : (r : Read) → (r ≡ Ok (ua true)) ⊎ (waiting_up r ≡ false)
@@ -27,6 +28,7 @@ is_answer r = inr refl
 
 pub sabm_or_not : (r : Read) → ((p : Bool) × (r ≡ Ok (sabm p))) ⊎ (sabm_in r ≡ 0)
 sabm_or_not (Ok (sabm p)) = inl (p, refl)
+sabm_or_not (Err Short) = inr refl
 sabm_or_not r = inr refl
 
 pub sets_none_up : (r : Read) → sabm_in r ≡ 0 → sets_up r ≡ false
@@ -53,7 +55,7 @@ module _ (d : Settings) (high : d.window ≤ 7) (reads : ReadsSpelled) (rests : 
   OwesAt w = Owes w.near.station.phase (how_many sabm_in d.role d.longest w.out + how_many ua_in (other d.role) d.longest w.back) (how_many disc_in d.role d.longest w.out)
 
   owes_at : (w : Sessions) (p : Phase) → w.near.station.phase ≡ p → OwesAt w → Owes p (how_many sabm_in d.role d.longest w.out + how_many ua_in (other d.role) d.longest w.back) (how_many disc_in d.role d.longest w.out)
-  owes_at w p is owes = subst (λ (z : Phase). Owes z (how_many sabm_in d.role d.longest w.out + how_many ua_in (other d.role) d.longest w.back) (how_many disc_in d.role d.longest w.out)) is owes
+  owes_at w p is owes = rw (sym is) owes
 
   -- T1 may run out while it awaits UA
   abbrev pub IsOver : Sessions → Type 0
@@ -82,7 +84,7 @@ module _ (d : Settings) (high : d.window ≤ 7) (reads : ReadsSpelled) (rests : 
       → R w.back w.met q w.near.begun h.all (w.out ++ sent_in w.near.begun d.role step.side.out) → S (after_step d w w.back w.met [] step)
   away_seen w h step quiet none q phase off reached =
       build_quiet d high reads Due R does w h w.back w.met step quiet none (ap is_up phase ∙ off)
-      (subst (λ (z : Phase). R w.back w.met z w.near.begun h.all (w.out ++ sent_in w.near.begun d.role step.side.out)) (sym phase) reached)
+      (rw phase reached)
 
   -- without a frame
   left : (w : Sessions) (h : S w) → is_up w.near.station.phase ≡ true → (fs : List PlainFrame) → fs ≡ [] → R w.back w.met Down w.near.begun h.all (w.out ++ sent_in w.near.begun d.role fs)
@@ -116,11 +118,11 @@ module _ (d : Settings) (high : d.window ≤ 7) (reads : ReadsSpelled) (rests : 
           → S (after_step d w w.back w.met [] step)
       by true step i =
           away_seen w h step i.up i.packet Waiting (ap (λ (z : LinkStation). z.phase) i.near ∙ waiting) refl
-          (put_asks d high reads rests Due R does w h true step.side.out i.out (subst (λ (p : Phase). MayAsk p (Due w.back)) (sym waiting) over.2) clear)
+          (put_asks d high reads rests Due R does w h true step.side.out i.out (rw waiting over.2) clear)
       by false step i =
           away_seen w h step i.up i.packet Down (ap (λ (z : LinkStation). z.phase) i.near) refl
           (put_none d high reads rests Due R does w.back w.met Down w.near.begun h.all w.out step.side.out i.out
-          (does.gives_up w.back w.met w.near.begun h.all w.out over.2 clear (subst (λ (p : Phase). R w.back w.met p w.near.begun h.all w.out) waiting h.reached)))
+          (does.gives_up w.back w.met w.near.begun h.all w.out over.2 clear (rw (sym waiting) h.reached)))
 
   timer_seen : (w : Sessions) (h : S w) → IsTimely T1 w → OwesAt w → S (unless (timer_refusal w.near.station) w (after_step d w w.back w.met [] (timer_step d w.near.station)))
   timer_seen w h timely owes = by w.near.station.phase refl
@@ -139,7 +141,7 @@ module _ (d : Settings) (high : d.window ≤ 7) (reads : ReadsSpelled) (rests : 
       let step = connect_step d w.near.station in
       let i = rests.laws.set_up.connects d w.near.station down in
       away_seen w h step i.up i.packet Waiting (ap (λ (z : LinkStation). z.phase) i.near) refl
-      (put_asks d high reads rests Due R does w h true step.side.out i.out (subst (λ (p : Phase). MayAsk p (Due w.back)) (sym down) tt) (record { sabm = omega (arith, owed.0); disc = owed.1; ua = omega (arith, owed.0) }))
+      (put_asks d high reads rests Due R does w h true step.side.out i.out (rw down tt) (record { sabm = omega (arith, owed.0); disc = owed.1; ua = omega (arith, owed.0) }))
 
   disconnect_seen : (w : Sessions) (h : S w) → disconnect_refusal w.near.station.phase ≡ None → S (after_step d w w.back w.met [] (disconnect_step d w.near.station))
   disconnect_seen w h accepted = by w.near.station.phase refl

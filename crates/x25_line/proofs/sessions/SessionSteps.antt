@@ -12,7 +12,7 @@ use Rattle.x25_line.specs.{laws.SessionNumbers.{Standing, standing_after}, laws.
 use Rattle.x25_line.proofs.StationLines.{AreParting, no_frmr_append, parting_no_frmr, parting_numbered, parting_whole}
 use Rattle.x25_line.proofs.StationSteps.{MayBeAway, away_is_not_up, Leads, put_behind, FitsEnd}
 use Rattle.x25_line.proofs.sessions.SessionLines.{Read, octets_sent, count, numbers, quiet_of, of_sent, many_sent}
-use Rattle.x25_line.proofs.sessions.SessionHeld.{View, Live, Gone, IsView, IsHeard, Comes, Owes, HasLists, SameLists, lists_same, Held, counted_view, with_machine, standing_after_is, stays_on, extended_nil, extended_same, extended_more, whole_on, whole_apart, heard_more}
+use Rattle.x25_line.proofs.sessions.SessionHeld.{IsThere, Owes, HasLists, SameLists, lists_same, Held, with_machine, standing_after_is, stays_on, extended_nil, extended_same, extended_more, whole_on, whole_apart, is_there, is_out, there_more, counted_there}
 use Rattle.x25_line.specs.laws.Stations as one
 
 -- ---- the end, and both, after a step, in which its session is n
@@ -77,14 +77,14 @@ Answers w step = (w.far.station.phase ≡ Closed) ⊎ (count ua_in step.side.out
 module _ (c d : Settings) (joined : AreJoined c d) (reads : ReadsSpelled) where
   pub many_out : (kind : Read → ℕ) (s : ℕ) (given : List (List ℕ)) (fs : List PlainFrame) → AreWhole d.longest given fs → how_many kind (other d.role) d.longest (sent_in s c.role fs) ≡ count kind fs
   many_out kind s given fs h =
-      subst (λ (r : Role). how_many kind r d.longest (sent_in s c.role fs) ≡ count kind fs) (sym joined.near_role) (many_sent reads c.role d.longest kind s given fs h)
+      rw joined.near_role (many_sent reads c.role d.longest kind s given fs h)
 
   -- ---- an end that is in the session
 
-  pub live_held : {stand : Standing} (w : Sessions) (h : Held stand c d w) → IsView Live w.near h.alone.near.station stand.near → (es : List Entry) (os : List (List ℕ)) (met : List Meeting) (down : List (List ℕ)) (step : Step) (gone : Option ℕ)
-      → Leads ⊥ c d h.alone stand.machine (taken_out gone stand.machine.back) (one.after_step c h.alone os down step) → Comes (other c.role) c.longest es os stand.far
+  pub live_held : {stand : Standing} (w : Sessions) (h : Held stand c d w) → w.near.begun ≡ stand.near → (es : List Entry) (os : List (List ℕ)) (met : List Meeting) (down : List (List ℕ)) (step : Step) (gone : Option ℕ)
+      → Leads ⊥ c d h.alone stand.machine (taken_out gone stand.machine.back) (one.after_step c h.alone os down step) → numbers (other c.role) c.longest es ≡ numbered_on (other c.role) c.longest os → AllOf (other c.role) c.longest stand.far es
       → Answers w step → Held (went_by c step gone stand) c d (stepped c w es met down w.near.begun step)
-  live_held {stand} w h near es os met down step gone holds comes answers = subst (λ (z : Standing). Held z c d (stepped c w es met down w.near.begun step)) is_on (go holds.1.near)
+  live_held {stand} w h near es os met down step gone holds comes from answers = subst (λ (z : Standing). Held z c d (stepped c w es met down w.near.begun step)) is_on (go holds.1.near)
     where
       fs : List PlainFrame
       fs = step.side.out
@@ -106,31 +106,26 @@ module _ (c d : Settings) (joined : AreJoined c d) (reads : ReadsSpelled) where
       same = ap (numbered_on (other d.role) d.longest) (octets_sent w.near.begun c.role fs)
 
       of : AllOf (other d.role) d.longest stand.near more
-      of = subst (λ (s : ℕ). AllOf (other d.role) d.longest s more) near.2 (of_sent (other d.role) d.longest c.role w.near.begun fs)
+      of = rw (sym near) (of_sent (other d.role) d.longest c.role w.near.begun fs)
 
       -- what was handed down in the two sessions that stand
       handed : (x : List ℕ) → Contains (now.near.down ++ now.far.down) x
           → ((n : ℕ) × Contains ((end_after w.near w.near.begun down step).down n) x) ⊎ ((n : ℕ) × Contains (w.far.down n) x)
       handed x there =
-          let lists = live_lists c w.near stand.near h.alone os down step near.2 h.near_lists in
+          let lists = live_lists c w.near stand.near h.alone os down step near h.near_lists in
           elim (Contains-append_cases now.near.down now.far.down x there) [
             | inl here ↦ inl (stand.near, subst (λ (xs : List (List ℕ)). Contains xs x) (sym lists.down) here)
             | inr there ↦ inr (stand.far, subst (λ (xs : List (List ℕ)). Contains xs x) (sym h.far_lists.down) there)
           ]
 
-      by : (v : View) → IsView v (end_after w.near w.near.begun down step) step.side.near stand.near → IsHeard v (other c.role) c.longest step.side.near.phase es os stand.far
-          → Held (with_machine stand holds.0) c d (stepped c w es met down w.near.begun step)
-      by v view back =
+      by : IsThere step.side.near.phase (other c.role) c.longest step.side.near w.near.begun es step.side.near os stand.near stand.far → Held (with_machine stand holds.0) c d (stepped c w es met down w.near.begun step)
+      by there =
           record {
             alone = now;
             holds = holds.1;
-            near_view = v;
-            far_view = h.far_view;
-            near = view;
-            far = h.far;
-            back = back;
-            out = heard_more (other d.role) d.longest h.far_view w.far.station.phase w.out more h.alone.out (map (spelling_of c.role) fs) stand.near same of none_to h.out;
-            near_lists = live_lists c w.near stand.near h.alone os down step near.2 h.near_lists;
+            near = there;
+            far = there_more more (map (spelling_of c.role) fs) same of none_to h.far;
+            near_lists = live_lists c w.near stand.near h.alone os down step near h.near_lists;
             far_lists = h.far_lists;
             no_frmr = no_frmr_append w.sent fs h.no_frmr (no_frmr_behind h.alone.sent fs holds.1.no_frmr);
             whole = whole_on d.longest w.near (end_after w.near w.near.begun down step) w.far (now.near.down ++ now.far.down) w.sent fs (λ n x old. extended_more w.near.down w.near.begun n down x old)
@@ -144,27 +139,22 @@ module _ (c d : Settings) (joined : AreJoined c d) (reads : ReadsSpelled) where
           holds.2.back
 
       go : FitsEnd ⊥ c step.side.near holds.0.near → Held (with_machine stand holds.0) c d (stepped c w es met down w.near.begun step)
-      go (inl u) = by Live (u.up, refl, near.2) comes
-      go (inr away) = by Gone (away_is_not_up ⊥ step.side.near.phase away.away, omega (arith, near.2)) (λ waiting. waiting_away step.side.near.phase waiting away.away)
+      go (inl u) = by (is_there step.side.near.phase u.up (record { station = refl; session = near; comes = comes; of = from }))
+      go (inr away) = by (is_out step.side.near.phase (away_is_not_up ⊥ step.side.near.phase away.away) (λ waiting. waiting_away step.side.near.phase waiting away.away))
 
   -- ---- an end that is out of the session, or goes into it
 
-  pub apart_held : {stand : Standing} (w : Sessions) (h : Held stand c d w) (es : List Entry) (met : List Meeting) (n : ℕ) (step : Step) (v : View) → step.packet ≡ None
-      → IsView v (end_after w.near n [] step) h.alone.near.station stand.near → IsHeard v (other c.role) c.longest step.side.near.phase es h.alone.back stand.far
+  pub apart_held : {stand : Standing} (w : Sessions) (h : Held stand c d w) (es : List Entry) (met : List Meeting) (n : ℕ) (step : Step) → step.packet ≡ None
+      → IsThere step.side.near.phase (other c.role) c.longest step.side.near n es h.alone.near.station h.alone.back stand.near stand.far
       → AreParting (Unit {0}) step.side.out → count ua_in step.side.out ≡ 0
       → Held (went_by c step None stand) c d (stepped c w es met [] n step)
-  apart_held {stand} w h es met n step v none view heard parting no_ua =
+  apart_held {stand} w h es met n step none there parting no_ua =
       let same = nothing_handed w.near n step none in
       subst (λ (z : Standing). Held z c d (stepped c w es met [] n step)) is_on (record {
         alone = h.alone;
         holds = h.holds;
-        near_view = v;
-        far_view = h.far_view;
-        near = view;
-        far = h.far;
-        back = heard;
-        out = subst (λ (os : List (List ℕ)). IsHeard h.far_view (other d.role) d.longest w.far.station.phase (w.out ++ more) os stand.near) (append-nil h.alone.out)
-            (heard_more (other d.role) d.longest h.far_view w.far.station.phase w.out more h.alone.out [] stand.near quiet (quiet_of (other d.role) d.longest stand.near more quiet) (λ waiting. many ua_in ∙ no_ua) h.out);
+        near = there;
+        far = rw (sym (append-nil h.alone.out)) (there_more more [] quiet (quiet_of (other d.role) d.longest stand.near more quiet) (λ waiting. many ua_in ∙ no_ua) h.far);
         near_lists = lists_same w.near (end_after w.near n [] step) stand.near h.alone.near same h.near_lists;
         far_lists = h.far_lists;
         no_frmr = no_frmr_append w.sent fs h.no_frmr (parting_no_frmr (Unit {0}) fs parting);
@@ -187,5 +177,5 @@ module _ (c d : Settings) (joined : AreJoined c d) (reads : ReadsSpelled) where
 
       is_on : stand ≡ went_by c step None stand
       is_on =
-          stays_on c step.side.near (map (spelling_of c.role) fs) stand (counted_view v c (end_after w.near n [] step) h.alone.near.station stand.near stand.machine.near view h.holds.near)
-          (subst (λ (n1 : ℕ). numbered_on c.role n1 (map (spelling_of c.role) fs) ≡ []) (sym joined.longest) (parting_numbered reads c.role d.longest (Unit {0}) fs parting))
+          stays_on c step.side.near (map (spelling_of c.role) fs) stand (counted_there c (end_after w.near n [] step) h.alone.near.station stand.machine.near there h.holds.near)
+          (rw joined.longest (parting_numbered reads c.role d.longest (Unit {0}) fs parting))

@@ -1,15 +1,15 @@
 -- What an end does that is Up, over sessions, and what it sends.
-use Rattle.std.proofs.Common.{◌≡◌, ℕ, List, [], ◌∷◌, ◌++◌, inl, inr, Bool, false, Option, Some, None, Ok, refl, sym, ap, subst, arith}
+use Rattle.std.proofs.Common.{◌≡◌, ℕ, List, [], ◌∷◌, ◌++◌, inl, inr, Bool, false, Option, Some, None, Ok, refl, sym, ap, arith}
 use Rattle.x25_frame.specs.{Frame.{PlainFrame, info, rr, rnr, rej}, laws.ReadingLaw.{ReadsSpelled}}
 use Rattle.x25_window.specs.laws.Window.{Frame, frames_of}
 use Rattle.x25_link.specs.{declared.phase.Phase.TheVariants.{Closed}, declared.phase.Reason.{Reason}, declared.phase.Reason.TheVariants.{Disc, FrmrSent, Reset}}
 use Rattle.x25_link.specs.{Station.{Settings, LinkStation}, Hearing.{Step, other}, laws.WindowMachine.{Window, Input, Runs, rests, goes_on, Shows, ShowAll}}
 use Rattle.x25_link.specs.laws.WindowLaw.{brought_by, MayHandUp, InputMayHandUp, Stays, Follows}
-use Rattle.x25_line.specs.{laws.Stations.{Stations}, laws.StationClaims.{AreJoined, number_in}}
+use Rattle.x25_line.specs.{laws.Stations.{Stations}, laws.StationClaims.{AreJoined, number_in, numbered_on}, laws.SessionClaims.{AllOf}}
 use Rattle.x25_line.specs.{laws.Sessions.{Entry, Meeting, Sessions, ua_in, begun_by, after_step}, laws.SessionNumbers.{Standing}, laws.WholeNumbers.{taken_out}}
 use Rattle.x25_line.proofs.{sessions.SessionSeenActs.{by_disc, by_reset}, StationSteps.{Holds, Leads}, StationAway.{second_false}}
-use Rattle.x25_line.proofs.sessions.SessionLines.{Read, of_ua, none_is_some, count, AllNumbered, numbered_count}
-use Rattle.x25_line.proofs.{sessions.SessionHeld.{Live, IsView, Comes, Held}, sessions.SessionSteps.{stepped, went_by, Answers, live_held}}
+use Rattle.x25_line.proofs.{sessions.SessionLines.{Read, none_is_some, count, AllNumbered, numbered_no_ua, numbers}, sessions.SessionHeld.{Held}}
+use Rattle.x25_line.proofs.sessions.SessionSteps.{went_by, Answers, live_held}
 use Rattle.x25_line.specs.laws.Stations as one
 
 -- ---- a run that only sends, sends frames that carry a number
@@ -37,7 +37,7 @@ runs_numbered v z fs (goes_on w before step frames runs sent allowed shows) = nu
 -- ---- what is sent where Up is left
 
 pub stays_answers : (w : Sessions) (k : ℕ) (input : Input) (s : LinkStation) (step : Step) → Stays k input s step → Answers w step
-stays_answers w k input s step h = inr (numbered_count ua_in of_ua step.side.out (runs_numbered _ _ step.side.out h.sends))
+stays_answers w k input s step h = inr (numbered_no_ua step.side.out (runs_numbered _ _ step.side.out h.sends))
 
 -- where it leaves by DISC that came, and not by SABM
 pub follows_answers : (w : Sessions) (o : Option Reason) (k : ℕ) (input : Input) (s : LinkStation) (step : Step) → (by_disc o ≡ 1 → w.far.station.phase ≡ Closed) → by_reset o ≡ 0 → Follows o k input s step → Answers w step
@@ -69,9 +69,8 @@ module _ (c d : Settings) (joined : AreJoined c d) (reads : ReadsSpelled) where
   quiet_up : (v : Stations) (os down : List (List ℕ)) (step : Step) → Holds ⊥ c d (one.after_step c v os down step) → step.notes.up ≡ false
   quiet_up v os down step holds = second_false v.near.came_up step.notes.up holds.1.near_has.notes.once
 
-  pub live_goes_on : {stand : Standing} (w : Sessions) (h : Held stand c d w) → IsView Live w.near h.alone.near.station stand.near → (es : List Entry) (os : List (List ℕ)) (met : List Meeting) (down : List (List ℕ)) (step : Step) (gone : Option ℕ)
-      → Leads ⊥ c d h.alone stand.machine (taken_out gone stand.machine.back) (one.after_step c h.alone os down step) → Comes (other c.role) c.longest es os stand.far
+  pub live_goes_on : {stand : Standing} (w : Sessions) (h : Held stand c d w) → w.near.begun ≡ stand.near → (es : List Entry) (os : List (List ℕ)) (met : List Meeting) (down : List (List ℕ)) (step : Step) (gone : Option ℕ)
+      → Leads ⊥ c d h.alone stand.machine (taken_out gone stand.machine.back) (one.after_step c h.alone os down step) → numbers (other c.role) c.longest es ≡ numbered_on (other c.role) c.longest os → AllOf (other c.role) c.longest stand.far es
       → Answers w step → Held (went_by c step gone stand) c d (after_step c w es met down step)
-  live_goes_on {stand} w h near es os met down step gone leads comes answers =
-      subst (λ (n : ℕ). Held (went_by c step gone stand) c d (stepped c w es met down n step)) (sym (ap (λ (b : Bool). begun_by b w.near.begun) (quiet_up h.alone os down step (leads.0, leads.1))))
-      (live_held c d joined reads w h near es os met down step gone leads comes answers)
+  live_goes_on {stand} w h near es os met down step gone leads comes from answers =
+      rw (ap (λ (b : Bool). begun_by b w.near.begun) (quiet_up h.alone os down step (leads.0, leads.1))) (live_held c d joined reads w h near es os met down step gone leads comes from answers)

@@ -1,19 +1,19 @@
 -- A station over sessions and a peer are two ends that keep the rules, whatever the station does.
-use Rattle.std.proofs.Common.{◌≡◌, ℕ, suc, ◌+◌, List, [], ◌∷◌, ◌++◌, inl, inr, remove, Bool, true, Some, None, Ok, refl, sym, ap, ◌∙◌, subst, arith}
+use Rattle.std.proofs.Common.{◌≡◌, ℕ, suc, ◌+◌, List, [], ◌∷◌, ◌++◌, inl, inr, remove, Bool, true, Some, None, Ok, refl, sym, ap, ◌∙◌, arith}
 use Rattle.x25_bits.specs.declared.role.Role.{Role}
 use Rattle.x25_frame.specs.{Frame.{PlainFrame, info, rr, rnr, rej, sabm, disc, ua, dm, frmr}, Reading.{frame_of}}
 use Rattle.x25_link.specs.{declared.phase.Phase.{Phase}, declared.phase.Phase.TheVariants.{Down, Waiting, Up}, Station.{Settings}, Hearing.{other}}
 use Rattle.x25_link.specs.laws.SetUp.{TakesPart}
 use Rattle.x25_line.specs.{laws.Sessions.{Entry, Meeting, sabm_in, ua_in, disc_in, how_many, replaced}, laws.Peer.{Peer, MaySay}}
-use Rattle.x25_line.specs.{laws.PeerSessions.{Stand, Out, Asking, In, PeerEnd, put_for, AllAskedIn}, laws.PeerSessionClaims.{frmr_in}}
+use Rattle.x25_line.specs.{laws.PeerSessions.{Stand, Out, Asking, In, PeerEnd, AllAskedIn}, laws.PeerSessionClaims.{frmr_in}}
 use Rattle.x25_line.specs.laws.Ends.{Letter, letter, free, asks, closes, leaves, hears, takes_ua, takes_sabm, waits_on, takes_disc, loses, damages, Ends, with_near, is_handed, sends, listens, moves, IsReached, near_does}
+use Rattle.x25_line.specs.{laws.StationClaims.{number_in}, laws.Said.{Else, Odd as OddSaid, said}}
 use Rattle.x25_line.proofs.{Order.{by_frmr, no_fault}, StationLines.{visible_reads}, StationSays.{machine_of}}
-use Rattle.x25_line.proofs.{sessions.SessionLines.{Read, none_is_some, of_sabm, of_disc, number_kind, many_append}, sessions.SessionHeld.{Owes, owes_less}}
+use Rattle.x25_line.proofs.{sessions.SessionLines.{Read, none_is_some, number_kinds, many_append}, sessions.SessionHeld.{Owes, owes_less}}
 use Rattle.x25_line.proofs.sessions.EntryLines.{Less, whole, gone, hurt, deeper, less_removes, less_replaces, many_less, asked_fewer}
 use Rattle.x25_line.proofs.sessions.Letters.{heard_said, letters, letters_push, letters_removed, letters_replaced, sabms, uas, discs, asked_letters, letters_asked}
 use Rattle.x25_line.proofs.sessions.SessionMay.{stand_of, sends_read, hears_read, entry, heard_in, MayAsk, MayDo}
 use Rattle.x25_line.proofs.ends.Sessions.{reached_all, ua_present, valid}
-use Rattle.x25_line.specs.{laws.StationClaims.{number_in}, laws.Said.{Else, Odd as OddSaid, said}}
 
 number_frmr : (r : Read) (f : PlainFrame) → number_in r ≡ Some f → frmr_in r ≡ 0
 number_frmr (Ok (frmr g why)) f is = none_is_some f is
@@ -110,7 +110,7 @@ module _ (Odd : Type 0) (c : Settings) where
     -- one more on the line from it
     sent : (es : List Entry) (met : List Meeting) (stand : Stand) (b : ℕ) (all : ℕ → Peer) (out : List Entry) (n : ℕ) (octets : List ℕ) (r : Read) → sends_read c octets ≡ r
         → IsReached (at (backs es) met stand b all (outs out ++ letter n (said r) ∷ [])) → IsReached (at (backs es) met stand b all (outs (out ++ entry n octets ∷ [])))
-    sent es met stand b all out n octets r read h = subst (λ (xs : List Letter). IsReached (at (backs es) met stand b all xs)) (sym (letters_push c.role c.longest out n octets r read)) h
+    sent es met stand b all out n octets r read h = rw (letters_push c.role c.longest out n octets r read) h
 
     told : (back : List Letter) (met : List Meeting) (b : ℕ) (all : ℕ → Peer) (out : List Letter) (f : PlainFrame) (q : Peer) → number_in (Ok f) ≡ Some f → MaySay ⊥ (all b) (said (Ok f)) q → IsReached (at back met In b all out)
         → IsReached (at back met In b (with_near q (at back met In b all out)) (out ++ letter b (said (Ok f)) ∷ []))
@@ -130,8 +130,7 @@ module _ (Odd : Type 0) (c : Settings) where
     passed : (e : Entry) (es : List Entry) (met : List Meeting) (p : Phase) (b : ℕ) (all : ℕ → Peer) (out : List Entry) → IsReached (at (backs (e ∷ es)) met (stand_of p) b all (outs out))
         → IsReached (at (backs es) (heard_in c p b e met) (stand_of p) b all (outs out))
     passed e es met p b all out h =
-        subst (λ (xs : List Meeting). IsReached (at (backs es) xs (stand_of p) b all (outs out))) (sym (heard_said p b e.session (hears_read c e.octets) met))
-        (near_does _ _ h (moves _ (hears (letter e.session (said (hears_read c e.octets))) (backs es) refl)))
+        rw (heard_said p b e.session (hears_read c e.octets) met) (near_does _ _ h (moves _ (hears (letter e.session (said (hears_read c e.octets))) (backs es) refl)))
 
     asked : (es : List Entry) (p : Phase) (out : List Entry) → MayAsk p (AllAskedIn (other c.role) c.longest peer.begun es) → Kept peer.begun p es out → AllAskedIn (other c.role) c.longest peer.begun es
     asked es Down out due k = k.present
@@ -148,7 +147,7 @@ module _ (Odd : Type 0) (c : Settings) where
       handed = λ es met b all out packet h. record { reached = near_does _ _ h.reached (is_handed packet refl); kept = h.kept };
       tells = λ es met b all out octets f q read number may h. record {
         reached = sent es met In b _ out b octets (Ok f) read (told (backs es) met b all (outs out) f q number may h.reached);
-        kept = kept_push peer.begun Up es out b octets (Ok f) read (number_kind sabm_in of_sabm (Ok f) f number) (number_kind disc_in of_disc (Ok f) f number) (number_frmr (Ok f) f number) h.kept;
+        kept = kept_push peer.begun Up es out b octets (Ok f) read (number_kinds (Ok f) f number).0 (number_kinds (Ok f) f number).2 (number_frmr (Ok f) f number) h.kept;
       };
       declines = λ es met p b all out octets f read h. record {
         reached = sent es met (stand_of p) b all out b octets (Ok (dm f)) read (near_does _ _ h.reached (moves _ free));
@@ -183,8 +182,7 @@ module _ (Odd : Type 0) (c : Settings) where
           record { reached = near_does _ _ h.reached (moves _ leaves); kept = record { owes = (omega (arith, no_sabm, no_ua), clear.disc); present = due; frmr = h.kept.frmr; lapb = h.kept.lapb } });
       passes = λ e es met p b all out h. record { reached = passed e es met p b all out h.reached; kept = kept_less peer.begun p (e ∷ es) es out (gone e es) h.kept };
       hears = λ e es met b all out q may h. record {
-        reached = subst (λ (xs : List Meeting). IsReached (at (backs es) xs In b (put_for b q all) (outs out))) (sym (heard_said Up b e.session (hears_read c e.octets) met))
-            (near_does _ _ h.reached (listens (letter e.session (said (hears_read c e.octets))) (backs es) q refl refl may));
+        reached = rw (heard_said Up b e.session (hears_read c e.octets) met) (near_does _ _ h.reached (listens (letter e.session (said (hears_read c e.octets))) (backs es) q refl refl may));
         kept = kept_less peer.begun Up (e ∷ es) es out (gone e es) h.kept;
       };
       takes_ua = λ e es met b all out read h.
@@ -231,11 +229,11 @@ module _ (Odd : Type 0) (c : Settings) where
             });
       };
       loses = λ es met p b all out i h. record {
-        reached = subst (λ (xs : List Letter). IsReached (at xs met (stand_of p) b all (outs out))) (sym (letters_removed (other c.role) c.longest es i)) (near_does _ _ h.reached (moves _ (loses i)));
+        reached = rw (letters_removed (other c.role) c.longest es i) (near_does _ _ h.reached (moves _ (loses i)));
         kept = kept_less peer.begun p es (remove es i) out (less_removes es i) h.kept;
       };
       damages = λ es met p b all out i octets visible h. record {
-        reached = subst (λ (xs : List Letter). IsReached (at xs met (stand_of p) b all (outs out))) (sym (letters_replaced (other c.role) c.longest octets visible es i)) (near_does _ _ h.reached (moves _ (damages i)));
+        reached = rw (letters_replaced (other c.role) c.longest octets visible es i) (near_does _ _ h.reached (moves _ (damages i)));
         kept = kept_less peer.begun p es (replaced es i octets) out (less_replaces octets visible es i) h.kept;
       };
     }

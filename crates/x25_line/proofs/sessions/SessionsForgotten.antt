@@ -100,8 +100,7 @@ module _ (E F : SessionEnd → StationEnd → Type 0) (S : Type 0) (lasts : Last
   -- a step that takes nothing off the line
   own_alike : (c : Settings) (w : Sessions) (v : Stations) → A w v → (down : List (List ℕ)) (step : LinkStation → Step) → A (after_step c w w.back w.met down (step w.near.station)) (one.after_step c v v.back down (step v.near.station))
   own_alike c w v h down step =
-      subst (λ (t : LinkStation). A (after_step c w w.back w.met down (step w.near.station)) (one.after_step c v v.back down (step t))) (sym (lasts.station w.near v.near h.near))
-      (subst (λ (os : List (List ℕ)). A (after_step c w w.back w.met down (step w.near.station)) (one.after_step c v os down (step w.near.station))) (sym h.back) (step_alike c w v h w.back w.met down (step w.near.station)))
+      rw (lasts.station w.near v.near h.near) (rw h.back (step_alike c w v h w.back w.met down (step w.near.station)))
 
   -- where it isn't refused
   refused_alike : (c : Settings) (w : Sessions) (v : Stations) → A w v → (down : List (List ℕ)) (refusal : LinkStation → Option LinkError) (step : LinkStation → Step)
@@ -127,7 +126,7 @@ module _ (E F : SessionEnd → StationEnd → Type 0) (S : Type 0) (lasts : Last
   deliver_alike : (c : Settings) (w : Sessions) (v : Stations) → A w v → (es : List Entry) → A (delivered c es w) (one.delivered c (octets_of es) v)
   deliver_alike c w v h [] = h
   deliver_alike c w v h (e ∷ es) =
-      subst (λ (s : LinkStation). A (delivered c (e ∷ es) w) (one.after_step c v (octets_of es) [] (take_step c e.octets s))) (sym (lasts.station w.near v.near h.near)) (step_alike c w v h es _ [] (take_step c e.octets w.near.station))
+      rw (lasts.station w.near v.near h.near) (step_alike c w v h es _ [] (take_step c e.octets w.near.station))
 
   acts_alike : (c : Settings) (a : Act) (w : Sessions) (v : Stations) → A w v → A (acts c a w) (one.acts c a v)
   acts_alike c (Put packet) w v h = if_alike (nat_le (length packet) c.longest) w _ v _ h (refused_alike c w v h (packet ∷ []) put_refusal (put_step c packet))

@@ -2,18 +2,18 @@
 use Rattle.std.proofs.Common.{◌≡◌, ◌≤◌, ◌+◌, ℕ, List, [], ◌∷◌, ◌⊎◌, inl, inr, true, None, Ok, Err, refl, sym, ap, ◌∙◌, subst, arith, suc}
 use Rattle.x25_bits.specs.declared.role.Role.{Role}
 use Rattle.x25_frame.specs.{Frame.{PlainFrame, info, rr, rnr, rej, sabm, frmr}, Reading.{frame_of}, laws.ReadingLaw.{ReadsSpelled}}
-use Rattle.x25_frame.specs.declared.error.FrameError.TheVariants.{Undefined, NoInfoAllowed, TooLong}
+use Rattle.x25_frame.specs.declared.error.FrameError.TheVariants.{Undefined, NoInfoAllowed, TooLong, Short}
 use Rattle.x25_link.specs.{Station.{Settings, is_up}, Hearing.{other}, Link.{is_idle}, laws.WindowLaw.{IsRunning}}
 use Rattle.x25_line.specs.{laws.InWindow.{IsPrefix}, laws.StationClaims.{AreJoined, number_in}, laws.Said.{said, Odd}}
 use Rattle.x25_line.specs.laws.Sessions.{Entry, Meeting, Sessions, swapped, sabm_in, ua_in, disc_in, how_many, run}
-use Rattle.x25_line.specs.laws.SessionClaims.{Throughout, AllOf, AllMet, SomeMet, IsInOrder, MeetInStep, MetAreInOrder, UnmetHandNothingUp, OnlyBegunHaveLists, EachHearsLatest, EachMeetsLatest, IdleHasArrived}
+use Rattle.x25_line.specs.laws.SessionClaims.{Throughout, AllOf, Each, SomeMet, IsInOrder, MeetInStep, MetAreInOrder, UnmetHandNothingUp, OnlyBegunHaveLists, EachHearsLatest, EachMeetsLatest, IdleHasArrived}
 use Rattle.x25_line.specs.{laws.LawsBelow.{SessionLaws}, laws.PeerSessions.{PeerEnd, as_end, with_peer, AllAskedIn, IsReached}}
 use Rattle.x25_line.specs.{laws.Ends.{letter, OfSabm, OfTells}, laws.PeerSessionClaims.{frmr_in}}
 use Rattle.x25_line.proofs.{sessions.SessionWith.{NoneOdd}, StationAway.{is_up_phase}, StationLines.{consed, IsOrderly}, sessions.SessionLines.{Read, numbers}}
 use Rattle.x25_line.proofs.{sessions.SessionHeld.{Owes, OnLine}, sessions.SessionMay.{stand_of}, sessions.Letters.{letters}}
 use Rattle.x25_line.proofs.sessions.PeerSessionRuns.{two, all_of, lines, up_in, step_is, order_is, unmet_is, idle_is, latest_is}
 use Rattle.x25_line.proofs.{sessions.SessionSeenRuns.{end, tags_there, Both, both_swapped, throughout_both}, ends.Meetings.{twice_turned, far_turned}}
-use Rattle.x25_line.proofs.{ends.Lines.{AllTold, Never, Of, AllTags, IsAsked, AllAsked}, ends.Sessions.{far_high, live}}
+use Rattle.x25_line.proofs.{ends.Lines.{AllTold, Never, Of, AllTags, IsAsked, AllAsked}, ends.Sessions.{far_high}}
 
 -- what is of the session that stands is of the latest, where that is begun
 hears : (from : Role) (n1 q begun : ℕ) → begun ≤ q → (es : List Entry) → AllTold (Of q) (letters from n1 es) → AllTags begun (letters from n1 es) → AllOf from n1 begun es
@@ -55,6 +55,7 @@ quiet_behind N O from n1 b q all e es is asked tags one =
       where
         never : (g : PlainFrame) → sabm_in (Ok g) ≡ 1 → ⊥
         never g k = cc
+    go (Err Short) a t one = absurd (omega (arith, one))
     go (Err x) a t one = absurd (omega (arith, one))
 
 orderly : (r : Read) → (said r ≡ Odd → ⊥) → frmr_in r ≡ 0 → IsOrderly (Unit {0}) r
@@ -71,12 +72,12 @@ module _ (reads : ReadsSpelled) (rests : SessionLaws) where
     peer = end c d far_joined w.near w.far.station.phase w.far.begun h.far.all
 
     reached : IsReached ⊥ c (with_peer peer w)
-    reached = subst (λ (met : List Meeting). IsReached ⊥ c (record { near = w.near; peer = peer; out = w.out; back = w.back; met = met })) (twice_turned w.met) h.far.reached
+    reached = rw (sym (twice_turned w.met)) h.far.reached
 
-    in_order : (ms : List Meeting) → AllMet (IsInOrder w.near (as_end peer)) ms → AllMet (IsInOrder w.near w.far) ms
+    in_order : (ms : List Meeting) → Each (IsInOrder w.near (as_end peer)) ms → Each (IsInOrder w.near w.far) ms
     in_order [] k = tt
     in_order (m ∷ ms) k = (
-      record { there = subst (λ (xs : List (List ℕ)). IsPrefix xs (w.near.down m.near)) (h.far.taken m.far) k.0.there; back = subst (IsPrefix (w.near.up m.near)) (h.far.given m.far) k.0.back },
+      record { there = rw (sym (h.far.taken m.far)) k.0.there; back = subst (IsPrefix (w.near.up m.near)) (h.far.given m.far) k.0.back },
       in_order ms k.1,
     )
 
@@ -93,7 +94,7 @@ module _ (reads : ReadsSpelled) (rests : SessionLaws) where
         let ends = two reads rests ⊥ c far_joined.near_high (with_peer peer w) reached in
         let all = all_of reads rests ⊥ c far_joined.near_high (with_peer peer w) reached in
         hears (other c.role) c.longest all.held.q w.far.begun (far_high ends all) w.back
-        (live all.held.near_view ends.two.near.stand ends.two.near.begun all.held.p ends.two.far.begun all.held.q ends.two.far.stand ends.two.out ends.two.back (up_in reads rests ⊥ c far_joined.near_high (with_peer peer w) reached up) all.held.near)
+        (all.held.near.live (up_in reads rests ⊥ c far_joined.near_high (with_peer peer w) reached up))
         all.held.near.tags
 
     pub agree : EachMeetsLatest c d w
@@ -114,8 +115,7 @@ module _ (reads : ReadsSpelled) (rests : SessionLaws) where
     near_owes =
         let p = w.near.station.phase in
         subst (λ (n1 : ℕ). Owes p (how_many sabm_in (other d.role) n1 w.out + how_many ua_in (other c.role) c.longest w.back) (how_many disc_in (other d.role) n1 w.out)) far_joined.longest
-        (subst (λ (r : Role). Owes p (how_many sabm_in r c.longest w.out + how_many ua_in (other c.role) c.longest w.back) (how_many disc_in r c.longest w.out)) (sym far_joined.near_role)
-        (lines reads rests ⊥ c far_joined.near_high (with_peer peer w) reached).owes)
+        (rw far_joined.near_role (lines reads rests ⊥ c far_joined.near_high (with_peer peer w) reached).owes)
 
     quiet : (e : Entry) (es : List Entry) → w.back ≡ e ∷ es → sabm_in (frame_of (other c.role) c.longest e.octets) ≡ 1 → numbers (other c.role) c.longest es ≡ []
     quiet e es is one =
@@ -150,8 +150,7 @@ module _ (reads : ReadsSpelled) (rests : SessionLaws) where
       → IsOrderly (Unit {0}) (frame_of (other c.role) c.longest e.octets)
   fine c d near_joined far_joined w h e es is =
       let far : how_many frmr_in d.role d.longest w.back ≡ 0 = no_frmr d c far_joined near_joined (swapped w) (both_swapped c d near_joined far_joined w h) in
-      let none : how_many frmr_in (other c.role) c.longest w.back ≡ 0 = subst (λ (n1 : ℕ). how_many frmr_in (other c.role) n1 w.back ≡ 0) (sym far_joined.longest)
-      (subst (λ (r : Role). how_many frmr_in r d.longest w.back ≡ 0) (sym far_joined.far_role) far)
+      let none : how_many frmr_in (other c.role) c.longest w.back ≡ 0 = rw far_joined.longest (rw far_joined.far_role far)
       in
       let front = ap (how_many frmr_in (other c.role) c.longest) is in
       let odd = subst (NoneOdd (other c.role) c.longest) is (none_odd c d near_joined far_joined w h) in

@@ -2,7 +2,7 @@
 use Rattle.std.specs.Prelude.{◌≡◌, ◌≤◌, ◌⊎◌, ℕ, List, [], ◌∷◌, length, Option}
 use Rattle.x25_window.specs.code.Modulo.{resolved}
 use Rattle.x25_line.specs.{laws.InWindow.{IsPrefix}, laws.Said.{Carried, Tells}, laws.Sessions.{Meeting}}
-use Rattle.x25_line.specs.{laws.SessionClaims.{AllMet, SomeMet, InStep}, laws.Peer.{Peer}, laws.PeerSessions.{In}}
+use Rattle.x25_line.specs.{laws.SessionClaims.{Each, SomeMet, InStep}, laws.Peer.{Peer}, laws.PeerSessions.{In}}
 use Rattle.x25_line.specs.laws.Ends.{Letter, Ends, near_now, IsReached}
 
 abbrev pub OfAnyTwoEnds : (Ends → Type 0) → Type 0
@@ -23,10 +23,10 @@ MetInOrder near_of far_of m = InOrder (near_of m.near) (far_of m.far) × InOrder
 -- other than the latest of the other end (`latest`); and an N(R) that comes to it is valid (`valid`).
 pub record KeepSessions (w : Ends) : Type 0 where
   pub step : InStep w.two.met
-  pub order : AllMet (MetInOrder w.near_of w.far_of) w.two.met
+  pub order : Each (MetInOrder w.near_of w.far_of) w.two.met
   pub near_unmet : (n : ℕ) → ((w.near_of n).taken ≡ []) ⊎ SomeMet (λ (m : Meeting). m.near ≡ n) w.two.met
   pub far_unmet : (n : ℕ) → ((w.far_of n).taken ≡ []) ⊎ SomeMet (λ (m : Meeting). m.far ≡ n) w.two.met
   pub latest : w.two.near.stand ≡ In
-      → AllMet (λ (m : Meeting). m.near ≡ w.two.near.begun → m.far ≡ w.two.far.begun) w.two.met
+      → Each (λ (m : Meeting). m.near ≡ w.two.near.begun → m.far ≡ w.two.far.begun) w.two.met
   pub valid : w.two.near.stand ≡ In → (e : Letter) (rest : List Letter) (carried : Option Carried) (nr : ℕ)
       → w.two.back ≡ e ∷ rest → e.said ≡ Tells carried nr → resolved (near_now w).acked nr ≤ (near_now w).sent

@@ -2,7 +2,7 @@
 -- A letter on the line is what the rules look at in a frame, and the session in which it was sent, which no end reads.
 -- Each move is of the near end, or of the line to it. The far end's moves are those of the two swapped.
 use Rattle.std.specs.Prelude.{◌≡◌, ◌+◌, ℕ, zero, suc, Bool, true, false, List, [], ◌∷◌, ◌++◌, map, remove, Option}
-use Rattle.x25_line.specs.laws.Said.{Said, Carried, Tells, Sabm, Disc, Ua, Else, Odd}
+use Rattle.x25_line.specs.laws.Said.{Said, Carried, Tells, Sabm, Disc, Ua, Else, Odd, sabm_of, ua_of, disc_of}
 use Rattle.x25_line.specs.{laws.Sessions.{Meeting, turned}, laws.Peer.{Peer, fresh_peer, MaySay, MayMake}}
 use Rattle.x25_line.specs.laws.PeerSessions.{Stand, Out, Asking, In, put_for}
 
@@ -30,18 +30,6 @@ abbrev pub swapped : Two → Two
 swapped w = record { near = w.far; far = w.near; out = w.back; back = w.out; met = map turned w.met }
 
 -- ---- what is on a line
-
-abbrev pub sabm_in : Said → ℕ
-sabm_in Sabm = 1
-sabm_in said = 0
-
-abbrev pub ua_in : Said → ℕ
-ua_in Ua = 1
-ua_in said = 0
-
-abbrev pub disc_in : Said → ℕ
-disc_in Disc = 1
-disc_in said = 0
 
 abbrev pub how_many : (Said → ℕ) → List Letter → ℕ
 how_many kind [] = 0
@@ -81,9 +69,9 @@ spoilt (e ∷ es) (suc i) = e ∷ spoilt es i
 -- each SABM of the other end there was sent in the other's present session, or since it ended. (The last follows where
 -- the other end never begins a session by a SABM that crossed its own.)
 pub record IsPatient (w : Two) : Type 0 where
-  pub sabm : how_many sabm_in w.out ≡ 0
-  pub disc : how_many disc_in w.out ≡ 0
-  pub ua : how_many ua_in w.back ≡ 0
+  pub sabm : how_many sabm_of w.out ≡ 0
+  pub disc : how_many disc_of w.out ≡ 0
+  pub ua : how_many ua_of w.back ≡ 0
   pub crossing : AreOf w.far.begun w.back
 
 -- What the near end may do without an N(R), or the line to it; and what it hears or passes over.

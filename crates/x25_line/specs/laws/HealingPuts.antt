@@ -1,9 +1,9 @@
 -- Healing while packets are handed down: both ends fire, and then what is on the line comes and packets are put, in any
 -- order, while nothing is lost.
-use Rattle.std.specs.Prelude.{◌≡◌, ◌<◌, ◌⊎◌, true, false, List, [], ◌∷◌}
+use Rattle.std.specs.Prelude.{◌≡◌, ◌<◌, ℕ, true, false, List, [], ◌∷◌}
 use Rattle.x25_link.specs.{Station.{Settings, LinkStation, is_up, is_busy}, Link.{timer_runs}, laws.RestLaw.{IsAtRest}}
-use Rattle.x25_line.specs.{laws.Stations.{Act, Put, Deliver, T1, Event, Near, Far}, laws.StationClaims.{AreJoined}}
-use Rattle.x25_line.specs.laws.Sessions.{SessionEnd, Sessions, from_nothing, from_set_up, AreTimely, happens, run}
+use Rattle.x25_line.specs.laws.Stations.{Act, Put, Deliver, T1, Event, Near, Far}
+use Rattle.x25_line.specs.{laws.Sessions.{Sessions, happens, run}, laws.SessionClaims.{Each, Throughout}}
 
 -- ---- deliveries and puts
 
@@ -12,14 +12,10 @@ IsDeliverOrPut Deliver = Unit {0}
 IsDeliverOrPut (Put packet) = Unit {0}
 IsDeliverOrPut act = ⊥
 
+-- the front octets come at either end, or a packet is handed down there
 abbrev pub IsDeliveryOrPut : Event → Type 0
 IsDeliveryOrPut (Near act) = IsDeliverOrPut act
 IsDeliveryOrPut (Far act) = IsDeliverOrPut act
-
--- the front octets come at either end, or a packet is handed down there, in any order
-abbrev pub AreDeliveriesAndPuts : List Event → Type 0
-AreDeliveriesAndPuts [] = Unit {0}
-AreDeliveriesAndPuts (e ∷ es) = IsDeliveryOrPut e × AreDeliveriesAndPuts es
 
 -- ---- neither end is busy
 
@@ -43,10 +39,10 @@ SessionsFreeThroughout c d (e ∷ es) w = FreeAt e w.near.station w.far.station
 -- ---- healing
 
 -- An end is Up, and isn't busy. Where its timer T1 runs, it has tries left.
-pub record SessionMayHeal (c : Settings) (e : SessionEnd) : Type 0 where
-  pub up : is_up e.station.phase ≡ true
-  pub free : is_busy e.station ≡ false
-  pub tries : timer_runs e.station.phase e.station ≡ true → e.station.tries < c.retries
+pub record LinkMayHeal (retries : ℕ) (s : LinkStation) : Type 0 where
+  pub up : is_up s.phase ≡ true
+  pub free : is_busy s ≡ false
+  pub tries : timer_runs s.phase s ≡ true → s.tries < retries
 
 -- Both ends are at rest, in the same sessions as before, and all that was handed down in these, then and since, has
 -- been handed up at the other end.
@@ -61,11 +57,8 @@ pub record SessionsHaveArrived (w v : Sessions) : Type 0 where
 -- Both ends are Up and neither is busy, with tries left where T1 runs, and nothing is on the line. Both fire, and then
 -- all that is on the line comes, while packets are put at either end, until nothing is on the line.
 abbrev pub PutsHealSessions : Type 0
-PutsHealSessions =
-    (c d : Settings) → AreJoined c d → (begin : Sessions) → (begin ≡ from_nothing) ⊎ (begin ≡ from_set_up)
-    → (events : List Event) → AreTimely c d events begin
-    → (let w = run c d events begin in w.out ≡ [] → w.back ≡ [] → SessionMayHeal c w.near
-    → SessionMayHeal d w.far
-    → (more : List Event) → AreDeliveriesAndPuts more
+PutsHealSessions = Throughout (λ (c d : Settings) (w : Sessions).
+    w.out ≡ [] → w.back ≡ [] → LinkMayHeal c.retries w.near.station → LinkMayHeal d.retries w.far.station
+    → (more : List Event) → Each IsDeliveryOrPut more
     → (let fired = run c d (Near T1 ∷ Far T1 ∷ []) w in SessionsFreeThroughout c d more fired
     → (let v = run c d more fired in v.out ≡ [] → v.back ≡ [] → SessionsHaveArrived w v)))

@@ -1,9 +1,10 @@
 -- What holds of a station and any peer, as long as the station doesn't note LinkUp, by which the link would be set up
 -- anew.
-use Rattle.std.specs.Prelude.{◌≡◌, ◌≤◌, true, false, List, [], ◌∷◌, length, take}
+use Rattle.std.specs.Prelude.{◌≡◌, ◌≤◌, true, false, length, take}
 use Rattle.x25_link.specs.{declared.phase.Reason.{Reason}, declared.phase.Reason.TheVariants.{FrmrSent}}
 use Rattle.x25_link.specs.{Station.{Settings}, Link.{is_idle}}
 use Rattle.x25_line.specs.{laws.InWindow.{IsPrefix}, laws.PeerJoined.{Joined, IsReached}, laws.Tape.{IsSilent}}
+use Rattle.x25_line.specs.laws.SessionClaims.{Each}
 
 -- whatever happens, with any peer that keeps the rules of `Peer`
 abbrev pub WithAnyPeer : (Joined → Type 0) → Type 0
@@ -37,10 +38,6 @@ abbrev pub IsNoFrmr : Reason → Type 0
 IsNoFrmr FrmrSent = ⊥
 IsNoFrmr reason = Unit {0}
 
-abbrev pub NoneIsFrmr : List Reason → Type 0
-NoneIsFrmr [] = Unit {0}
-NoneIsFrmr (reason ∷ reasons) = IsNoFrmr reason × NoneIsFrmr reasons
-
 -- the station never left Up for a fault of the peer, which it answers by FRMR
 abbrev pub FindsNoFault : Joined → Type 0
-FindsNoFault w = NoneIsFrmr w.near.reasons
+FindsNoFault w = Each IsNoFrmr w.near.reasons

@@ -2,7 +2,7 @@
 use Rattle.std.specs.Prelude.{◌≡◌, ◌≤◌, ◌⊎◌, ℕ, true, Result, Ok, Err}
 use Rattle.x25_frame.specs.{Frame.{PlainFrame, frmr}, declared.error.FrameError.{FrameError}}
 use Rattle.x25_link.specs.{Station.{Settings, is_up}, Link.{is_idle}}
-use Rattle.x25_line.specs.{laws.Sessions.{Meeting, Sessions, how_many}, laws.SessionClaims.{AllMet, SomeMet}}
+use Rattle.x25_line.specs.{laws.Sessions.{Meeting, Sessions, how_many}, laws.SessionClaims.{Each, SomeMet}}
 use Rattle.x25_line.specs.laws.PeerSessions.{PeerSessions, IsReached, In, now, both_ends}
 
 -- whatever happens, with any peer that keeps the rules of `Peer` and of set-up
@@ -29,8 +29,8 @@ IdleHasArrived c w = is_idle w.near.station ≡ true
 -- the session of an end that is in one meets no other than the latest of the other end
 pub record EachMeetsLatest (c : Settings) (w : PeerSessions) : Type 0 where
   pub near : is_up w.near.station.phase ≡ true
-      → AllMet (λ (m : Meeting). m.near ≡ w.near.begun → m.far ≡ w.peer.begun) w.met
-  pub peer : w.peer.stand ≡ In → AllMet (λ (m : Meeting). m.far ≡ w.peer.begun → m.near ≡ w.near.begun) w.met
+      → Each (λ (m : Meeting). m.near ≡ w.near.begun → m.far ≡ w.peer.begun) w.met
+  pub peer : w.peer.stand ≡ In → Each (λ (m : Meeting). m.far ≡ w.peer.begun → m.near ≡ w.near.begun) w.met
 
 abbrev pub frmr_in : Result PlainFrame FrameError → ℕ
 frmr_in (Ok (frmr f why)) = 1

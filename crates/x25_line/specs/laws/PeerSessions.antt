@@ -3,18 +3,16 @@
 -- the station's as it notes LinkUp, the peer's by its own rules, which stand here beside those of `Peer`. ITU-T X.25
 -- (10/96), sections 2.4.4 and 2.4.8.1; docs/PEER.md has the rules in words.
 use Rattle.std.specs.Prelude.{◌≡◌, ◌⊎◌, ℕ, suc, ◌==◌, Bool, true, false, if◌then◌else◌, List, [], ◌∷◌, ◌++◌, remove}
-use Rattle.std.specs.Prelude.{Some, Result, Ok, Err}
+use Rattle.std.specs.Prelude.{Some, Result, Ok}
 use Rattle.x25_bits.specs.declared.role.Role.{Role}
-use Rattle.x25_frame.specs.{Frame.{PlainFrame, sabm, disc, ua, dm, frmr}, Reading.{frame_of}}
+use Rattle.x25_frame.specs.{Frame.{PlainFrame, sabm, disc, ua}, Reading.{frame_of}}
 use Rattle.x25_frame.specs.declared.error.FrameError.{FrameError}
-use Rattle.x25_frame.specs.declared.error.FrameError.TheVariants.{Short, BadFcs, BadAddress, Undefined}
-use Rattle.x25_frame.specs.declared.error.FrameError.TheVariants.{NoInfoAllowed, TooLong}
 use Rattle.x25_link.specs.{declared.phase.Phase.TheVariants.{Down, Waiting}, Station.{Settings, with_nothing}}
 use Rattle.x25_link.specs.Hearing.{other}
 use Rattle.x25_line.specs.{laws.Stations.{Act, T1, is_visible}, laws.StationClaims.{number_in}}
 use Rattle.x25_line.specs.laws.Sessions.{Entry, SessionEnd, Meeting, Sessions, acts, heard, replaced, from_nothing}
-use Rattle.x25_line.specs.laws.Sessions.{from_set_up, sabm_in, ua_in, disc_in, how_many}
-use Rattle.x25_line.specs.laws.Peer.{Peer, fresh_peer}
+use Rattle.x25_line.specs.{laws.Sessions.{from_set_up, sabm_in, ua_in, disc_in, how_many}, laws.SessionClaims.{Each}}
+use Rattle.x25_line.specs.{laws.Peer.{Peer, fresh_peer}, laws.Said.{Said, Else, Odd as OddSaid, said}}
 use Rattle.x25_line.specs.laws.Peer as once
 
 -- A peer is out of a session, or awaits the UA to its SABM, or is in a session.
@@ -86,16 +84,10 @@ pub record IsPatient (c : Settings) (w : PeerSessions) : Type 0 where
 
 -- DM, FRMR, and octets that read as no frame. `Odd` is that of `Peer`: it holds where it may send what is answered by
 -- FRMR.
-abbrev pub IsFree : Type 0 → Result PlainFrame FrameError → Type 0
-IsFree Odd (Ok (dm f)) = Unit {0}
-IsFree Odd (Ok (frmr f why)) = Unit {0}
-IsFree Odd (Ok frame) = ⊥
-IsFree Odd (Err Short) = Unit {0}
-IsFree Odd (Err BadFcs) = Unit {0}
-IsFree Odd (Err BadAddress) = Unit {0}
-IsFree Odd (Err (Undefined control)) = Odd
-IsFree Odd (Err (NoInfoAllowed control)) = Odd
-IsFree Odd (Err TooLong) = Odd
+abbrev pub IsFree : Type 0 → Said → Type 0
+IsFree Odd Else = Unit {0}
+IsFree Odd OddSaid = Odd
+IsFree Odd other = ⊥
 
 -- Octets that it may send unasked, by what they read as. In: those with an N(R) in a session alone, by the rules of
 -- `Peer` (section 2.4.5). Leaves: it leaves its session as it sends SABM or DISC (sections 2.4.4.1 and 2.4.4.3).
@@ -105,7 +97,7 @@ pub data MaySend (Odd : Type 0) (c : Settings) (w : PeerSessions) (read : Result
       → once.MaySend Odd (now w.peer) read q → MaySend Odd c w read (with_now q w.peer)
   asks : (p : Bool) → read ≡ Ok (sabm p) → IsPatient c w → MaySend Odd c w read (stands Asking w.peer)
   closes : (p : Bool) → read ≡ Ok (disc p) → MaySend Odd c w read (stands Out w.peer)
-  free : IsFree Odd read → MaySend Odd c w read w.peer
+  free : IsFree Odd (said read) → MaySend Odd c w read w.peer
 
 -- Octets that come to it, by what they read as. It may pass over anything, hears and takes by the rules of `Peer` in a
 -- session alone, and begins one where it takes the UA that it awaits.
@@ -125,9 +117,8 @@ pub data MayAnswer (p : PeerEnd) (read : Result PlainFrame FrameError) : PeerEnd
 
 -- each SABM was sent in this session, or since it ended
 abbrev pub AllAskedIn : Role → ℕ → ℕ → List Entry → Type 0
-AllAskedIn from n1 session [] = Unit {0}
-AllAskedIn from n1 session (e ∷ es) = ((sabm_in (frame_of from n1 e.octets) ≡ 0) ⊎ (e.session ≡ session))
-    × AllAskedIn from n1 session es
+AllAskedIn from n1 session es =
+    Each (λ (e : Entry). (sabm_in (frame_of from n1 e.octets) ≡ 0) ⊎ (e.session ≡ session)) es
 
 -- T1 is longer than SABM and its UA are on the line, so that the line has brought too what the peer sent before it
 -- answered: none of its SABMs is of an earlier session.
@@ -149,6 +140,30 @@ entry p octets = record { session = p.begun; octets = octets }
 abbrev pub heard_by : PeerEnd → Result PlainFrame FrameError → Entry → List Meeting → List Meeting
 heard_by p read e met = heard (is_in p.stand) (number_in read) (record { near = e.session; far = p.begun }) met
 
+-- of the peer's link, and of the line to it
+pub data PeerHappens (Odd : Type 0) (c : Settings) (w : PeerSessions) : PeerSessions → Type 0 where
+  -- it leaves its session, or gives up, without a frame
+  Leaves : PeerHappens Odd c w (record w { peer = stands Out w.peer })
+  -- it sends octets unasked
+  Sends : (octets : List ℕ) (q : PeerEnd) → MaySend Odd c w (frame_of (other c.role) c.longest octets) q
+      → PeerHappens Odd c w (record w { peer = q; back = w.back ++ entry q octets ∷ [] })
+  -- the front octets come to it
+  Hears : (e : Entry) (rest : List Entry) (q : PeerEnd) → w.out ≡ e ∷ rest
+      → MayHear w.peer (frame_of c.role c.longest e.octets) q
+      → PeerHappens Odd c w (record w {
+        peer = q;
+        out = rest;
+        met = heard_by w.peer (frame_of c.role c.longest e.octets) e w.met;
+      })
+  -- it answers them by UA
+  Answers : (e : Entry) (rest : List Entry) (octets : List ℕ) (f : Bool) (q : PeerEnd) → w.out ≡ e ∷ rest
+      → frame_of (other c.role) c.longest octets ≡ Ok (ua f) → MayAnswer w.peer (frame_of c.role c.longest e.octets) q
+      → PeerHappens Odd c w (record w { peer = q; out = rest; back = w.back ++ entry q octets ∷ [] })
+  -- the octets at this place of the line to the peer are lost, or others come in their place
+  Loses : (place : ℕ) → PeerHappens Odd c w (record w { out = remove w.out place })
+  Damages : (place : ℕ) (octets : List ℕ) → is_visible octets ≡ true
+      → PeerHappens Odd c w (record w { out = replaced w.out place octets })
+
 pub data Happens (Odd : Type 0) (c : Settings) (w : PeerSessions) : PeerSessions → Type 0 where
   -- The station acts, by its definition: a packet is handed down, octets come, T1 runs out, connect, disconnect,
   -- abandon. Or octets on the line to it are lost or visibly damaged.
@@ -158,27 +173,7 @@ pub data Happens (Odd : Type 0) (c : Settings) (w : PeerSessions) : PeerSessions
       → Happens Odd c w (record w {
         peer = with_now (record (now w.peer) { given = (now w.peer).given ++ packet ∷ [] }) w.peer;
       })
-  -- it leaves its session, or gives up, without a frame
-  Leaves : Happens Odd c w (record w { peer = stands Out w.peer })
-  -- it sends octets unasked
-  Sends : (octets : List ℕ) (q : PeerEnd) → MaySend Odd c w (frame_of (other c.role) c.longest octets) q
-      → Happens Odd c w (record w { peer = q; back = w.back ++ entry q octets ∷ [] })
-  -- the front octets come to it
-  Hears : (e : Entry) (rest : List Entry) (q : PeerEnd) → w.out ≡ e ∷ rest
-      → MayHear w.peer (frame_of c.role c.longest e.octets) q
-      → Happens Odd c w (record w {
-        peer = q;
-        out = rest;
-        met = heard_by w.peer (frame_of c.role c.longest e.octets) e w.met;
-      })
-  -- it answers them by UA
-  Answers : (e : Entry) (rest : List Entry) (octets : List ℕ) (f : Bool) (q : PeerEnd) → w.out ≡ e ∷ rest
-      → frame_of (other c.role) c.longest octets ≡ Ok (ua f) → MayAnswer w.peer (frame_of c.role c.longest e.octets) q
-      → Happens Odd c w (record w { peer = q; out = rest; back = w.back ++ entry q octets ∷ [] })
-  -- the octets at this place of the line to the peer are lost, or others come in their place
-  Loses : (place : ℕ) → Happens Odd c w (record w { out = remove w.out place })
-  Damages : (place : ℕ) (octets : List ℕ) → is_visible octets ≡ true
-      → Happens Odd c w (record w { out = replaced w.out place octets })
+  Theirs : (v : PeerSessions) → PeerHappens Odd c w v → Happens Odd c w v
 
 -- nothing was set up yet, or both ends were just set up, each in its first session
 abbrev pub begin_with : Stand → Sessions → PeerSessions

@@ -34,3 +34,17 @@ said (Err Short) = Else
 said (Err BadFcs) = Else
 said (Err BadAddress) = Else
 said (Err error) = Odd
+
+-- one of a kind, or none
+
+abbrev pub sabm_of : Said → ℕ
+sabm_of Sabm = 1
+sabm_of said = 0
+
+abbrev pub ua_of : Said → ℕ
+ua_of Ua = 1
+ua_of said = 0
+
+abbrev pub disc_of : Said → ℕ
+disc_of Disc = 1
+disc_of said = 0

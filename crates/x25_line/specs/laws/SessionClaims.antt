@@ -17,9 +17,9 @@ Throughout Holds =
     (c d : Settings) → AreJoined c d → (begin : Sessions) → (begin ≡ from_nothing) ⊎ (begin ≡ from_set_up)
     → (events : List Event) → AreTimely c d events begin → Holds c d (run c d events begin)
 
-abbrev pub AllMet : (Meeting → Type 0) → List Meeting → Type 0
-AllMet P [] = Unit {0}
-AllMet P (m ∷ ms) = P m × AllMet P ms
+abbrev pub Each : {T : Type 0} → (T → Type 0) → List T → Type 0
+Each P [] = Unit {0}
+Each P (x ∷ xs) = P x × Each P xs
 
 abbrev pub SomeMet : (Meeting → Type 0) → List Meeting → Type 0
 SomeMet P [] = ⊥
@@ -52,7 +52,7 @@ pub record IsInOrder (near far : SessionEnd) (m : Meeting) : Type 0 where
   pub back : IsPrefix (near.up m.near) (far.down m.far)
 
 abbrev pub MetAreInOrder : Settings → Settings → Sessions → Type 0
-MetAreInOrder c d w = AllMet (IsInOrder w.near w.far) w.met
+MetAreInOrder c d w = Each (IsInOrder w.near w.far) w.met
 
 -- a session that meets none hands nothing up
 pub record UnmetHandNothingUp (c d : Settings) (w : Sessions) : Type 0 where
@@ -61,7 +61,7 @@ pub record UnmetHandNothingUp (c d : Settings) (w : Sessions) : Type 0 where
 
 -- sessions that meet were begun, and none that isn't begun has lists
 pub record OnlyBegunHaveLists (c d : Settings) (w : Sessions) : Type 0 where
-  pub met : AllMet (λ (m : Meeting). (m.near ≤ w.near.begun) × (m.far ≤ w.far.begun)) w.met
+  pub met : Each (λ (m : Meeting). (m.near ≤ w.near.begun) × (m.far ≤ w.far.begun)) w.met
   pub near : (n : ℕ) → w.near.begun < n → (w.near.down n ≡ []) × (w.near.up n ≡ [])
   pub far : (n : ℕ) → w.far.begun < n → (w.far.down n ≡ []) × (w.far.up n ≡ [])
 
@@ -73,9 +73,8 @@ octets_of (e ∷ es) = e.octets ∷ octets_of es
 
 -- each frame with an N(R) was sent in this session
 abbrev pub AllOf : Role → ℕ → ℕ → List Entry → Type 0
-AllOf from n1 session [] = Unit {0}
-AllOf from n1 session (e ∷ es) = ((number_in (frame_of from n1 e.octets) ≡ None) ⊎ (e.session ≡ session))
-    × AllOf from n1 session es
+AllOf from n1 session es =
+    Each (λ (e : Entry). (number_in (frame_of from n1 e.octets) ≡ None) ⊎ (e.session ≡ session)) es
 
 -- two stations of a link that was set up once
 pub record IsSession (c d : Settings) (v : Stations) : Type 0 where
@@ -122,8 +121,8 @@ pub record EachHearsLatest (c d : Settings) (w : Sessions) : Type 0 where
 -- the session of an end that is Up meets no other than the latest of the other end
 pub record EachMeetsLatest (c d : Settings) (w : Sessions) : Type 0 where
   pub near : is_up w.near.station.phase ≡ true
-      → AllMet (λ (m : Meeting). m.near ≡ w.near.begun → m.far ≡ w.far.begun) w.met
-  pub far : is_up w.far.station.phase ≡ true → AllMet (λ (m : Meeting). m.far ≡ w.far.begun
+      → Each (λ (m : Meeting). m.near ≡ w.near.begun → m.far ≡ w.far.begun) w.met
+  pub far : is_up w.far.station.phase ≡ true → Each (λ (m : Meeting). m.far ≡ w.far.begun
       → m.near ≡ w.near.begun) w.met
 
 -- Where an end is idle, and the other is Up too or met its session, all that was handed down in this session was handed

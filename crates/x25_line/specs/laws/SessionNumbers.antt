@@ -1,15 +1,15 @@
 -- The window machine behind the two sessions that stand, as it goes on from event to event over set-up and re-set-up. A
 -- frame is given its whole numbers as it is put on the line, and keeps them as long as it is there. ITU-T X.25 (10/96),
 -- sections 2.3.2, 2.4.4 and 2.4.5.
-use Rattle.std.specs.Prelude.{◌≡◌, ◌⊎◌, ℕ, zero, suc, Bool, true, false, if◌then◌else◌, List, [], ◌∷◌, ◌++◌, length}
+use Rattle.std.specs.Prelude.{◌≡◌, ◌⊎◌, ℕ, zero, suc, Bool, true, false, if◌then◌else◌, List, [], ◌∷◌, length}
 use Rattle.std.specs.Prelude.{drop, Option, Some, None, Result, Ok, Err}
 use Rattle.x25_bits.specs.declared.role.Role.{Role}
 use Rattle.x25_frame.specs.{Frame.{PlainFrame, sabm}, Reading.{frame_of}, declared.error.FrameError.{FrameError}}
 use Rattle.x25_link.specs.{declared.phase.Phase.{Phase}, declared.phase.Phase.TheVariants.{Waiting, Up, Closed}}
 use Rattle.x25_link.specs.{Station.{Settings, LinkStation, is_up}, Hearing.{other}}
 use Rattle.x25_line.specs.{laws.Line.{Line, swapped as line_swapped}, laws.Stations.{Act, Deliver, Event, Near, Far}}
-use Rattle.x25_line.specs.laws.StationClaims.{AreJoined, numbered_on, IsBehind}
-use Rattle.x25_line.specs.laws.WholeNumbers.{given, place_of, taken_out, place_taken, counted, machine_at_start}
+use Rattle.x25_line.specs.laws.StationClaims.{AreJoined, IsBehind}
+use Rattle.x25_line.specs.laws.WholeNumbers.{place_of, place_taken, machine_after, machine_at_start}
 use Rattle.x25_line.specs.laws.Sessions.{Entry, Sessions, ua_in, acts, happens, run, swapped, from_nothing, from_set_up}
 use Rattle.x25_line.specs.{laws.Sessions.{AreTimely}, laws.SessionClaims.{octets_of, Stands}}
 
@@ -71,19 +71,6 @@ place_to_hear phase from n1 line i = None
 abbrev pub gone_at : Settings → Sessions → Option ℕ → Option ℕ
 gone_at c w None = None
 gone_at c w (Some i) = place_to_hear w.near.station.phase (other c.role) c.longest (octets_of w.back) i
-
--- The machine once its near end has acted: `station` is the station then, `put` are the octets that it has put on the
--- line, and `gone` is the place of the frame that was taken off the line to it.
-abbrev pub machine_after : Settings → LinkStation → List (List ℕ) → Option ℕ → Line (List ℕ) → Line (List ℕ)
-machine_after c station put gone l =
-    let e = counted c.window station l.near in
-    record {
-      near = e;
-      far = l.far;
-      out = l.out
-          ++ given e.acked (length e.taken) l.near.sent (numbered_on c.role c.longest put);
-      back = taken_out gone l.back;
-    }
 
 abbrev pub standing_after : Settings → LinkStation → List (List ℕ) → Option ℕ → Standing → Standing
 standing_after c station put gone s = record {

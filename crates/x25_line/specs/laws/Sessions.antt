@@ -2,9 +2,9 @@
 -- notes LinkUp. Each act is of the near end, or of the line to it. The far end's acts are those of the two ends
 -- swapped.
 use Rattle.std.specs.Prelude.{◌≡◌, ℕ, zero, suc, ◌+◌, ◌==◌, nat_le, Bool, true, false, if◌then◌else◌, List, [], ◌∷◌}
-use Rattle.std.specs.Prelude.{◌++◌, length, map, remove, Option, Some, None, option_to_list, Result, Ok, Err}
+use Rattle.std.specs.Prelude.{◌++◌, length, map, remove, Option, Some, None, option_to_list, Result}
 use Rattle.x25_bits.specs.declared.role.Role.{Role}
-use Rattle.x25_frame.specs.{Frame.{PlainFrame, sabm, disc, ua}, Spelling.{spelling_of}, Reading.{frame_of}}
+use Rattle.x25_frame.specs.{Frame.{PlainFrame}, Spelling.{spelling_of}, Reading.{frame_of}}
 use Rattle.x25_frame.specs.declared.error.FrameError.{FrameError}
 use Rattle.x25_link.specs.{declared.error.LinkError.{LinkError}, declared.phase.Phase.{Phase}}
 use Rattle.x25_link.specs.declared.phase.Phase.TheVariants.{Down, Up, Waiting}
@@ -13,7 +13,7 @@ use Rattle.x25_link.specs.Link.{take_step, put_step, put_refusal, timer_step, ti
 use Rattle.x25_link.specs.Link.{connect_refusal, disconnect_step, disconnect_refusal, abandon_step}
 use Rattle.x25_line.specs.laws.Stations.{Act, Put, Deliver, T1, Connect, Disconnect, Abandon, Probe, Lose, Damage}
 use Rattle.x25_line.specs.{laws.Stations.{Event, Near}, laws.Stations.{Far, is_visible}}
-use Rattle.x25_line.specs.laws.StationClaims.{number_in}
+use Rattle.x25_line.specs.{laws.StationClaims.{number_in}, laws.Said.{said, sabm_of, ua_of, disc_of}}
 
 -- octets on the line, and the session in which they were sent
 pub record Entry : Type 0 where
@@ -156,19 +156,13 @@ from_set_up = start_with Up 1
 -- ---- timer T1 while UA is awaited
 
 abbrev pub sabm_in : Result PlainFrame FrameError → ℕ
-sabm_in (Ok (sabm p)) = 1
-sabm_in (Ok frame) = 0
-sabm_in (Err e) = 0
+sabm_in read = sabm_of (said read)
 
 abbrev pub ua_in : Result PlainFrame FrameError → ℕ
-ua_in (Ok (ua f)) = 1
-ua_in (Ok frame) = 0
-ua_in (Err e) = 0
+ua_in read = ua_of (said read)
 
 abbrev pub disc_in : Result PlainFrame FrameError → ℕ
-disc_in (Ok (disc p)) = 1
-disc_in (Ok frame) = 0
-disc_in (Err e) = 0
+disc_in read = disc_of (said read)
 
 -- how many frames of a kind are among the octets from an end in this role
 abbrev pub how_many : (Result PlainFrame FrameError → ℕ) → Role → ℕ → List Entry → ℕ

@@ -50,10 +50,10 @@ abbrev pub taken_out : Option ℕ → List (Frame (List ℕ)) → List (Frame (L
 taken_out None frames = frames
 taken_out (Some n) frames = remove frames n
 
--- what is left where octets are taken off the line at a place, or at none
-abbrev pub left_at : Role → ℕ → List (List ℕ) → Option ℕ → List (Frame (List ℕ)) → List (Frame (List ℕ))
-left_at from n1 line None frames = frames
-left_at from n1 line (Some i) frames = taken_out (place_of from n1 line i) frames
+-- which of these is gone where octets are taken off the line at a place, or at none
+abbrev pub gone_from : Role → ℕ → List (List ℕ) → Option ℕ → Option ℕ
+gone_from from n1 line None = None
+gone_from from n1 line (Some i) = place_of from n1 line i
 
 -- where an act takes octets off the line to its end: the front comes, or one is lost, or damaged, by which it is no
 -- frame any more
@@ -69,24 +69,23 @@ place_taken act = None
 abbrev pub counted : ℕ → LinkStation → Window → Window
 counted k s e = if is_up s.phase then window_of k s else e
 
--- The machine once its near end has acted: `s` is the station then, `put` are the octets that it has put on the line,
--- and `place` is where octets were taken off the line to it, which was `back`.
-abbrev pub went_on : Settings → LinkStation → List (List ℕ) → List (List ℕ) → Option ℕ → Line (List ℕ) → Line (List ℕ)
-went_on c s put back place l =
-    let e = counted c.window s l.near in
+-- The machine once its near end has acted: `station` is the station then, `put` are the octets that it has put on the
+-- line, and `gone` is the place of the frame that was taken off the line to it.
+abbrev pub machine_after : Settings → LinkStation → List (List ℕ) → Option ℕ → Line (List ℕ) → Line (List ℕ)
+machine_after c station put gone l =
+    let e = counted c.window station l.near in
     record {
       near = e;
       far = l.far;
       out = l.out
           ++ given e.acked (length e.taken) l.near.sent (numbered_on c.role c.longest put);
-      back = left_at
-          (other c.role) c.longest back place l.back;
+      back = taken_out gone l.back;
     }
 
 -- the machine once its near end has done this act, in this world
 abbrev pub machine_acts : Settings → Act → Stations → Line (List ℕ) → Line (List ℕ)
-machine_acts c act w l = went_on c (acts c act w).near.station (drop (length w.out) (acts c act w).out) w.back
-    (place_taken act) l
+machine_acts c act w l = machine_after c (acts c act w).near.station (drop (length w.out) (acts c act w).out)
+    (gone_from (other c.role) c.longest w.back (place_taken act)) l
 
 abbrev pub machine_happens : Settings → Settings → Event → Stations → Line (List ℕ) → Line (List ℕ)
 machine_happens c d (Near act) w l = machine_acts c act w l

@@ -1,21 +1,15 @@
 -- The worked rows of a station beside a peer, by computing.
 use Rattle.std.proofs.Common.{◌≡◌, ℕ, true, false, List, [], ◌∷◌, ◌++◌, Result, Ok, sym, subst, refl}
-use Rattle.x25_bits.specs.FrameCheck.{fcs_of, number_of, divided, low_bits, add, divisor}
-use Rattle.x25_bits.specs.FrameCheck.Sealed.{is_sealed}
+use Rattle.x25_bits.specs.{FrameCheck.{fcs_of, number_of, divided, low_bits, add, divisor}, FrameCheck.Sealed.{is_sealed}}
 use Rattle.x25_bits.specs.declared.role.Role.TheVariants.{Dte, Dce}
-use Rattle.x25_frame.specs.Frame.{PlainFrame, info, sabm, ua}
-use Rattle.x25_frame.specs.Reading.{frame_of}
-use Rattle.x25_frame.specs.declared.error.FrameError.{FrameError}
-use Rattle.x25_link.specs.Station.{pumped}
-use Rattle.x25_link.specs.Link.{take_step, timer_step, connect_step}
-use Rattle.x25_line.specs.laws.Sessions.{Entry}
-use Rattle.x25_line.specs.laws.Peer.{Peer, taking, hearing}
-use Rattle.x25_line.specs.laws.Peer as once
-use Rattle.x25_line.specs.laws.PeerSessions.{PeerEnd, Out, Asking, begins, stands, now, with_now, entry, asks, passes_over, hears, takes_ua, takes_sabm}
-use Rattle.x25_station.specs.Config.{link_settings}
-use Rattle.x25_station.specs.Entry.{connect_asked}
-use Rattle.x25_peer.specs.laws.BesideSessions.{BesideSessions, start, followed, heard_here, Connects, Fires, Receives, Damages, LosesThere, Leaves, Sends, Hears, AnswersByUa, IsReached, at_start, goes_on}
+use Rattle.x25_frame.specs.{Frame.{PlainFrame, info, sabm, ua}, Reading.{frame_of}, declared.error.FrameError.{FrameError}}
+use Rattle.x25_link.specs.{Station.{pumped}, Link.{take_step, timer_step, connect_step}}
+use Rattle.x25_line.specs.{laws.Sessions.{Entry}, laws.Peer.{Peer, taking, hearing}}
+use Rattle.x25_line.specs.laws.PeerSessions.{Leaves, Sends, Hears, Answers, Loses, PeerEnd, Out, Asking, begins, stands, now, with_now, entry, asks, passes_over, hears, takes_ua, takes_sabm}
+use Rattle.x25_station.specs.{Config.{link_settings}, Entry.{connect_asked}}
+use Rattle.x25_peer.specs.laws.BesideSessions.{BesideSessions, start, followed, heard_here, Connects, Fires, Receives, Damages, Links, IsReached, at_start, goes_on}
 use Rattle.x25_peer.specs.rows.BesideSessionRows.{dte, sabm_octets, sent, LostSabmGoesAgain, DamagedUaIsMissing, LeavingPeerAsks}
+use Rattle.x25_line.specs.laws.Peer as once
 
 -- ---- octets on the line
 
@@ -73,7 +67,7 @@ abbrev answered : BesideSessions → BesideSessions
 answered w = record w { peer = begins w.peer; out = []; back = w.back ++ entry (begins w.peer) ua_octets ∷ [] }
 
 answers : (w : BesideSessions) → w.out ≡ sent 0 sabm_octets ∷ [] → IsReached dte w → IsReached dte (answered w)
-answers w is reached = goes_on w (answered w) reached (AnswersByUa (sent 0 sabm_octets) [] ua_octets true (begins w.peer) is ua_reads (takes_sabm true sabm_reads))
+answers w is reached = goes_on w (answered w) reached (Links _ (Answers (sent 0 sabm_octets) [] ua_octets true (begins w.peer) is ua_reads (takes_sabm true sabm_reads)))
 
 pub lost_sabm_goes_again : LostSabmGoesAgain
 unfolding pumped frame_of is_sealed fcs_of number_of divided low_bits add divisor
@@ -82,7 +76,7 @@ lost_sabm_goes_again =
     let w1 : BesideSessions = connected w0 in
     let r1 : IsReached dte w1 = goes_on w0 w1 at_start (Connects refl) in
     let w2 : BesideSessions = record w1 { out = [] } in
-    let r2 : IsReached dte w2 = goes_on w1 w2 r1 (LosesThere 0) in
+    let r2 : IsReached dte w2 = goes_on w1 w2 r1 (Links _ (Loses 0)) in
     let w3 : BesideSessions = fired w2 in
     let r3 : IsReached dte w3 = goes_on w2 w3 r2 (Fires refl (λ waiting. record { sabm = refl; ua = refl; crossing = tt })) in
     (w3, r3, refl, refl)
@@ -109,7 +103,7 @@ damaged_ua_is_missing =
     let p8 : PeerEnd = with_now x8 w7.peer in
     let w8 : BesideSessions = record w7 { peer = p8; out = []; met = record { near = 1; far = 2 } ∷ [] } in
     let r8 : IsReached dte w8 = goes_on w7 w8 r7
-    (Hears (sent 1 restart_octets) [] p8 refl (hears x8 refl (subst (λ (r : Result PlainFrame FrameError). once.MayHear (now w7.peer) r x8) (sym restart_reads) (true, true, refl, refl)))) in
+    (Links _ (Hears (sent 1 restart_octets) [] p8 refl (hears x8 refl (subst (λ (r : Result PlainFrame FrameError). once.MayHear (now w7.peer) r x8) (sym restart_reads) (true, true, refl, refl))))) in
     (w8, r8, refl, refl, refl)
 
 pub leaving_peer_asks : LeavingPeerAsks
@@ -123,13 +117,13 @@ leaving_peer_asks =
     let w3 : BesideSessions = received w2 (sent 1 ua_octets) [] in
     let r3 : IsReached dte w3 = goes_on w2 w3 r2 (Receives (sent 1 ua_octets) [] refl refl) in
     let w4 : BesideSessions = record w3 { peer = stands Out w3.peer } in
-    let r4 : IsReached dte w4 = goes_on w3 w4 r3 Leaves in
+    let r4 : IsReached dte w4 = goes_on w3 w4 r3 (Links _ Leaves) in
     let w5 : BesideSessions = record w4 { out = []; met = [] } in
-    let r5 : IsReached dte w5 = goes_on w4 w5 r4 (Hears (sent 1 restart_octets) [] w4.peer refl passes_over) in
+    let r5 : IsReached dte w5 = goes_on w4 w5 r4 (Links _ (Hears (sent 1 restart_octets) [] w4.peer refl passes_over)) in
     let w6 : BesideSessions = record w5 { peer = stands Asking w5.peer; back = sent 1 peers_sabm ∷ [] } in
-    let r6 : IsReached dte w6 = goes_on w5 w6 r5 (Sends peers_sabm (stands Asking w5.peer) (asks true peers_sabm_reads (record { sabm = refl; disc = refl; ua = refl }))) in
+    let r6 : IsReached dte w6 = goes_on w5 w6 r5 (Links _ (Sends peers_sabm (stands Asking w5.peer) (asks true peers_sabm_reads (record { sabm = refl; disc = refl; ua = refl })))) in
     let w7 : BesideSessions = received w6 (sent 1 peers_sabm) [] in
     let r7 : IsReached dte w7 = goes_on w6 w7 r6 (Receives (sent 1 peers_sabm) [] refl refl) in
     let w8 : BesideSessions = record w7 { peer = begins w7.peer; out = sent 2 restart_octets ∷ []; met = [] } in
-    let r8 : IsReached dte w8 = goes_on w7 w8 r7 (Hears (sent 2 stations_ua) (sent 2 restart_octets ∷ []) (begins w7.peer) refl (takes_ua refl stations_ua_reads)) in
+    let r8 : IsReached dte w8 = goes_on w7 w8 r7 (Links _ (Hears (sent 2 stations_ua) (sent 2 restart_octets ∷ []) (begins w7.peer) refl (takes_ua refl stations_ua_reads))) in
     (w8, r8, refl, refl, refl, refl, refl, refl)

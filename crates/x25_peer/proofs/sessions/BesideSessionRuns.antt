@@ -1,34 +1,23 @@
 -- All that happens to a station and a peer over sessions, and what holds of it.
-use Rattle.std.proofs.Common.{◌≡◌, ◌⊎◌, inl, inr, ℕ, ◌≤◌, List, [], ◌++◌, length, drop, true, refl, sym, ap, subst, ◌∙◌, arith}
-use Rattle.std.proofs.lemmas.Bool.{and_parts}
+use Rattle.std.proofs.{Common.{◌≡◌, ◌⊎◌, inl, inr, ℕ, ◌≤◌, List, [], ◌++◌, length, drop, true, refl, sym, ap, subst, ◌∙◌, arith}, lemmas.Bool.{and_parts}}
 use Rattle.x25_packet.specs.Packet.{PlainPacket}
 use Rattle.x25_link.specs.Station.{is_up}
-use Rattle.x25_line.specs.laws.Sessions.{Meeting}
-use Rattle.x25_line.specs.laws.SessionClaims.{SomeMet}
-use Rattle.x25_line.specs.laws.PeerSessions.{PeerSessions, In, now, at_start}
-use Rattle.x25_handshakes.specs.laws.Handshake.{At}
-use Rattle.x25_handshakes.specs.laws.PeerLayer.{PeerChannels}
-use Rattle.x25_layer.specs.Layer.{Layer, goes_up}
-use Rattle.x25_layer.specs.laws.Transcript.{Entry, name_of}
-use Rattle.x25_layer.specs.laws.Quiet.{AreNoFaults}
-use Rattle.x25_layer.specs.laws.TwoLayers.{End, started}
-use Rattle.x25_layer.specs.laws.PeerJoined as layer_peer
-use Rattle.x25_layer.specs.laws.PeerClaims as layer_claims
+use Rattle.x25_line.specs.{laws.Sessions.{Meeting}, laws.SessionClaims.{SomeMet}, laws.PeerSessions.{PeerSessions, In, now, at_start}}
+use Rattle.x25_handshakes.specs.{laws.Handshake.{At}, laws.PeerLayer.{PeerChannels}}
+use Rattle.x25_layer.specs.{Layer.{Layer, goes_up}, laws.Transcript.{Entry, name_of}, laws.Quiet.{AreNoFaults}, laws.TwoLayers.{End, started}}
 use Rattle.x25_layer.specs.laws.PeerClaims.{peer_call, peer_stretch, peer_name, of_call, StretchIsInOrder, CallIsInOrder, OpenHaveArrived}
-use Rattle.x25_station.specs.Config.{Settings, link_settings, layer_settings}
-use Rattle.x25_station.specs.Entry.{layer_entries}
-use Rattle.x25_station.specs.laws.ReadLaw.{IsReachedByOctets}
-use Rattle.x25_station.specs.laws.ReadLaw as reached
-use Rattle.x25_peer.specs.laws.BesideSessions.{ReadAs, Own, BesideSessions, their_now, their_layer, start, Happens, Asks, AsksWith, Connects, Disconnects, Probes, Relinks, Fires, Receives, Abandons, Loses, Damages, LosesThere, DamagesThere, Leaves, Sends, Hears, AnswersByUa, LayerDoes, LayerHears, LayerHearsChannel, IsReached}
-use Rattle.x25_peer.specs.laws.BesideSessions as beside
+use Rattle.x25_station.specs.{Config.{Settings, link_settings, layer_settings}, Entry.{layer_entries}, laws.ReadLaw.{IsReachedByOctets}}
+use Rattle.x25_peer.specs.laws.BesideSessions.{ReadAs, Own, BesideSessions, their_now, their_layer, start, Happens, Asks, AsksWith, Connects, Disconnects, Probes, Relinks, Fires, Receives, Abandons, Loses, Damages, Links, LayerDoes, LayerHears, LayerHearsChannel, IsReached}
 use Rattle.x25_peer.specs.laws.BesideSessionClaims.{WithAnyPeer, MeetInStep, IsInOrder, MetAreInOrder, UnmetAreToldNothing, EachMeetsLatest, UpIsLatest, IdleHasArrived, FindsNoError}
-use Rattle.x25_peer.proofs.ReadLemmas.{none_left}
-use Rattle.x25_line.proofs.ends.Meetings.{all_map, all_some}
-use Rattle.x25_peer.proofs.sessions.Meetings.{CanMeet, all_both, met_can_meet, could_meet_some}
-use Rattle.x25_peer.proofs.sessions.SessionLinks.{links_with}
+use Rattle.x25_peer.proofs.{ReadLemmas.{none_left}, sessions.Meetings.{CanMeet, all_both, met_can_meet, could_meet_some}, sessions.SessionLinks.{links_with}}
 use Rattle.x25_peer.proofs.sessions.Standing.{Below, Known, Stands}
 use Rattle.x25_peer.proofs.sessions.StationActs.{asks, asks_with, connects, disconnects, probes, relinks, fires, abandons_it, comes}
-use Rattle.x25_peer.proofs.sessions.PeerActs.{loses, damages, loses_there, damages_there, leaves, sends, hears_it, answers, layer_does, layer_hears, layer_hears_channel}
+use Rattle.x25_peer.proofs.sessions.PeerActs.{loses, damages, theirs, layer_does, layer_hears, layer_hears_channel}
+use Rattle.x25_line.proofs.ends.Meetings.{all_map, all_some}
+use Rattle.x25_layer.specs.laws.PeerJoined as layer_peer
+use Rattle.x25_layer.specs.laws.PeerClaims as layer_claims
+use Rattle.x25_station.specs.laws.ReadLaw as reached
+use Rattle.x25_peer.specs.laws.BesideSessions as beside
 
 forget : (c : Settings) (w : layer_peer.Joined) → IsReachedByOctets c.wide c.role c.long_data c.channels w → layer_peer.IsReached c.role c.long_data c.channels w
 forget c w reached.at_start = layer_peer.at_start
@@ -58,12 +47,7 @@ module _ (below : Below) (c : Settings) (low : 1 ≤ c.window) (high : c.window 
   step_on w v h (Abandons e rest front full) = abandons_it below c low high few w h e rest front full
   step_on w v h (Loses place) = loses below c low high w h place
   step_on w v h (Damages place octets visible) = damages below c low high w h place octets visible
-  step_on w v h (LosesThere place) = loses_there below c low high w h place
-  step_on w v h (DamagesThere place octets visible) = damages_there below c low high w h place octets visible
-  step_on w v h Leaves = leaves below c low high w h
-  step_on w v h (Sends octets q may) = sends below c low high w h octets q may
-  step_on w v h (Hears e rest q front may) = hears_it below c low high w h e rest q front may
-  step_on w v h (AnswersByUa e rest octets f q front is may) = answers below c low high w h e rest octets f q front is may
+  step_on w v h (Links links happens) = theirs below c low high w h links happens
   step_on w v h (LayerDoes deed p octets stand may is configured reads) = layer_does below c low high w h deed p octets stand may is configured reads
   step_on w v h (LayerHears p read behind packets all stand reads waits answered read_all) = layer_hears below c low high w h p read behind packets all stand reads waits answered read_all
   step_on w v h (LayerHearsChannel y p read passed behind packets all stand live has apart reads waits answered read_all) =

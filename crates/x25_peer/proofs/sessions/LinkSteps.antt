@@ -3,30 +3,20 @@ use Rattle.std.proofs.Common.{◌≡◌, ℕ, ◌==◌, ◌≤◌, Ok, List, [],
 use Rattle.std.proofs.lemmas.Bool.{le-leb}
 use Rattle.std.specs.Prelude.{remove}
 use Rattle.x25_frame.specs.Frame.{PlainFrame}
-use Rattle.x25_packet.specs.Packet.{PlainPacket}
-use Rattle.x25_packet.specs.Spelling as packet
-use Rattle.x25_packet.specs.Taking.{read_in}
-use Rattle.x25_given.specs.Given.{PlainGiven, may_give}
-use Rattle.x25_given.specs.Writing.{write}
-use Rattle.x25_link.specs.declared.error.LinkError.{LinkError}
-use Rattle.x25_link.specs.declared.phase.Phase.{Phase}
-use Rattle.x25_link.specs.declared.phase.Phase.TheVariants.{Down, Up, Waiting, Closed}
-use Rattle.x25_link.specs.declared.phase.Reason.TheVariants.{Counts}
-use Rattle.x25_link.specs.Hearing.{Step as LinkStep}
+use Rattle.x25_packet.specs.{Packet.{PlainPacket}, Taking.{read_in}}
+use Rattle.x25_given.specs.{Given.{PlainGiven, may_give}, Writing.{write}}
+use Rattle.x25_link.specs.{declared.error.LinkError.{LinkError}, declared.phase.Phase.{Phase}, declared.phase.Phase.TheVariants.{Down, Up, Waiting, Closed}}
+use Rattle.x25_link.specs.{declared.phase.Reason.TheVariants.{Counts}, Hearing.{Step as LinkStep}}
 use Rattle.x25_link.specs.Station.{Settings as LinkSettings, LinkStation, Side, is_up, with_nothing}
-use Rattle.x25_link.specs.Link.{put_refusal, put_step, take_step, timer_step, connect_step, abandon_step, probe_refusal, relink_step}
-use Rattle.x25_link.specs.laws.NoteLaw.{PutTells}
+use Rattle.x25_link.specs.{Link.{put_refusal, put_step, take_step, timer_step, connect_step, abandon_step, probe_refusal, relink_step}, laws.NoteLaw.{PutTells}}
 use Rattle.x25_link.specs.laws.SetUp.{RelinkIsTwoSteps}
-use Rattle.x25_line.specs.laws.Stations as line
 use Rattle.x25_line.specs.laws.Sessions.{Entry, Meeting, Sessions, acts, after_step, delivered, sent_in, extended, begun_by, unless}
 use Rattle.x25_line.proofs.sessions.SessionSays.{sent_append}
-use Rattle.x25_station.specs.Config.{Settings, link_settings, longest_packet}
-use Rattle.x25_station.specs.Giving.{all_given}
-use Rattle.x25_station.specs.Station.{behind, put_on, all_put}
-use Rattle.x25_station.specs.Step.{Step}
-use Rattle.x25_station.specs.laws.GivenLaw.{AreTaken, PutsGiven, GivesOctets, GivenIsRead}
-use Rattle.x25_station.specs.laws.JoinLaw.{AreAccepted, PutsBehind}
+use Rattle.x25_station.specs.{Config.{Settings, link_settings, longest_packet}, Giving.{all_given}, Station.{behind, put_on, all_put}, Step.{Step}}
+use Rattle.x25_station.specs.{laws.GivenLaw.{AreTaken, PutsGiven, GivesOctets, GivenIsRead}, laws.JoinLaw.{AreAccepted, PutsBehind}}
 use Rattle.x25_station.specs.laws.ReadLaw.{AreOctets, AreReadable}
+use Rattle.x25_packet.specs.Spelling as packet
+use Rattle.x25_line.specs.laws.Stations as line
 
 -- ---- lists
 

@@ -2,13 +2,12 @@
 use Rattle.std.proofs.Common.{◌≡◌, ℕ, suc, ◌+◌, ◌==◌, ◌<◌, ◌⊎◌, inl, inr, List, [], ◌∷◌, Bool, true, false, refl, sym, subst, ◌∙◌, Option, Some, None, eq-eqb, arith}
 use Rattle.std.proofs.lemmas.Bool.{eqb-true}
 use Rattle.x25_frame.specs.Frame.{PlainFrame}
-use Rattle.x25_line.specs.laws.Sessions.{Meeting, heard}
-use Rattle.x25_line.specs.laws.SessionClaims.{AllMet, SomeMet, IsNoEarlier, InStep}
+use Rattle.x25_line.specs.{laws.Sessions.{Meeting, heard}, laws.SessionClaims.{Each, SomeMet, IsNoEarlier, InStep}}
 use Rattle.x25_line.proofs.ends.Meetings.{all_map, all_some, all_no_earlier}
 
 -- these two sessions met each other, or none
 abbrev pub CanMeet : ℕ → ℕ → List Meeting → Type 0
-CanMeet n m met = AllMet (λ (p : Meeting). (p.near ≡ n → p.far ≡ m) × (p.far ≡ m → p.near ≡ n)) met
+CanMeet n m met = Each (λ (p : Meeting). (p.near ≡ n → p.far ≡ m) × (p.far ≡ m → p.near ≡ n)) met
 
 pub true_false : {A : Type 0} → true ≡ false → A
 true_false e = absurd (cc)
@@ -19,7 +18,7 @@ could_meet n m true (Some frame) x met h = h.1
 could_meet n m true None x met h = h
 could_meet n m false r x met h = h
 
-pub all_both : (P Q : Meeting → Type 0) (ms : List Meeting) → AllMet P ms → AllMet Q ms → AllMet (λ (m : Meeting). P m × Q m) ms
+pub all_both : (P Q : Meeting → Type 0) (ms : List Meeting) → Each P ms → Each Q ms → Each (λ (m : Meeting). P m × Q m) ms
 all_both P Q [] h g = tt
 all_both P Q (m ∷ ms) h g = ((h.0, g.0), all_both P Q ms h.1 g.1)
 
@@ -37,25 +36,25 @@ back_as_one m p (inl same) = (λ _. sym same.1, λ _. sym same.0)
 back_as_one m p (inr less) = (λ is. absurd (omega (arith, is, less.0)), λ is. absurd (omega (arith, is, less.1)))
 
 -- each two that met could meet
-pub met_can_meet : (met : List Meeting) → InStep met → AllMet (λ (p : Meeting). CanMeet p.near p.far met) met
+pub met_can_meet : (met : List Meeting) → InStep met → Each (λ (p : Meeting). CanMeet p.near p.far met) met
 met_can_meet [] h = tt
 met_can_meet (x ∷ met) h =
     let before = all_no_earlier x met h in
     (((λ _. refl, λ _. refl), all_map (IsNoEarlier x) (AreOne x.near x.far) (as_one x) met before), more met before (met_can_meet met h.1))
   where
-    more : (ps : List Meeting) → AllMet (IsNoEarlier x) ps → AllMet (λ (p : Meeting). CanMeet p.near p.far met) ps → AllMet (λ (p : Meeting). CanMeet p.near p.far (x ∷ met)) ps
+    more : (ps : List Meeting) → Each (IsNoEarlier x) ps → Each (λ (p : Meeting). CanMeet p.near p.far met) ps → Each (λ (p : Meeting). CanMeet p.near p.far (x ∷ met)) ps
     more [] f g = tt
     more (p ∷ ps) f g = ((back_as_one x p f.0, g.0), more ps f.1 g.1)
 
 -- ---- each session of the station could meet one
 
 -- it met some, or none
-finds : (n : ℕ) (met : List Meeting) → SomeMet (λ (p : Meeting). p.near ≡ n) met ⊎ AllMet (λ (p : Meeting). p.near ≡ n → ⊥) met
+finds : (n : ℕ) (met : List Meeting) → SomeMet (λ (p : Meeting). p.near ≡ n) met ⊎ Each (λ (p : Meeting). p.near ≡ n → ⊥) met
 finds n [] = inr tt
 finds n (p ∷ met) = by (p.near == n) refl (finds n met)
   where
-    by : (b : Bool) → (p.near == n) ≡ b → SomeMet (λ (p : Meeting). p.near ≡ n) met ⊎ AllMet (λ (p : Meeting). p.near ≡ n → ⊥) met
-        → SomeMet (λ (p : Meeting). p.near ≡ n) (p ∷ met) ⊎ AllMet (λ (p : Meeting). p.near ≡ n → ⊥) (p ∷ met)
+    by : (b : Bool) → (p.near == n) ≡ b → SomeMet (λ (p : Meeting). p.near ≡ n) met ⊎ Each (λ (p : Meeting). p.near ≡ n → ⊥) met
+        → SomeMet (λ (p : Meeting). p.near ≡ n) (p ∷ met) ⊎ Each (λ (p : Meeting). p.near ≡ n → ⊥) (p ∷ met)
     by true is rest = inl (inl (eqb-true p.near n is))
     by false is rest = elim rest [ inl some ↦ inl (inr some) | inr none ↦ inr (λ (e : p.near ≡ n). true_false (sym (eq-eqb p.near n e) ∙ is), none) ]
 
@@ -64,7 +63,7 @@ abbrev over : List Meeting → ℕ
 over [] = 0
 over (p ∷ met) = suc (p.far + over met)
 
-below_over : (top : ℕ) (met : List Meeting) → over met < suc top → AllMet (λ (p : Meeting). p.far < top) met
+below_over : (top : ℕ) (met : List Meeting) → over met < suc top → Each (λ (p : Meeting). p.far < top) met
 below_over top [] low = tt
 below_over top (p ∷ met) low = (let is : over (p ∷ met) ≡ suc (p.far + over met) = refl in (omega (arith, low, is), below_over top met (omega (arith, low, is))))
 

@@ -1,38 +1,27 @@
 -- What happens on the line and at the peer, beside a station over sessions.
 use Rattle.std.proofs.Common.{◌≡◌, ℕ, zero, suc, ◌==◌, ◌≤◌, ◌<◌, List, [], ◌∷◌, ◌++◌, length, drop, Bool, true, false, if◌then◌else◌, Ok, Result, refl, sym, ap, subst, ◌∙◌, append_assoc, append-nil, eq-eqb, arith}
-use Rattle.std.proofs.lemmas.Bool.{eqb-true}
-use Rattle.std.proofs.lemmas.List.{drop-append-le}
+use Rattle.std.proofs.{lemmas.Bool.{eqb-true}, lemmas.List.{drop-append-le}}
 use Rattle.std.specs.Prelude.{remove}
-use Rattle.x25_frame.specs.Frame.{PlainFrame, ua}
-use Rattle.x25_frame.specs.Reading.{frame_of}
-use Rattle.x25_frame.specs.declared.error.FrameError.{FrameError}
-use Rattle.x25_packet.specs.Packet.{PlainPacket}
-use Rattle.x25_packet.specs.Spelling.{channel_of, HasChannel}
-use Rattle.x25_link.specs.Station.{Settings as LinkSettings, LinkStation}
-use Rattle.x25_link.specs.Hearing.{other}
-use Rattle.x25_line.specs.laws.Stations as line
-use Rattle.x25_line.specs.laws.Stations.{is_visible}
-use Rattle.x25_line.specs.laws.StationClaims.{number_in}
-use Rattle.x25_line.specs.laws.Sessions.{Entry, Meeting, Sessions, acts, replaced}
+use Rattle.x25_frame.specs.{Frame.{PlainFrame}, Reading.{frame_of}, declared.error.FrameError.{FrameError}}
+use Rattle.x25_packet.specs.{Packet.{PlainPacket}, Spelling.{channel_of, HasChannel}}
+use Rattle.x25_link.specs.{Station.{Settings as LinkSettings, LinkStation}, Hearing.{other}}
+use Rattle.x25_line.specs.{laws.Stations.{is_visible}, laws.StationClaims.{number_in}, laws.Sessions.{Entry, Meeting, Sessions, acts, replaced}}
 use Rattle.x25_line.specs.laws.Peer.{Peer, fresh_peer}
 use Rattle.x25_line.specs.laws.PeerSessions.{PeerEnd, PeerSessions, Out, In, is_in, now, with_now, begins, stands, entry, heard_by, MaySend, numbered, asks, closes, free, MayHear, passes_over, hears, takes_ua, MayAnswer, takes_sabm, waits_on, takes_disc, IsReached, goes_on, Ours, HandsDown, both_ends, with_peer}
-use Rattle.x25_line.specs.laws.PeerSessions as peers
-use Rattle.x25_handshakes.specs.laws.Handshake.{Live}
-use Rattle.x25_handshakes.specs.laws.Layers.{On}
+use Rattle.x25_handshakes.specs.{laws.Handshake.{Live}, laws.Layers.{On}}
 use Rattle.x25_handshakes.specs.laws.PeerLayer.{PeerChannels, LayerDeed, MayDoLayer, does_layer, layer_packet_of, layer_taking, ready_taking}
 use Rattle.x25_handshakes.specs.laws.PeerLayers.{other_role, AreElsewhere}
-use Rattle.x25_layer.specs.laws.Bare.{bare, bare_layer, bare_layers}
-use Rattle.x25_layer.specs.laws.PeerJoined as layer_peer
-use Rattle.x25_layer.specs.laws.PeerJoined.{Joined, IsConfigured, Answers}
-use Rattle.x25_station.specs.Config.{Settings, link_settings, longest_packet}
-use Rattle.x25_station.specs.laws.ReadLaw.{IsReachedByOctets}
-use Rattle.x25_station.specs.laws.ReadLaw as reached
+use Rattle.x25_layer.specs.{laws.Bare.{bare, bare_layer, bare_layers}, laws.PeerJoined.{Joined, IsConfigured, Answers}}
+use Rattle.x25_station.specs.{Config.{Settings, link_settings, longest_packet}, laws.ReadLaw.{IsReachedByOctets}}
 use Rattle.x25_peer.specs.laws.BesideSessions.{read_by, ReadAs}
 use Rattle.x25_peer.specs.laws.BesideSessions.{Theirs, BesideSessions, in_session, links_of, handed_down, their_now, their_layer, coming, layer_went, layer_heard}
-use Rattle.x25_peer.proofs.ReadLemmas.{ReadFirst, read_append, ok_same, sent_same, heard_same}
-use Rattle.x25_peer.proofs.sessions.Meetings.{CanMeet, could_meet}
+use Rattle.x25_peer.proofs.{ReadLemmas.{ReadFirst, read_append, ok_same, sent_same, heard_same}, sessions.Meetings.{CanMeet, could_meet}}
 use Rattle.x25_peer.proofs.sessions.SessionLinks.{links_with, LinkReached}
 use Rattle.x25_peer.proofs.sessions.Standing.{Below, in_other, both_cases, PairReached, IsRead, AreAnew, downs_of, ups_of, Stands, way, taken_begins, up_few}
+use Rattle.x25_line.specs.laws.Stations as line
+use Rattle.x25_line.specs.laws.PeerSessions as peers
+use Rattle.x25_layer.specs.laws.PeerJoined as layer_peer
+use Rattle.x25_station.specs.laws.ReadLaw as reached
 
 -- ---- the peer's link goes on
 
@@ -229,35 +218,26 @@ module _ (below : Below) (c : Settings) (low : 1 ≤ c.window) (high : c.window 
         is_up = h.link.is_up;
       })
 
-  pub loses_there : (place : ℕ) → Stands c (record w { out = remove w.out place })
-  loses_there place = relinked w.peer (remove w.out place) w.back w.met (stays_peer w.peer h.anew) as_it_met (link_goes w.peer (remove w.out place) w.back w.met (peers.Loses place))
-
-  pub damages_there : (place : ℕ) (octets : List ℕ) → is_visible octets ≡ true → Stands c (record w { out = replaced w.out place octets })
-  damages_there place octets visible = relinked w.peer (replaced w.out place octets) w.back w.met (stays_peer w.peer h.anew) as_it_met (link_goes w.peer (replaced w.out place octets) w.back w.met (peers.Damages place octets visible))
-
-  pub leaves : Stands c (record w { peer = stands Out w.peer })
-  leaves = relinked (stands Out w.peer) w.out w.back w.met (record { given = λ m. refl; taken = λ m. omega (arith); anew = h.anew }) as_it_met (link_goes (stands Out w.peer) w.out w.back w.met peers.Leaves)
-
-  pub sends : (octets : List ℕ) (q : PeerEnd) → MaySend (Unit {0}) (link_settings c) (links_of w) (frame_of (other c.role) longest_packet octets) q → Stands c (record w { peer = q; back = w.back ++ entry q octets ∷ [] })
-  sends octets q may =
+  -- of the peer's link, and of the line to it
+  pub theirs : (v : PeerSessions) → peers.PeerHappens (Unit {0}) (link_settings c) (links_of w) v → Stands c (record w { peer = v.peer; out = v.out; back = v.back; met = v.met })
+  theirs v (peers.Loses place) = relinked w.peer (remove w.out place) w.back w.met (stays_peer w.peer h.anew) as_it_met (link_goes w.peer (remove w.out place) w.back w.met (peers.Theirs _ (peers.Loses place)))
+  theirs v (peers.Damages place octets visible) =
+      relinked w.peer (replaced w.out place octets) w.back w.met (stays_peer w.peer h.anew) as_it_met (link_goes w.peer (replaced w.out place octets) w.back w.met (peers.Theirs _ (peers.Damages place octets visible)))
+  theirs v peers.Leaves =
+      relinked (stands Out w.peer) w.out w.back w.met (record { given = λ m. refl; taken = λ m. omega (arith); anew = h.anew }) as_it_met (link_goes (stands Out w.peer) w.out w.back w.met (peers.Theirs _ peers.Leaves))
+  theirs v (peers.Sends octets q may) =
       let r = frame_of (other c.role) longest_packet octets in
       relinked q w.out (w.back ++ entry q octets ∷ []) w.met (sends_goes (link_settings c) (links_of w) r q h.anew may) as_it_met
       (link_goes q w.out (w.back ++ entry q octets ∷ []) w.met
-      (peers.Sends octets q (may_send (link_settings c) w.near.link w.begun (links_of w).near.down (links_of w).near.up h.link.downs h.link.ups w.peer w.out w.back w.met r q may)))
-
-  pub hears_it : (e : Entry) (rest : List Entry) (q : PeerEnd) → w.out ≡ e ∷ rest → MayHear w.peer (frame_of c.role longest_packet e.octets) q
-      → Stands c (record w { peer = q; out = rest; met = heard_by w.peer (frame_of c.role longest_packet e.octets) e w.met })
-  hears_it e rest q front may =
+      (peers.Theirs _ (peers.Sends octets q (may_send (link_settings c) w.near.link w.begun (links_of w).near.down (links_of w).near.up h.link.downs h.link.ups w.peer w.out w.back w.met r q may))))
+  theirs v (peers.Hears e rest q front may) =
       let r = frame_of c.role longest_packet e.octets in
       relinked q rest w.back (heard_by w.peer r e w.met) (hears_goes w.peer r q h.anew may)
       (λ n m can. could_meet n m (is_in w.peer.stand) (number_in r) (record { near = e.session; far = w.peer.begun }) w.met can)
-      (link_goes q rest w.back (heard_by w.peer r e w.met) (peers.Hears e rest q front may))
-
-  pub answers : (e : Entry) (rest : List Entry) (octets : List ℕ) (f : Bool) (q : PeerEnd) → w.out ≡ e ∷ rest → frame_of (other c.role) longest_packet octets ≡ Ok (ua f) → MayAnswer w.peer (frame_of c.role longest_packet e.octets) q
-      → Stands c (record w { peer = q; out = rest; back = w.back ++ entry q octets ∷ [] })
-  answers e rest octets f q front is may =
+      (link_goes q rest w.back (heard_by w.peer r e w.met) (peers.Theirs _ (peers.Hears e rest q front may)))
+  theirs v (peers.Answers e rest octets f q front is may) =
       relinked q rest (w.back ++ entry q octets ∷ []) w.met (answers_goes w.peer (frame_of c.role longest_packet e.octets) q h.anew may) as_it_met
-      (link_goes q rest (w.back ++ entry q octets ∷ []) w.met (peers.Answers e rest octets f q front is may))
+      (link_goes q rest (w.back ++ entry q octets ∷ []) w.met (peers.Theirs _ (peers.Answers e rest octets f q front is may)))
 
   -- ---- its packet layer
 

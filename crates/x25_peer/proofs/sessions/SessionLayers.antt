@@ -3,15 +3,12 @@
 use Rattle.std.proofs.Common.{◌≡◌, ℕ, List, [], ◌∷◌, ◌++◌, Bool, true, false, if◌then◌else◌, option_to_list, refl, sym, ap, subst, ◌∙◌, append_assoc, append-nil}
 use Rattle.x25_bits.specs.declared.role.Role.{Role}
 use Rattle.x25_packet.specs.Packet.{PlainPacket}
-use Rattle.x25_handshakes.specs.laws.Handshake.{At}
-use Rattle.x25_handshakes.specs.laws.PeerLayer.{PeerChannels}
-use Rattle.x25_layer.specs.declared.ranges.Ranges.{Ranges}
-use Rattle.x25_layer.specs.Layer.{LayerSettings, is_channel}
+use Rattle.x25_handshakes.specs.{laws.Handshake.{At}, laws.PeerLayer.{PeerChannels}}
+use Rattle.x25_layer.specs.{declared.ranges.Ranges.{Ranges}, Layer.{LayerSettings, is_channel}}
 use Rattle.x25_layer.specs.Calls.{LayerRequest, LayerOutcome, Accepted, Declined, layer_outcome, LayerPulled, layer_pulled}
 use Rattle.x25_layer.specs.laws.TwoLayers.{End, TwoLayers, Move, Requests, Pulls, HandsUp, GoesDown, requested, pulled_in, moves_in, moves, settings_of, handed_up}
-use Rattle.x25_layer.specs.laws.RoundLaw.{moves_all, pulls_of}
+use Rattle.x25_layer.specs.{laws.RoundLaw.{moves_all, pulls_of}, laws.PeerJoined.{Joined, our_end, with_peer, StaysUp, Ours}}
 use Rattle.x25_station.specs.laws.ReadLaw.{IsReachedByOctets, MovesOctets, goes_on}
-use Rattle.x25_layer.specs.laws.PeerJoined.{Joined, our_end, with_peer, StaysUp, Ours}
 
 -- what stands at the far end decides nothing of a move
 abbrev with_far : End → TwoLayers → TwoLayers

@@ -2,11 +2,11 @@
 use Rattle.std.proofs.Common.{◌≡◌, ℕ, ◌==◌, List, ◌++◌, if◌then◌else◌, sym, ap, ap₂, subst, ◌∙◌}
 use Rattle.x25_frame.specs.Frame.{PlainFrame}
 use Rattle.x25_link.specs.Station.{Settings as LinkSettings, LinkStation}
-use Rattle.x25_line.specs.laws.Stations as line
 use Rattle.x25_line.specs.laws.Sessions.{Entry, Meeting, Sessions, acts, sent_in, extended}
 use Rattle.x25_line.specs.laws.PeerSessions.{PeerEnd, PeerSessions, IsReached, goes_on, Ours, IsTimely, both_ends, with_peer}
 use Rattle.x25_line.proofs.sessions.SessionSeenRuns.{alike}
 use Rattle.x25_peer.proofs.sessions.LinkSteps.{SessionGoes}
+use Rattle.x25_line.specs.laws.Stations as line
 
 abbrev pub links_with : LinkStation → ℕ → (ℕ → List (List ℕ)) → (ℕ → List (List ℕ)) → PeerEnd → List Entry → List Entry → List Meeting → PeerSessions
 links_with link begun down up peer out back met =

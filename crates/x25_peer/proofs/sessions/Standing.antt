@@ -1,32 +1,24 @@
 -- What stands of a station and a peer over sessions: their links are joined as `x25_line` has it, and the layers of each session of the one and
 -- each of the other that it met, or may meet yet, as `x25_layer` has it.
 use Rattle.std.proofs.Common.{◌≡◌, ℕ, ◌==◌, ◌≤◌, ◌<◌, inl, inr, List, [], ◌++◌, length, drop, Bool, true, false, if◌then◌else◌, refl, sym, ap, subst, ◌∙◌, append_assoc, eq-eqb, arith}
-use Rattle.std.proofs.lemmas.Bool.{eqb-true}
-use Rattle.std.proofs.lemmas.List.{drop-append-le}
+use Rattle.std.proofs.{lemmas.Bool.{eqb-true}, lemmas.List.{drop-append-le}}
 use Rattle.x25_packet.specs.Packet.{PlainPacket}
 use Rattle.x25_link.specs.Station.{Settings as LinkSettings, LinkStation, is_up}
 use Rattle.x25_link.specs.laws.NoteLaw.{TakeTells, TakeHandsUp, TimerTells, PutTells, ConnectTells, DisconnectTells, AbandonTells, RelinkTells}
 use Rattle.x25_link.specs.laws.SetUp.{RelinkIsTwoSteps}
-use Rattle.x25_line.specs.laws.InWindow.{IsPrefix}
-use Rattle.x25_line.specs.laws.Peer.{Peer}
-use Rattle.x25_line.specs.laws.Sessions.{Entry, Meeting, extended}
-use Rattle.x25_line.specs.laws.SessionClaims.{MeetInStep, MetAreInOrder, UnmetHandNothingUp, IsInOrder}
-use Rattle.x25_line.specs.laws.PeerSessions.{PeerEnd, PeerSessions, as_end}
+use Rattle.x25_line.specs.{laws.InWindow.{IsPrefix}, laws.Peer.{Peer}, laws.Sessions.{Entry, Meeting, extended}}
+use Rattle.x25_line.specs.{laws.SessionClaims.{MeetInStep, MetAreInOrder, UnmetHandNothingUp, IsInOrder}, laws.PeerSessions.{PeerEnd, PeerSessions, as_end}}
 use Rattle.x25_line.specs.laws.PeerSessionClaims.{WithAnyPeer, OfBothEnds, EachMeetsLatest, IdleHasArrived}
-use Rattle.x25_layer.specs.Layer.{Layer, goes_up}
-use Rattle.x25_layer.specs.laws.TwoLayers.{End, started}
-use Rattle.x25_station.specs.Config.{Settings, link_settings, layer_settings}
-use Rattle.x25_station.specs.Entry.{layer_entries, layer_notices}
+use Rattle.x25_layer.specs.{Layer.{Layer, goes_up}, laws.TwoLayers.{End, started}}
+use Rattle.x25_station.specs.{Config.{Settings, link_settings, layer_settings}, Entry.{layer_entries, layer_notices}}
 use Rattle.x25_station.specs.laws.GivenLaw.{GivenIsJoined, GivenIsRead}
 use Rattle.x25_station.specs.laws.JoinLaw.{RequestIsJoined, ReceiveIsJoined, QuietIsJoined, DownIsJoined, UpIsJoined}
 use Rattle.x25_station.specs.laws.KeepLaw.{IsKept, CommandKeeps, TimerKeeps, RequestKeeps, GivenKeeps, ReceiveKeeps}
 use Rattle.x25_station.specs.laws.ReadLaw.{IsReachedByOctets, PutsBesidePeersAreReadable}
-use Rattle.x25_peer.specs.laws.BesideSessions.{ReadAs}
-use Rattle.x25_peer.specs.laws.BesideSessions.{Own, Theirs, BesideSessions, in_session}
-use Rattle.x25_peer.proofs.ReadLemmas.{ReadFirst, read_first, first_front, first_length}
-use Rattle.x25_line.proofs.ends.Meetings.{all_some}
-use Rattle.x25_peer.proofs.sessions.Meetings.{CanMeet, true_false, all_both}
+use Rattle.x25_peer.specs.laws.BesideSessions.{ReadAs, Own, Theirs, BesideSessions, in_session}
+use Rattle.x25_peer.proofs.{ReadLemmas.{ReadFirst, read_first, first_front, first_length}, sessions.Meetings.{CanMeet, true_false, all_both}}
 use Rattle.x25_peer.proofs.sessions.SessionLinks.{links_with, LinkReached}
+use Rattle.x25_line.proofs.ends.Meetings.{all_some}
 
 pub record Below : Type 0 where
   pub step : WithAnyPeer (OfBothEnds MeetInStep)

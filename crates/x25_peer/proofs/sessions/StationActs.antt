@@ -5,44 +5,31 @@ use Rattle.std.specs.Prelude.{remove}
 use Rattle.x25_frame.specs.Reading.{frame_of}
 use Rattle.x25_packet.specs.Packet.{PlainPacket}
 use Rattle.x25_given.specs.Given.{PlainGiven, may_give}
-use Rattle.x25_link.specs.declared.error.LinkError.{LinkError}
-use Rattle.x25_link.specs.declared.phase.Phase.TheVariants.{Waiting}
-use Rattle.x25_link.specs.declared.phase.Notes.{Notes}
-use Rattle.x25_link.specs.Outgoing.{waits}
-use Rattle.x25_link.specs.Station.{LinkStation, is_up}
-use Rattle.x25_link.specs.Hearing.{Step as LinkStep, other}
+use Rattle.x25_link.specs.{declared.error.LinkError.{LinkError}, declared.phase.Phase.TheVariants.{Waiting}, declared.phase.Notes.{Notes}, Outgoing.{waits}}
+use Rattle.x25_link.specs.{Station.{LinkStation, is_up}, Hearing.{Step as LinkStep, other}}
 use Rattle.x25_link.specs.Link.{alone, take_step, timer_refusal, timer_step, connect_refusal, connect_step, disconnect_refusal, disconnect_step, abandon_step, probe_refusal, relink_refusal, relink_step}
 use Rattle.x25_link.specs.laws.NoteLaw.{Tells}
-use Rattle.x25_line.specs.laws.Stations as line
 use Rattle.x25_line.specs.laws.StationClaims.{number_in}
 use Rattle.x25_line.specs.laws.Sessions.{Entry, Meeting, Sessions, acts, after_step, delivered, sent_in, extended, begun_by, unless}
-use Rattle.x25_line.specs.laws.SessionClaims.{SomeMet, InStep}
-use Rattle.x25_line.specs.laws.InWindow.{IsPrefix}
-use Rattle.x25_line.specs.laws.PeerSessions.{PeerSessions, IsTimely, IsDue, both_ends}
+use Rattle.x25_line.specs.{laws.SessionClaims.{SomeMet, InStep}, laws.InWindow.{IsPrefix}, laws.PeerSessions.{PeerSessions, IsTimely, IsDue, both_ends}}
 use Rattle.x25_line.proofs.ends.Meetings.{all_some}
-use Rattle.x25_layer.specs.Layer.{Layer}
-use Rattle.x25_layer.specs.Calls.{LayerRequest}
-use Rattle.x25_layer.specs.code.FitsLayer.{is_full}
-use Rattle.x25_layer.specs.laws.TwoLayers.{End, TwoLayers, Move, Requests, HandsUp}
+use Rattle.x25_layer.specs.{Layer.{Layer}, Calls.{LayerRequest}, code.FitsLayer.{is_full}, laws.TwoLayers.{End, TwoLayers, Move, Requests, HandsUp}}
 use Rattle.x25_layer.specs.laws.RoundLaw.{moves_all, pulls_of}
 use Rattle.x25_station.specs.Config.{Settings, link_settings, layer_settings, longest_packet}
 use Rattle.x25_station.specs.Command.{may_ask, Connects as ConnectsCommand, Disconnects as DisconnectsCommand, Probes as ProbesCommand, Relinks as RelinksCommand}
-use Rattle.x25_station.specs.Entry.{StationEntry, connect_asked, disconnect_asked, relink_asked}
-use Rattle.x25_station.specs.Giving.{suits}
-use Rattle.x25_station.specs.Step.{Step, Did, unless as refused_or, led_by, follows, abandons, receives, requests, gives}
-use Rattle.x25_station.specs.laws.GivenLaw.{GivesOctets}
-use Rattle.x25_station.specs.laws.JoinLaw.{station_with, IsJoined, MovesAs}
-use Rattle.x25_station.specs.laws.KeepLaw.{IsKept, KeptBy}
+use Rattle.x25_station.specs.{Entry.{StationEntry, connect_asked, disconnect_asked, relink_asked}, Giving.{suits}}
+use Rattle.x25_station.specs.{Step.{Step, Did, unless as refused_or, led_by, follows, abandons, receives, requests, gives}, laws.GivenLaw.{GivesOctets}}
+use Rattle.x25_station.specs.{laws.JoinLaw.{station_with, IsJoined, MovesAs}, laws.KeepLaw.{IsKept, KeptBy}}
 use Rattle.x25_station.specs.laws.ReadLaw.{AreReadable, RequestsOctets, IsReachedByOctets}
 use Rattle.x25_peer.specs.laws.BesideSessions.{ReadAs, Theirs, BesideSessions, stepped, followed, heard_here, links_of}
 use Rattle.x25_peer.proofs.Granted.{did_granted, gave_granted, suits_asks, connects_in_down, relinks_in_up, timer_silent}
 use Rattle.x25_peer.proofs.sessions.SessionLayers.{AllStay, pulls_stay, moves_reached, alone_at, AreAsked, pulls_asked, asked_reached, asked_leaves}
-use Rattle.x25_peer.proofs.ReadLemmas.{Next, next_read, readable_behind}
-use Rattle.x25_peer.proofs.sessions.Meetings.{CanMeet, could_meet, all_both, met_can_meet, could_meet_some}
+use Rattle.x25_peer.proofs.{ReadLemmas.{Next, next_read, readable_behind}, sessions.Meetings.{CanMeet, could_meet, all_both, met_can_meet, could_meet_some}}
 use Rattle.x25_peer.proofs.sessions.LinkSteps.{SessionGoes, StepGoes, step_as, act_goes, probe_acts, abandon_goes, relink_goes, deliver_goes, spelled, spelled_with, PutsRead, puts_spelled, puts_spelled_with, stays_goes, extended_none}
 use Rattle.x25_peer.proofs.sessions.SessionLinks.{links_with, LinkReached, Reach, acts_reach, goes_reached}
 use Rattle.x25_peer.proofs.sessions.Standing.{Below, Known, PairReached, downs_of, ups_of, Stands, both_begin, heard_few, way, way_more}
 use Rattle.x25_peer.proofs.sessions.StationSteps.{AreSilent, goes, follows_on}
+use Rattle.x25_line.specs.laws.Stations as line
 
 silent : AreSilent []
 silent = record { entries = refl; told = refl }

@@ -2,30 +2,20 @@
 use Rattle.std.proofs.Common.{◌≡◌, ℕ, suc, ◌≤◌, List, [], ◌∷◌, ◌++◌, Bool, true, false, if◌then◌else◌, Option, Some, None, refl, sym, ap, ap₂, subst, ◌∙◌, append-nil, arith}
 use Rattle.x25_frame.specs.Frame.{PlainFrame}
 use Rattle.x25_packet.specs.Packet.{PlainPacket, restart}
-use Rattle.x25_link.specs.declared.phase.Reason.{Reason}
-use Rattle.x25_link.specs.declared.phase.Notes.{Notes}
-use Rattle.x25_link.specs.Station.{Settings as LinkSettings, LinkStation, Side, is_up}
-use Rattle.x25_link.specs.Hearing.{Step as LinkStep}
-use Rattle.x25_link.specs.laws.NoteLaw.{IsQuiet, Tells}
-use Rattle.x25_line.specs.laws.Stations as line
-use Rattle.x25_line.specs.laws.Sessions.{Entry, Meeting, Sessions, begun_by}
-use Rattle.x25_line.specs.laws.PeerSessions.{PeerSessions, both_ends}
-use Rattle.x25_layer.specs.Layer.{Layer, LayerNotice, rested, restart_cause, goes_up}
-use Rattle.x25_layer.specs.laws.Transcript as transcript
-use Rattle.x25_layer.specs.laws.PeerJoined as layer_peer
-use Rattle.x25_layer.specs.laws.TwoLayers.{End, TwoLayers, started}
-use Rattle.x25_station.specs.Config.{Settings, link_settings, layer_settings}
-use Rattle.x25_station.specs.Entry.{StationEntry, link_down, entries_noted, layer_entries, layer_notices}
-use Rattle.x25_station.specs.Step.{Step, led_by, follows}
-use Rattle.x25_station.specs.laws.JoinLaw.{station_with, MovesAs}
-use Rattle.x25_station.specs.laws.KeepLaw.{IsKept}
-use Rattle.x25_station.specs.laws.ReadLaw.{AreReadable, at_start}
+use Rattle.x25_link.specs.{declared.phase.Reason.{Reason}, declared.phase.Notes.{Notes}, Station.{Settings as LinkSettings, LinkStation, Side, is_up}}
+use Rattle.x25_link.specs.{Hearing.{Step as LinkStep}, laws.NoteLaw.{IsQuiet, Tells}}
+use Rattle.x25_line.specs.{laws.Sessions.{Entry, Meeting, Sessions, begun_by}, laws.PeerSessions.{PeerSessions, both_ends}}
+use Rattle.x25_layer.specs.{Layer.{Layer, LayerNotice, rested, restart_cause, goes_up}, laws.TwoLayers.{End, TwoLayers, started}}
+use Rattle.x25_station.specs.{Config.{Settings, link_settings, layer_settings}, Entry.{StationEntry, link_down, entries_noted, layer_entries, layer_notices}}
+use Rattle.x25_station.specs.{Step.{Step, led_by, follows}, laws.JoinLaw.{station_with, MovesAs}, laws.KeepLaw.{IsKept}, laws.ReadLaw.{AreReadable, at_start}}
 use Rattle.x25_peer.specs.laws.BesideSessions.{ReadAs, Own, BesideSessions, in_session, stepped, followed}
-use Rattle.x25_peer.proofs.ReadLemmas.{ReadFirst, layer_append, notices_append, read_append, back_reads, read_first}
-use Rattle.x25_peer.proofs.sessions.Meetings.{CanMeet, true_false}
+use Rattle.x25_peer.proofs.{ReadLemmas.{ReadFirst, layer_append, notices_append, read_append, back_reads, read_first}, sessions.Meetings.{CanMeet, true_false}}
 use Rattle.x25_peer.proofs.sessions.LinkSteps.{SessionGoes, StepGoes, step_as, spelled, PutsRead, puts_spelled, puts_up, puts_of, all_act, puts_go, puts_last}
 use Rattle.x25_peer.proofs.sessions.SessionLinks.{links_with, Reach, acts_reach, goes_reached}
 use Rattle.x25_peer.proofs.sessions.Standing.{Below, in_here, in_other, in_cases, both_cases, Known, IsStanding, IsKnown, IsNotBegun, PairReached, downs_of, ups_of, Stands, into}
+use Rattle.x25_line.specs.laws.Stations as line
+use Rattle.x25_layer.specs.laws.Transcript as transcript
+use Rattle.x25_layer.specs.laws.PeerJoined as layer_peer
 
 -- entries that aren't the layer's
 pub record AreSilent (es : List StationEntry) : Type 0 where

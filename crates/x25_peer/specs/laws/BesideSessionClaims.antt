@@ -1,18 +1,13 @@
 -- What holds of a station and any peer over set-up and re-set-up at any moment.
 use Rattle.std.specs.Prelude.{◌≡◌, ◌⊎◌, ℕ, ◌≤◌, [], length, true}
-use Rattle.x25_link.specs.Station.{is_up}
-use Rattle.x25_link.specs.Link.{is_idle}
-use Rattle.x25_line.specs.laws.Sessions.{Meeting}
-use Rattle.x25_line.specs.laws.SessionClaims.{AllMet, SomeMet, InStep}
+use Rattle.x25_link.specs.{Station.{is_up}, Link.{is_idle}}
+use Rattle.x25_line.specs.{laws.Sessions.{Meeting}, laws.SessionClaims.{Each, SomeMet, InStep}}
 use Rattle.x25_line.specs.laws.PeerSessions.{In, now}
-use Rattle.x25_handshakes.specs.laws.Handshake.{At}
-use Rattle.x25_handshakes.specs.laws.PeerLayer.{PeerChannels}
-use Rattle.x25_layer.specs.laws.Transcript.{name_of}
-use Rattle.x25_layer.specs.laws.Quiet.{AreNoFaults}
+use Rattle.x25_handshakes.specs.{laws.Handshake.{At}, laws.PeerLayer.{PeerChannels}}
+use Rattle.x25_layer.specs.{laws.Transcript.{name_of}, laws.Quiet.{AreNoFaults}}
 use Rattle.x25_layer.specs.laws.PeerClaims.{peer_call, peer_stretch, peer_name, of_call, StretchIsInOrder}
 use Rattle.x25_layer.specs.laws.PeerClaims.{CallIsInOrder, OpenHaveArrived}
-use Rattle.x25_station.specs.Config.{Settings}
-use Rattle.x25_station.specs.Entry.{layer_entries, layer_notices}
+use Rattle.x25_station.specs.{Config.{Settings}, Entry.{layer_entries, layer_notices}}
 use Rattle.x25_peer.specs.laws.BesideSessions.{Own, BesideSessions, their_now, their_layer, IsReached}
 
 -- k is 1 to 7, and there are at most 4,095 channels
@@ -36,7 +31,7 @@ pub record IsInOrder (k : ℕ) (own : Own) (layer : At PeerChannels) : Type 0 wh
 
 -- so of each two sessions that meet, on each channel
 abbrev pub MetAreInOrder : BesideSessions → Type 0
-MetAreInOrder w = AllMet (λ (m : Meeting). (k : ℕ) → IsInOrder k (w.own m.near) (w.theirs m.far).layer) w.met
+MetAreInOrder w = Each (λ (m : Meeting). (k : ℕ) → IsInOrder k (w.own m.near) (w.theirs m.far).layer) w.met
 
 -- the peer's packet layer took all that its link took in the latest session
 pub record TookAll (w : BesideSessions) : Type 0 where
@@ -58,8 +53,8 @@ pub record UnmetAreToldNothing (w : BesideSessions) : Type 0 where
 -- the session of an end that is in one meets no other than the latest of the other end
 pub record EachMeetsLatest (w : BesideSessions) : Type 0 where
   pub near : is_up w.near.link.phase ≡ true
-      → AllMet (λ (m : Meeting). m.near ≡ w.begun → m.far ≡ w.peer.begun) w.met
-  pub peer : w.peer.stand ≡ In → AllMet (λ (m : Meeting). m.far ≡ w.peer.begun → m.near ≡ w.begun) w.met
+      → Each (λ (m : Meeting). m.near ≡ w.begun → m.far ≡ w.peer.begun) w.met
+  pub peer : w.peer.stand ≡ In → Each (λ (m : Meeting). m.far ≡ w.peer.begun → m.near ≡ w.begun) w.met
 
 -- where the link is up, what is known of the latest session of the station is of the station as it is
 abbrev pub UpIsLatest : BesideSessions → Type 0

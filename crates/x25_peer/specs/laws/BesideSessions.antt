@@ -3,41 +3,31 @@
 -- as it notes LinkUp, one of the peer by its rules of set-up, and each lasts until the next begins; with each its
 -- packet layer begins anew. docs/PEER.md has the peer's rules.
 use Rattle.std.specs.Prelude.{◌≡◌, ℕ, ◌==◌, true, false, if◌then◌else◌, List, [], ◌∷◌, ◌++◌, length, drop, remove}
-use Rattle.std.specs.Prelude.{Bool, None, Result, Ok}
-use Rattle.x25_frame.specs.Frame.{ua}
+use Rattle.std.specs.Prelude.{None, Result, Ok}
 use Rattle.x25_frame.specs.Reading.{frame_of}
-use Rattle.x25_packet.specs.Packet.{PlainPacket}
-use Rattle.x25_packet.specs.Spelling.{channel_of, HasChannel, longest_user}
-use Rattle.x25_packet.specs.declared.error.PacketError.{PacketError}
-use Rattle.x25_packet.specs.Taking.{read_in}
+use Rattle.x25_packet.specs.{Packet.{PlainPacket}, Spelling.{channel_of, HasChannel, longest_user}}
+use Rattle.x25_packet.specs.{declared.error.PacketError.{PacketError}, Taking.{read_in}}
 use Rattle.x25_given.specs.Given.{PlainGiven}
-use Rattle.x25_link.specs.declared.phase.Phase.TheVariants.{Waiting}
-use Rattle.x25_link.specs.Station.{is_up}
+use Rattle.x25_link.specs.{declared.phase.Phase.TheVariants.{Waiting}, Station.{is_up}}
 use Rattle.x25_link.specs.Hearing.{Step as LinkStep, other}
 use Rattle.x25_link.specs.Link.{take_step, timer_refusal, timer_step, connect_refusal, connect_step}
 use Rattle.x25_link.specs.Link.{disconnect_refusal, disconnect_step, abandon_step}
 use Rattle.x25_link.specs.Link.{probe_refusal, relink_refusal, relink_step}
-use Rattle.x25_line.specs.laws.Stations.{is_visible}
-use Rattle.x25_line.specs.laws.StationClaims.{number_in}
+use Rattle.x25_line.specs.{laws.Stations.{is_visible}, laws.StationClaims.{number_in}}
 use Rattle.x25_line.specs.laws.Sessions.{Entry, Meeting, heard, replaced, sent_in, begun_by, no_lists}
 use Rattle.x25_line.specs.laws.Peer.{fresh_peer}
-use Rattle.x25_line.specs.laws.PeerSessions.{PeerEnd, PeerSessions, Out, In, now, with_now, stands, entry, heard_by}
-use Rattle.x25_line.specs.laws.PeerSessions.{IsDue, MaySend, MayHear, MayAnswer}
-use Rattle.x25_handshakes.specs.laws.Handshake.{At, Live}
-use Rattle.x25_handshakes.specs.laws.Layers.{On}
-use Rattle.x25_handshakes.specs.laws.PeerLayer.{PeerChannels, peer_fresh, peer_ready, LayerDeed, MayDoLayer, does_layer}
+use Rattle.x25_line.specs.laws.PeerSessions.{PeerEnd, PeerSessions, Out, In, now, with_now, IsDue, PeerHappens}
+use Rattle.x25_handshakes.specs.{laws.Handshake.{At, Live, live}, laws.Layers.{On}}
+use Rattle.x25_handshakes.specs.laws.PeerLayer.{PeerChannels, peer_fresh, LayerDeed, MayDoLayer, does_layer}
 use Rattle.x25_handshakes.specs.laws.PeerLayer.{layer_packet_of, layer_taking, ready_taking}
 use Rattle.x25_handshakes.specs.laws.PeerLayers.{other_role, AreElsewhere}
-use Rattle.x25_layer.specs.Layer.{Layer, goes_up}
-use Rattle.x25_layer.specs.Calls.{LayerRequest}
-use Rattle.x25_layer.specs.laws.Bare.{bare, bare_layer, bare_layers}
+use Rattle.x25_layer.specs.{Layer.{Layer, goes_up}, Calls.{LayerRequest}, laws.Bare.{bare, bare_layer, bare_layers}}
 use Rattle.x25_layer.specs.laws.PeerJoined.{IsConfigured, Answers}
 use Rattle.x25_station.specs.Config.{Settings, longest_packet, link_settings, layer_settings}
 use Rattle.x25_station.specs.Entry.{StationEntry, connect_asked, disconnect_asked, relink_asked}
 use Rattle.x25_station.specs.Station.{Station, new_station}
 use Rattle.x25_station.specs.Step.{Step, Did, follows, led_by, abandons, requests, gives}
-use Rattle.x25_station.specs.laws.GivenLaw.{GivesOctets}
-use Rattle.x25_station.specs.laws.ReadLaw.{RequestsOctets}
+use Rattle.x25_station.specs.{laws.GivenLaw.{GivesOctets}, laws.ReadLaw.{RequestsOctets}}
 
 -- of a session of the station: its packet layer, as it is or was last while the link is or was up in it, and the
 -- transcript
@@ -70,7 +60,7 @@ abbrev pub own_anew : Settings → Own
 own_anew c = record { layer = (goes_up (layer_settings c)).next; entries = [] }
 
 abbrev pub theirs_anew : Theirs
-theirs_anew = record { layer = peer_ready 0 peer_fresh; heard = 0; passed = [] }
+theirs_anew = record { layer = live 0 peer_fresh; heard = 0; passed = [] }
 
 -- nothing was set up yet
 abbrev pub start : Settings → BesideSessions
@@ -187,30 +177,13 @@ pub data Happens (c : Settings) (w : BesideSessions) : BesideSessions → Type 0
       → Happens c w (followed c w [] rest (heard_here c w e) (take_step (link_settings c) e.octets w.near.link))
   Abandons : (e : Entry) (rest : List Entry) → w.back ≡ e ∷ rest → abandons c w.near ≡ true
       → Happens c w (followed c w [] rest w.met (abandon_step (link_settings c) w.near.link))
-  -- the octets at this place of a line are lost, or others come in their place
+  -- the octets at this place of the line to it are lost, or others come in their place
   Loses : (place : ℕ) → Happens c w (record w { back = remove w.back place })
   Damages : (place : ℕ) (octets : List ℕ) → is_visible octets ≡ true
       → Happens c w (record w { back = replaced w.back place octets })
-  LosesThere : (place : ℕ) → Happens c w (record w { out = remove w.out place })
-  DamagesThere : (place : ℕ) (octets : List ℕ) → is_visible octets ≡ true
-      → Happens c w (record w { out = replaced w.out place octets })
-  -- The peer's link leaves its session without a frame, sends octets unasked, and octets come to it, which it may
-  -- answer by UA.
-  Leaves : Happens c w (record w { peer = stands Out w.peer })
-  Sends : (octets : List ℕ) (q : PeerEnd)
-      → MaySend (Unit {0}) (link_settings c) (links_of w) (frame_of (other c.role) longest_packet octets) q
-      → Happens c w (record w { peer = q; back = w.back ++ entry q octets ∷ [] })
-  Hears : (e : Entry) (rest : List Entry) (q : PeerEnd) → w.out ≡ e ∷ rest
-      → MayHear w.peer (frame_of c.role longest_packet e.octets) q
-      → Happens c w (record w {
-        peer = q;
-        out = rest;
-        met = heard_by w.peer (frame_of c.role longest_packet e.octets) e w.met;
-      })
-  AnswersByUa : (e : Entry) (rest : List Entry) (octets : List ℕ) (f : Bool) (q : PeerEnd) → w.out ≡ e ∷ rest
-      → frame_of (other c.role) longest_packet octets ≡ Ok (ua f)
-      → MayAnswer w.peer (frame_of c.role longest_packet e.octets) q
-      → Happens c w (record w { peer = q; out = rest; back = w.back ++ entry q octets ∷ [] })
+  -- of the peer's link, and of the line to it
+  Links : (v : PeerSessions) → PeerHappens (Unit {0}) (link_settings c) (links_of w) v
+      → Happens c w (record w { peer = v.peer; out = v.out; back = v.back; met = v.met })
   -- in a session, its packet layer puts a packet, whose octets go down to its link
   LayerDoes : (deed : LayerDeed) (p : PlainPacket) (octets : List ℕ) → w.peer.stand ≡ In
       → MayDoLayer (their_layer w).side deed → bare_layer p ≡ layer_packet_of (their_layer w).side deed

@@ -3,11 +3,9 @@
 use Rattle.std.specs.Prelude.{◌≡◌, ℕ, false, List, [], ◌∷◌}
 use Rattle.x25_bits.specs.declared.role.Role.TheVariants.{Dte}
 use Rattle.x25_link.specs.declared.phase.Reason.TheVariants.{Reset}
-use Rattle.x25_line.specs.laws.Sessions.{Entry}
-use Rattle.x25_line.specs.laws.PeerSessions.{In}
+use Rattle.x25_line.specs.{laws.Sessions.{Entry}, laws.PeerSessions.{In}}
 use Rattle.x25_layer.specs.Ranges.{two_way}
-use Rattle.x25_station.specs.Config.{Settings}
-use Rattle.x25_station.specs.Entry.{link_up, link_down}
+use Rattle.x25_station.specs.{Config.{Settings}, Entry.{link_up, link_down}}
 use Rattle.x25_peer.specs.laws.BesideSessions.{BesideSessions, IsReached}
 
 -- the station is a DTE with one channel

@@ -13,7 +13,7 @@ use Rattle.x25_circuit.specs.declared.params.Params.{Params}
 use Rattle.x25_handshakes.specs.laws.Handshake.{Side, Live, Left, At}
 use Rattle.x25_handshakes.specs.laws.Stretch as theirs
 use Rattle.x25_handshakes.specs.laws.PeerStretch.{PeerStretch}
-use Rattle.x25_handshakes.specs.laws.PeerCalls.{Stage, Free, Calling, Called, Collided, InData, PeerCall}
+use Rattle.x25_handshakes.specs.laws.PeerCalls.{PeerCall}
 use Rattle.x25_handshakes.specs.laws.PeerChannel.{ChannelDeed, fresh_peer_channel, MayDoChannel, does_channel}
 use Rattle.x25_handshakes.specs.laws.PeerChannel.{channel_packet_of}
 use Rattle.x25_handshakes.specs.laws.PeerChannel.{channel_taking}
@@ -30,6 +30,7 @@ use Rattle.x25_possible.specs.declared.phase.Limits.{Limits}
 use Rattle.x25_possible.specs.declared.phase.Phase.{Phase}
 use Rattle.x25_possible.specs.declared.phase.Phase.TheVariants as phase
 use Rattle.x25_possible.specs.declared.phase.Talk.{Talk}
+use Rattle.x25_handshakes.specs.laws.Calls.{Stage, Unused, Waiting, Offered, Crossed, Talking}
 
 -- ---- its packets; windows are manners, and none is said
 
@@ -93,11 +94,11 @@ transfer_phase size (Live y) = phase.Talks (talk_of size y)
 transfer_phase size (Left y) = phase.Resets (limits size)
 
 abbrev pub stage_phase : Stage (At PeerStretch) → Phase
-stage_phase Free = phase.Idle
-stage_phase (Calling mine) = phase.Calls (terms_of mine)
-stage_phase (Called theirs) = phase.WasCalled (terms_of theirs)
-stage_phase (Collided mine) = phase.Calls (terms_of mine)
-stage_phase (InData t b at) = transfer_phase t.size at.side
+stage_phase Unused = phase.Idle
+stage_phase (Waiting mine) = phase.Calls (terms_of mine)
+stage_phase (Offered theirs) = phase.WasCalled (terms_of theirs)
+stage_phase (Crossed mine) = phase.Calls (terms_of mine)
+stage_phase (Talking t b at) = transfer_phase t.size at.side
 
 abbrev pub phase_of : Side PeerCall → Phase
 phase_of (Live y) = stage_phase y.stage
@@ -119,7 +120,7 @@ IsTakenSo role s x (p ∷ q ∷ ps) r = ⊥
 
 -- only the DTE's call goes ahead where both called
 abbrev pub NotCollided : Stage (At PeerStretch) → Type 0
-NotCollided (Collided mine) = ⊥
+NotCollided (Crossed mine) = ⊥
 NotCollided stage = Unit {0}
 
 abbrev pub IsOfRole : Role → Side PeerCall → Type 0
@@ -133,7 +134,7 @@ IsNextAt ns (Live y) = ns ≡ length y.taken % 8
 IsNextAt ns (Left y) = Unit {0}
 
 abbrev pub IsNextIn : ℕ → Stage (At PeerStretch) → Type 0
-IsNextIn ns (InData t b at) = IsNextAt ns at.side
+IsNextIn ns (Talking t b at) = IsNextAt ns at.side
 IsNextIn ns stage = Unit {0}
 
 abbrev pub IsNext : theirs.Packet → Side PeerCall → Type 0

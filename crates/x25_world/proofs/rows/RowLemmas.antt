@@ -1,13 +1,9 @@
 -- The worked rows, by computing.
 use Rattle.std.proofs.Common.{refl, arith}
-use Rattle.x25_bits.specs.FrameCheck.{fcs_of, number_of, low_bits, add, divisor, divided}
-use Rattle.x25_bits.specs.FrameCheck.Sealed.{is_sealed}
+use Rattle.x25_bits.specs.{FrameCheck.{fcs_of, number_of, low_bits, add, divisor, divided}, FrameCheck.Sealed.{is_sealed}}
 use Rattle.x25_frame.specs.Reading.{frame_of}
 use Rattle.x25_link.specs.Station.{pumped}
-use Rattle.x25_packet.specs.Digits.{packed, halves_of}
-use Rattle.x25_packet.specs.Facilities.{facilities_of}
-use Rattle.x25_packet.specs.WideFacilities.{are_facilities, own_in}
-use Rattle.x25_packet.specs.WideReading.{read_of}
+use Rattle.x25_packet.specs.{Digits.{packed, halves_of}, Facilities.{facilities_of}, WideFacilities.{are_facilities, own_in}, WideReading.{read_of}}
 use Rattle.x25_world.specs.rows.WorldRows.{SetsUp, MessageArrives, LostArrives, DamagedArrives, MoreArrives, GivenArrives, ConfirmedArrives, DisconnectEndsBoth, ConnectSetsUp, ConnectGoesAgain, SecondMeetsFirst, SecondMeet, TimerWaits, IsRefused}
 
 pub sets_up : SetsUp

@@ -1,33 +1,23 @@
 -- Of two layers in order: as many messages as an end's moves confirm of a stretch, of those whose confirmation was asked, the other end has handed up.
 use Rattle.std.proofs.Common.{◌≡◌, ◌⊎◌, inl, inr, ℕ, zero, suc, ◌+◌, ◌-◌, ◌≤◌, List, [], ◌∷◌, ◌++◌, length, take, drop, Bool, true, false, ◌==◌, if◌then◌else◌, refl, sym, ap, subst, ◌∙◌, arith, append_assoc}
-use Rattle.std.proofs.lemmas.Bool.{eqb-true}
-use Rattle.std.proofs.lemmas.List.{take-append-drop, drop-append-le}
-use Rattle.x25_bits.specs.declared.role.Role.{Role}
-use Rattle.x25_bits.specs.declared.role.Role.TheVariants.{Dte, Dce}
+use Rattle.std.proofs.{lemmas.Bool.{eqb-true}, lemmas.List.{take-append-drop, drop-append-le}}
+use Rattle.x25_bits.specs.{declared.role.Role.{Role}, declared.role.Role.TheVariants.{Dte, Dce}}
 use Rattle.x25_link.specs.Hearing.{other}
 use Rattle.x25_packet.specs.Packet.{PlainPacket}
-use Rattle.x25_circuit.specs.declared.message.Message.{Message}
-use Rattle.x25_circuit.specs.Message.{Piece, More, Last, Partial, no_part, joined, carried_from, carried, asked_in}
+use Rattle.x25_circuit.specs.{declared.message.Message.{Message}, Message.{Piece, More, Last, Partial, no_part, joined, carried_from, carried, asked_in}}
 use Rattle.x25_circuit.specs.Circuit.{Talk, silent, Circuit, is_open, unconfirmed}
 use Rattle.x25_handshakes.specs.laws.Names.{Name, both, same_name}
-use Rattle.x25_layer.specs.declared.ranges.Ranges.{Ranges}
-use Rattle.x25_layer.specs.Ranges.{is_channel}
-use Rattle.x25_layer.specs.Layer.{LayerSettings, Layer}
-use Rattle.x25_layer.specs.code.FitsLayer.{is_open_at}
+use Rattle.x25_layer.specs.{declared.ranges.Ranges.{Ranges}, Ranges.{is_channel}, Layer.{LayerSettings, Layer}, code.FitsLayer.{is_open_at}}
 use Rattle.x25_layer.specs.laws.Acknowledged.{AcknowledgedAreUp, AcknowledgedAreHandedUp}
-use Rattle.x25_layer.specs.laws.Transcript.{Handed, nothing_handed, Entry, says, under, messages_in, name_of}
-use Rattle.x25_layer.specs.laws.TwoLayers as layer
-use Rattle.x25_layer.specs.laws.TwoLayers.{settings_of}
+use Rattle.x25_layer.specs.{laws.Transcript.{Handed, nothing_handed, Entry, says, under, messages_in, name_of}, laws.TwoLayers.{settings_of}}
 use Rattle.x25_layer.specs.laws.Apart.{OwnMove, Takes, Ends, ApartEvent, own_moves, apart_happens, apart_run, apart_start, IsInOrder, AreInOrder, AlwaysApart}
 use Rattle.x25_layer.specs.laws.ApartLaw.{EventsRunOn}
 use Rattle.x25_station.specs.Confirming.{goes_on}
 use Rattle.x25_world.specs.laws.ConfirmedClaims.{asked_among}
-use Rattle.x25_world.proofs.Known.{true_false, both_true}
-use Rattle.x25_world.proofs.Continues.{Begins, Same, Hears}
-use Rattle.x25_world.proofs.EndContinues.{end_heard, end_called, end_enters}
-use Rattle.x25_world.proofs.sessions.SessionTrace.{TakesNone, moves_of}
-use Rattle.x25_world.proofs.sessions.SessionCounts.{counted_at, counted_by, counted_in}
+use Rattle.x25_world.proofs.{Known.{true_false, both_true}, Continues.{Begins, Same, Hears}, EndContinues.{end_heard, end_called, end_enters}}
+use Rattle.x25_world.proofs.{sessions.SessionTrace.{TakesNone, moves_of}, sessions.SessionCounts.{counted_at, counted_by, counted_in}}
 use Rattle.x25_world.proofs.sessions.SessionKnown.{here_in}
+use Rattle.x25_layer.specs.laws.TwoLayers as layer
 
 -- ---- how many asked
 

@@ -2,16 +2,12 @@
 use Rattle.std.proofs.Common.{◌≡◌, ℕ, ◌+◌, ◌≤◌, List, [], ◌∷◌, ◌++◌, if◌then◌else◌, refl, sym, ap, subst, ◌∙◌, arith}
 use Rattle.x25_bits.specs.declared.role.Role.{Role}
 use Rattle.x25_handshakes.specs.laws.Names.{Name, same_name}
-use Rattle.x25_layer.specs.Layer.{LayerSettings, Layer, goes_up}
-use Rattle.x25_layer.specs.laws.Transcript.{name_of}
-use Rattle.x25_layer.specs.laws.TwoLayers as layer
-use Rattle.x25_layer.specs.laws.TwoLayers.{started}
+use Rattle.x25_layer.specs.{Layer.{LayerSettings, Layer, goes_up}, laws.Transcript.{name_of}, laws.TwoLayers.{started}}
 use Rattle.x25_layer.specs.laws.Apart.{OwnMove, Takes, own_moves, own_run}
-use Rattle.x25_station.specs.declared.config.Cfg.{Cfg}
-use Rattle.x25_station.specs.Confirming.{confirmed}
-use Rattle.x25_station.specs.Entry.{StationEntry}
+use Rattle.x25_station.specs.{declared.config.Cfg.{Cfg}, Confirming.{confirmed}, Entry.{StationEntry}}
 use Rattle.x25_world.specs.laws.ConfirmedClaims.{confirmed_in}
 use Rattle.x25_world.proofs.sessions.SessionTrace.{layer_of, Done, moved, own_in, own, own_more, TakesNone, TakeNothing}
+use Rattle.x25_layer.specs.laws.TwoLayers as layer
 
 -- from this layer to that, on a channel and of the stretch of this name
 abbrev pub counted_at : LayerSettings → ℕ → Name → Layer → Layer → ℕ

@@ -2,37 +2,21 @@
 use Rattle.std.proofs.Common.{◌≡◌, ℕ, zero, suc, ◌+◌, ◌≤◌, ◌==◌, List, [], ◌∷◌, ◌++◌, inl, Bool, true, false, if◌then◌else◌, Option, Some, None, Result, Ok, refl, sym, ap, ap₂, ◌∙◌, subst, append_assoc, append-nil, arith}
 use Rattle.std.proofs.lemmas.Bool.{eqb-true}
 use Rattle.x25_handshakes.specs.laws.Names.{Name, both, same_name}
-use Rattle.x25_bits.specs.declared.role.Role.{Role}
-use Rattle.x25_bits.specs.declared.role.Role.TheVariants.{Dte, Dce}
-use Rattle.x25_link.specs.declared.phase.Notes.{Notes}
-use Rattle.x25_link.specs.Hearing.{other}
-use Rattle.x25_link.specs.laws.NoteLaw.{IsQuiet}
-use Rattle.x25_link.specs.Hearing.{Step as LinkStep}
-use Rattle.x25_packet.specs.Packet.{PlainPacket, restart, restart_conf}
-use Rattle.x25_packet.specs.Spelling.{channel_of}
-use Rattle.x25_packet.specs.declared.error.PacketError.{PacketError}
-use Rattle.x25_circuit.specs.Hearing.{Answer, answers}
-use Rattle.x25_circuit.specs.Notice.{PlainNotice}
+use Rattle.x25_bits.specs.{declared.role.Role.{Role}, declared.role.Role.TheVariants.{Dte, Dce}}
+use Rattle.x25_link.specs.{declared.phase.Notes.{Notes}, Hearing.{other, Step as LinkStep}, laws.NoteLaw.{IsQuiet}}
+use Rattle.x25_packet.specs.{Packet.{PlainPacket, restart, restart_conf}, Spelling.{channel_of}, declared.error.PacketError.{PacketError}}
+use Rattle.x25_circuit.specs.{Hearing.{Answer, answers}, Notice.{PlainNotice}}
 use Rattle.x25_layer.specs.Layer.{LayerSettings, Layer, LayerAnswer, LayerNotice, on_channel, restarted, restart_done, layer_fault, is_channel, notices_on, answers_on, drops, answers_in, layer_answers}
-use Rattle.x25_station.specs.Confirming.{named_by}
-use Rattle.x25_layer.specs.Rounds.{answer_to}
-use Rattle.x25_layer.specs.Calls.{LayerRequest, Asks, Dials, Restarts, PullsAll, LayerOutcome, Accepted, Declined}
-use Rattle.x25_layer.specs.laws.Transcript.{Entry, Said, Asked, Told, name_of}
-use Rattle.x25_layer.specs.laws.TwoLayers.{entries_asked}
-use Rattle.x25_layer.specs.laws.ApartLaw.{BeginsRestarted}
-use Rattle.x25_station.specs.Beside.{PlainBeside, nothing, fields, diagnosed, beside_in}
-use Rattle.x25_station.specs.declared.config.Cfg.{Cfg}
+use Rattle.x25_layer.specs.{Receiving.{answer_to}, Calls.{LayerRequest, Asks, Dials, Restarts, PullsAll, LayerOutcome, Accepted, Declined}}
+use Rattle.x25_layer.specs.{laws.Transcript.{Entry, Said, Asked, Told, name_of}, laws.TwoLayers.{entries_asked}, laws.ApartLaw.{BeginsRestarted}}
+use Rattle.x25_station.specs.{Confirming.{named_by, confirmed}, Beside.{PlainBeside, nothing, fields, diagnosed, beside_in}, declared.config.Cfg.{Cfg}}
 use Rattle.x25_station.specs.Config.{Settings, settings_from, layer_settings}
-use Rattle.x25_station.specs.Confirming.{confirmed}
 use Rattle.x25_station.specs.Entry.{StationEntry, of_channel, restart_asked, connect_asked, disconnect_asked, relink_asked, link_up, link_down, was_restarted, restart_confirmed, at_fault, came_beside, was_diagnosed, was_confirmed, may_bring, bringing, entries_beside, entries_behind, of_channels, station_told, entries_noted, notice_of, layer_entries, layer_notices}
 use Rattle.x25_station.specs.Step.{entries_of_outcome, layer_answer, confirmed_by, entries_of_packet, entries_heard, follows}
-use Rattle.x25_world.specs.World.{AtEnd, entered}
-use Rattle.x25_world.specs.laws.BesideClaims.{Came, came_in}
-use Rattle.x25_world.specs.laws.ConfirmedClaims.{confirmed_in}
+use Rattle.x25_world.specs.{World.{AtEnd, entered}, laws.BesideClaims.{Came, came_in}, laws.ConfirmedClaims.{confirmed_in}}
 use Rattle.x25_world.specs.laws.Claims.{entry_of_end, entries_at}
 use Rattle.x25_world.specs.laws.Sessions.{Progress, none_begun, after_entry, after_entries, is_in, entry_if, session_from, first_of, met_at, met_by, meets_from, meets}
-use Rattle.x25_world.proofs.Growing.{read_by}
-use Rattle.x25_world.proofs.sessions.SessionCounts.{counted_at, CountNone}
+use Rattle.x25_world.proofs.{Growing.{read_by}, sessions.SessionCounts.{counted_at, CountNone}}
 use Rattle.x25_world.proofs.sessions.SessionBeside.{brought_as, brought_by, brought, AreTold}
 
 -- ---- one behind the other

@@ -2,42 +2,26 @@
 use Rattle.std.proofs.Common.{◌≡◌, ℕ, suc, List, [], ◌∷◌, ◌++◌, Bool, true, false, Option, Some, None, refl, sym, ap, ap₂, ◌∙◌, subst, arith}
 use Rattle.x25_bits.specs.declared.role.Role.{Role}
 use Rattle.x25_packet.specs.Packet.{PlainPacket, restart}
-use Rattle.x25_link.specs.declared.phase.Reason.{Reason}
-use Rattle.x25_link.specs.declared.phase.Notes.{Notes}
-use Rattle.x25_link.specs.Station.{LinkStation, is_up}
-use Rattle.x25_link.specs.Hearing.{Step as LinkStep, quiet}
+use Rattle.x25_link.specs.{declared.phase.Reason.{Reason}, declared.phase.Notes.{Notes}, Station.{LinkStation, is_up}, Hearing.{Step as LinkStep, quiet}}
 use Rattle.x25_link.specs.laws.NoteLaw.{IsQuiet, Tells}
+use Rattle.x25_line.specs.{laws.Sessions.{Meeting, Sessions, begun_by}, laws.SessionClaims.{octets_of, OnlyBegunHaveLists}}
+use Rattle.x25_layer.specs.{Layer.{LayerSettings, Layer, rested, restart_cause, goes_up}, laws.Rounds.{LinkView}, laws.TwoLayers.{started}}
+use Rattle.x25_layer.specs.laws.Apart.{OwnMove, own_run}
+use Rattle.x25_station.specs.{declared.config.Cfg.{Cfg}, Config.{settings_from, link_settings, layer_settings}}
+use Rattle.x25_station.specs.Entry.{StationEntry, connect_asked, disconnect_asked, relink_asked, link_up, link_down, entries_noted}
+use Rattle.x25_station.specs.{Station.{all_put, view_of}, Step.{Step, layer_at, follows, led_by}, laws.KeepLaw.{IsKept}, laws.JoinLaw.{station_with}}
+use Rattle.x25_station.specs.laws.ReadLaw.{AreReadable}
+use Rattle.x25_world.specs.{World.{World, after_step}, laws.Claims.{link_of}, laws.Sessions.{Progress, after_entries, session_from, is_in, entry_if}}
+use Rattle.x25_world.specs.laws.LawsBelow.{SessionLaws}
+use Rattle.x25_world.proofs.{Known.{IsConfigured, true_false}, sessions.SessionTrace.{layer_of, own, TakeNothing}}
+use Rattle.x25_world.proofs.{sessions.SessionReaches.{Beginning, MayAsk, SessionsReach, puts_reach, known_sessions}, sessions.SessionBeside.{spelled_bring}}
+use Rattle.x25_world.proofs.sessions.SessionJoined.{HasMet, PairsAreInOrder, SessionsJoined, Goes, gave_none}
+use Rattle.x25_world.proofs.{sessions.SessionKnown.{nothing_in_order, own_readable}, Growing.{back_read, back_octets}}
+use Rattle.x25_world.proofs.{sessions.SessionGoes.{IsSilent, not_in, rests, begins_session}, sessions.SessionEntries.{AreMute}}
+use Rattle.x25_peer.proofs.sessions.LinkSteps.{SessionGoes, StepGoes, step_as, spelled, puts_spelled, HasPut, puts_up, puts_of, all_act, puts_go}
 use Rattle.x25_line.specs.laws.Stations as line
 use Rattle.x25_line.specs.laws.Sessions as links
-use Rattle.x25_line.specs.laws.Sessions.{Meeting, Sessions, begun_by}
-use Rattle.x25_line.specs.laws.SessionClaims.{octets_of, OnlyBegunHaveLists}
-use Rattle.x25_layer.specs.Layer.{LayerSettings, Layer, rested, restart_cause, goes_up}
-use Rattle.x25_layer.specs.Rounds.{LinkView}
 use Rattle.x25_layer.specs.laws.TwoLayers as layer
-use Rattle.x25_layer.specs.laws.TwoLayers.{started}
-use Rattle.x25_layer.specs.laws.Apart.{OwnMove, own_run}
-use Rattle.x25_station.specs.declared.config.Cfg.{Cfg}
-use Rattle.x25_station.specs.Config.{settings_from, link_settings, layer_settings}
-use Rattle.x25_station.specs.Entry.{StationEntry, connect_asked, disconnect_asked, relink_asked, link_up, link_down, entries_noted}
-use Rattle.x25_station.specs.Station.{all_put, view_of}
-use Rattle.x25_station.specs.Step.{Step, layer_at, follows, led_by}
-use Rattle.x25_station.specs.laws.KeepLaw.{IsKept}
-use Rattle.x25_station.specs.laws.JoinLaw.{station_with}
-use Rattle.x25_station.specs.laws.ReadLaw.{AreReadable}
-use Rattle.x25_world.specs.World.{World, after_step}
-use Rattle.x25_world.specs.laws.Claims.{link_of}
-use Rattle.x25_world.specs.laws.Sessions.{Progress, after_entries, session_from, is_in, entry_if}
-use Rattle.x25_world.proofs.Known.{IsConfigured, true_false}
-use Rattle.x25_world.proofs.sessions.SessionTrace.{layer_of, own, TakeNothing}
-use Rattle.x25_world.proofs.sessions.SessionReaches.{Beginning, MayAsk, SessionsReach, puts_reach, known_sessions}
-use Rattle.x25_world.proofs.sessions.SessionBeside.{spelled_bring}
-use Rattle.x25_world.proofs.sessions.SessionJoined.{HasMet, PairsAreInOrder, SessionsJoined, Goes, gave_none}
-use Rattle.x25_world.specs.laws.LawsBelow.{SessionLaws}
-use Rattle.x25_world.proofs.sessions.SessionKnown.{nothing_in_order, own_readable}
-use Rattle.x25_peer.proofs.sessions.LinkSteps.{SessionGoes, StepGoes, step_as, spelled, puts_spelled, HasPut, puts_up, puts_of, all_act, puts_go}
-use Rattle.x25_world.proofs.Growing.{back_read, back_octets}
-use Rattle.x25_world.proofs.sessions.SessionGoes.{IsSilent, not_in, rests, begins_session}
-use Rattle.x25_world.proofs.sessions.SessionEntries.{AreMute}
 
 -- the command that a step is of, if it is one of the link
 pub data Lead : Type 0 where

@@ -1,45 +1,29 @@
 -- A step of the near end, joined of a step of its link and moves of its layer: in the session that stands, at rest, or as a session begins.
 use Rattle.std.proofs.Common.{◌≡◌, ℕ, suc, ◌==◌, ◌≤◌, ◌<◌, ◌⊎◌, inl, inr, List, [], ◌∷◌, ◌++◌, map, Bool, true, false, ◌&&◌, if◌then◌else◌, Option, Some, None, refl, sym, ap, ap₂, ◌∙◌, subst, append-nil, arith}
 use Rattle.std.proofs.lemmas.Bool.{eqb-true, eq-eqb}
-use Rattle.x25_bits.specs.declared.role.Role.{Role}
-use Rattle.x25_bits.specs.declared.role.Role.TheVariants.{Dte, Dce}
-use Rattle.x25_frame.specs.Frame.{PlainFrame}
-use Rattle.x25_frame.specs.Spelling.{spelling_of}
+use Rattle.x25_bits.specs.{declared.role.Role.{Role}, declared.role.Role.TheVariants.{Dte, Dce}}
+use Rattle.x25_frame.specs.{Frame.{PlainFrame}, Spelling.{spelling_of}}
 use Rattle.x25_packet.specs.Packet.{PlainPacket, restart}
-use Rattle.x25_link.specs.Station.{is_up}
-use Rattle.x25_link.specs.Hearing.{other}
-use Rattle.x25_line.specs.laws.Sessions as links
-use Rattle.x25_line.specs.laws.Sessions.{SessionEnd, Meeting, Sessions, sent_in, extended}
-use Rattle.x25_line.specs.laws.SessionClaims.{octets_of}
+use Rattle.x25_link.specs.{Station.{is_up}, Hearing.{other}}
+use Rattle.x25_line.specs.{laws.Sessions.{SessionEnd, Meeting, Sessions, sent_in, extended}, laws.SessionClaims.{octets_of}}
 use Rattle.x25_handshakes.specs.laws.Names.{Name}
-use Rattle.x25_layer.specs.Layer.{Layer, LayerNotice, goes_up, restart_cause}
-use Rattle.x25_layer.specs.laws.Transcript.{Entry}
-use Rattle.x25_layer.specs.laws.Quiet.{AreNoFaults}
-use Rattle.x25_layer.specs.laws.TwoLayers as layer
-use Rattle.x25_layer.specs.laws.TwoLayers.{started}
-use Rattle.x25_layer.specs.laws.Apart.{OwnMove, own_run}
-use Rattle.x25_layer.specs.laws.ApartLaw.{BeginsRestarted}
-use Rattle.x25_station.specs.declared.config.Cfg.{Cfg}
-use Rattle.x25_station.specs.Config.{settings_from}
-use Rattle.x25_station.specs.Entry.{StationEntry, layer_entries, layer_notices}
-use Rattle.x25_station.specs.Station.{Station}
-use Rattle.x25_station.specs.Step.{Step}
-use Rattle.x25_station.specs.laws.KeepLaw.{IsKept}
-use Rattle.x25_world.specs.World.{World, tapped, entered, after_step}
-use Rattle.x25_world.specs.laws.Claims.{entries_at, link_of}
+use Rattle.x25_layer.specs.{Layer.{Layer, LayerNotice, goes_up, restart_cause}, laws.Transcript.{Entry}, laws.Quiet.{AreNoFaults}, laws.TwoLayers.{started}}
+use Rattle.x25_layer.specs.{laws.Apart.{OwnMove, own_run}, laws.ApartLaw.{BeginsRestarted}}
+use Rattle.x25_station.specs.{declared.config.Cfg.{Cfg}, Config.{settings_from}, Entry.{StationEntry, layer_entries, layer_notices}, Station.{Station}}
+use Rattle.x25_station.specs.{Step.{Step}, laws.KeepLaw.{IsKept}}
+use Rattle.x25_world.specs.{World.{World, tapped, entered, after_step}, laws.Claims.{entries_at, link_of}}
 use Rattle.x25_world.specs.laws.Sessions.{Progress, none_begun, after_entries, is_in, session_from, first_of, met_by, meets}
+use Rattle.x25_world.specs.{laws.BesideClaims.{Came, came_in, Gave, IsGiven, AreSomeOf}, laws.ConfirmedClaims.{confirmed_in}}
 use Rattle.x25_world.proofs.Growing.{all_read, as_read, none_read, nothing_read, grown, AllAreOctets, all_octets_append, AreOnTap, entries_more, entries_other, on_tap, octets_put}
 use Rattle.x25_world.proofs.Known.{true_false}
 use Rattle.x25_world.proofs.sessions.SessionTrace.{layer_of, Done, moved, own_in, own, own_more, own_same, own_other, own_goes, same_number, other_number, TakeNothing, nothing_append, BringOctets, octets_append}
-use Rattle.x25_world.specs.laws.BesideClaims.{Came, came_in, Gave, IsGiven, AreSomeOf}
-use Rattle.x25_world.specs.laws.ConfirmedClaims.{confirmed_in}
 use Rattle.x25_world.proofs.sessions.SessionCounts.{counted_in, IsCounted, counted_same, counted_rests, counted_goes}
-use Rattle.x25_world.proofs.sessions.SessionReaches.{Beginning, SessionsReach}
-use Rattle.x25_world.proofs.sessions.SessionBeside.{brought, AreTold, told_more, MoreIs, none_more}
+use Rattle.x25_world.proofs.{sessions.SessionReaches.{Beginning, SessionsReach}, sessions.SessionBeside.{brought, AreTold, told_more, MoreIs, none_more}}
 use Rattle.x25_world.proofs.sessions.SessionJoined.{HaveAll, IsSession, IsLayer, IsEnd, HasMet, Meets, Hears, PairsAreInOrder, SessionsJoined, Goes, gave_none}
 use Rattle.x25_world.proofs.sessions.SessionEntries.{after_append, session_append, meets_more, meets_other, none_met, AreMute, TellNothing, mute_tell, mute_in, ArePlain, plain_progress, plain_here, plain_elsewhere, restart_met, elsewhere_met}
-use Rattle.x25_peer.proofs.ReadLemmas.{layer_append, notices_append}
-use Rattle.x25_peer.proofs.sessions.LinkSteps.{SessionGoes, extended_none}
+use Rattle.x25_peer.proofs.{ReadLemmas.{layer_append, notices_append}, sessions.LinkSteps.{SessionGoes, extended_none}}
+use Rattle.x25_line.specs.laws.Sessions as links
+use Rattle.x25_layer.specs.laws.TwoLayers as layer
 
 -- ---- lists
 

@@ -1,29 +1,18 @@
 -- A world of two stations over set-up and re-set-up, as one of the ends sees it: a run of two links with their sessions, and moves of the
 -- layers in each session. The sessions that meet are two layers whose packets come in order.
 use Rattle.std.proofs.Common.{◌≡◌, ℕ, ◌≤◌, ◌<◌, ◌⊎◌, inl, inr, List, [], ◌∷◌, map, true, false, Option, Some, None, refl, sym, subst}
-use Rattle.x25_bits.specs.declared.role.Role.{Role}
-use Rattle.x25_bits.specs.declared.role.Role.TheVariants.{Dte, Dce}
-use Rattle.x25_link.specs.Station.{is_up}
-use Rattle.x25_link.specs.Hearing.{other}
-use Rattle.x25_line.specs.laws.Sessions as links
-use Rattle.x25_line.specs.laws.Sessions.{SessionEnd, Meeting, Sessions, turned}
-use Rattle.x25_line.specs.laws.SessionClaims.{AllMet, SomeMet, octets_of}
-use Rattle.x25_layer.specs.laws.Quiet.{AreNoFaults}
-use Rattle.x25_layer.specs.laws.TwoLayers as layer
-use Rattle.x25_layer.specs.laws.Apart.{ApartEvent, apart_start, AreInOrder}
-use Rattle.x25_station.specs.declared.config.Cfg.{Cfg}
-use Rattle.x25_station.specs.Entry.{StationEntry, layer_entries, layer_notices}
-use Rattle.x25_station.specs.Station.{Station}
-use Rattle.x25_station.specs.laws.KeepLaw.{IsKept}
-use Rattle.x25_world.specs.World.{World, swapped}
-use Rattle.x25_world.specs.laws.Claims.{entries_at}
-use Rattle.x25_world.specs.laws.Sessions.{none_begun, after_entries, session_from, meets}
-use Rattle.x25_world.proofs.Growing.{all_read, as_read, AllAreOctets, AreOnTap}
-use Rattle.x25_world.proofs.sessions.SessionTrace.{Done, own_in, own, pair_at, pair_turned, TakeNothing, BringOctets}
+use Rattle.x25_bits.specs.{declared.role.Role.{Role}, declared.role.Role.TheVariants.{Dte, Dce}}
+use Rattle.x25_link.specs.{Station.{is_up}, Hearing.{other}}
+use Rattle.x25_line.specs.{laws.Sessions.{SessionEnd, Meeting, Sessions, turned}, laws.SessionClaims.{Each, SomeMet, octets_of}}
+use Rattle.x25_layer.specs.{laws.Quiet.{AreNoFaults}, laws.Apart.{ApartEvent, apart_start, AreInOrder}}
+use Rattle.x25_station.specs.{declared.config.Cfg.{Cfg}, Entry.{StationEntry, layer_entries, layer_notices}, Station.{Station}, laws.KeepLaw.{IsKept}}
+use Rattle.x25_world.specs.{World.{World, swapped}, laws.Claims.{entries_at}, laws.Sessions.{none_begun, after_entries, session_from, meets}}
 use Rattle.x25_world.specs.laws.BesideClaims.{Gave, came_in}
-use Rattle.x25_world.proofs.sessions.SessionCounts.{IsCounted}
-use Rattle.x25_world.proofs.sessions.SessionReaches.{Beginning, SessionsReach, reach_swapped}
-use Rattle.x25_world.proofs.sessions.SessionBeside.{brought, AreTold, MoreIs, none_more}
+use Rattle.x25_world.proofs.Growing.{all_read, as_read, AllAreOctets, AreOnTap}
+use Rattle.x25_world.proofs.{sessions.SessionTrace.{Done, own_in, own, pair_at, pair_turned, TakeNothing, BringOctets}, sessions.SessionCounts.{IsCounted}}
+use Rattle.x25_world.proofs.{sessions.SessionReaches.{Beginning, SessionsReach, reach_swapped}, sessions.SessionBeside.{brought, AreTold, MoreIs, none_more}}
+use Rattle.x25_line.specs.laws.Sessions as links
+use Rattle.x25_layer.specs.laws.TwoLayers as layer
 
 -- ---- an end
 
@@ -92,7 +81,7 @@ abbrev pub PairIsInOrder : Cfg → Role → List Done → ℕ → ℕ → Type 0
 PairIsInOrder cfg end trace n m = AreInOrder cfg.long_data cfg.channels (pair_at end n m trace) (apart_start cfg.long_data cfg.channels)
 
 abbrev pub PairsAreInOrder : Cfg → Role → List Done → List Meeting → Type 0
-PairsAreInOrder cfg end trace met = AllMet (λ (p : Meeting). PairIsInOrder cfg end trace p.near p.far) met
+PairsAreInOrder cfg end trace met = Each (λ (p : Meeting). PairIsInOrder cfg end trace p.near p.far) met
 
 pub record SessionsJoined (since : Beginning) (cfg : Cfg) (end : Role) (w : World) : Type 0 where
   pub links : Sessions

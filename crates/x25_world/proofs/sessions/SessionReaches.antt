@@ -1,21 +1,15 @@
 -- Two links over set-up and re-set-up, as either end sees them: a run of the same events, with the ends swapped.
 use Rattle.std.proofs.Common.{◌≡◌, ℕ, Bool, false, List, [], ◌∷◌, ◌++◌, inl, refl, sym, ap, ◌∙◌, subst, map}
-use Rattle.x25_bits.specs.declared.role.Role.{Role}
-use Rattle.x25_bits.specs.declared.role.Role.TheVariants.{Dte, Dce}
-use Rattle.x25_link.specs.Station.{Settings as LinkSettings}
-use Rattle.x25_link.specs.Hearing.{other}
-use Rattle.x25_line.specs.laws.Stations as line
+use Rattle.x25_bits.specs.{declared.role.Role.{Role}, declared.role.Role.TheVariants.{Dte, Dce}}
 use Rattle.x25_line.specs.laws.StationClaims.{AreJoined, AcceptsNoConnect}
-use Rattle.x25_line.specs.laws.Sessions as links
-use Rattle.x25_line.specs.laws.Sessions.{Meeting, Sessions, turned, from_nothing, IsTimely, IsTimelyAt, AreTimely}
-use Rattle.x25_line.specs.laws.SessionClaims.{Throughout}
+use Rattle.x25_line.specs.{laws.Sessions.{Meeting, Sessions, turned, from_nothing, IsTimely, IsTimelyAt, AreTimely}, laws.SessionClaims.{Each, Throughout}}
 use Rattle.x25_station.specs.declared.config.Cfg.{Cfg}
-use Rattle.x25_world.specs.World.{Act, Event}
-use Rattle.x25_world.specs.laws.Claims.{link_of}
-use Rattle.x25_world.specs.laws.WindowGoes.{Asks, AsksAll, at_end, all_at}
-use Rattle.x25_world.proofs.Known.{IsConfigured}
+use Rattle.x25_world.specs.{World.{Act, Event}, laws.Claims.{link_of}, laws.WindowGoes.{Asks, at_end, all_at}}
+use Rattle.x25_world.proofs.{Known.{IsConfigured}, OneLink.{OneLink, one_turned, one_acts}}
 use Rattle.x25_peer.proofs.sessions.LinkSteps.{puts_of, all_act, puts_last}
-use Rattle.x25_world.proofs.OneLink.{OneLink, one_turned, one_acts}
+use Rattle.x25_link.specs.{Station.{Settings as LinkSettings}, Hearing.{other}}
+use Rattle.x25_line.specs.laws.Stations as line
+use Rattle.x25_line.specs.laws.Sessions as links
 
 -- ---- the ends swapped
 
@@ -69,7 +63,7 @@ seen_from Dce v = links.swapped v
 -- what the end of the event has asked so far
 pub record Grown (cfg : Cfg) (e : Event) (end : Role) (before v : Sessions) : Type 0 where
   pub asked : List line.Act
-  pub may : AsksAll e.act asked
+  pub may : Each (Asks e.act) asked
   pub timely : AreTimely (link_of cfg Dte) (link_of cfg Dce) (all_at e.at asked) before
   pub run : links.run (link_of cfg Dte) (link_of cfg Dce) (all_at e.at asked) before ≡ seen_from end v
 
@@ -126,7 +120,7 @@ all_more : (end : Role) (acts : List line.Act) (act : line.Act) → all_at end (
 all_more end [] act = refl
 all_more end (x ∷ acts) act = ap (λ (es : List line.Event). at_end end x ∷ es) (all_more end acts act)
 
-asks_more : (what : Act) (acts : List line.Act) (act : line.Act) → AsksAll what acts → Asks what act → AsksAll what (acts ++ act ∷ [])
+asks_more : (what : Act) (acts : List line.Act) (act : line.Act) → Each (Asks what) acts → Asks what act → Each (Asks what) (acts ++ act ∷ [])
 asks_more what [] act h g = (g, tt)
 asks_more what (x ∷ acts) act h g = (h.0, asks_more what acts act h.1 g)
 

@@ -1,34 +1,23 @@
 -- Each event keeps the runs of two links and of the layers in each session, so each list of events does: from nothing, and from set-up.
 use Rattle.std.proofs.Common.{◌≡◌, ℕ, ◌≤◌, inl, inr, List, [], ◌∷◌, ◌++◌, ◌==◌, Bool, false, Option, None, refl, sym, ap, ◌∙◌, subst, arith}
-use Rattle.x25_bits.specs.declared.role.Role.{Role}
-use Rattle.x25_bits.specs.declared.role.Role.TheVariants.{Dte, Dce}
-use Rattle.x25_line.specs.laws.Sessions as links
+use Rattle.x25_bits.specs.{declared.role.Role.{Role}, declared.role.Role.TheVariants.{Dte, Dce}}
 use Rattle.x25_line.specs.laws.Sessions.{SessionEnd, Sessions, from_nothing}
-use Rattle.x25_station.specs.declared.config.Cfg.{Cfg}
-use Rattle.x25_station.specs.Config.{settings_from, config_refusal}
-use Rattle.x25_station.specs.Entry.{link_up}
-use Rattle.x25_station.specs.Command.{Requests, RequestsWith, Connects, Disconnects, Probes, Relinks, said_by}
-use Rattle.x25_station.specs.Station.{new_station}
+use Rattle.x25_station.specs.{declared.config.Cfg.{Cfg}, Config.{settings_from, config_refusal}, Entry.{link_up}}
+use Rattle.x25_station.specs.{Command.{Requests, RequestsWith, Connects, Disconnects, Probes, Relinks, said_by}, Station.{new_station}}
 use Rattle.x25_station.specs.laws.KeepLaw.{ConnectKeeps}
 use Rattle.x25_world.specs.declared.error.WorldError.{WorldError}
 use Rattle.x25_world.specs.World.{AtEnd, World, swapped, WorldOutcome, Happened, Declined, swapped_back, Act, Commands, Receives, Fires, Loses, Damages, acts, Event, happens, refusal_of, after, run, start, connected, established}
 use Rattle.x25_world.specs.laws.Claims.{ActsInOctets, AreInOctets, IsBeginning, IsUpAtMostOnce, UntilSecondUp, IsNoConnect, NoneConnects}
-use Rattle.x25_world.specs.laws.Sessions.{Progress, progress_at, last_session}
-use Rattle.x25_world.specs.laws.WindowGoes.{both_put, two_links}
-use Rattle.x25_world.specs.laws.SessionClaims.{Throughout, ThroughoutAlong}
-use Rattle.x25_world.specs.laws.BesideClaims.{Gave, gave_where, gave_by, gave_at, gave_in}
-use Rattle.x25_world.proofs.Known.{IsConfigured, is_configured}
-use Rattle.x25_world.proofs.Established.{kept_new, just_set_up}
-use Rattle.x25_world.proofs.WorldLemmas.{refusal-swapped}
-use Rattle.x25_world.proofs.OneLink.{AreAlike}
-use Rattle.x25_world.proofs.sessions.SessionReaches.{Beginning, both_down, set_up, at_event, IsAt}
-use Rattle.x25_world.proofs.sessions.SessionTrace.{layer_of}
+use Rattle.x25_world.specs.{laws.Sessions.{Progress, progress_at, last_session}, laws.WindowGoes.{both_put, two_links}}
+use Rattle.x25_world.specs.{laws.SessionClaims.{Throughout, ThroughoutAlong}, laws.BesideClaims.{Gave, gave_where, gave_by, gave_at, gave_in}}
+use Rattle.x25_world.specs.laws.LawsBelow.{SessionLaws}
+use Rattle.x25_world.proofs.{Known.{IsConfigured, is_configured}, Established.{kept_new, just_set_up}, WorldLemmas.{refusal-swapped}, OneLink.{AreAlike}}
+use Rattle.x25_world.proofs.{sessions.SessionReaches.{Beginning, both_down, set_up, at_event, IsAt}, sessions.SessionTrace.{layer_of}}
 use Rattle.x25_world.proofs.sessions.SessionBeside.{MoreIs, none_more, more_again, said_channel}
 use Rattle.x25_world.proofs.sessions.SessionJoined.{IsEnd, SessionsJoined, retold, Goes, gave_none, sessions_swapped}
-use Rattle.x25_world.specs.laws.LawsBelow.{SessionLaws}
 use Rattle.x25_world.proofs.sessions.acts.SessionTimers.{lost_joined, damaged_joined, fired_joined, connects_joined, connects_alone_joined, disconnects_joined, probes_joined, relinks_joined}
-use Rattle.x25_world.proofs.sessions.acts.SessionRequests.{requests_joined, gives_joined, said_octets}
-use Rattle.x25_world.proofs.sessions.acts.SessionReceives.{receives_joined}
+use Rattle.x25_world.proofs.{sessions.acts.SessionRequests.{requests_joined, gives_joined, said_octets}, sessions.acts.SessionReceives.{receives_joined}}
+use Rattle.x25_line.specs.laws.Sessions as links
 
 -- what happens at the far end is what happens at the near end of the two ends swapped
 back_after : (w : World) (o : WorldOutcome) → after w (swapped_back o) ≡ swapped (after (swapped w) o)

@@ -2,21 +2,15 @@
 -- of each end are those of two layers.
 use Rattle.std.proofs.Common.{◌≡◌, ℕ, ◌==◌, List, [], ◌∷◌, ◌++◌, Bool, true, false, if◌then◌else◌, refl, sym, ap, ap₂, ◌∙◌, append_assoc, append-nil}
 use Rattle.std.proofs.lemmas.Bool.{eqb-true, eq-eqb}
-use Rattle.x25_bits.specs.declared.role.Role.{Role}
-use Rattle.x25_bits.specs.declared.role.Role.TheVariants.{Dte, Dce}
+use Rattle.x25_bits.specs.{declared.role.Role.{Role}, declared.role.Role.TheVariants.{Dte, Dce}}
 use Rattle.x25_link.specs.Hearing.{other}
-use Rattle.x25_layer.specs.declared.ranges.Ranges.{Ranges}
-use Rattle.x25_layer.specs.Layer.{LayerSettings, goes_up, is_channel}
-use Rattle.x25_layer.specs.laws.TwoLayers as layer
-use Rattle.x25_layer.specs.laws.TwoLayers.{started, pulled_in, moves_in}
+use Rattle.x25_layer.specs.{declared.ranges.Ranges.{Ranges}, Layer.{LayerSettings, goes_up, is_channel}, laws.TwoLayers.{started, pulled_in, moves_in}}
 use Rattle.x25_layer.specs.laws.Apart.{OwnMove, Takes, as_move, own_moves, own_run, Ends, ApartEvent, apart_happens, near_moves, far_moves, IsNext, IsInOrder, AreInOrder, Pulls, alone}
-use Rattle.x25_station.specs.declared.config.Cfg.{Cfg}
-use Rattle.x25_station.specs.Config.{settings_from, layer_settings}
-use Rattle.x25_station.specs.laws.ReadLaw.{MovesOctets}
+use Rattle.x25_layer.specs.{Calls.{layer_pulled}, laws.RoundLaw.{moves_all, pulls_of}}
+use Rattle.x25_station.specs.{declared.config.Cfg.{Cfg}, Config.{settings_from, layer_settings}, laws.ReadLaw.{MovesOctets}}
 use Rattle.x25_packet.specs.Packet.{PlainPacket}
-use Rattle.x25_layer.specs.Calls.{layer_pulled}
-use Rattle.x25_layer.specs.laws.RoundLaw.{moves_all, pulls_of}
 use Rattle.x25_peer.proofs.sessions.SessionLayers.{pulls_asked, asked_leaves}
+use Rattle.x25_layer.specs.laws.TwoLayers as layer
 
 abbrev pub layer_of : Cfg → Role → LayerSettings
 layer_of cfg end = layer_settings (settings_from end cfg)

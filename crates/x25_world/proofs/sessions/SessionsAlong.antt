@@ -1,35 +1,23 @@
 -- The window over set-up and re-set-up, along a run: two links with the links and the lines of a world go on as the end of each event asks,
 -- with the machine behind the sessions that stand.
 use Rattle.std.proofs.Common.{◌≡◌, ℕ, ◌+◌, inl, List, [], ◌∷◌, ◌++◌, false, None, Result, refl, sym, ap, ap₂, ◌∙◌, subst}
-use Rattle.x25_bits.specs.declared.role.Role.{Role}
-use Rattle.x25_bits.specs.declared.role.Role.TheVariants.{Dte, Dce}
-use Rattle.x25_frame.specs.Frame.{PlainFrame}
-use Rattle.x25_frame.specs.Reading.{frame_of}
-use Rattle.x25_frame.specs.declared.error.FrameError.{FrameError}
-use Rattle.x25_link.specs.Hearing.{other}
-use Rattle.x25_link.specs.Station.{Settings as LinkSettings, LinkStation}
-use Rattle.x25_line.specs.laws.Stations as line
+use Rattle.x25_bits.specs.{declared.role.Role.{Role}, declared.role.Role.TheVariants.{Dte, Dce}}
+use Rattle.x25_frame.specs.{Frame.{PlainFrame}, Reading.{frame_of}, declared.error.FrameError.{FrameError}}
+use Rattle.x25_link.specs.{Hearing.{other}, Station.{Settings as LinkSettings, LinkStation}}
 use Rattle.x25_line.specs.laws.Stations.{StationEnd}
-use Rattle.x25_line.specs.laws.Sessions as links
 use Rattle.x25_line.specs.laws.Sessions.{SessionEnd, Sessions, from_nothing, sabm_in, ua_in, how_many, asked, IsTimely, IsTimelyAt, AreTimely}
 use Rattle.x25_line.specs.laws.SessionClaims.{octets_of}
 use Rattle.x25_line.specs.laws.SessionNumbers.{Standing, standing_happens, standing_run, standing_at, EachUpStandsWith, StandingGoesAlong}
-use Rattle.x25_station.specs.declared.config.Cfg.{Cfg}
-use Rattle.x25_station.specs.Config.{config_refusal}
-use Rattle.x25_station.specs.laws.KeepLaw.{ConnectKeeps}
-use Rattle.x25_world.specs.World.{World, Event, happens, after, run}
-use Rattle.x25_world.specs.laws.Claims.{AreInOctets, IsBeginning, link_of}
-use Rattle.x25_world.specs.laws.WindowGoes.{all_at}
-use Rattle.x25_world.specs.laws.SessionWindow.{StandsInWindow, SessionsGoAlong, SessionsStayInWindow}
-use Rattle.x25_world.specs.laws.SessionClaims.{ThroughoutAlong}
-use Rattle.x25_world.proofs.Known.{IsConfigured, is_configured}
-use Rattle.x25_line.proofs.sessions.SessionsForgotten.{Lasts, Alike, happens_alike, runs_alike, turned_alike}
-use Rattle.x25_world.proofs.WorldLemmas.{run_append}
-use Rattle.x25_world.proofs.sessions.SessionReaches.{both_down, links_append, timely_append, joined_at}
-use Rattle.x25_world.proofs.sessions.SessionJoined.{SessionsJoined}
+use Rattle.x25_station.specs.{declared.config.Cfg.{Cfg}, Config.{config_refusal}, laws.KeepLaw.{ConnectKeeps}}
+use Rattle.x25_world.specs.{World.{World, Event, happens, after, run}, laws.Claims.{AreInOctets, IsBeginning, link_of}, laws.WindowGoes.{all_at}}
+use Rattle.x25_world.specs.{laws.SessionWindow.{StandsInWindow, SessionsGoAlong, SessionsStayInWindow}, laws.SessionClaims.{ThroughoutAlong}}
 use Rattle.x25_world.specs.laws.LawsBelow.{SessionLaws}
-use Rattle.x25_world.proofs.sessions.SessionRuns.{begin_joined, throughout_joined}
-use Rattle.x25_world.proofs.WindowRuns.{Next, next}
+use Rattle.x25_world.proofs.{Known.{IsConfigured, is_configured}, WorldLemmas.{run_append}}
+use Rattle.x25_world.proofs.{sessions.SessionReaches.{both_down, links_append, timely_append, joined_at}, sessions.SessionJoined.{SessionsJoined}}
+use Rattle.x25_world.proofs.{sessions.SessionRuns.{begin_joined, throughout_joined}, WindowRuns.{Next, next}}
+use Rattle.x25_line.proofs.sessions.SessionsForgotten.{Lasts, Alike, happens_alike, runs_alike, turned_alike}
+use Rattle.x25_line.specs.laws.Stations as line
+use Rattle.x25_line.specs.laws.Sessions as links
 
 -- ---- links that have the stations of these and the octets on their lines do alike
 

@@ -1,15 +1,10 @@
 -- What a world of the code has gone through where it heals, and what was told then.
 use Rattle.std.specs.Prelude.{◌≡◌, ℕ, List, ◌++◌, map, OnOk, Result}
 use Rattle.x25_station.specs.declared.config.Cfg.{Cfg}
-use Rattle.x25_world.specs.World.{World, AtEnd, Event, run, AreAccepted}
-use Rattle.x25_world.specs.laws.Claims.{IsBeginning}
-use Rattle.x25_world.specs.Healing.{healing}
-use Rattle.x25_world.specs.code.PlainTold.{plain_entered}
-use Rattle.x25_world.specs.code.ShownWorld.{ShownWorld}
-use Rattle.x25_world.specs.code.FitsWorld.{FitsWorld, FitsRun, Leaves}
-use Rattle.x25_world.specs.declared.told.Entered.{Entered}
-use Rattle.x25_world.specs.declared.error.WorldError.{WorldError}
-use Rattle.x25_world.specs.declared.error.WorldError.TheVariants.{NoMemory}
+use Rattle.x25_world.specs.{World.{World, AtEnd, Event, run, AreAccepted}, laws.Claims.{IsBeginning}}
+use Rattle.x25_world.specs.{Healing.{healing}, code.PlainTold.{plain_entered}, code.ShownWorld.{ShownWorld}}
+use Rattle.x25_world.specs.{code.FitsWorld.{FitsWorld, FitsRun, Leaves}, declared.told.Entered.{Entered}}
+use Rattle.x25_world.specs.{declared.error.WorldError.{WorldError}, declared.error.WorldError.TheVariants.{NoMemory}}
 
 -- how many deliveries the code lets follow one another at most, and how many rounds of them
 abbrev pub most_times : ℕ

@@ -1,27 +1,18 @@
 -- The worlds of the definition that a world of the code stands for.
 use Rattle.std.specs.Prelude.{◌≡◌, ℕ, List, [], ◌∷◌, ◌++◌, Option, Some, None, ◌⊎◌, Result, Ok, Err, OnOk, IfErr}
 use Rattle.std.specs.Prelude.{Bool, ◌≤◌, OnErr, IsErrOf, length}
-use Rattle.x25_bits.specs.HarmlessBits.{IsHarmless}
-use Rattle.x25_bits.specs.Role.{other}
-use Rattle.x25_bits.specs.declared.direction.Direction.{Direction}
-use Rattle.x25_bits.specs.declared.role.Role.{Role}
-use Rattle.x25_bits.specs.declared.role.Role.TheVariants.{Dte, Dce}
-use Rattle.x25_station.specs.declared.config.Cfg.{Cfg}
-use Rattle.x25_station.specs.declared.error.StationError.{StationError}
-use Rattle.x25_station.specs.declared.station.Station.{Station}
-use Rattle.x25_station.specs.declared.step.Step.{Step}
-use Rattle.x25_station.specs.Config.{settings_from, config_refusal}
-use Rattle.x25_station.specs.code.FitsStation.{FitsStation}
+use Rattle.x25_bits.specs.{HarmlessBits.{IsHarmless}, Role.{other}, declared.direction.Direction.{Direction}}
+use Rattle.x25_bits.specs.{declared.role.Role.{Role}, declared.role.Role.TheVariants.{Dte, Dce}}
+use Rattle.x25_station.specs.{declared.config.Cfg.{Cfg}, declared.error.StationError.{StationError}}
+use Rattle.x25_station.specs.{declared.station.Station.{Station}, declared.step.Step.{Step}}
+use Rattle.x25_station.specs.{Config.{settings_from, config_refusal}, code.FitsStation.{FitsStation}}
 use Rattle.x25_world.specs.World.{AtEnd, World, Event, Act, Loses, WorldOutcome, Happened, Declined, happens}
 use Rattle.x25_world.specs.World.{refusal_of, after, run, AreAccepted, established}
 use Rattle.x25_world.specs.laws.Claims.{AreInOctets, IsUpOnce, IsUpAtMostOnce, SetsUpOnce, IsBeginning, NoneConnects}
 use Rattle.x25_world.specs.laws.Claims.{IsLawful, IsNamed, ArrivesAll, HasNoProcedureError}
-use Rattle.x25_world.specs.laws.WindowGoes.{StaysInWindow}
-use Rattle.x25_world.specs.laws.SessionClaims.{SessionsKeepOrder}
-use Rattle.x25_world.specs.laws.BesideClaims.{BesideIsGiven}
-use Rattle.x25_world.specs.laws.SessionWindow.{SessionsStayInWindow}
-use Rattle.x25_world.specs.code.ShownLine.{ShownLine, line_to}
-use Rattle.x25_world.specs.BitDamage.{bit_damage, RefusesBits}
+use Rattle.x25_world.specs.{laws.WindowGoes.{StaysInWindow}, laws.SessionClaims.{SessionsKeepOrder}}
+use Rattle.x25_world.specs.{laws.BesideClaims.{BesideIsGiven}, laws.SessionWindow.{SessionsStayInWindow}}
+use Rattle.x25_world.specs.{code.ShownLine.{ShownLine, line_to}, BitDamage.{bit_damage, RefusesBits}}
 use Rattle.x25_world.specs.code.ShownWorld.{ShownWorld, line_of, TakesFewPlaces}
 use Rattle.x25_world.specs.declared.error.WorldError.{WorldError}
 use Rattle.x25_world.specs.declared.error.WorldError.TheVariants.{BadConfig, NoMemory}

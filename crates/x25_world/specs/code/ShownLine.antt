@@ -1,8 +1,6 @@
 -- The line in both directions, as clauses see it.
 use Rattle.std.specs.Prelude.{ℕ, ◌+◌, ◌-◌, ◌*◌, ◌≤◌, List, ◌++◌, length, max}
-use Rattle.x25_bits.specs.Role.{other}
-use Rattle.x25_bits.specs.declared.role.Role.{Role}
-use Rattle.x25_bits.specs.declared.role.Role.TheVariants.{Dte, Dce}
+use Rattle.x25_bits.specs.{Role.{other}, declared.role.Role.{Role}, declared.role.Role.TheVariants.{Dte, Dce}}
 
 -- the octets on the line to each end, front first, for how many frames more there is room in either direction, and for
 -- how many in all each has places in memory

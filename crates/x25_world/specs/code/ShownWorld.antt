@@ -1,7 +1,6 @@
 -- What a world holds, as clauses see it.
 use Rattle.std.specs.Prelude.{ℕ, ◌+◌, ◌*◌, ◌≤◌, List, length, max}
-use Rattle.x25_bits.specs.declared.role.Role.{Role}
-use Rattle.x25_bits.specs.declared.role.Role.TheVariants.{Dte, Dce}
+use Rattle.x25_bits.specs.{declared.role.Role.{Role}, declared.role.Role.TheVariants.{Dte, Dce}}
 use Rattle.x25_bits.specs.declared.direction.Direction.{Direction}
 use Rattle.x25_bits.specs.declared.direction.Direction.TheVariants.{ToDce, ToDte}
 use Rattle.x25_station.specs.declared.station.Station.{Station}

@@ -1,20 +1,15 @@
 -- What came beside the packets of calls, acceptances and clearings, as the user of an end is told, is what the user of
 -- the other end gave with them, over set-up and re-set-up at any moment.
 use Rattle.std.specs.Prelude.{◌≡◌, ◌⊎◌, ℕ, ◌==◌, Bool, true, List, [], ◌∷◌, ◌++◌, Option, Some, None}
-use Rattle.x25_bits.specs.declared.role.Role.{Role}
-use Rattle.x25_bits.specs.declared.role.Role.TheVariants.{Dte, Dce}
+use Rattle.x25_bits.specs.{declared.role.Role.{Role}, declared.role.Role.TheVariants.{Dte, Dce}}
 use Rattle.x25_packet.specs.Facilities.{IsFacilityField}
 use Rattle.x25_given.specs.Given.{PlainGiven}
 use Rattle.x25_link.specs.Hearing.{other}
-use Rattle.x25_layer.specs.Layer.{LayerSettings, Layer}
-use Rattle.x25_layer.specs.Calls.{LayerRequest, Asks, Dials, free_channel}
-use Rattle.x25_station.specs.declared.config.Cfg.{Cfg}
-use Rattle.x25_station.specs.Config.{settings_from, layer_settings}
-use Rattle.x25_station.specs.Command.{RequestsWith}
-use Rattle.x25_station.specs.Entry.{StationEntry, came_beside}
+use Rattle.x25_layer.specs.{Layer.{LayerSettings, Layer}, Calls.{LayerRequest, Asks, Dials, free_channel}}
+use Rattle.x25_station.specs.{declared.config.Cfg.{Cfg}, Config.{settings_from, layer_settings}}
+use Rattle.x25_station.specs.{Command.{RequestsWith}, Entry.{StationEntry, came_beside}}
 use Rattle.x25_world.specs.declared.error.WorldError.{WorldError}
-use Rattle.x25_world.specs.World.{World, Act, Commands, Event, happens, refusal_of, after}
-use Rattle.x25_world.specs.laws.Claims.{station_at}
+use Rattle.x25_world.specs.{World.{World, Act, Commands, Event, happens, refusal_of, after}, laws.Claims.{station_at}}
 use Rattle.x25_world.specs.laws.Sessions.{session_at, last_session, meets}
 
 -- ---- what a user is told

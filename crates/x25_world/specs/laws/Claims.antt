@@ -1,35 +1,24 @@
 -- What holds of two stations and the line between them after every list of events, up to the moment at which an end
 -- goes up a second time.
-use Rattle.std.specs.Prelude.{◌≡◌, ◌≤◌, ◌⊎◌, ℕ, suc, true, List, [], ◌∷◌, ◌++◌, Option, Some, None, Result, Ok}
-use Rattle.std.specs.Prelude.{Err}
-use Rattle.x25_bits.specs.declared.role.Role.{Role}
-use Rattle.x25_bits.specs.declared.role.Role.TheVariants.{Dte, Dce}
-use Rattle.x25_packet.specs.Packet.{PlainPacket}
-use Rattle.x25_packet.specs.Taking.{read_in}
-use Rattle.x25_packet.specs.declared.error.PacketError.{PacketError}
-use Rattle.x25_frame.specs.Frame.{PlainFrame, info, frmr}
-use Rattle.x25_frame.specs.Reading.{frame_of}
-use Rattle.x25_frame.specs.declared.error.FrameError.{FrameError}
-use Rattle.x25_link.specs.Station.{Settings as LinkSettings, is_up}
-use Rattle.x25_link.specs.Hearing.{other}
-use Rattle.x25_handshakes.specs.laws.Names.{Name}
+use Rattle.std.specs.Prelude.{◌≡◌, ◌≤◌, ◌⊎◌, ℕ, suc, true, List, [], ◌∷◌, ◌++◌, Option, Some, None, Result, Ok, Err}
+use Rattle.x25_bits.specs.{declared.role.Role.{Role}, declared.role.Role.TheVariants.{Dte, Dce}}
+use Rattle.x25_packet.specs.{Packet.{PlainPacket}, Taking.{read_in}, declared.error.PacketError.{PacketError}}
 use Rattle.x25_packet.specs.Spelling.{longest_user}
-use Rattle.x25_layer.specs.declared.ranges.Ranges.{Ranges}
-use Rattle.x25_layer.specs.laws.Transcript.{Entry, name_of}
-use Rattle.x25_layer.specs.laws.NameLaw.{first_name, counted}
-use Rattle.x25_layer.specs.laws.Quiet.{IsQuietAt, AreNoFaults}
+use Rattle.x25_frame.specs.{Frame.{PlainFrame, info, frmr}, Reading.{frame_of}, declared.error.FrameError.{FrameError}}
+use Rattle.x25_handshakes.specs.laws.Names.{Name}
+use Rattle.x25_layer.specs.{declared.ranges.Ranges.{Ranges}, laws.Transcript.{Entry, name_of}}
+use Rattle.x25_layer.specs.{laws.NameLaw.{first_name, counted}, laws.Quiet.{IsQuietAt, AreNoFaults}}
 use Rattle.x25_layer.specs.laws.Law.{HandsUpLawfully, HasAllOf}
 use Rattle.x25_station.specs.declared.config.Cfg.{Cfg}
 use Rattle.x25_station.specs.Config.{settings_from, config_refusal, longest_packet, link_settings}
 use Rattle.x25_station.specs.Command.{Command, Requests, RequestsWith, Connects, Disconnects, Probes, Relinks}
-use Rattle.x25_station.specs.Entry.{StationEntry, link_up, layer_entries, layer_notices}
-use Rattle.x25_station.specs.laws.GivenLaw.{GivesOctets}
-use Rattle.x25_station.specs.laws.ReadLaw.{RequestsOctets}
-use Rattle.x25_station.specs.Station.{Station}
-use Rattle.x25_station.specs.Station.Told.{is_idle, stretch}
+use Rattle.x25_station.specs.{Entry.{StationEntry, link_up, layer_entries, layer_notices}, laws.GivenLaw.{GivesOctets}}
+use Rattle.x25_station.specs.{laws.ReadLaw.{RequestsOctets}, Station.{Station}, Station.Told.{is_idle, stretch}}
 use Rattle.x25_world.specs.declared.error.WorldError.{WorldError}
 use Rattle.x25_world.specs.World.{OnTap, AtEnd, World, Act, Commands, Receives, Event, happens, refusal_of, after, run}
 use Rattle.x25_world.specs.World.{AreAccepted, start, connected, established}
+use Rattle.x25_line.specs.laws.SessionClaims.{Each}
+use Rattle.x25_link.specs.{Station.{Settings as LinkSettings, is_up}, Hearing.{other}}
 
 -- ---- an end and its transcript
 
@@ -77,8 +66,7 @@ ActsInOctets (Commands command) = CommandsOctets command
 ActsInOctets act = Unit {0}
 
 abbrev pub AreInOctets : List Event → Type 0
-AreInOctets [] = Unit {0}
-AreInOctets (e ∷ events) = ActsInOctets e.act × AreInOctets events
+AreInOctets events = Each (λ (e : Event). ActsInOctets e.act) events
 
 -- The link, just set up, isn't set up anew: neither end tells of LinkUp again. What is told stays, so that this is so
 -- of the beginnings of the list too.
@@ -168,8 +156,7 @@ IsQuietFrame cfg (Ok frame) = Unit {0}
 IsQuietFrame cfg (Err e) = ⊥
 
 abbrev pub IsQuietTap : Cfg → List OnTap → Type 0
-IsQuietTap cfg [] = Unit {0}
-IsQuietTap cfg (t ∷ tap) = IsQuietFrame cfg (frame_of t.from longest_packet t.octets) × IsQuietTap cfg tap
+IsQuietTap cfg tap = Each (λ (t : OnTap). IsQuietFrame cfg (frame_of t.from longest_packet t.octets)) tap
 
 -- All that was ever put on the line is frames, and no FRMR; and of their packets no CLEAR and no RESET has another
 -- cause than the user's, and no RESTART one that tells of an error. No user was told of a fault.

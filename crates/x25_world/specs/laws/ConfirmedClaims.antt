@@ -1,16 +1,13 @@
 -- What an end's user is told as confirmed, the other end's user was handed, over set-up and re-set-up at any moment.
 -- ITU-T X.25 (10/96), section 4.4.1.4.
 use Rattle.std.specs.Prelude.{◌≡◌, ◌≤◌, ◌+◌, ◌==◌, ℕ, List, [], ◌∷◌, Some, None, if◌then◌else◌}
-use Rattle.x25_bits.specs.Bits.{bit}
-use Rattle.x25_bits.specs.declared.role.Role.{Role}
+use Rattle.x25_bits.specs.{Bits.{bit}, declared.role.Role.{Role}}
 use Rattle.x25_circuit.specs.declared.message.Message.{Message}
 use Rattle.x25_handshakes.specs.laws.Names.{Name, both, same_name}
 use Rattle.x25_layer.specs.laws.Transcript.{under, messages_in}
 use Rattle.x25_link.specs.Hearing.{other}
-use Rattle.x25_station.specs.declared.config.Cfg.{Cfg}
-use Rattle.x25_station.specs.Entry.{StationEntry, was_confirmed}
-use Rattle.x25_world.specs.World.{World}
-use Rattle.x25_world.specs.laws.Sessions.{session_at, handed_in, meets}
+use Rattle.x25_station.specs.{declared.config.Cfg.{Cfg}, Entry.{StationEntry, was_confirmed}}
+use Rattle.x25_world.specs.{World.{World}, laws.Sessions.{session_at, handed_in, meets}}
 
 -- how many messages of a stretch an end was told as confirmed, by the counts of all entries together
 

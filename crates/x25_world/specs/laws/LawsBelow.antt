@@ -4,24 +4,21 @@ use Rattle.x25_frame.specs.laws.ReadingLaw.{ReadsSpelled}
 use Rattle.x25_link.specs.laws.NoteLaw.{TakeTells, TakeHandsUp, TimerTells, PutTells, ConnectTells, DisconnectTells}
 use Rattle.x25_link.specs.laws.NoteLaw.{AbandonTells, RelinkTells}
 use Rattle.x25_link.specs.laws.SetUp.{TakeWaits, TakeSetsUp, RelinkIsTwoSteps}
-use Rattle.x25_line.specs.laws.SessionClaims as line
 use Rattle.x25_line.specs.laws.SessionClaims.{MetAreInOrder, UnmetHandNothingUp, OnlyBegunHaveLists, EachMeetsLatest}
 use Rattle.x25_line.specs.laws.SessionClaims.{IdleHasArrived, NoSessionSendsFrmr, AllSessionsSendWhole}
 use Rattle.x25_line.specs.laws.SessionEvents.{EachEventHandsInSession, EachEventMeetsLatest}
 use Rattle.x25_line.specs.laws.SessionNumbers.{StandingGoesAlong}
 use Rattle.x25_layer.specs.declared.ranges.Ranges.{Ranges}
 use Rattle.x25_layer.specs.laws.Law.{KeepsOrder, IsQuietWorld, IsLawfulWorld, ArrivesAll}
-use Rattle.x25_layer.specs.laws.NameLaw.{NamesAreCounted}
-use Rattle.x25_layer.specs.laws.Acknowledged.{AcknowledgedAreHandedUp}
+use Rattle.x25_layer.specs.{laws.NameLaw.{NamesAreCounted}, laws.Acknowledged.{AcknowledgedAreHandedUp}}
 use Rattle.x25_layer.specs.laws.Apart.{AlwaysApart}
 use Rattle.x25_layer.specs.laws.ApartLaw.{IsOverLinks, RestartsFirst, BeginsAlone, OwnMovesDecide, EventsRunOn}
 use Rattle.x25_station.specs.laws.JoinLaw.{RequestIsJoined, ReceiveIsJoined, QuietIsJoined, DownIsJoined, UpIsJoined}
-use Rattle.x25_packet.specs.laws.ReadingLaw.{ReadsWhatIsSpelled}
-use Rattle.x25_packet.specs.laws.TakingLaw.{TakesWhatIsSpelled}
 use Rattle.x25_station.specs.laws.GivenLaw.{GivenIsJoined, GivenIsRead, GivenIsTold, GivenIsWritten}
 use Rattle.x25_station.specs.laws.KeepLaw.{ConnectKeeps, TimerKeeps, RequestKeeps, GivenKeeps, CommandKeeps}
-use Rattle.x25_station.specs.laws.KeepLaw.{ReceiveKeeps}
-use Rattle.x25_station.specs.laws.ReadLaw.{PutsAreReadable}
+use Rattle.x25_station.specs.{laws.KeepLaw.{ReceiveKeeps}, laws.ReadLaw.{PutsAreReadable}}
+use Rattle.x25_packet.specs.{laws.ReadingLaw.{ReadsWhatIsSpelled}, laws.TakingLaw.{TakesWhatIsSpelled}}
+use Rattle.x25_line.specs.laws.SessionClaims as line
 
 -- those of one station
 pub record Laws : Type 0 where

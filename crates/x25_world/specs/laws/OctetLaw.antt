@@ -1,11 +1,8 @@
 -- How many octets a world holds at most (profile).
-use Rattle.std.specs.Prelude.{ℕ, List, ◌+◌, ◌*◌, ◌≤◌, length, max}
-use Rattle.std.specs.List.{sum_by}
+use Rattle.std.specs.{Prelude.{ℕ, List, ◌+◌, ◌*◌, ◌≤◌, length, max}, List.{sum_by}}
 use Rattle.x25_station.specs.declared.config.Cfg.{Cfg}
+use Rattle.x25_world.specs.{World.{World}, code.FitsWorld.{FitsWorld}, code.ShownWorld.{ShownWorld}}
 use Rattle.x25_station.specs.laws.OctetLaw as station
-use Rattle.x25_world.specs.World.{World}
-use Rattle.x25_world.specs.code.FitsWorld.{FitsWorld}
-use Rattle.x25_world.specs.code.ShownWorld.{ShownWorld}
 
 -- A frame on its line counts as the longest, or as its own octets where these are more.
 abbrev pub frame_octets : List ℕ → ℕ

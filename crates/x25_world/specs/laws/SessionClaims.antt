@@ -1,16 +1,12 @@
 -- What holds of two stations and the line between them after every list of events, over set-up and re-set-up at any
 -- moment.
 use Rattle.std.specs.Prelude.{◌≡◌, ◌≤◌, ◌<◌, ℕ, true, List, [], Some, None}
-use Rattle.x25_link.specs.Hearing.{other}
-use Rattle.x25_link.specs.Station.{is_up}
+use Rattle.x25_link.specs.{Hearing.{other}, Station.{is_up}}
 use Rattle.x25_bits.specs.declared.role.Role.{Role}
 use Rattle.x25_handshakes.specs.laws.Names.{Name}
-use Rattle.x25_layer.specs.laws.Law.{HandsUpLawfully, HasAllOf}
-use Rattle.x25_layer.specs.laws.NameLaw.{first_name, counted}
+use Rattle.x25_layer.specs.{laws.Law.{HandsUpLawfully, HasAllOf}, laws.NameLaw.{first_name, counted}}
 use Rattle.x25_layer.specs.laws.Transcript.{name_of}
-use Rattle.x25_station.specs.declared.config.Cfg.{Cfg}
-use Rattle.x25_station.specs.Config.{settings_from, config_refusal}
-use Rattle.x25_station.specs.Entry.{layer_notices}
+use Rattle.x25_station.specs.{declared.config.Cfg.{Cfg}, Config.{settings_from, config_refusal}, Entry.{layer_notices}}
 use Rattle.x25_station.specs.Station.Told.{is_idle, stretch}
 use Rattle.x25_world.specs.World.{World, Event, run}
 use Rattle.x25_world.specs.laws.Claims.{AreInOctets, IsBeginning, HasNoProcedureError, station_at}

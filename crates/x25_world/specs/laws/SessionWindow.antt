@@ -2,15 +2,13 @@
 -- stand, which goes on from event to event.
 use Rattle.std.specs.Prelude.{◌≡◌, List, [], ◌∷◌, ◌++◌}
 use Rattle.x25_bits.specs.declared.role.Role.TheVariants.{Dte, Dce}
-use Rattle.x25_line.specs.laws.Stations as line
-use Rattle.x25_line.specs.laws.Sessions as links
-use Rattle.x25_line.specs.laws.Sessions.{Sessions, from_nothing, AreTimely}
-use Rattle.x25_line.specs.laws.SessionClaims.{octets_of}
+use Rattle.x25_line.specs.{laws.Sessions.{Sessions, from_nothing, AreTimely}, laws.SessionClaims.{Each, octets_of}}
 use Rattle.x25_line.specs.laws.SessionNumbers.{Standing, standing_run, standing_at, EachUpStandsWith}
 use Rattle.x25_station.specs.declared.config.Cfg.{Cfg}
-use Rattle.x25_world.specs.World.{World, Event, happens, after, run}
-use Rattle.x25_world.specs.laws.Claims.{IsBeginning, link_of}
-use Rattle.x25_world.specs.laws.WindowGoes.{AsksAll, all_at}
+use Rattle.x25_world.specs.{World.{World, Event, happens, after, run}, laws.Claims.{IsBeginning, link_of}}
+use Rattle.x25_world.specs.laws.WindowGoes.{Asks, all_at}
+use Rattle.x25_line.specs.laws.Stations as line
+use Rattle.x25_line.specs.laws.Sessions as links
 
 -- A run of two links from both down, with the links and lines of this world, and the sessions that stand by it, with
 -- their window machine.
@@ -37,7 +35,7 @@ StandsInWindow cfg w v s = IsRunOfSessions cfg w v s × EachUpStandsWith (link_o
 abbrev pub SessionsGoAlong : Cfg → World → List Event → World → Sessions → Standing → Type 0
 SessionsGoAlong cfg here [] w v s = StandsInWindow cfg here v s
 SessionsGoAlong cfg here (e ∷ events) w v s =
-    StandsInWindow cfg w v s × (asked : List line.Act) × AsksAll e.act asked
+    StandsInWindow cfg w v s × (asked : List line.Act) × Each (Asks e.act) asked
     × SessionsGoAlong cfg here events (after w (happens cfg w e))
     (links.run (link_of cfg Dte) (link_of cfg Dce) (all_at e.at asked) v)
     (standing_run (link_of cfg Dte) (link_of cfg Dce) (all_at e.at asked) v s)

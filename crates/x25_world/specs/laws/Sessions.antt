@@ -6,8 +6,7 @@ use Rattle.x25_link.specs.Hearing.{other}
 use Rattle.x25_bits.specs.declared.role.Role.{Role}
 use Rattle.x25_layer.specs.laws.Transcript.{Entry}
 use Rattle.x25_station.specs.Entry.{StationEntry, link_up, link_down, was_restarted, layer_entries}
-use Rattle.x25_world.specs.World.{AtEnd, World}
-use Rattle.x25_world.specs.laws.Claims.{entry_of_end, entries_at}
+use Rattle.x25_world.specs.{World.{AtEnd, World}, laws.Claims.{entry_of_end, entries_at}}
 
 -- how many sessions an end began, and whether the last of them stands
 pub record Progress : Type 0 where

@@ -1,8 +1,8 @@
 -- What is put on the line, as octets.
-use Rattle.std.specs.Prelude.{ℕ, ◌≤◌, List, [], ◌∷◌, length}
-use Rattle.x25_station.specs.declared.config.Cfg.{Cfg}
-use Rattle.x25_station.specs.laws.ReadLaw.{AreOctets}
+use Rattle.std.specs.Prelude.{ℕ, ◌≤◌, List, length}
+use Rattle.x25_station.specs.{declared.config.Cfg.{Cfg}, laws.ReadLaw.{AreOctets}}
 use Rattle.x25_world.specs.World.{OnTap, World}
+use Rattle.x25_line.specs.laws.SessionClaims.{Each}
 
 -- the longest I frame: N1, address, control, and the frame check sequence (profile)
 abbrev pub longest_frame : ℕ
@@ -13,8 +13,7 @@ pub record AreOfFrame (octets : List ℕ) : Type 0 where
   pub short : length octets ≤ longest_frame
 
 abbrev pub AreOfFrames : List OnTap → Type 0
-AreOfFrames [] = Unit {0}
-AreOfFrames (t ∷ tap) = AreOfFrame t.octets × AreOfFrames tap
+AreOfFrames tap = Each (λ (t : OnTap). AreOfFrame t.octets) tap
 
 -- all that was ever put on the line is octets, at most as many as the longest frame has
 abbrev pub IsTapOfOctets : Cfg → World → Type 0

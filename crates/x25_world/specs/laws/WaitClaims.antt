@@ -1,23 +1,15 @@
 -- What still waits in the circuits of two stations where both links are idle and a pull changes nothing.
 use Rattle.std.specs.Prelude.{◌≡◌, ℕ, List, true, false, Some}
-use Rattle.x25_bits.specs.declared.role.Role.{Role}
-use Rattle.x25_bits.specs.declared.role.Role.TheVariants.{Dte, Dce}
+use Rattle.x25_bits.specs.{declared.role.Role.{Role}, declared.role.Role.TheVariants.{Dte, Dce}}
 use Rattle.x25_link.specs.Hearing.{other}
-use Rattle.x25_link.specs.Link as link
 use Rattle.x25_circuit.specs.Circuit.{is_open, waits}
 use Rattle.x25_handshakes.specs.laws.Names.{Name}
-use Rattle.x25_layer.specs.Calls.{PullsAll}
-use Rattle.x25_layer.specs.laws.Transcript.{Entry}
-use Rattle.x25_layer.specs.laws.Law.{HasAllOf}
-use Rattle.x25_layer.specs.laws.WaitLaw.{PullsNone}
-use Rattle.x25_station.specs.declared.config.Cfg.{Cfg}
-use Rattle.x25_station.specs.Config.{settings_from, layer_settings}
-use Rattle.x25_station.specs.Command.{Requests}
-use Rattle.x25_station.specs.Station.{Station}
-use Rattle.x25_station.specs.Station.Told.{stretch}
+use Rattle.x25_layer.specs.{Calls.{PullsAll}, laws.Transcript.{Entry}, laws.Law.{HasAllOf}, laws.WaitLaw.{PullsNone}}
+use Rattle.x25_station.specs.{declared.config.Cfg.{Cfg}, Config.{settings_from, layer_settings}, Command.{Requests}}
+use Rattle.x25_station.specs.{Station.{Station}, Station.Told.{stretch}}
 use Rattle.x25_world.specs.World.{World, Event, Commands, Happened, happens, after}
-use Rattle.x25_world.specs.laws.Sessions.{last_session, handed_in}
-use Rattle.x25_world.specs.laws.Claims.{station_at}
+use Rattle.x25_world.specs.{laws.Sessions.{last_session, handed_in}, laws.Claims.{station_at}}
+use Rattle.x25_link.specs.Link as link
 
 -- the data packets that wait at an end are pulled
 abbrev pub pull_at : Role → Event

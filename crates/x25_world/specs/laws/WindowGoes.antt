@@ -1,19 +1,16 @@
 -- The window of the links along a run from a link just set up: one window machine, which goes on from event to event.
 use Rattle.std.specs.Prelude.{◌≡◌, ℕ, List, [], ◌∷◌}
-use Rattle.x25_bits.specs.declared.role.Role.{Role}
-use Rattle.x25_bits.specs.declared.role.Role.TheVariants.{Dte, Dce}
+use Rattle.x25_bits.specs.{declared.role.Role.{Role}, declared.role.Role.TheVariants.{Dte, Dce}}
 use Rattle.x25_packet.specs.Packet.{restart}
-use Rattle.x25_packet.specs.Spelling as packet
-use Rattle.x25_line.specs.laws.Line.{Line}
-use Rattle.x25_line.specs.laws.Stations as line
-use Rattle.x25_line.specs.laws.StationClaims.{IsBehind}
-use Rattle.x25_line.specs.laws.WholeNumbers.{machine_run, machine_at_start}
+use Rattle.x25_line.specs.{laws.Line.{Line}, laws.StationClaims.{IsBehind}}
+use Rattle.x25_line.specs.{laws.WholeNumbers.{machine_run, machine_at_start}, laws.SessionClaims.{Each}}
 use Rattle.x25_layer.specs.Layer.{restart_cause}
 use Rattle.x25_station.specs.declared.config.Cfg.{Cfg}
 use Rattle.x25_station.specs.Command.{Requests, RequestsWith, Connects, Disconnects, Probes, Relinks}
 use Rattle.x25_world.specs.World.{World, Act, Commands, Receives, Fires, Loses, Damages, Event, happens, after, run}
-use Rattle.x25_world.specs.World.{established}
-use Rattle.x25_world.specs.laws.Claims.{link_of}
+use Rattle.x25_world.specs.{World.{established}, laws.Claims.{link_of}}
+use Rattle.x25_packet.specs.Spelling as packet
+use Rattle.x25_line.specs.laws.Stations as line
 
 -- ---- what an event does to the two links
 
@@ -36,10 +33,6 @@ Asks Fires line.T1 = Unit {0}
 Asks (Loses place) (line.Lose same) = same ≡ place
 Asks (Damages place octets) (line.Damage same others) = (same ≡ place) × (others ≡ octets)
 Asks act asked = ⊥
-
-abbrev pub AsksAll : Act → List line.Act → Type 0
-AsksAll act [] = Unit {0}
-AsksAll act (asked ∷ rest) = Asks act asked × AsksAll act rest
 
 -- each at the end of the event
 abbrev pub at_end : Role → line.Act → line.Event
@@ -65,7 +58,7 @@ pub record IsBehindWorld (cfg : Cfg) (w : World) (links : line.Stations) (machin
 abbrev pub GoesAlong : Cfg → World → List Event → World → line.Stations → Line (List ℕ) → Type 0
 GoesAlong cfg here [] w links machine = IsBehindWorld cfg here links machine
 GoesAlong cfg here (e ∷ events) w links machine =
-    IsBehindWorld cfg w links machine × (asked : List line.Act) × AsksAll e.act asked
+    IsBehindWorld cfg w links machine × (asked : List line.Act) × Each (Asks e.act) asked
     × GoesAlong cfg here events (after w (happens cfg w e))
     (line.run (link_of cfg Dte) (link_of cfg Dce) (all_at e.at asked) links)
     (machine_run (link_of cfg Dte) (link_of cfg Dce) (all_at e.at asked) links machine)

@@ -1,32 +1,24 @@
 -- Worked rows of two stations over a line: their octets, a message that arrives, and what is lost, damaged or refused.
 use Rattle.std.specs.Prelude.{◌≡◌, ℕ, zero, suc, true, false, List, [], ◌∷◌, ◌++◌, Some, None, codes}
-use Rattle.x25_bits.specs.declared.role.Role.{Role}
-use Rattle.x25_bits.specs.declared.role.Role.TheVariants.{Dte, Dce}
-use Rattle.x25_link.specs.declared.error.LinkError.TheVariants as link_error
+use Rattle.x25_bits.specs.{declared.role.Role.{Role}, declared.role.Role.TheVariants.{Dte, Dce}}
 use Rattle.x25_link.specs.declared.phase.Reason.TheVariants.{Local, Disc, Reset, Retries}
 use Rattle.x25_packet.specs.Marks.{with_q}
-use Rattle.x25_circuit.specs.Params.{default_params, in_brief}
-use Rattle.x25_circuit.specs.Calling.{Accepts, Sends}
+use Rattle.x25_circuit.specs.{Params.{default_params, in_brief}, Calling.{Accepts, Sends}}
 use Rattle.x25_given.specs.Given.{PlainGiven}
 use Rattle.x25_handshakes.specs.laws.Names.{Name}
-use Rattle.x25_layer.specs.Ranges.{two_way}
-use Rattle.x25_layer.specs.Calls.{LayerRequest, Asks, Dials, Restarts}
+use Rattle.x25_layer.specs.{Ranges.{two_way}, Calls.{LayerRequest, Asks, Dials, Restarts}}
 use Rattle.x25_layer.specs.laws.Transcript.{under, messages_in}
-use Rattle.x25_station.specs.declared.config.Cfg.{Cfg}
-use Rattle.x25_station.specs.declared.error.StationError.TheVariants as station_error
-use Rattle.x25_station.specs.Command.{Requests, RequestsWith, Connects, Disconnects}
+use Rattle.x25_station.specs.{declared.config.Cfg.{Cfg}, Command.{Requests, RequestsWith, Connects, Disconnects}}
 use Rattle.x25_station.specs.Entry.{restart_asked, connect_asked, disconnect_asked, link_up, link_down, was_restarted}
-use Rattle.x25_station.specs.Config.{settings_from}
-use Rattle.x25_station.specs.Giving.{not_taken}
-use Rattle.x25_station.specs.Station.Told.{is_idle, stretch}
-use Rattle.x25_world.specs.declared.error.WorldError.TheVariants as error
+use Rattle.x25_station.specs.{Config.{settings_from}, Giving.{not_taken}, Station.Told.{is_idle, stretch}}
 use Rattle.x25_world.specs.World.{AtEnd, World, Act, Commands, Receives, Fires, Loses, Damages, Event, happens}
-use Rattle.x25_world.specs.World.{refusal_of, run, start, established}
-use Rattle.x25_world.specs.laws.BesideClaims.{came_in, gave_in}
-use Rattle.x25_world.specs.laws.Claims.{handed_at}
-use Rattle.x25_world.specs.laws.ConfirmedClaims.{confirmed_in}
+use Rattle.x25_world.specs.{World.{refusal_of, run, start, established}, laws.BesideClaims.{came_in, gave_in}}
+use Rattle.x25_world.specs.{laws.Claims.{handed_at}, laws.ConfirmedClaims.{confirmed_in}}
 use Rattle.x25_world.specs.Healing.{IsDrained, firing, AreReceiptsAndRequests, FreeThroughout, BothMayHeal}
 use Rattle.x25_world.specs.laws.Sessions.{session_at, meets}
+use Rattle.x25_link.specs.declared.error.LinkError.TheVariants as link_error
+use Rattle.x25_station.specs.declared.error.StationError.TheVariants as station_error
+use Rattle.x25_world.specs.declared.error.WorldError.TheVariants as error
 
 abbrev pub two_channels : Cfg
 two_channels = record { k = 7; n2 = 10; channels = two_way 2; long_data = false; say_sizes = false; wide = false }
@@ -69,7 +61,8 @@ first_stretch = record { restarts = 1; clears = 0; resets = 0 }
 -- the message was handed up at the DCE, once, and the DTE is idle in that stretch
 abbrev pub HasArrived : World → Type 0
 HasArrived w =
-    ((messages_in (under 2 first_stretch (handed_at Dce w))).up ≡ record { marks = with_q false; user = codes "hi" } ∷ [])
+    ((messages_in (under 2 first_stretch (handed_at Dce w))).up
+    ≡ record { marks = with_q false; user = codes "hi" } ∷ [])
     × (is_idle (settings_from Dte two_channels) w.near ≡ true)
     × (stretch (settings_from Dte two_channels) w.near 2 ≡ Some first_stretch)
     × (stretch (settings_from Dce two_channels) w.far 2 ≡ Some first_stretch)

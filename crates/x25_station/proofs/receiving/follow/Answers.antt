@@ -1,7 +1,7 @@
 use Rattle.std.proofs.Common.{Bool, true, option_copied, ◌++◌, map, ap, sym, subst, ◌∙◌}
 use Rattle.x25_link.specs.code.FitsLink.{FitsWhole}
 use Rattle.x25_layer.specs.code.FitsLayer.{FitsLayer}
-use Rattle.x25_layer.specs.Rounds.{Putting, hears}
+use Rattle.x25_layer.specs.laws.Rounds.{Putting, hears}
 use Rattle.x25_station.specs.Config.{link_settings, layer_settings}
 use Rattle.x25_station.specs.Receiving.{kept_of}
 use Rattle.x25_station.specs.Station.{all_put, view_of}

@@ -5,7 +5,8 @@ use Rattle.x25_link.specs.code.FitsLink.{FitsWhole}
 use Rattle.x25_layer.specs.code.FitsLayer.{FitsLayer}
 use Rattle.x25_layer.specs.Layer.{LayerNotice}
 use Rattle.x25_layer.specs.Report.{plain_report}
-use Rattle.x25_layer.specs.Rounds.{LinkView, begin, hears, answer_to}
+use Rattle.x25_layer.specs.Receiving.{answer_to}
+use Rattle.x25_layer.specs.laws.Rounds.{LinkView, begin, hears}
 use Rattle.x25_packet.specs.Spelling.{longest_user}
 use Rattle.x25_station.specs.Entry.{bringing, station_told}
 use Rattle.x25_station.specs.code.Memory.{ShownEntries}
@@ -21,22 +22,9 @@ use Rattle.x25_station.proofs.TellLemmas.{same_told}
 use Rattle.x25_station.proofs.ShortLemmas.{told_tellable}
 use Rattle.x25_station.proofs.receiving.hear.Goals as goal
 
-pub returns-clause-puts : goal.returns-clause-puts
-returns-clause-puts c = record {
-  layer = λ c' l t fits link.
-      let lc = layer_settings c' in
-      subst (λ (view : LinkView). FitsLayer lc c.packet-told.new.self (hears view lc c.args.wide l c.args.packet.now).step.layer) (same_view (link_settings c') t)
-      (c.packet-told.ensures.layer lc l (kept_of (link_settings c') t) fits link);
-  link = λ c' l t fits link.
-      let lc = layer_settings c' in
-      let lk = link_settings c' in
-      subst (λ (view : LinkView). FitsWhole c.packet-told.new.link (kept_of lk (all_put lk (hears view lc c.args.wide l c.args.packet.now).step.put t))) (same_view lk t)
-      (after_puts lk c.packet-told.new.link (hears (seen_by lk t) lc c.args.wide l c.args.packet.now).step.put t (c.packet-told.ensures.link lc l (kept_of lk t) fits link));
-}
-
 pub returns-clause-bringing : goal.returns-clause-bringing
 returns-clause-bringing c = λ c' l t fits link.
-    c.bringing-channel.ensures ∙ ap (λ (ns : List LayerNotice). bringing ns) (c.packet-told.ensures.told (layer_settings c') l (view_of (link_settings c') t.near) fits)
+    c.bringing-channel.ensures ∙ ap (λ (ns : List LayerNotice). bringing ns) (c.packet_up-told.ensures.told (layer_settings c') l (view_of (link_settings c') t.near) fits)
 
 pub returns-clause-entries : goal.returns-clause-entries
 returns-clause-entries c = λ c' l t fits link.
@@ -44,11 +32,11 @@ returns-clause-entries c = λ c' l t fits link.
     let view : LinkView = view_of (link_settings c') t.near in
     let octets = c.args.packet.now in
     let a = answer_to lc l octets (read_in c.args.wide (longest_user lc.circuit.long_data) octets) in
-    let told = c.packet-told.ensures.told lc l view fits in
+    let told = c.packet_up-told.ensures.told lc l view fits in
     let next = (hears view lc c.args.wide l octets).step.layer in
     let bytes : All (λ octet. octet < 256) octets = All-from_get_or (λ octet. octet < 256) octets 0 (λ i low. omega (arith, c.type_inv.packet i)) in
     let tellable = told_tellable c.taking_keeps_octets.ensures.range c.args.wide lc l octets bytes in
-    c.enter_told.ensures.entered lc next ((returns-clause-puts c).layer c' l t fits link) (subst (λ (ns : List LayerNotice). AreTellable lc ns) (sym told) tellable)
-    ∙ ap (λ (es : List Entry). map plain_entry es ++ station_told next (plain_report c.packet-told.result)) (ap (λ (e : ShownEntries). e.items) c.entries.view_is ∙ c.requires.none)
+    c.enter_told.ensures.entered lc next (c.packet_up-told.ensures.puts.layer c' l t fits link) (subst (λ (ns : List LayerNotice). AreTellable lc ns) (sym told) tellable)
+    ∙ ap (λ (es : List Entry). map plain_entry es ++ station_told next (plain_report c.packet_up-told.result)) (ap (λ (e : ShownEntries). e.items) c.entries.view_is ∙ c.requires.none)
     ∙ ap (λ ns. station_told next ns) told
     ∙ same_told next a.next a.notices (rounds_name view lc (begin a.next a.owed))

@@ -2,7 +2,7 @@ use Rattle.std.proofs.Common.{true, ◌++◌, [], ◌∷◌, map, ap, ap₂, sub
 use Rattle.std.proofs.lemmas.List.{map-append}
 use Rattle.x25_layer.specs.Layer.{Layer as LayerState}
 use Rattle.x25_station.specs.Confirming.{named_by}
-use Rattle.x25_layer.specs.Rounds.{begin, rounds}
+use Rattle.x25_layer.specs.laws.Rounds.{begin, rounds}
 use Rattle.x25_station.specs.Beside.{PlainBeside, beside_in}
 use Rattle.x25_station.specs.Entry.{bringing, entries_beside}
 use Rattle.x25_station.specs.Step.{layer_answer}

@@ -1,9 +1,7 @@
 use Rattle.std.proofs.Common.{sym, ap, ap₂, ◌∙◌, ◌&&◌, ◌||◌}
 use Rattle.x25_bits.specs.Role.{other}
 use Rattle.x25_station.specs.Config.{settings_from}
-use Rattle.x25_world.specs.World.{is_on_line}
-use Rattle.x25_world.specs.SetUp.{carries}
-use Rattle.x25_world.specs.declared.set_up.SetUpFrame.TheVariants.{Sabm, Ua}
+use Rattle.x25_world.specs.{World.{is_on_line}, SetUp.{carries}, declared.set_up.SetUpFrame.TheVariants.{Sabm, Ua}}
 use Rattle.x25_world.proofs.acting.awaits_frames.Goals as goal
 
 pub returns-then-awaits_ua : goal.returns-then-awaits_ua

@@ -1,7 +1,6 @@
 use Rattle.std.proofs.Common.{◌≡◌, ◌+◌, ◌++◌, length, map, vec_len, vec_capacity}
 use Rattle.x25_station.specs.code.PlainEntry.{plain_entry}
-use Rattle.x25_world.specs.World.{entered}
-use Rattle.x25_world.specs.code.PlainTold.{plain_entered}
+use Rattle.x25_world.specs.{World.{entered}, code.PlainTold.{plain_entered}}
 use Rattle.x25_world.proofs.acting.enter.Given as goal
 
 -- the entries so far are in the transcript

@@ -1,6 +1,4 @@
-use Rattle.x25_world.proofs.HealingLemmas.{rest_shows, heals_where, drains_where}
-use Rattle.x25_world.proofs.HealingPuts.{heals_with_puts}
-use Rattle.x25_world.proofs.rows.RowLemmas.{more_arrives}
+use Rattle.x25_world.proofs.{HealingLemmas.{rest_shows, heals_where, drains_where}, HealingPuts.{heals_with_puts}, rows.RowLemmas.{more_arrives}}
 use Rattle.x25_world.proofs.healing.stations_heal.Goals as goal
 
 pub returns : goal.returns

@@ -1,12 +1,7 @@
 use Rattle.std.proofs.Common.{false}
-use Rattle.x25_world.specs.World.{run, established}
-use Rattle.x25_world.specs.laws.Claims.{IsLawful, IsNamed, ArrivesAll, HasNoProcedureError}
-use Rattle.x25_world.proofs.Known.{is_configured}
-use Rattle.x25_world.proofs.Established.{set_up_accepted}
-use Rattle.x25_world.proofs.SetUpOnce.{lawful_once, named_once, arrives_once, is_up_once}
-use Rattle.x25_world.proofs.WindowRuns.{stays_in_window}
-use Rattle.x25_world.proofs.sessions.SessionRuns.{until_second, set_up_throughout}
-use Rattle.x25_world.proofs.sessions.claims.SessionQuiet.{has_no_error}
+use Rattle.x25_world.specs.{World.{run, established}, laws.Claims.{IsLawful, IsNamed, ArrivesAll, HasNoProcedureError}}
+use Rattle.x25_world.proofs.{Known.{is_configured}, Established.{set_up_accepted}, SetUpOnce.{lawful_once, named_once, arrives_once, is_up_once}}
+use Rattle.x25_world.proofs.{WindowRuns.{stays_in_window}, sessions.SessionRuns.{until_second, set_up_throughout}, sessions.claims.SessionQuiet.{has_no_error}}
 use Rattle.x25_world.proofs.law.two_stations_keep_order.Goals as goal
 
 pub returns : goal.returns

@@ -2,57 +2,39 @@
 -- the other end gave in its latest session.
 use Rattle.std.proofs.Common.{◌≡◌, ℕ, zero, suc, ◌≤◌, ◌<◌, inl, inr, List, [], ◌∷◌, ◌++◌, remove, Bool, true, false, if◌then◌else◌, Option, Some, None, Result, Ok, refl, sym, ap, ◌∙◌, subst, append_assoc, arith}
 use Rattle.std.proofs.lemmas.List.{append_cancel_left, map-append}
-use Rattle.x25_bits.specs.declared.role.Role.{Role}
-use Rattle.x25_bits.specs.declared.role.Role.TheVariants.{Dte, Dce}
-use Rattle.x25_packet.specs.Packet.{PlainPacket}
-use Rattle.x25_packet.specs.declared.error.PacketError.{PacketError}
-use Rattle.x25_handshakes.specs.laws.Histories.{IsPrefix}
-use Rattle.x25_link.specs.Station.{is_up}
-use Rattle.x25_link.specs.Hearing.{other, Step as LinkStep}
-use Rattle.x25_link.specs.laws.NoteLaw.{IsQuiet}
-use Rattle.x25_link.specs.declared.phase.Notes.{Notes}
+use Rattle.x25_bits.specs.{declared.role.Role.{Role}, declared.role.Role.TheVariants.{Dte, Dce}}
+use Rattle.x25_packet.specs.{Packet.{PlainPacket}, declared.error.PacketError.{PacketError}}
+use Rattle.x25_handshakes.specs.{laws.Histories.{IsPrefix}, laws.Names.{Name}}
 use Rattle.x25_link.specs.Link.{take_step, abandon_step}
-use Rattle.x25_line.specs.laws.Stations as line
-use Rattle.x25_line.specs.laws.Sessions as links
 use Rattle.x25_line.specs.laws.Sessions.{SessionEnd, Meeting, Sessions}
-use Rattle.x25_line.specs.laws.SessionClaims as met
-use Rattle.x25_line.specs.laws.SessionClaims.{AllMet, SomeMet, IsNoEarlier, InStep, MetAreInOrder, UnmetHandNothingUp, octets_of}
+use Rattle.x25_line.specs.laws.SessionClaims.{Each, SomeMet, IsNoEarlier, InStep, MetAreInOrder, UnmetHandNothingUp, octets_of}
 use Rattle.x25_line.specs.laws.SessionEvents.{EachEventMeetsLatest, MeetsOne}
-use Rattle.x25_layer.specs.Layer.{LayerSettings, Layer, LayerNotice, layer_answers}
-use Rattle.x25_layer.specs.code.FitsLayer.{is_full}
-use Rattle.x25_layer.specs.laws.TwoLayers as layer
-use Rattle.x25_layer.specs.laws.TwoLayers.{HandsUp, moves_in}
-use Rattle.x25_layer.specs.laws.RoundLaw.{moves_all, pulls_of}
-use Rattle.x25_layer.specs.laws.Apart as apart
-use Rattle.x25_layer.specs.laws.Apart.{OwnMove, Takes, Ends, own_run, AreInOrder}
+use Rattle.x25_layer.specs.{Layer.{LayerSettings, Layer, LayerNotice, layer_answers}, code.FitsLayer.{is_full}, laws.TwoLayers.{HandsUp, moves_in}}
+use Rattle.x25_layer.specs.{laws.RoundLaw.{moves_all, pulls_of}, laws.Apart.{OwnMove, Takes, Ends, own_run, AreInOrder}}
 use Rattle.x25_layer.specs.laws.ApartLaw.{BeginsRestarted, IsToldFirst}
-use Rattle.x25_station.specs.declared.config.Cfg.{Cfg}
-use Rattle.x25_station.specs.Config.{Settings, settings_from, layer_settings}
-use Rattle.x25_station.specs.Entry.{layer_notices}
-use Rattle.x25_station.specs.Step.{Step, follows, abandons, receives}
-use Rattle.x25_station.specs.laws.JoinLaw.{station_with, IsJoined}
-use Rattle.x25_station.specs.laws.KeepLaw.{IsKept}
+use Rattle.x25_station.specs.{declared.config.Cfg.{Cfg}, Config.{Settings, settings_from, layer_settings}, Entry.{layer_notices}}
+use Rattle.x25_station.specs.{Step.{Step, follows, abandons, receives}, laws.JoinLaw.{station_with, IsJoined}, laws.KeepLaw.{IsKept}}
 use Rattle.x25_station.specs.laws.ReadLaw.{AreReadable}
-use Rattle.x25_world.specs.World.{World, Receives, delivered, after, after_step}
-use Rattle.x25_world.specs.laws.BesideClaims.{Came, IsGiven, AreSomeOf}
-use Rattle.x25_handshakes.specs.laws.Names.{Name}
-use Rattle.x25_world.specs.laws.ConfirmedClaims.{confirmed_in}
-use Rattle.x25_world.specs.laws.Claims.{link_of}
-use Rattle.x25_world.proofs.Known.{IsConfigured, both_true, true_false}
-use Rattle.x25_world.proofs.Growing.{read_by, all_read, is_read, as_read, first_read, FrontEntry, front_entry}
+use Rattle.x25_world.specs.{World.{World, Receives, delivered, after, after_step}, laws.BesideClaims.{Came, IsGiven, AreSomeOf}}
+use Rattle.x25_world.specs.{laws.ConfirmedClaims.{confirmed_in}, laws.Claims.{link_of}, laws.LawsBelow.{SessionLaws}}
+use Rattle.x25_world.proofs.{Known.{IsConfigured, both_true, true_false}, Growing.{read_by, all_read, is_read, as_read, first_read, FrontEntry, front_entry}}
 use Rattle.x25_world.proofs.sessions.SessionTrace.{layer_of, Done, moved, own, own_goes, events_of, nothing_goes, own_pulls, pulls_take_nothing, pulls_bring_octets, near_pulls, take_takes}
 use Rattle.x25_world.proofs.sessions.SessionCounts.{counted_at, counted_by, counted_in}
 use Rattle.x25_world.proofs.sessions.SessionReaches.{Beginning, SessionsReach, IsAt, may_ask, known_sessions, sessions_act}
 use Rattle.x25_world.proofs.sessions.SessionJoined.{HasMet, PairIsInOrder, PairsAreInOrder, SessionsJoined, Goes, gave_none, stays}
 use Rattle.x25_world.proofs.sessions.SessionBeside.{spelled_bring}
-use Rattle.x25_line.proofs.ends.Meetings.{all_no_earlier}
-use Rattle.x25_world.specs.laws.LawsBelow.{SessionLaws}
 use Rattle.x25_world.proofs.sessions.SessionKnown.{met_in_order, pair_ends, here_in, here_is, there_is, own_order, own_first, nothing_in_order}
-use Rattle.x25_world.proofs.sessions.SessionEntries.{heard_plain, heard_beside, heard_confirms}
-use Rattle.x25_peer.proofs.sessions.LinkSteps.{SessionGoes, StepGoes, step_as, deliver_goes, abandon_goes, spelled, PutsRead, HasPut, puts_spelled}
-use Rattle.x25_world.proofs.sessions.SessionGoes.{here_extended}
+use Rattle.x25_world.proofs.{sessions.SessionEntries.{heard_plain, heard_beside, heard_confirms}, sessions.SessionGoes.{here_extended}}
 use Rattle.x25_world.proofs.sessions.SessionFollows.{no_command, up_puts, silent_puts, follows_silent, follows_up}
 use Rattle.x25_world.proofs.sessions.acts.SessionRequests.{pair_goes, pair_stays, puts_readable, joins}
+use Rattle.x25_line.proofs.ends.Meetings.{all_no_earlier}
+use Rattle.x25_peer.proofs.sessions.LinkSteps.{SessionGoes, StepGoes, step_as, deliver_goes, abandon_goes, spelled, PutsRead, HasPut, puts_spelled}
+use Rattle.x25_link.specs.{Station.{is_up}, Hearing.{other, Step as LinkStep}, laws.NoteLaw.{IsQuiet}, declared.phase.Notes.{Notes}}
+use Rattle.x25_line.specs.laws.Stations as line
+use Rattle.x25_line.specs.laws.Sessions as links
+use Rattle.x25_line.specs.laws.SessionClaims as met
+use Rattle.x25_layer.specs.laws.TwoLayers as layer
+use Rattle.x25_layer.specs.laws.Apart as apart
 
 -- the packet in front of those in flight, by what its octets are read as
 record Front (cfg : Cfg) (octets : List ℕ) (flight : List PlainPacket) : Type 0 where
@@ -68,7 +50,7 @@ front_of cfg octets rest (p ∷ flight) is = record { packet = p; others = fligh
 -- ---- meetings
 
 -- where one of the two met before, they met each other
-met_again : (number : Meeting → ℕ) (m : Meeting) → ((p : Meeting) → (p.near < m.near) × (p.far < m.far) → number p < number m) → (ms : List Meeting) → AllMet (IsNoEarlier m) ms
+met_again : (number : Meeting → ℕ) (m : Meeting) → ((p : Meeting) → (p.near < m.near) × (p.far < m.far) → number p < number m) → (ms : List Meeting) → Each (IsNoEarlier m) ms
     → SomeMet (λ (p : Meeting). number p ≡ number m) ms → HasMet m.near m.far ms
 met_again number m lower [] all some = absurd some
 met_again number m lower (p ∷ ms) all some = elim some [
@@ -201,7 +183,7 @@ module _ {since : Beginning} (laws : SessionLaws) (cfg : Cfg) (fine : IsConfigur
       -- what was handed up is a beginning of what the other was handed down
       begins_down : (rest : List (List ℕ)) × (h.links.near.up here ++ (packet_octets ∷ rest) ≡ h.links.far.down there)
       begins_down =
-          let order = (subst (AllMet (met.IsInOrder after_taken.near after_taken.far)) met_now (known_sessions MetAreInOrder laws.order cfg fine end after_taken reach_taken)).0.back in (
+          let order = (subst (Each (met.IsInOrder after_taken.near after_taken.far)) met_now (known_sessions MetAreInOrder laws.order cfg fine end after_taken reach_taken)).0.back in (
             order.0,
             sym (append_assoc (h.links.near.up here) (packet_octets ∷ []) order.0) ∙ ap (λ (l : List (List ℕ)). l ++ order.0) (sym up_more) ∙ order.1 ∙ ap (λ (e : SessionEnd). e.down there) goes_up_one.far,
           )
@@ -262,7 +244,7 @@ module _ {since : Beginning} (laws : SessionLaws) (cfg : Cfg) (fine : IsConfigur
             (subst (λ (e : layer.End). IsPrefix (e.taken ++ in_front.packet ∷ []) (here_in (other end) (pair_ends cfg end here there h.trace)).given) (sym (here_is laws cfg end here there h.trace))
             (subst (λ (e : layer.End). IsPrefix (own_here.taken ++ in_front.packet ∷ []) e.given) (sym (there_is laws cfg end here there h.trace)) begins_own)))
 
-        others_on : (ms : List Meeting) → AllMet (IsNoEarlier now_met) ms → PairsAreInOrder cfg end h.trace ms → PairsAreInOrder cfg end trace_on ms
+        others_on : (ms : List Meeting) → Each (IsNoEarlier now_met) ms → PairsAreInOrder cfg end h.trace ms → PairsAreInOrder cfg end trace_on ms
         others_on [] earlier pairs = tt
         others_on (p ∷ ms) earlier pairs = (
           elim earlier.0 [

@@ -3,56 +3,38 @@ use Rattle.std.proofs.Common.{◌≡◌, ℕ, suc, ◌==◌, ◌≤◌, ◌⊎�
 use Rattle.std.proofs.lemmas.List.{append_cancel_left}
 use Rattle.x25_bits.specs.declared.role.Role.{Role}
 use Rattle.x25_packet.specs.Packet.{PlainPacket}
-use Rattle.x25_link.specs.Outgoing.{waits}
-use Rattle.x25_link.specs.Station.{Side, is_up}
-use Rattle.x25_link.specs.Link.{alone}
-use Rattle.x25_line.specs.laws.Stations as line
-use Rattle.x25_line.specs.laws.Sessions as links
-use Rattle.x25_line.specs.laws.Sessions.{Meeting, Sessions}
-use Rattle.x25_line.specs.laws.SessionClaims.{octets_of}
+use Rattle.x25_link.specs.{Outgoing.{waits}, Station.{Side, is_up}, Link.{alone}}
+use Rattle.x25_line.specs.{laws.Sessions.{Meeting, Sessions}, laws.SessionClaims.{octets_of}}
 use Rattle.x25_given.specs.Given.{PlainGiven, may_give}
 use Rattle.x25_handshakes.specs.laws.Names.{Name}
-use Rattle.x25_layer.specs.Layer.{Layer, LayerNotice}
-use Rattle.x25_circuit.specs.Calling as circuit
-use Rattle.x25_layer.specs.Calls as asked
-use Rattle.x25_layer.specs.Calls.{LayerRequest, layer_outcome}
-use Rattle.x25_layer.specs.laws.Quiet.{AreNoFaults}
-use Rattle.x25_layer.specs.laws.TwoLayers as layer
-use Rattle.x25_layer.specs.laws.TwoLayers.{Requests as Requested}
-use Rattle.x25_layer.specs.laws.RoundLaw.{moves_all, pulls_of}
-use Rattle.x25_layer.specs.laws.Apart as apart
-use Rattle.x25_layer.specs.laws.Apart.{OwnMove, Requests, apart_start, own_run, AreInOrder}
-use Rattle.x25_station.specs.declared.config.Cfg.{Cfg}
-use Rattle.x25_station.specs.Config.{Settings, settings_from, layer_settings}
-use Rattle.x25_station.specs.Command as command
-use Rattle.x25_station.specs.Entry.{layer_notices}
-use Rattle.x25_station.specs.Giving.{suits}
-use Rattle.x25_station.specs.Step.{Step, Outcome, Did, Refused, requests, gives}
-use Rattle.x25_station.specs.laws.GivenLaw.{GivesOctets}
-use Rattle.x25_station.specs.laws.JoinLaw.{station_with, MovesAs}
-use Rattle.x25_station.specs.laws.KeepLaw.{IsKept, KeptBy}
-use Rattle.x25_station.specs.laws.ReadLaw.{AreReadable, RequestsOctets}
-use Rattle.x25_world.specs.declared.error.WorldError.{WorldError}
-use Rattle.x25_world.specs.World.{World, Commands, of_station, refusal_of, after, after_step}
-use Rattle.x25_world.specs.laws.BesideClaims.{Came, came_in, Gave, channel_for, gave_where, IsGiven, AreSomeOf}
-use Rattle.x25_world.specs.laws.ConfirmedClaims.{confirmed_in}
-use Rattle.x25_world.specs.laws.Claims.{link_of}
-use Rattle.x25_world.proofs.Known.{IsConfigured, both_true}
-use Rattle.x25_world.proofs.Growing.{all_read, as_read, back_read, back_octets}
+use Rattle.x25_layer.specs.{Layer.{Layer, LayerNotice}, Calls.{LayerRequest, layer_outcome}, laws.Quiet.{AreNoFaults}, laws.TwoLayers.{Requests as Requested}}
+use Rattle.x25_layer.specs.{laws.RoundLaw.{moves_all, pulls_of}, laws.Apart.{OwnMove, Requests, apart_start, own_run, AreInOrder}}
+use Rattle.x25_station.specs.{declared.config.Cfg.{Cfg}, Config.{Settings, settings_from, layer_settings}, Entry.{layer_notices}, Giving.{suits}}
+use Rattle.x25_station.specs.{Step.{Step, Outcome, Did, Refused, requests, gives}, laws.GivenLaw.{GivesOctets}, laws.JoinLaw.{station_with, MovesAs}}
+use Rattle.x25_station.specs.{laws.KeepLaw.{IsKept, KeptBy}, laws.ReadLaw.{AreReadable, RequestsOctets}}
+use Rattle.x25_world.specs.{declared.error.WorldError.{WorldError}, World.{World, Commands, of_station, refusal_of, after, after_step}}
+use Rattle.x25_world.specs.{laws.BesideClaims.{Came, came_in, Gave, channel_for, gave_where, IsGiven, AreSomeOf}, laws.ConfirmedClaims.{confirmed_in}}
+use Rattle.x25_world.specs.{laws.Claims.{link_of}, laws.LawsBelow.{SessionLaws}}
+use Rattle.x25_world.proofs.{Known.{IsConfigured, both_true}, Growing.{all_read, as_read, back_read, back_octets}}
 use Rattle.x25_world.proofs.sessions.SessionTrace.{layer_of, Done, moved, own, own_goes, same_number, pair_at, events_of, pair_more, pair_same, TakeNothing, nothing_goes, BringOctets, octets_append, own_pulls, pulls_take_nothing, pulls_bring_octets, near_pulls}
 use Rattle.x25_world.proofs.sessions.SessionCounts.{counted_in, CountNone}
 use Rattle.x25_world.proofs.sessions.SessionReaches.{Beginning, MayAsk, IsAt, may_ask, SessionsReach, puts_reach}
 use Rattle.x25_world.proofs.sessions.SessionJoined.{HasMet, PairIsInOrder, PairsAreInOrder, SessionsJoined, Goes, gave_none, stays}
 use Rattle.x25_world.proofs.sessions.SessionBeside.{brought, AreTold, spelled_bring, FirstMayGo, spelled_with_bring, own_goes_first}
-use Rattle.x25_line.proofs.ends.Meetings.{all_map}
-use Rattle.x25_world.specs.laws.LawsBelow.{SessionLaws}
 use Rattle.x25_world.proofs.sessions.SessionKnown.{met_in_order, pair_ends, own_quiet, own_readable, nothing_in_order}
 use Rattle.x25_world.proofs.sessions.SessionEntries.{ArePlain, outcome_plain, outcome_beside, outcome_counts}
-use Rattle.x25_peer.proofs.Granted.{did_granted, gave_granted, suits_asks}
-use Rattle.x25_peer.proofs.ReadLemmas.{readable_behind}
+use Rattle.x25_world.proofs.sessions.SessionGoes.{same_or_not, IsNews, goes_on}
+use Rattle.x25_line.proofs.ends.Meetings.{all_map}
+use Rattle.x25_peer.proofs.{Granted.{did_granted, gave_granted, suits_asks}, ReadLemmas.{readable_behind}}
 use Rattle.x25_peer.proofs.sessions.LinkSteps.{SessionGoes, spelled, spelled_with, PutsRead, HasPut, puts_spelled, puts_spelled_with, puts_up, puts_of, all_act, puts_go, stays_goes}
 use Rattle.x25_peer.proofs.sessions.SessionLayers.{pulls_asked, asked_leaves}
-use Rattle.x25_world.proofs.sessions.SessionGoes.{same_or_not, IsNews, goes_on}
+use Rattle.x25_line.specs.laws.Stations as line
+use Rattle.x25_line.specs.laws.Sessions as links
+use Rattle.x25_circuit.specs.Calling as circuit
+use Rattle.x25_layer.specs.Calls as asked
+use Rattle.x25_layer.specs.laws.TwoLayers as layer
+use Rattle.x25_layer.specs.laws.Apart as apart
+use Rattle.x25_station.specs.Command as command
 
 -- what calls and acceptances say changes no octet of the user
 pub said_octets : (says : Bool) (l : Layer) (request : LayerRequest) → RequestsOctets request → RequestsOctets (command.said_by says l request)

@@ -1,44 +1,32 @@
 -- Timer T1 runs out, the link is polled, connected, disconnected and set up anew, and octets on the line to an end are lost or damaged, over set-up
 -- and re-set-up.
-use Rattle.std.proofs.Common.{◌≡◌, ℕ, ◌+◌, List, [], ◌∷◌, Bool, true, false, ◌&&◌, ◌||◌, if◌then◌else◌, Option, Some, None, Result, Ok, refl, sym, ap, ◌∙◌, subst, arith, length, remove, nat_lt}
+use Rattle.std.proofs.Common.{◌≡◌, ℕ, ◌+◌, List, [], ◌∷◌, Bool, true, false, ◌&&◌, ◌||◌, if◌then◌else◌, Option, Some, None, Result, Ok, refl, sym, ap, ◌∙◌, subst, arith, length, remove, nat_lt, Err}
 use Rattle.std.specs.List.{list_any}
-use Rattle.x25_bits.specs.Role as bits
-use Rattle.x25_bits.specs.declared.role.Role.{Role}
-use Rattle.x25_bits.specs.declared.role.Role.TheVariants.{Dte, Dce}
-use Rattle.x25_frame.specs.Frame.{PlainFrame, sabm, ua}
-use Rattle.x25_frame.specs.Reading.{frame_of}
-use Rattle.x25_frame.specs.declared.error.FrameError.{FrameError}
-use Rattle.x25_link.specs.declared.error.LinkError.{LinkError}
-use Rattle.x25_link.specs.Station.{LinkStation, awaits_ua, Settings as LinkSettings}
-use Rattle.x25_link.specs.Hearing.{other, Step as LinkStep}
+use Rattle.x25_bits.specs.{declared.role.Role.{Role}, declared.role.Role.TheVariants.{Dte, Dce}}
+use Rattle.x25_frame.specs.{Frame.{PlainFrame, sabm, ua}, Reading.{frame_of}, declared.error.FrameError.{FrameError}}
+use Rattle.x25_frame.specs.declared.error.FrameError.TheVariants.{Short}
+use Rattle.x25_link.specs.{declared.error.LinkError.{LinkError}, Station.{LinkStation, awaits_ua, Settings as LinkSettings}, Hearing.{other, Step as LinkStep}}
 use Rattle.x25_link.specs.laws.NoteLaw.{Tells}
 use Rattle.x25_link.specs.Link.{timer_refusal, timer_step, connect_refusal, connect_step, disconnect_refusal, disconnect_step, probe_refusal, relink_refusal, relink_step}
-use Rattle.x25_line.specs.laws.Stations as line
-use Rattle.x25_line.specs.laws.Sessions as links
-use Rattle.x25_line.specs.laws.Sessions.{begun_by, sabm_in, ua_in, how_many, IsTimely}
-use Rattle.x25_line.specs.laws.SessionClaims.{octets_of}
-use Rattle.x25_station.specs.declared.config.Cfg.{Cfg}
-use Rattle.x25_station.specs.Config.{settings_from, longest_packet}
-use Rattle.x25_station.specs.Command.{Connects, Disconnects, Probes, Relinks}
+use Rattle.x25_line.specs.{laws.Sessions.{begun_by, sabm_in, ua_in, how_many, IsTimely}, laws.SessionClaims.{octets_of}, laws.Stations.{is_visible}}
+use Rattle.x25_station.specs.{declared.config.Cfg.{Cfg}, Config.{settings_from, longest_packet}, Command.{Connects, Disconnects, Probes, Relinks}}
 use Rattle.x25_station.specs.Entry.{connect_asked, relink_asked}
 use Rattle.x25_station.specs.Step.{Step, follows, led_by, fires, connects, connects_asked, disconnects, probes, relinks, unless}
 use Rattle.x25_station.specs.laws.KeepLaw.{IsKept, KeptBy, ConnectKeeps}
-use Rattle.x25_world.specs.SetUp.{is_a, reads_as, carries}
-use Rattle.x25_world.specs.declared.set_up.SetUpFrame.{SetUpFrame}
-use Rattle.x25_world.specs.declared.set_up.SetUpFrame.TheVariants.{Sabm, Ua}
-use Rattle.x25_world.specs.declared.error.WorldError.TheVariants as error
+use Rattle.x25_world.specs.{SetUp.{is_a, reads_as, carries}, declared.set_up.SetUpFrame.{SetUpFrame}, declared.set_up.SetUpFrame.TheVariants.{Sabm, Ua}}
 use Rattle.x25_world.specs.World.{World, Declined, Commands, Fires, of_station, refusal_of, is_on_line, fired, after, after_step, Happened, Loses, Damages, on_line, lost, damaged}
-use Rattle.x25_world.specs.laws.Claims.{link_of, IsNoConnect}
+use Rattle.x25_world.specs.{laws.Claims.{link_of, IsNoConnect}, laws.LawsBelow.{SessionLaws}}
 use Rattle.x25_world.proofs.Known.{IsConfigured, true_false, second_false}
 use Rattle.x25_world.proofs.sessions.SessionReaches.{Beginning, set_up, MayAct, MayAsk, IsAt, may_ask, sessions_act, SessionsReach}
 use Rattle.x25_world.proofs.sessions.SessionJoined.{SessionsJoined, Goes, gave_none, stays, relined}
-use Rattle.x25_world.specs.laws.LawsBelow.{SessionLaws}
-use Rattle.x25_peer.proofs.Granted.{connects_in_down, relinks_in_up, timer_silent}
-use Rattle.x25_peer.proofs.sessions.LinkSteps.{act_goes, probe_acts, relink_goes}
 use Rattle.x25_world.proofs.sessions.SessionFollows.{Lead, no_command, connect, disconnect, relink, lead_of, follows_silent}
-use Rattle.x25_line.specs.laws.Stations.{is_visible}
-use Rattle.x25_line.proofs.sessions.SessionsForgotten.{octets_removed, octets_replaced}
 use Rattle.x25_world.proofs.sessions.SessionBeside.{none_more}
+use Rattle.x25_peer.proofs.{Granted.{connects_in_down, relinks_in_up, timer_silent}, sessions.LinkSteps.{act_goes, probe_acts, relink_goes}}
+use Rattle.x25_line.proofs.sessions.SessionsForgotten.{octets_removed, octets_replaced}
+use Rattle.x25_bits.specs.Role as bits
+use Rattle.x25_line.specs.laws.Stations as line
+use Rattle.x25_line.specs.laws.Sessions as links
+use Rattle.x25_world.specs.declared.error.WorldError.TheVariants as error
 
 -- other octets are left on the line
 left_joined : {since : Beginning} (cfg : Cfg) (end : Role) (w : World) (h : SessionsJoined since cfg end w) (es : List links.Entry) (left : List (List ℕ)) → octets_of es ≡ left → SessionsReach since cfg end (record h.links { back = es })
@@ -73,10 +61,12 @@ first_false false b e = refl
 
 not_sabm : (read : Result PlainFrame FrameError) → is_a Sabm read ≡ false → sabm_in read ≡ 0
 not_sabm (Ok (sabm p)) e = true_false e
+not_sabm (Err Short) e = refl
 not_sabm read e = refl
 
 not_ua : (read : Result PlainFrame FrameError) → is_a Ua read ≡ false → ua_in read ≡ 0
 not_ua (Ok (ua f)) e = true_false e
+not_ua (Err Short) e = refl
 not_ua read e = refl
 
 none_of : (frame : SetUpFrame) (count : Result PlainFrame FrameError → ℕ) → ((read : Result PlainFrame FrameError) → is_a frame read ≡ false → count read ≡ 0) → (from : Role) (es : List links.Entry)

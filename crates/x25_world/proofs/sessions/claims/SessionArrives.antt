@@ -1,39 +1,23 @@
 -- Where a stretch is open, the sessions of both ends that stand meet each other; and where the one end is idle, all arrived.
 use Rattle.std.proofs.Common.{◌≡◌, ℕ, ◌≤◌, inl, inr, List, [], length, Bool, true, false, Some, refl, sym, ap, ◌∙◌, subst, arith, Option, None, if◌then◌else◌, ◌+◌, ◌==◌, zero, suc, nat_le}
-use Rattle.x25_bits.specs.declared.role.Role.{Role}
-use Rattle.x25_bits.specs.declared.role.Role.TheVariants.{Dte, Dce}
-use Rattle.x25_link.specs.Hearing.{other}
-use Rattle.x25_link.specs.Link as link
-use Rattle.x25_link.specs.Station.{LinkStation, is_up}
-use Rattle.x25_line.specs.laws.Sessions.{Meeting}
-use Rattle.x25_line.specs.laws.SessionClaims.{EachMeetsLatest, IdleHasArrived}
-use Rattle.x25_circuit.specs.declared.state.State.{State}
-use Rattle.x25_circuit.specs.declared.state.State.TheVariants.{Open}
-use Rattle.x25_circuit.specs.Circuit.{is_free_in, is_open_in, is_open, Circuit, waits}
-use Rattle.x25_handshakes.specs.laws.Names.{Name}
-use Rattle.x25_layer.specs.declared.ranges.Ranges.{Ranges}
-use Rattle.x25_layer.specs.Layer.{Layer, rested, is_channel}
-use Rattle.x25_layer.specs.laws.Transcript.{Entry, name_of}
-use Rattle.x25_layer.specs.laws.TwoLayers as layer
-use Rattle.x25_layer.specs.laws.Law.{HasAllOf, IsIdleTo}
-use Rattle.x25_station.specs.declared.config.Cfg.{Cfg}
-use Rattle.x25_station.specs.Config.{settings_from}
-use Rattle.x25_station.specs.Station.{Station}
-use Rattle.x25_station.specs.laws.KeepLaw.{IsKept}
-use Rattle.x25_station.specs.Station.Told.{is_idle, stretch}
-use Rattle.x25_world.specs.World.{World, swapped}
-use Rattle.x25_world.specs.laws.Sessions.{Progress, last_session, handed_in, meets}
-use Rattle.x25_world.specs.laws.SessionClaims.{OpenStretchesMeet, AllArrive}
-use Rattle.x25_world.proofs.Known.{IsConfigured, both_true, true_false}
-use Rattle.x25_world.proofs.Growing.{all_read, as_read, none_read, as_many}
-use Rattle.x25_world.proofs.sessions.SessionTrace.{layer_of, Done, own_in, own}
-use Rattle.x25_world.proofs.sessions.SessionReaches.{Beginning, known_sessions}
-use Rattle.x25_world.proofs.sessions.SessionJoined.{HasMet, PairIsInOrder, SessionsJoined, sessions_swapped}
-use Rattle.x25_line.proofs.ends.Meetings.{all_some}
-use Rattle.x25_world.specs.laws.LawsBelow.{SessionLaws}
-use Rattle.x25_world.proofs.sessions.SessionKnown.{some_map, met_in_order, of_either}
-use Rattle.x25_layer.specs.code.FitsLayer.{waits_up_to}
 use Rattle.std.proofs.lemmas.Bool.{eqb-true, eq-eqb, leb-true}
+use Rattle.x25_bits.specs.{declared.role.Role.{Role}, declared.role.Role.TheVariants.{Dte, Dce}}
+use Rattle.x25_link.specs.{Hearing.{other}, Station.{LinkStation, is_up}}
+use Rattle.x25_line.specs.{laws.Sessions.{Meeting}, laws.SessionClaims.{EachMeetsLatest, IdleHasArrived}}
+use Rattle.x25_circuit.specs.{declared.state.State.{State}, declared.state.State.TheVariants.{Open}, Circuit.{is_free_in, is_open_in, is_open, Circuit, waits}}
+use Rattle.x25_handshakes.specs.laws.Names.{Name}
+use Rattle.x25_layer.specs.{declared.ranges.Ranges.{Ranges}, Layer.{Layer, rested, is_channel}, laws.Transcript.{Entry, name_of}, laws.Law.{HasAllOf, IsIdleTo}}
+use Rattle.x25_layer.specs.code.FitsLayer.{waits_up_to}
+use Rattle.x25_station.specs.{declared.config.Cfg.{Cfg}, Config.{settings_from}, Station.{Station}, laws.KeepLaw.{IsKept}, Station.Told.{is_idle, stretch}}
+use Rattle.x25_world.specs.{World.{World, swapped}, laws.Sessions.{Progress, last_session, handed_in, meets}, laws.SessionClaims.{OpenStretchesMeet, AllArrive}}
+use Rattle.x25_world.specs.laws.LawsBelow.{SessionLaws}
+use Rattle.x25_world.proofs.{Known.{IsConfigured, both_true, true_false}, Growing.{all_read, as_read, none_read, as_many}}
+use Rattle.x25_world.proofs.{sessions.SessionTrace.{layer_of, Done, own_in, own}, sessions.SessionReaches.{Beginning, known_sessions}}
+use Rattle.x25_world.proofs.sessions.SessionJoined.{HasMet, PairIsInOrder, SessionsJoined, sessions_swapped}
+use Rattle.x25_world.proofs.sessions.SessionKnown.{some_map, met_in_order, of_either}
+use Rattle.x25_line.proofs.ends.Meetings.{all_some}
+use Rattle.x25_link.specs.Link as link
+use Rattle.x25_layer.specs.laws.TwoLayers as layer
 
 -- ---- a stretch that is open
 

@@ -2,44 +2,29 @@
 -- meets none. So what came beside a packet was given there, and what is told as confirmed was handed up.
 use Rattle.std.proofs.Common.{◌≡◌, ℕ, zero, suc, ◌==◌, ◌≤◌, ◌<◌, nat_le, ◌⊎◌, inl, inr, List, [], ◌∷◌, ◌++◌, Bool, true, false, ◌&&◌, Some, None, refl, sym, ap, ◌∙◌, subst, arith}
 use Rattle.std.proofs.lemmas.Bool.{eqb-true, leb-true, leb-false}
-use Rattle.x25_bits.specs.declared.role.Role.{Role}
-use Rattle.x25_bits.specs.declared.role.Role.TheVariants.{Dte, Dce}
-use Rattle.x25_link.specs.Hearing.{other}
-use Rattle.x25_link.specs.Station.{is_up}
-use Rattle.x25_line.specs.laws.SessionClaims.{OnlyBegunHaveLists, IsInOrder, MetAreInOrder}
-use Rattle.x25_line.specs.laws.Sessions.{Meeting, from_nothing}
+use Rattle.x25_bits.specs.{declared.role.Role.{Role}, declared.role.Role.TheVariants.{Dte, Dce}}
+use Rattle.x25_link.specs.{Hearing.{other}, Station.{is_up}}
+use Rattle.x25_line.specs.{laws.SessionClaims.{OnlyBegunHaveLists, IsInOrder, MetAreInOrder}, laws.Sessions.{Meeting, from_nothing}}
 use Rattle.x25_line.proofs.ends.Meetings.{all_some}
-use Rattle.x25_handshakes.specs.laws.Histories.{IsPrefix}
-use Rattle.x25_handshakes.specs.laws.Names.{Name}
-use Rattle.x25_layer.specs.laws.Transcript.{Entry, name_of, under, messages_in}
-use Rattle.x25_layer.specs.laws.Law.{HandsUpLawfully}
-use Rattle.x25_layer.specs.Layer.{Layer, LayerNotice, goes_up}
-use Rattle.x25_layer.specs.laws.NameLaw.{first_name, counted, IsCounted}
-use Rattle.x25_layer.specs.laws.TwoLayers as layer
-use Rattle.x25_layer.specs.laws.TwoLayers.{started}
-use Rattle.x25_layer.specs.laws.Apart.{OwnMove}
-use Rattle.x25_station.specs.declared.config.Cfg.{Cfg}
-use Rattle.x25_station.specs.Entry.{StationEntry, link_up, link_down, layer_notices}
-use Rattle.x25_station.specs.laws.KeepLaw.{ConnectKeeps}
-use Rattle.x25_world.specs.World.{World, swapped, Event, run}
-use Rattle.x25_world.specs.laws.Claims.{entries_at}
+use Rattle.x25_handshakes.specs.{laws.Histories.{IsPrefix}, laws.Names.{Name}}
+use Rattle.x25_layer.specs.{laws.Transcript.{Entry, name_of, under, messages_in}, laws.Law.{HandsUpLawfully}, Layer.{Layer, LayerNotice, goes_up}}
+use Rattle.x25_layer.specs.{laws.NameLaw.{first_name, counted, IsCounted}, laws.TwoLayers.{started}, laws.Apart.{OwnMove}}
+use Rattle.x25_station.specs.{declared.config.Cfg.{Cfg}, Entry.{StationEntry, link_up, link_down, layer_notices}, laws.KeepLaw.{ConnectKeeps}}
+use Rattle.x25_world.specs.{World.{World, swapped, Event, run}, laws.Claims.{entries_at}}
 use Rattle.x25_world.specs.laws.Sessions.{Progress, none_begun, after_entry, is_in, entry_if, session_from, session_at, handed_in, meets, last_session}
-use Rattle.x25_world.specs.laws.SessionClaims.{AreLawfulWhereMet, UnmetAreToldNothing, AreNamedInSessions, ThroughoutAlong}
-use Rattle.x25_world.specs.laws.LawsBelow.{SessionLaws}
+use Rattle.x25_world.specs.{laws.SessionClaims.{AreLawfulWhereMet, UnmetAreToldNothing, AreNamedInSessions, ThroughoutAlong}, laws.LawsBelow.{SessionLaws}}
 use Rattle.x25_world.specs.laws.BesideClaims.{Came, came_in, Gave, gave_in, IsGiven, AreSomeOf, BesideIsGiven}
 use Rattle.x25_world.specs.laws.ConfirmedClaims.{confirmed_in, asked_among, ConfirmedAreHandedUp}
-use Rattle.x25_world.proofs.Known.{IsConfigured, is_configured}
-use Rattle.x25_world.proofs.Growing.{all_read, none_read}
+use Rattle.x25_world.proofs.{Known.{IsConfigured, is_configured}, Growing.{all_read, none_read}}
 use Rattle.x25_world.proofs.sessions.SessionTrace.{layer_of, Done, own_in, own, numbers, pair_at, moves_of_pair}
 use Rattle.x25_world.proofs.sessions.SessionReaches.{Beginning, known_sessions, both_down}
 use Rattle.x25_world.proofs.sessions.SessionJoined.{HasMet, PairIsInOrder, SessionsJoined, sessions_swapped}
 use Rattle.x25_world.proofs.sessions.SessionKnown.{met_in_order, of_either, pair_ends, here_in, there_is}
-use Rattle.x25_world.proofs.sessions.claims.SessionMeets.{told_met, unmet_up, begun_both}
-use Rattle.x25_world.proofs.sessions.acts.SessionRequests.{session_pair}
+use Rattle.x25_world.proofs.{sessions.claims.SessionMeets.{told_met, unmet_up, begun_both}, sessions.acts.SessionRequests.{session_pair}}
 use Rattle.x25_world.proofs.sessions.SessionBeside.{brought, brought_append, AreTold, MoreIs, some_begin, some_of_same, some_of_none}
-use Rattle.x25_world.proofs.sessions.SessionRuns.{RunGoes, throughout_goes}
-use Rattle.x25_world.proofs.sessions.SessionCounts.{counted_in, none_counted}
+use Rattle.x25_world.proofs.{sessions.SessionRuns.{RunGoes, throughout_goes}, sessions.SessionCounts.{counted_in, none_counted}}
 use Rattle.x25_world.proofs.sessions.SessionConfirms.{up_of, confirms}
+use Rattle.x25_layer.specs.laws.TwoLayers as layer
 
 -- ---- which session
 

@@ -1,20 +1,13 @@
 -- Sessions that meet by the transcript meet in step, as those of the two links do.
 use Rattle.std.proofs.Common.{◌≡◌, ℕ, ◌≤◌, ◌<◌, ◌⊎◌, inl, inr, List, [], ◌∷◌, Option, Some, None, sym, ap, ◌∙◌, subst, arith}
-use Rattle.x25_bits.specs.declared.role.Role.{Role}
-use Rattle.x25_bits.specs.declared.role.Role.TheVariants.{Dte, Dce}
+use Rattle.x25_bits.specs.{declared.role.Role.{Role}, declared.role.Role.TheVariants.{Dte, Dce}}
 use Rattle.x25_link.specs.Hearing.{other}
-use Rattle.x25_line.specs.laws.Sessions.{Meeting}
-use Rattle.x25_line.specs.laws.SessionClaims as line
-use Rattle.x25_line.specs.laws.SessionClaims.{AllMet, IsNoEarlier, InStep, OnlyBegunHaveLists}
+use Rattle.x25_line.specs.{laws.Sessions.{Meeting}, laws.SessionClaims.{Each, IsNoEarlier, InStep, OnlyBegunHaveLists}}
 use Rattle.x25_station.specs.declared.config.Cfg.{Cfg}
-use Rattle.x25_world.specs.World.{World}
-use Rattle.x25_world.specs.laws.Sessions.{Progress, last_session, meets}
-use Rattle.x25_world.specs.laws.SessionClaims.{MeetInStep}
-use Rattle.x25_world.proofs.Known.{IsConfigured}
-use Rattle.x25_world.proofs.sessions.SessionReaches.{Beginning, known_sessions}
-use Rattle.x25_world.proofs.sessions.SessionJoined.{HasMet, Hears, SessionsJoined}
+use Rattle.x25_world.specs.{World.{World}, laws.Sessions.{Progress, last_session, meets}, laws.SessionClaims.{MeetInStep}, laws.LawsBelow.{SessionLaws}}
+use Rattle.x25_world.proofs.{Known.{IsConfigured}, sessions.SessionReaches.{Beginning, known_sessions}, sessions.SessionJoined.{HasMet, Hears, SessionsJoined}}
 use Rattle.x25_line.proofs.ends.Meetings.{all_no_earlier, all_some}
-use Rattle.x25_world.specs.laws.LawsBelow.{SessionLaws}
+use Rattle.x25_line.specs.laws.SessionClaims as line
 
 -- ---- by the links
 
@@ -23,7 +16,7 @@ abbrev AreInStep : ℕ → ℕ → ℕ → ℕ → Type 0
 AreInStep n m p q = ((n ≡ p) × (m ≡ q)) ⊎ (((n < p) × (m < q)) ⊎ ((p < n) × (q < m)))
 
 -- this meeting is no later than one
-below : (x : Meeting) (ms : List Meeting) (n m : ℕ) → AllMet (IsNoEarlier x) ms → HasMet n m ms → ((n ≡ x.near) × (m ≡ x.far)) ⊎ ((n < x.near) × (m < x.far))
+below : (x : Meeting) (ms : List Meeting) (n m : ℕ) → Each (IsNoEarlier x) ms → HasMet n m ms → ((n ≡ x.near) × (m ≡ x.far)) ⊎ ((n < x.near) × (m < x.far))
 below x ms n m all some =
     all_some (IsNoEarlier x) (λ (p : Meeting). (p.near ≡ n) × (p.far ≡ m)) (((n ≡ x.near) × (m ≡ x.far)) ⊎ ((n < x.near) × (m < x.far))) no_later ms all some
   where
@@ -48,7 +41,7 @@ two_in_step (x ∷ ms) step n m p q f g = elim f [
     higher a b c e lt = omega (arith, e, lt)
 
 -- both were begun
-pub begun_both : (near far : ℕ) (met : List Meeting) (n m : ℕ) → AllMet (λ (p : Meeting). (p.near ≤ near) × (p.far ≤ far)) met → HasMet n m met → (n ≤ near) × (m ≤ far)
+pub begun_both : (near far : ℕ) (met : List Meeting) (n m : ℕ) → Each (λ (p : Meeting). (p.near ≤ near) × (p.far ≤ far)) met → HasMet n m met → (n ≤ near) × (m ≤ far)
 begun_both near far met n m all some =
     all_some (λ (p : Meeting). (p.near ≤ near) × (p.far ≤ far)) (λ (p : Meeting). (p.near ≡ n) × (p.far ≡ m)) ((n ≤ near) × (m ≤ far))
     (λ (p : Meeting) le is. (omega (arith, is.0, le.0), omega (arith, is.1, le.1))) met all some

@@ -1,47 +1,30 @@
 -- Where both links are idle, and a pull at the one end changes nothing, what waits in an open stretch there waits for the user at the other end.
 use Rattle.std.proofs.Common.{◌≡◌, ℕ, ◌+◌, ◌<◌, inr, List, [], ◌∷◌, ◌++◌, length, Bool, true, false, Some, None, if◌then◌else◌, ◌==◌, ◌&&◌, refl, sym, ap, subst, ◌∙◌, arith, length-append}
 use Rattle.std.proofs.lemmas.Bool.{eqb-true}
-use Rattle.x25_bits.specs.declared.role.Role.{Role}
-use Rattle.x25_bits.specs.declared.role.Role.TheVariants.{Dte, Dce}
+use Rattle.x25_bits.specs.{declared.role.Role.{Role}, declared.role.Role.TheVariants.{Dte, Dce}}
 use Rattle.x25_packet.specs.Packet.{PlainPacket}
-use Rattle.x25_link.specs.Hearing.{other}
-use Rattle.x25_link.specs.Outgoing as outgoing
-use Rattle.x25_link.specs.Link as link
-use Rattle.x25_link.specs.Link.{alone}
-use Rattle.x25_link.specs.Station.{LinkStation, is_up}
-use Rattle.x25_line.specs.laws.Sessions.{Meeting}
-use Rattle.x25_line.specs.laws.SessionClaims.{IdleHasArrived}
+use Rattle.x25_link.specs.{Hearing.{other}, Link.{alone}, Station.{LinkStation, is_up}}
+use Rattle.x25_line.specs.{laws.Sessions.{Meeting}, laws.SessionClaims.{IdleHasArrived}}
 use Rattle.x25_circuit.specs.Circuit.{is_open, waits}
 use Rattle.x25_handshakes.specs.laws.Names.{Name}
-use Rattle.x25_layer.specs.declared.ranges.Ranges.{Ranges}
-use Rattle.x25_layer.specs.declared.error.LayerError.TheVariants as error
-use Rattle.x25_layer.specs.Layer.{Layer, is_channel, is_ready}
-use Rattle.x25_layer.specs.Calls.{PullsAll, outcome_in, layer_outcome}
-use Rattle.x25_layer.specs.Rounds.{LinkView, Putting, begin, rounds, Answered, Went, Refuses, went, calls}
-use Rattle.x25_layer.specs.laws.Apart.{AlwaysApart, apart_run, apart_start, as_world}
-use Rattle.x25_layer.specs.laws.Transcript.{Entry, name_of}
-use Rattle.x25_layer.specs.laws.TwoLayers as layer
-use Rattle.x25_layer.specs.laws.Law.{HasAllOf}
-use Rattle.x25_layer.specs.laws.WaitLaw as wait
+use Rattle.x25_layer.specs.{declared.ranges.Ranges.{Ranges}, Layer.{Layer, is_channel, is_ready}, Calls.{PullsAll, outcome_in, layer_outcome}}
+use Rattle.x25_layer.specs.laws.Rounds.{LinkView, Putting, begin, rounds, Answered, Went, Refuses, went, calls}
+use Rattle.x25_layer.specs.{laws.Apart.{AlwaysApart, apart_run, apart_start, as_world}, laws.Transcript.{Entry, name_of}, laws.Law.{HasAllOf}}
 use Rattle.x25_layer.specs.laws.WaitLaw.{PullsNone, RoundsLeaveNone, StillPullsNone, KeepsNoneClosed, OpensNoneInRestart, IsDrained, IsOpenAtBoth, WaitForUsersAlone}
-use Rattle.x25_station.specs.declared.config.Cfg.{Cfg}
-use Rattle.x25_station.specs.Config.{Settings, settings_from, link_settings, layer_settings}
-use Rattle.x25_station.specs.Entry.{StationEntry}
-use Rattle.x25_station.specs.Station.{Station, all_put, view_of}
-use Rattle.x25_station.specs.Step.{did, requests}
-use Rattle.x25_station.specs.Station.Told.{stretch}
-use Rattle.x25_world.specs.World.{World, swapped, WorldOutcome, Happened, Declined, of_station, swapped_back, after}
-use Rattle.x25_world.specs.laws.Sessions.{last_session, handed_in}
+use Rattle.x25_station.specs.{declared.config.Cfg.{Cfg}, Config.{Settings, settings_from, link_settings, layer_settings}, Entry.{StationEntry}}
+use Rattle.x25_station.specs.{Station.{Station, all_put, view_of}, Step.{did, requests}, Station.Told.{stretch}}
+use Rattle.x25_world.specs.{World.{World, swapped, WorldOutcome, Happened, Declined, of_station, swapped_back, after}, laws.Sessions.{last_session, handed_in}}
 use Rattle.x25_world.specs.laws.WaitClaims.{WaitsForUser, Arrived, NotReady, MessagesWaitForUsers, ClosedKeepNone, PullsLeaveNone, UnpulledWaitForUsers}
 use Rattle.x25_world.specs.laws.LawsBelow.{SessionLaws}
-use Rattle.x25_world.proofs.Known.{IsConfigured, both_true, true_false}
-use Rattle.x25_world.proofs.Growing.{all_read, as_read, as_many}
-use Rattle.x25_world.proofs.sessions.SessionTrace.{layer_of, Done, own}
-use Rattle.x25_world.proofs.sessions.SessionReaches.{Beginning, known_sessions}
-use Rattle.x25_world.proofs.sessions.SessionJoined.{PairIsInOrder, SessionsJoined, sessions_swapped}
-use Rattle.x25_world.proofs.sessions.SessionKnown.{some_map, met_in_order, of_either}
-use Rattle.x25_world.proofs.sessions.acts.SessionRequests.{session_pair}
+use Rattle.x25_world.proofs.{Known.{IsConfigured, both_true, true_false}, Growing.{all_read, as_read, as_many}, sessions.SessionTrace.{layer_of, Done, own}}
+use Rattle.x25_world.proofs.{sessions.SessionReaches.{Beginning, known_sessions}, sessions.SessionJoined.{PairIsInOrder, SessionsJoined, sessions_swapped}}
+use Rattle.x25_world.proofs.{sessions.SessionKnown.{some_map, met_in_order, of_either}, sessions.acts.SessionRequests.{session_pair}}
 use Rattle.x25_world.proofs.sessions.claims.SessionArrives.{stretch_of, name_if, open_if, meet_from, latest_near, latest_far}
+use Rattle.x25_link.specs.Outgoing as outgoing
+use Rattle.x25_link.specs.Link as link
+use Rattle.x25_layer.specs.declared.error.LayerError.TheVariants as error
+use Rattle.x25_layer.specs.laws.TwoLayers as layer
+use Rattle.x25_layer.specs.laws.WaitLaw as wait
 
 -- ---- a pull that changes nothing
 

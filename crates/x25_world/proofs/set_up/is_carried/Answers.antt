@@ -1,10 +1,8 @@
 use Rattle.std.proofs.Common.{sym, ap, subst, ◌<◌, ◌∙◌}
 use Rattle.x25_bits.specs.Role.{other}
-use Rattle.x25_world.specs.SetUp.{reads_as}
-use Rattle.x25_world.specs.code.ShownLine.{line_to}
-use Rattle.x25_world.proofs.SetUpLemmas.{found_at, not_found_yet, none_there}
+use Rattle.x25_world.specs.{SetUp.{reads_as}, code.ShownLine.{line_to}}
+use Rattle.x25_world.proofs.{SetUpLemmas.{found_at, not_found_yet, none_there}, set_up.is_carried.Goals.{in-Some+else-reads_as, in_default}}
 use Rattle.x25_world.proofs.set_up.is_carried.Goals as goal
-use Rattle.x25_world.proofs.set_up.is_carried.Goals.{in-Some+else-reads_as, in_default}
 
 pub returns-then-reads_as : goal.returns-then-reads_as
 returns-then-reads_as c =

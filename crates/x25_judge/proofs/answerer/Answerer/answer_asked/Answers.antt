@@ -1,13 +1,15 @@
+use Rattle.std.proofs.Common.{◌∙◌, ◌++◌, ap}
 use Rattle.std.proofs.lemmas.Result.{err_from_is_err_and}
 use Rattle.x25_io.proofs.ToldLemmas.{more_waits, prefix_more}
+use Rattle.x25_judge.specs.Judge.{answer_to}
 use Rattle.x25_judge.proofs.answerer.Answerer.answer_asked.Goals as goal
 
 pub returns-in_err-make_room-clause-tells : goal.returns-in_err-make_room-clause-tells
-returns-in_err-make_room-clause-tells g c = λ old told first line h.
+returns-in_err-make_room-clause-tells g c = λ old told h.
     let p = err_from_is_err_and c.from_residual.result c.from_residual.ensures.1 in
     rw p.1 (prefix_more _ _ told _ (c.in_err-make_room.ensures.tells old told h))
 
 pub returns-clause-tells : goal.returns-clause-tells
-returns-clause-tells g c = λ old told first line h.
+returns-clause-tells g c = λ old told h.
     more_waits old _ c.make_room.new.self _ told _ (c.in_ok-make_room.ensures.tells old told h)
-    (c.judge_line-counts.ensures.text first line)
+    (c.answer-counts.ensures.text ∙ ap (λ t. t ++ (answer_to c.args.self.now.judge c.args.line.now).text) c.text.ensures.value)

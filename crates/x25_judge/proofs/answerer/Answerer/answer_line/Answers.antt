@@ -1,29 +1,36 @@
-use Rattle.std.proofs.Common.{◌≡◌, ◌∙◌, ◌<◌, ◌≤◌, ◌++◌, ◌||◌, length, ap, sym, subst}
+use Rattle.std.proofs.Common.{◌≡◌, ◌∙◌, ◌<◌, ◌≤◌, ◌++◌, ◌||◌, Bool, true, false, length, ap, sym, subst, refl}
 use Rattle.std.specs.Prelude.{MatchOption, MatchResult}
 use Rattle.std.proofs.lemmas.Result.{on_ok_weaker}
 use Rattle.x25_io.specs.HeldLine.{most_line}
 use Rattle.x25_io.specs.code.Written.{AppendsPrefix, Tells}
+use Rattle.x25_judge.specs.Answerer.{reply}
 use Rattle.x25_judge.specs.Judge.{Answer}
+use Rattle.x25_judge.specs.code.Stream.{Replies}
 use Rattle.x25_judge.proofs.LineLemmas.{long_reply}
 use Rattle.x25_judge.proofs.answerer.Answerer.answer_line.Goals as goal
 
-pub returns-in-None-clause-tells : goal.returns-in-None-clause-tells
-returns-in-None-clause-tells g c = λ first line old told h.
-    let s = c.args.self.now in
-    let long = subst (λ o. MatchOption o (most_line < length first) (λ held. (held.now ≡ first) × (length first ≤ most_line))) c.in-None.is line in
-    let next = g.W.Sink.contents c.answer_asked.new.writer in
-    subst (λ (a : Answer). MatchResult c.answer_asked.result (λ _. Tells old next c.answer_asked.new.self.output (told ++ a.text)) (λ _. AppendsPrefix old next (told ++ a.text)))
-    (sym (long_reply s.loose s.judge first long)) (c.answer_asked.ensures.tells old told first long h)
+or_true : (b : Bool) → (b || true) ≡ true
+or_true true = refl
+or_true false = refl
 
-pub returns-in-None-clause-next : goal.returns-in-None-clause-next
-returns-in-None-clause-next g c = λ first line.
+pub returns-in-Some-clause-replies : goal.returns-in-Some-clause-replies
+returns-in-Some-clause-replies g c = λ first line.
     let s = c.args.self.now in
-    let long = subst (λ o. MatchOption o (most_line < length first) (λ held. (held.now ≡ first) × (length first ≤ most_line))) c.in-None.is line in
-    on_ok_weaker c.answer_asked.result (λ e. e ∙ sym (ap (λ (a : Answer). a.next) (long_reply s.loose s.judge first long))) (c.answer_asked.ensures.next first long)
+    let is = subst (λ o. MatchOption o (most_line < length first) (λ held. (held.now ≡ first) × (length first ≤ most_line))) c.in-Some.is line in
+    subst (λ l. Replies c.answer_parts.result (g.W.Sink.contents c.args.writer.now) (g.W.Sink.contents c.answer_parts.new.writer) s c.answer_parts.new.self (reply s.loose s.judge l)) is.0
+    (c.answer_parts.ensures.replies (subst (λ l. length l ≤ most_line) (sym is.0) is.1))
 
-pub returns-in-None-clause-is_faulty : goal.returns-in-None-clause-is_faulty
-returns-in-None-clause-is_faulty g c = λ first line.
+pub returns-in-None-clause-replies : goal.returns-in-None-clause-replies
+returns-in-None-clause-replies g c = λ first line.
     let s = c.args.self.now in
     let long = subst (λ o. MatchOption o (most_line < length first) (λ held. (held.now ≡ first) × (length first ≤ most_line))) c.in-None.is line in
-    on_ok_weaker c.answer_asked.result
-    (λ e. e ∙ ap (λ b. s.is_faulty || b) (sym (ap (λ (a : Answer). a.counts) (long_reply s.loose s.judge first long)))) (c.answer_asked.ensures.is_faulty first long)
+    let nothing = c.long_lines_send_nothing.ensures in
+    let is = long_reply s.loose s.judge first long (nothing.sent first long) (nothing.gap first long) in
+    let next = g.W.Sink.contents c.tell.new.writer in
+    record {
+      tells = λ old told h. subst (λ (a : Answer). MatchResult c.tell.result (λ _. Tells old next c.tell.new.self (told ++ a.text)) (λ _. AppendsPrefix old next (told ++ a.text)))
+          (sym is) (c.tell.ensures.tells old told h);
+      next = on_ok_weaker c.tell.result (λ _. sym (ap (λ (a : Answer). a.next) is)) c.tell.ensures.kept;
+      is_faulty = on_ok_weaker c.tell.result (λ _. sym (ap (λ (a : Answer). s.is_faulty || a.counts) is ∙ or_true s.is_faulty)) c.tell.ensures.kept;
+      reads = refl;
+    }

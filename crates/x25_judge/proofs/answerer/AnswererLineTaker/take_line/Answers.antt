@@ -3,9 +3,9 @@ use Rattle.x25_judge.proofs.answerer.AnswererLineTaker.take_line.Goals as goal
 
 pub returns-in-Ok-clause-on : goal.returns-in-Ok-clause-on
 returns-in-Ok-clause-on g c = λ s old first lines input line h.
-    line_told s.0 s.1 old _ _ input c.args.self.now c.answer_line.new.self first lines h (c.in-Ok.ensures.tells first line old h.told h.tells) (c.in-Ok.ensures.next first line)
-    (c.in-Ok.ensures.is_faulty first line) c.answer_line.ensures.loose
+    let r = c.in-Ok.ensures.replies first line in
+    line_told s.0 s.1 old _ _ input c.args.self.now c.answer_line.new.self first lines h (r.tells old h.told h.tells) r.next r.is_faulty r.reads
 
 pub returns-in-Err-clause-on : goal.returns-in-Err-clause-on
 returns-in-Err-clause-on g c = λ s old first lines input line h.
-    line_failed s.0 s.1 old _ _ input c.args.self.now first lines h (c.in-Err.ensures.tells first line old h.told h.tells)
+    line_failed s.0 s.1 old _ _ input c.args.self.now first lines h ((c.in-Err.ensures.replies first line).tells old h.told h.tells)

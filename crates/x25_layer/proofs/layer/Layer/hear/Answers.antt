@@ -1,59 +1,57 @@
-use Rattle.std.proofs.Common.{rules, ℕ, ◌≡◌, ◌<◌, ◌∙◌, All, option_to_list, IfOk, sym, ap, subst, arith}
+use Rattle.std.proofs.Common.{rules, ℕ, ◌≡◌, ◌<◌, ◌∙◌, All, IfOk, sym, ap, subst, arith}
 use Rattle.std.proofs.lemmas.List.Elements.{All-from_get_or}
 use Rattle.x25_packet.specs.Packet.{plain}
 use Rattle.x25_packet.specs.Spelling.{HasChannel, longest_user}
 use Rattle.x25_packet.specs.Taking.{read_in}
 use Rattle.x25_layer.specs.Layer.{LayerSettings, Layer, LayerAnswer}
 use Rattle.x25_layer.specs.code.FitsLayer.{FitsLayer}
-use Rattle.x25_layer.specs.code.OverLink.{after_all}
-use Rattle.x25_layer.specs.Rounds.{answer_to}
-use Rattle.x25_layer.specs.Receiving.{plain_read, hears_on, IsOfChannel}
-use Rattle.x25_layer.proofs.HearLemmas.{of_channel, hears_none, hears_read, heard_same}
+use Rattle.x25_layer.specs.code.Answering.{spelled}
+use Rattle.x25_layer.specs.Receiving.{answer_to, plain_read, hears_on, IsOfChannel}
+use Rattle.x25_layer.proofs.HearLemmas.{of_channel, hears_none, hears_read, heard_from}
 use Rattle.x25_layer.proofs.layer.Layer.hear.Goals as goal
-use Rattle.x25_layer.proofs.layer.Layer.hear.Given as given
 use Rattle.x25_layer.proofs.layer.Layer.hear.Goals.{in_default-read-via-in-Ok+in_default, in_default-read-via-in_default}
 
 -- ---- fewer than three octets
 
 pub returns-in_default : goal.returns-in_default
-returns-in_default g c =
+returns-in_default c =
     let none = λ (s : LayerSettings) (l : Layer). sym (hears_none c.args.wide (longest_user c.args.self.now.long_data) s l c.args.octets.now (sym c.channel.ensures ∙ c.in_default.is)) in
     record {
       layer = λ s l fits. subst (λ (a : LayerAnswer). FitsLayer s c.args.self.now a.next) (none s l) fits;
-      link = λ s l x fits link. subst (λ (a : LayerAnswer). g.L.OrderedLink.fits c.args.link.now (after_all g.L.OrderedLink.after_put x (option_to_list a.owed))) (none s l) link;
+      put = λ s l fits. c.requires.none ∙ ap (λ (a : LayerAnswer). spelled a.owed) (none s l);
       told = λ s l fits. ap (λ (a : LayerAnswer). a.notices) (none s l);
       nothing = search rules;
-      takes = search rules;
+      short = search rules;
       spare = search rules;
     }
 
 -- ---- a packet of a channel, or octets that spell none
 
-bytes : (g : given.Over) (c : goal.After-hear_on g) → All (λ octet. octet < 256) c.args.octets.now
-bytes g c = All-from_get_or (λ octet. octet < 256) c.args.octets.now 0 (λ i low. omega (arith, c.type_inv.octets i))
+bytes : (c : goal.After-hear_on) → All (λ octet. octet < 256) c.args.octets.now
+bytes c = All-from_get_or (λ octet. octet < 256) c.args.octets.now 0 (λ i low. omega (arith, c.type_inv.octets i))
 
 -- what was read is of a channel
-of : (g : given.Over) (c : goal.After-hear_on g) → IsOfChannel (plain_read c.read-read.result)
-of g c =
+of : (c : goal.After-hear_on) → IsOfChannel (plain_read c.read-read.result)
+of c =
     let has : IfOk c.read-read.result (λ packet. HasChannel (plain packet)) = elim c.in_default-read.branch [
       | in_default-read-via-in-Ok+in_default w ↦ search rules
       | in_default-read-via-in_default w ↦ search rules
     ] in
-    of_channel c.taking_keeps_octets.ensures.memory c.args.wide c.longest_user.result c.args.octets.now c.read-read.result (bytes g c) c.read-read.ensures has
+    of_channel c.taking_keeps_octets.ensures.memory c.args.wide c.longest_user.result c.args.octets.now c.read-read.result (bytes c) c.read-read.ensures has
 
 pub hear_on-requires-clause-kind : goal.hear_on-requires-clause-kind
-hear_on-requires-clause-kind g c =
+hear_on-requires-clause-kind c =
     let has : IfOk c.read-read.result (λ packet. HasChannel (plain packet)) = elim c.in_default-read.branch [
       | in_default-read-via-in-Ok+in_default w ↦ search rules
       | in_default-read-via-in_default w ↦ search rules
     ] in
     of_channel c.taking_keeps_octets.ensures.memory c.args.wide c.longest_user.result c.args.octets.now c.read-read.result (All-from_get_or (λ octet. octet < 256) c.args.octets.now 0 (λ i low. omega (arith, c.type_inv.octets i))) c.read-read.ensures has
 
-same : (g : given.Over) (c : goal.After-hear_on g) (s : LayerSettings) (l : Layer)
+same : (c : goal.After-hear_on) (s : LayerSettings) (l : Layer)
     → hears_on s l l.restarting c.in-Some.channel (plain_read c.read-read.result) ≡ answer_to s l c.args.octets.now (read_in c.args.wide (longest_user c.args.self.now.long_data) c.args.octets.now)
-same g c s l =
-    sym (hears_read c.taking_keeps_octets.ensures.channel c.args.wide c.longest_user.result s l c.args.octets.now c.in-Some.channel c.read-read.result (bytes g c) c.read-read.ensures (of g c) (sym c.channel.ensures ∙ c.in-Some.is))
+same c s l =
+    sym (hears_read c.taking_keeps_octets.ensures.channel c.args.wide c.longest_user.result s l c.args.octets.now c.in-Some.channel c.read-read.result (bytes c) c.read-read.ensures (of c) (sym c.channel.ensures ∙ c.in-Some.is))
     ∙ ap (λ (most : ℕ). answer_to s l c.args.octets.now (read_in c.args.wide most c.args.octets.now)) c.longest_user.ensures.value
 
 pub returns-in_default-read : goal.returns-in_default-read
-returns-in_default-read g c = heard_same g.L.OrderedLink _ _ _ _ c.hear_on.result _ _ _ (same g c) c.hear_on.ensures
+returns-in_default-read c = heard_from _ _ _ c.hear_on.result _ _ _ (λ s l fits. fits) (λ s l fits. same c s l) c.hear_on.ensures

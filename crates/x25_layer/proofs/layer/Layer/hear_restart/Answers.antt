@@ -1,30 +1,31 @@
-use Rattle.std.proofs.Common.{rules, ◌∙◌, Bool, sym, subst}
+use Rattle.std.proofs.Common.{rules, ◌∙◌, ℕ, ◌≤◌, List, length, refl, Bool, sym, subst, arith}
 use Rattle.x25_packet.specs.Packet.{restart}
 use Rattle.x25_layer.specs.Layer.{answers_in}
 use Rattle.x25_layer.specs.code.FitsLayer.{FitsLayer}
-use Rattle.x25_layer.proofs.FitLemmas.{fits_as}
+use Rattle.x25_layer.proofs.CallLemmas.{layer_same}
 use Rattle.x25_layer.proofs.layer.Layer.hear_restart.Goals as goal
 
 pub returns-then-self : goal.returns-then-self
-returns-then-self g c = record {
+returns-then-self c = record {
   layer = λ s l fits.
       subst (λ (b : Bool). FitsLayer s c.restart_is_done.new.self (answers_in s b l.restarts l.circuits (restart c.args.cause c.args.diagnostic)).next) (sym (sym fits.restarting ∙ c.if-self.true))
       (c.restart_is_done.ensures.layer s l fits);
-  link = search rules;
+  put = search rules;
   told = search rules;
   nothing = search rules;
-  takes = search rules;
+  short = search rules;
   spare = search rules;
 }
 
 pub returns : goal.returns
-returns g c = record {
+returns c = record {
   layer = λ s l fits.
-      subst (λ (b : Bool). FitsLayer s c.put.new.self (answers_in s b l.restarts l.circuits (restart c.args.cause c.args.diagnostic)).next) (sym (sym fits.restarting ∙ c.if-self.false))
-      (fits_as c.put.ensures.layer (c.restart_is_done-2.ensures.layer s l fits));
-  link = search rules;
+      layer_same s c.restart_is_done-2.new.self _ _ (record { role = refl; long_data = refl; ranges = refl; restarting = refl; restarts = refl }) refl
+      (subst (λ (b : Bool). FitsLayer s c.restart_is_done-2.new.self (answers_in s b l.restarts l.circuits (restart c.args.cause c.args.diagnostic)).next) (sym (sym fits.restarting ∙ c.if-self.false))
+      (c.restart_is_done-2.ensures.layer s l fits));
+  put = search rules;
   told = search rules;
   nothing = search rules;
-  takes = search rules;
+  short = subst (λ (octets : List ℕ). length octets ≤ 260) (sym c.spell.ensures.put) (omega arith);
   spare = search rules;
 }

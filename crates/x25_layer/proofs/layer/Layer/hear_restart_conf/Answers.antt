@@ -1,29 +1,29 @@
-use Rattle.std.proofs.Common.{rules, ◌∙◌, Bool, sym, subst}
+use Rattle.std.proofs.Common.{rules, ◌∙◌, ℕ, ◌≤◌, List, length, Bool, sym, subst, arith}
 use Rattle.x25_packet.specs.Packet.{restart_conf}
 use Rattle.x25_layer.specs.Layer.{answers_in}
 use Rattle.x25_layer.specs.code.FitsLayer.{FitsLayer}
 use Rattle.x25_layer.proofs.layer.Layer.hear_restart_conf.Goals as goal
 
 pub returns-then-self : goal.returns-then-self
-returns-then-self g c = record {
+returns-then-self c = record {
   layer = λ s l fits.
       subst (λ (b : Bool). FitsLayer s c.restart_is_done.new.self (answers_in s b l.restarts l.circuits restart_conf).next) (sym (sym fits.restarting ∙ c.if-self.true))
       (c.restart_is_done.ensures.layer s l fits);
-  link = search rules;
+  put = search rules;
   told = search rules;
   nothing = search rules;
-  takes = search rules;
+  short = search rules;
   spare = search rules;
 }
 
 pub returns : goal.returns
-returns g c = record {
+returns c = record {
   layer = λ s l fits.
       subst (λ (b : Bool). FitsLayer s c.send_restart.new.self (answers_in s b l.restarts l.circuits restart_conf).next) (sym (sym fits.restarting ∙ c.if-self.false))
       (c.send_restart.ensures.layer s l fits);
-  link = search rules;
+  put = search rules;
   told = search rules;
   nothing = search rules;
-  takes = search rules;
+  short = subst (λ (octets : List ℕ). length octets ≤ 260) (sym c.send_restart.ensures.put) (omega arith);
   spare = search rules;
 }

@@ -3,17 +3,15 @@ use Rattle.x25_circuit.specs.declared.circuit.Circuit as circuit_code
 use Rattle.x25_layer.specs.code.Idle.{IdleBeside}
 use Rattle.x25_layer.proofs.layer.Layer.restart_is_done.Goals as goal
 
-pub returns : goal.returns
-returns c = record {
-  layer = λ s l fits. record {
-    role = fits.role;
-    long_data = fits.long_data;
-    ranges = fits.ranges;
-    channels = c.begin_all.ensures.count ∙ fits.channels;
-    restarting = refl;
-    restarts = (let same = fits.restarts in let e : c.args.self.now.restarts + 1 ≡ suc l.restarts = omega (arith, same) in e);
-    circuits = c.begin_all.ensures.fits s l.circuits fits.circuits;
-  };
+pub returns-clause-layer : goal.returns-clause-layer
+returns-clause-layer c = λ s l fits. record {
+  role = fits.role;
+  long_data = fits.long_data;
+  ranges = fits.ranges;
+  channels = c.begin_all.ensures.count ∙ fits.channels;
+  restarting = refl;
+  restarts = (let same = fits.restarts in let e : c.args.self.now.restarts + 1 ≡ suc l.restarts = omega (arith, same) in e);
+  circuits = c.begin_all.ensures.fits s l.circuits fits.circuits;
 }
 
 pub invariant_of-self-clause-still : goal.invariant_of-self-clause-still

@@ -1,11 +1,10 @@
 use Rattle.std.proofs.Common.{◌∙◌, refl, sym, subst, List}
-use Rattle.x25_layer.proofs.FitLemmas.{fits_as}
 use Rattle.x25_circuit.specs.declared.circuit.Circuit as circuit_code
 use Rattle.x25_layer.specs.code.Idle.{IdleBeside}
 use Rattle.x25_layer.proofs.layer.Layer.send_restart.Goals as goal
 
 pub returns-clause-layer : goal.returns-clause-layer
-returns-clause-layer g c = λ s l fits. fits_as c.put.ensures.layer (record {
+returns-clause-layer c = λ s l fits. record {
   role = fits.role;
   long_data = fits.long_data;
   ranges = fits.ranges;
@@ -13,10 +12,10 @@ returns-clause-layer g c = λ s l fits. fits_as c.put.ensures.layer (record {
   restarting = refl;
   restarts = fits.restarts;
   circuits = c.forget_all.ensures.fits s l.circuits fits.circuits;
-})
+}
 
 pub invariant_of-self-clause-still : goal.invariant_of-self-clause-still
-invariant_of-self-clause-still g c = subst (λ (vs : List circuit_code.Circuit). IdleBeside c.note_all.new.self.channels.items vs) c.deref.ensures.value c.note_all.ensures.idle
+invariant_of-self-clause-still c = subst (λ (vs : List circuit_code.Circuit). IdleBeside c.note_all.new.self.channels.items vs) c.deref.ensures.value c.note_all.ensures.idle
 
 pub invariant_of-self-clause-places : goal.invariant_of-self-clause-places
-invariant_of-self-clause-places g c = c.note_all.ensures.places ∙ c.args.self.now.places ∙ sym c.forget_all.ensures.count
+invariant_of-self-clause-places c = c.note_all.ensures.places ∙ c.args.self.now.places ∙ sym c.forget_all.ensures.count

@@ -1,9 +1,7 @@
-use Rattle.std.proofs.Common.{◌≡◌, ℕ, Bool, true, false, Result, Err, refl, subst, ap, ◌∙◌, sym}
+use Rattle.std.proofs.Common.{◌≡◌, ℕ, Some, None, Bool, true, false, Result, Err, refl, subst, ap, ◌∙◌, sym}
 use Rattle.x25_circuit.specs.Calling.{Request}
 use Rattle.x25_circuit.specs.Request.{plain_request}
-use Rattle.x25_link.specs.code.Frames.{places_left}
 use Rattle.x25_layer.specs.Calls.{Asks}
-use Rattle.x25_layer.specs.code.OverLink.{MayLack}
 use Rattle.x25_station.specs.declared.step.Step as code_step
 use Rattle.x25_station.specs.declared.config.Manner.{Manner}
 use Rattle.x25_station.specs.Command.{may_ask}
@@ -14,10 +12,11 @@ use Rattle.x25_station.specs.declared.error.StationError.{StationError}
 use Rattle.x25_station.proofs.OutcomeLemmas.{leaves_some, still_meant}
 use Rattle.x25_station.proofs.AskLemmas.{answers, requested, refuses, still_fits}
 use Rattle.x25_station.proofs.MayLemmas.{memory_unasked}
-use Rattle.x25_station.proofs.PullLemmas.{goes_on, has_places}
+use Rattle.x25_station.proofs.PullLemmas.{goes_on, never_lacks}
 use Rattle.x25_station.proofs.DoesLemmas.{did_request, declines_asked, declines_early, declines_request}
 use Rattle.x25_station.proofs.GivingLemmas.{none_of}
-use Rattle.x25_station.proofs.TakeLemmas.{takes_longest}
+use Rattle.x25_station.proofs.DriveLemmas.{judged_for}
+use Rattle.x25_station.proofs.TakeLemmas.{takes_longest, has_places}
 use Rattle.x25_station.proofs.EnteredLemmas.{asked_enters}
 use Rattle.x25_station.proofs.station.Station.ask.Goals as goal
 
@@ -28,21 +27,24 @@ may m c h request found same is known = ap (λ (x : Manner). may_ask x.wide (Ask
 pub returns-then-not-may_ask-clause-does : goal.returns-then-not-may_ask-clause-does
 returns-then-not-may_ask-clause-does c =
     let request = Asks c.args.channel (plain_request c.args.request) in
-    declines_asked c.args.self.now _ _ request (λ d k x fits link. sym (none_of c.refusal.result c.in_default.not-Some) ∙ c.refusal.ensures d k x fits link)
+    declines_asked c.args.self.now _ _ request (judged_for c.state.result c.args.self.now.link c.args.self.now.layer request None (record { up = c.state.ensures.up; full = c.state.ensures.waits }) (λ d k fits. sym (none_of c.refusal.result c.in_default.not-Some) ∙ c.refusal.ensures d k fits))
     (λ c' s fits. may c.args.self.now.manner c' c.args.channel (plain_request c.args.request) c.may_ask.result fits.same (c.may_ask.ensures c.args.channel) c.if-not-may_ask.true) (λ c' s fits. fits) c.requires
 
 pub returns-in-Some-clause-does : goal.returns-in-Some-clause-does
 returns-in-Some-clause-does c = declines_early _ c.in-Some.error c.args.self.now _ _ (Asks c.args.channel (plain_request c.args.request)) c.of_layer.ensures
-    (λ d k x fits link. sym c.in-Some.is ∙ c.refusal.ensures d k x fits link) (λ c' s fits. fits) c.requires
+    (judged_for c.state.result c.args.self.now.link c.args.self.now.layer (Asks c.args.channel (plain_request c.args.request)) (Some c.in-Some.error) (record { up = c.state.ensures.up; full = c.state.ensures.waits }) (λ d k fits. sym c.in-Some.is ∙ c.refusal.ensures d k fits)) (λ c' s fits. fits) c.requires
 
-pub ask-requires : goal.ask-requires
-ask-requires c = takes_longest c.args.self.now.link c.args.self.now.layer c.args.self.now.meant
+pub ask-requires-clause-places : goal.ask-requires-clause-places
+ask-requires-clause-places c = has_places c.args.self.now.link c.args.self.now.layer c.args.self.now.meant
+
+pub ask-requires-clause-longest : goal.ask-requires-clause-longest
+ask-requires-clause-longest c = takes_longest c.args.self.now.link c.args.self.now.layer c.args.self.now.meant
 
 pub invariant_of-self-in-Ok : goal.invariant_of-self-in-Ok
 invariant_of-self-in-Ok c = record {
   meant = still_meant _ _ _ _ c.args.self.now.meant (λ c' s fits.
       let request = Asks c.args.channel (plain_request c.args.request) in
-      let a = answers c.in-Ok.field-0 c' _ c.ask.new.link c.swap_frames.new.self _ c.ask.new.self (record { frames = c.swap_frames.new.frames; entries = c.enter_asked.new.entries; timer = c.args.out.now.timer }) s request fits
+      let a = answers c.in-Ok.field-0 c' _ c.ask.new.link c.swap_frames.new.self _ c.ask.new.layer (record { frames = c.swap_frames.new.frames; entries = c.enter_asked.new.entries; timer = c.args.out.now.timer }) s request fits
       c.in-Ok.ensures.layer c.in-Ok.ensures.link (ap (λ l. l.station) c.swap_frames.ensures.link) (ap (λ l. l.frames) c.swap_frames.ensures.link ∙ c.requires.frames) c.swap_frames.ensures.frames
       (may c.args.self.now.manner c' c.args.channel (plain_request c.args.request) c.may_ask.result fits.same (c.may_ask.ensures c.args.channel) c.if-not-may_ask.false) (c.steps_keep_bounds.ensures.request c' s request fits.kept) in
       leaves_some c' _ _ (requests c' s request) a.state a.refused);
@@ -51,7 +53,7 @@ invariant_of-self-in-Ok c = record {
 pub invariant_of-self-in-Err-1 : goal.invariant_of-self-in-Err-1
 invariant_of-self-in-Err-1 c = record {
   meant = still_meant _ _ _ _ c.args.self.now.meant (λ c' s fits.
-      (c', s, still_fits c' c.args.self.now.link c.ask.new.link _ c.ask.new.self s fits (c.in-Err.ensures.layer_stays (layer_settings c') s.layer fits.layer) c.in-Err.ensures.link_stays));
+      (c', s, still_fits c' c.args.self.now.link c.ask.new.link _ c.ask.new.layer s fits (c.in-Err.ensures.layer_stays (layer_settings c') s.layer fits.layer) c.in-Err.ensures.link_stays));
 }
 
 pub returns-in-Ok-clause-does : goal.returns-in-Ok-clause-does
@@ -63,7 +65,7 @@ returns-in-Ok-clause-does c =
     (λ c' s fits. may c.args.self.now.manner c' c.args.channel (plain_request c.args.request) c.may_ask.result fits.same (c.may_ask.ensures c.args.channel) c.if-not-may_ask.false)
     (λ c' s fits.
     let h = c.args.channel in
-    asked_enters c.in-Ok.field-0 c' _ _ c.ask.new.self s r h (plain_request c.args.request) fits c.in-Ok.ensures.layer (λ k after configured brief. c.enter_asked.ensures (layer_settings c') k after configured brief))
+    asked_enters c.in-Ok.field-0 c' _ _ c.ask.new.layer s r h (plain_request c.args.request) fits c.in-Ok.ensures.layer (λ k after configured brief. c.enter_asked.ensures (layer_settings c') k after configured brief))
     refl
 
 pub returns-in-Err-clause-does : goal.returns-in-Err-clause-does
@@ -95,6 +97,5 @@ returns-in-Err-clause-only c = λ none c' s fits.
     let o : Outcome = requested c' s request in
     subst (λ (b : Bool). let r : Result Unit StationError = Err c.of_layer-in-Err.result in RefusesOnly r (where_asked b o))
     (sym (may c.args.self.now.manner c' c.args.channel (plain_request c.args.request) c.may_ask.result fits.same (c.may_ask.ensures c.args.channel) c.if-not-may_ask.false))
-    (has_places _ c.in-Err.error c.args.self.now.link.frames o c.of_layer-in-Err.ensures
-    (λ lacks. subst (λ (b : Bool). MayLack b 16 (places_left c.args.self.now.link.frames)) none (c.in-Err.ensures.missing lacks)) fits.sent
-    (refuses _ Unit c.in-Err.error _ c' c.args.self.now.link c.args.self.now.layer c.ask.new.self s request fits c.of_layer-in-Err.ensures c.in-Err.ensures.layer))
+    (never_lacks _ c.in-Err.error o c.of_layer-in-Err.ensures (λ lacks. sym none ∙ c.in-Err.ensures.missing lacks)
+    (refuses _ Unit c.in-Err.error _ c' c.args.self.now.link c.args.self.now.layer c.ask.new.layer s request fits c.of_layer-in-Err.ensures c.in-Err.ensures.layer))

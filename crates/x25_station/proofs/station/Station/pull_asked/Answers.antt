@@ -1,4 +1,4 @@
-use Rattle.std.proofs.Common.{refl, ap, map, ◌∙◌}
+use Rattle.std.proofs.Common.{arith, refl, ap, map, ◌∙◌}
 use Rattle.x25_layer.specs.Calls.{PullsAll}
 use Rattle.x25_station.specs.declared.step.Step as code_step
 use Rattle.x25_station.specs.code.PlainEntry.{plain_entry}
@@ -8,14 +8,21 @@ use Rattle.x25_station.proofs.OutcomeLemmas.{leaves_some, still_meant}
 use Rattle.x25_station.proofs.AskLemmas.{answers, refuses, still_fits}
 use Rattle.x25_station.proofs.DoesLemmas.{did_request, declines_request}
 use Rattle.x25_station.proofs.EnteredLemmas.{pull_enters}
-use Rattle.x25_station.proofs.PullLemmas.{goes_on, has_places}
+use Rattle.x25_station.proofs.PullLemmas.{goes_on, never_lacks}
+use Rattle.x25_station.proofs.TakeLemmas.{takes_longest, has_places}
 use Rattle.x25_station.proofs.station.Station.pull_asked.Goals as goal
+
+pub pull-requires-clause-longest : goal.pull-requires-clause-longest
+pull-requires-clause-longest c = takes_longest c.args.self.now.link c.args.self.now.layer c.args.self.now.meant
+
+pub pull-requires-clause-places : goal.pull-requires-clause-places
+pull-requires-clause-places c = let p = has_places c.args.self.now.link c.args.self.now.layer c.args.self.now.meant in omega (arith, p)
 
 pub invariant_of-self : goal.invariant_of-self
 invariant_of-self c = record {
   meant = still_meant _ _ _ _ c.args.self.now.meant (λ c' s fits.
       let request = PullsAll in
-      let a = answers c.in-Ok.field-0 c' _ c.pull.new.link c.swap_frames.new.self _ c.pull.new.self (record { frames = c.swap_frames.new.frames; entries = c.args.out.now.entries; timer = c.args.out.now.timer }) s request fits
+      let a = answers c.in-Ok.field-0 c' _ c.pull.new.link c.swap_frames.new.self _ c.pull.new.layer (record { frames = c.swap_frames.new.frames; entries = c.args.out.now.entries; timer = c.args.out.now.timer }) s request fits
       c.in-Ok.ensures.layer c.in-Ok.ensures.link (ap (λ l. l.station) c.swap_frames.ensures.link) (ap (λ l. l.frames) c.swap_frames.ensures.link ∙ c.requires.frames) c.swap_frames.ensures.frames
       refl (c.steps_keep_bounds.ensures.request c' s request fits.kept) in
       leaves_some c' _ _ (requests c' s request) a.state a.refused);
@@ -24,7 +31,7 @@ invariant_of-self c = record {
 pub invariant_of-self-in-Err-1 : goal.invariant_of-self-in-Err-1
 invariant_of-self-in-Err-1 c = record {
   meant = still_meant _ _ _ _ c.args.self.now.meant (λ c' s fits.
-      (c', s, still_fits c' c.args.self.now.link c.pull.new.link _ c.pull.new.self s fits (c.in-Err.ensures.layer_stays (layer_settings c') s.layer fits.layer) c.in-Err.ensures.link_stays));
+      (c', s, still_fits c' c.args.self.now.link c.pull.new.link _ c.pull.new.layer s fits (c.in-Err.ensures.layer_stays (layer_settings c') s.layer fits.layer) c.in-Err.ensures.link_stays));
 }
 
 pub returns-in-Ok-clause-does : goal.returns-in-Ok-clause-does
@@ -46,5 +53,5 @@ returns-in-Ok-clause-only c = λ c' s fits. goes_on (requests c' s PullsAll) ((r
 
 pub returns-in-Err-clause-only : goal.returns-in-Err-clause-only
 returns-in-Err-clause-only c = λ c' s fits.
-    has_places _ c.in-Err.error c.args.self.now.link.frames (requests c' s PullsAll) c.of_layer.ensures c.in-Err.ensures.missing fits.sent
-    (refuses _ Unit c.in-Err.error _ c' c.args.self.now.link c.args.self.now.layer c.pull.new.self s PullsAll fits c.of_layer.ensures c.in-Err.ensures.layer)
+    never_lacks _ c.in-Err.error (requests c' s PullsAll) c.of_layer.ensures c.in-Err.ensures.missing
+    (refuses _ Unit c.in-Err.error _ c' c.args.self.now.link c.args.self.now.layer c.pull.new.layer s PullsAll fits c.of_layer.ensures c.in-Err.ensures.layer)

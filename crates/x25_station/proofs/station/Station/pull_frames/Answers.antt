@@ -4,7 +4,7 @@ use Rattle.x25_layer.specs.Calls.{PullsAll}
 use Rattle.x25_station.specs.Config.{layer_settings}
 use Rattle.x25_station.specs.Pulling.{pulled}
 use Rattle.x25_station.proofs.OutcomeLemmas.{still_meant}
-use Rattle.x25_station.proofs.PullLemmas.{pulls_fit, pulls_made, few_given}
+use Rattle.x25_station.proofs.PullLemmas.{pulls_fit, pulls_made}
 use Rattle.x25_station.proofs.station.Station.pull_frames.Goals as goal
 
 pub invariant_of-self : goal.invariant_of-self
@@ -13,7 +13,7 @@ invariant_of-self c = record {
     c',
     (pulled c' s).near,
     pulls_fit c' _ c.swap_frames.new.self _ s _ fits (ap (λ l. l.station) c.swap_frames.ensures.link) c.pull.result c.pull.new.link c.swap_frames-2.new.self _ c.pull.ensures.layer c.pull.ensures.link c.pull.ensures.missing
-        (few_given c.swap_frames.new.self c.args.frames.now (ap (λ l. l.frames) c.swap_frames.ensures.link) c.requires) (c.pull.ensures.layer_stays (layer_settings c') s.layer fits.layer) c.pull.ensures.link_stays (ap (λ l. l.station) c.swap_frames-2.ensures.link)
+        (c.pull.ensures.layer_stays (layer_settings c') s.layer fits.layer) c.pull.ensures.link_stays (ap (λ l. l.station) c.swap_frames-2.ensures.link)
         (ap (λ l. l.frames) c.swap_frames-2.ensures.link ∙ c.swap_frames.ensures.frames ∙ fits.sent) (c.steps_keep_bounds.ensures.request c' s PullsAll fits.kept),
   ));
 }
@@ -22,11 +22,11 @@ pub returns : goal.returns
 returns c = record {
   state = λ c' s fits.
       pulls_fit c' _ c.swap_frames.new.self _ s _ fits (ap (λ l. l.station) c.swap_frames.ensures.link) c.pull.result c.pull.new.link c.swap_frames-2.new.self _ c.pull.ensures.layer c.pull.ensures.link c.pull.ensures.missing
-      (few_given c.swap_frames.new.self c.args.frames.now (ap (λ l. l.frames) c.swap_frames.ensures.link) c.requires) (c.pull.ensures.layer_stays (layer_settings c') s.layer fits.layer) c.pull.ensures.link_stays (ap (λ l. l.station) c.swap_frames-2.ensures.link)
+      (c.pull.ensures.layer_stays (layer_settings c') s.layer fits.layer) c.pull.ensures.link_stays (ap (λ l. l.station) c.swap_frames-2.ensures.link)
       (ap (λ l. l.frames) c.swap_frames-2.ensures.link ∙ c.swap_frames.ensures.frames ∙ fits.sent) (c.steps_keep_bounds.ensures.request c' s PullsAll fits.kept);
   frames = λ c' s fits.
       c.swap_frames-2.ensures.frames
       ∙ pulls_made c' _ c.swap_frames.new.self _ s _ fits (ap (λ l. l.station) c.swap_frames.ensures.link) c.pull.result c.pull.new.link _ c.pull.ensures.layer c.pull.ensures.link c.pull.ensures.missing
-      (few_given c.swap_frames.new.self c.args.frames.now (ap (λ l. l.frames) c.swap_frames.ensures.link) c.requires) c.pull.ensures.link_stays
+      c.pull.ensures.link_stays
       ∙ ap (λ l. l.frames ++ map (spelling_of c'.role) (pulled c' s).out) c.swap_frames.ensures.link;
 }

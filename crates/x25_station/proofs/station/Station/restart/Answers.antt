@@ -9,14 +9,21 @@ use Rattle.x25_station.proofs.OutcomeLemmas.{leaves_some, still_meant}
 use Rattle.x25_station.proofs.AskLemmas.{answers, refuses, still_fits}
 use Rattle.x25_station.proofs.DoesLemmas.{did_request, declines_request}
 use Rattle.x25_station.proofs.EnteredLemmas.{restart_enters}
-use Rattle.x25_station.proofs.PullLemmas.{goes_on, has_places}
+use Rattle.x25_station.proofs.PullLemmas.{goes_on, never_lacks}
+use Rattle.x25_station.proofs.TakeLemmas.{takes_longest, has_places}
 use Rattle.x25_station.proofs.station.Station.restart.Goals as goal
+
+pub restart-requires-clause-longest : goal.restart-requires-clause-longest
+restart-requires-clause-longest c = takes_longest c.args.self.now.link c.args.self.now.layer c.args.self.now.meant
+
+pub restart-requires-clause-places : goal.restart-requires-clause-places
+restart-requires-clause-places c = has_places c.args.self.now.link c.args.self.now.layer c.args.self.now.meant
 
 pub invariant_of-self : goal.invariant_of-self
 invariant_of-self c = record {
   meant = still_meant _ _ _ _ c.args.self.now.meant (λ c' s fits.
       let request = Restarts c.args.cause c.args.diagnostic in
-      let a = answers c.in-Ok.field-0 c' _ c.restart.new.link c.swap_frames.new.self _ c.restart.new.self (record { frames = c.swap_frames.new.frames; entries = c.push.new.self; timer = c.args.out.now.timer }) s request fits
+      let a = answers c.in-Ok.field-0 c' _ c.restart.new.link c.swap_frames.new.self _ c.restart.new.layer (record { frames = c.swap_frames.new.frames; entries = c.push.new.self; timer = c.args.out.now.timer }) s request fits
       c.in-Ok.ensures.layer c.in-Ok.ensures.link (ap (λ l. l.station) c.swap_frames.ensures.link) (ap (λ l. l.frames) c.swap_frames.ensures.link ∙ c.requires.frames) c.swap_frames.ensures.frames
       refl (c.steps_keep_bounds.ensures.request c' s request fits.kept) in
       leaves_some c' _ _ (requests c' s request) a.state a.refused);
@@ -25,7 +32,7 @@ invariant_of-self c = record {
 pub invariant_of-self-in-Err-1 : goal.invariant_of-self-in-Err-1
 invariant_of-self-in-Err-1 c = record {
   meant = still_meant _ _ _ _ c.args.self.now.meant (λ c' s fits.
-      (c', s, still_fits c' c.args.self.now.link c.restart.new.link _ c.restart.new.self s fits (c.in-Err.ensures.layer_stays (layer_settings c') s.layer fits.layer) c.in-Err.ensures.link_stays));
+      (c', s, still_fits c' c.args.self.now.link c.restart.new.link _ c.restart.new.layer s fits (c.in-Err.ensures.layer_stays (layer_settings c') s.layer fits.layer) c.in-Err.ensures.link_stays));
 }
 
 pub returns-in-Ok-clause-does : goal.returns-in-Ok-clause-does
@@ -50,5 +57,5 @@ returns-in-Ok-clause-only c = λ c' s fits.
 pub returns-in-Err-clause-only : goal.returns-in-Err-clause-only
 returns-in-Err-clause-only c = λ c' s fits.
     let request = Restarts c.args.cause c.args.diagnostic in
-    has_places _ c.in-Err.error c.args.self.now.link.frames (requests c' s request) c.of_layer.ensures (λ lacks. (let few = c.in-Err.ensures.missing lacks in omega (arith, few))) fits.sent
-    (refuses _ Unit c.in-Err.error _ c' c.args.self.now.link c.args.self.now.layer c.restart.new.self s request fits c.of_layer.ensures c.in-Err.ensures.layer)
+    never_lacks _ c.in-Err.error (requests c' s request) c.of_layer.ensures c.in-Err.ensures.missing
+    (refuses _ Unit c.in-Err.error _ c' c.args.self.now.link c.args.self.now.layer c.restart.new.layer s request fits c.of_layer.ensures c.in-Err.ensures.layer)

@@ -1,9 +1,7 @@
 use Rattle.std.proofs.Common.{Bool, sym, ap, ◌∙◌, ◌&&◌, subst}
 use Rattle.x25_bits.specs.declared.role.Role.TheVariants.{Dte, Dce}
+use Rattle.x25_station.specs.{code.FitsStation.{FitsStation}, Config.{settings_from}, Station.Told.{is_at_rest}}
 use Rattle.x25_station.specs.declared.station.Station as code
-use Rattle.x25_station.specs.code.FitsStation.{FitsStation}
-use Rattle.x25_station.specs.Config.{settings_from}
-use Rattle.x25_station.specs.Station.Told.{is_at_rest}
 use Rattle.x25_world.proofs.world.World.are_at_rest.Goals as goal
 
 pub returns-then-is_at_rest : goal.returns-then-is_at_rest

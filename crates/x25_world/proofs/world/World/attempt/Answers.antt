@@ -1,6 +1,4 @@
-use Rattle.x25_world.specs.World.{event_of}
-use Rattle.x25_world.specs.Healing.{if_accepted}
-use Rattle.x25_world.specs.code.FitsHealing.{telling}
+use Rattle.x25_world.specs.{World.{event_of}, Healing.{if_accepted}, code.FitsHealing.{telling}}
 use Rattle.x25_world.proofs.HealingSchedule.{accepts_one, leaves_out, stops_now}
 use Rattle.x25_world.proofs.world.World.attempt.Goals as goal
 

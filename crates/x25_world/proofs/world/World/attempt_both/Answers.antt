@@ -1,7 +1,5 @@
 use Rattle.std.proofs.lemmas.Result.{err_from_is_err_and, on_ok_weaker, IfErr-weaker}
-use Rattle.x25_world.specs.World.{run, event_of}
-use Rattle.x25_world.specs.Healing.{if_accepted, both_tried}
-use Rattle.x25_world.specs.code.FitsHealing.{GoesPartly, telling}
+use Rattle.x25_world.specs.{World.{run, event_of}, Healing.{if_accepted, both_tried}, code.FitsHealing.{GoesPartly, telling}}
 use Rattle.x25_world.proofs.HealingSchedule.{goes_behind, stops_first, stops_behind}
 use Rattle.x25_world.proofs.world.World.attempt_both.Goals as goal
 

@@ -1,11 +1,7 @@
 use Rattle.std.proofs.Common.{None, sym, subst, refl}
 use Rattle.x25_bits.specs.declared.role.Role.TheVariants.{Dte}
-use Rattle.x25_station.specs.Config.{settings_from}
-use Rattle.x25_station.specs.Station.{new_station}
-use Rattle.x25_station.specs.Step.{connects}
-use Rattle.x25_world.specs.World.{start, of_station}
-use Rattle.x25_world.specs.code.ShownWorld.{ShownWorld}
-use Rattle.x25_world.specs.code.FitsWorld.{FitsWorld}
+use Rattle.x25_station.specs.{Config.{settings_from}, Station.{new_station}, Step.{connects}}
+use Rattle.x25_world.specs.{World.{start, of_station}, code.ShownWorld.{ShownWorld}, code.FitsWorld.{FitsWorld}}
 use Rattle.x25_world.proofs.WorldLemmas.{dte_fits, station_keeps_far, only_memory}
 use Rattle.x25_world.proofs.world.World.connect.Goals as goal
 

@@ -1,6 +1,5 @@
 use Rattle.std.proofs.Common.{inl, inr, refl}
-use Rattle.x25_world.specs.World.{connected}
-use Rattle.x25_world.specs.code.FitsWorld.{ClaimsOfNew}
+use Rattle.x25_world.specs.{World.{connected}, code.FitsWorld.{ClaimsOfNew}}
 use Rattle.x25_world.proofs.WorldLemmas.{made_world, claims_of_new, all_of_sessions, connected_up}
 use Rattle.x25_world.proofs.world.World.connecting.Goals as goal
 

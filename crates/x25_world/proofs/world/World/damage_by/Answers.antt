@@ -1,9 +1,7 @@
 use Rattle.std.proofs.Common.{rules, ◌≡◌, ◌∙◌, ◌<◌, List, ℕ, length, false, ap, arith, sym, subst}
 use Rattle.x25_bits.specs.FrameCheck.Sealed.{is_sealed}
 use Rattle.x25_station.specs.declared.config.Cfg.{Cfg}
-use Rattle.x25_world.specs.World.{World}
-use Rattle.x25_world.specs.code.ShownWorld.{ShownWorld, shown_with, line_of}
-use Rattle.x25_world.specs.code.FitsWorld.{FitsWorld}
+use Rattle.x25_world.specs.{World.{World}, code.ShownWorld.{ShownWorld, shown_with, line_of}, code.FitsWorld.{FitsWorld}}
 use Rattle.x25_world.proofs.BitDamageLemmas.{refuses_bits}
 use Rattle.x25_world.proofs.world.World.damage_by.Goals as goal
 

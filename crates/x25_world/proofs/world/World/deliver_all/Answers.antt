@@ -1,9 +1,6 @@
-use Rattle.std.proofs.Common.{sym, ap, ◌∙◌, arith}
-use Rattle.std.proofs.lemmas.Result.{err_from_is_err_and}
+use Rattle.std.proofs.{Common.{sym, ap, ◌∙◌, arith}, lemmas.Result.{err_from_is_err_and}}
 use Rattle.x25_bits.specs.Role.{end_of}
-use Rattle.x25_world.specs.World.{run}
-use Rattle.x25_world.specs.Healing.{all_received, next_end}
-use Rattle.x25_world.specs.code.FitsHealing.{most_times, telling}
+use Rattle.x25_world.specs.{World.{run}, Healing.{all_received, next_end}, code.FitsHealing.{most_times, telling}}
 use Rattle.x25_world.proofs.HealingSchedule.{one_delivered, ends_drained, ends_counted, stops_there}
 use Rattle.x25_world.proofs.world.World.deliver_all.Goals as goal
 

@@ -1,7 +1,6 @@
 use Rattle.std.specs.Prelude.{◌≡◌, List}
 use Rattle.x25_station.specs.declared.config.Cfg.{Cfg}
-use Rattle.x25_world.specs.World.{World, AtEnd}
-use Rattle.x25_world.specs.code.FitsHealing.{most_times, Tells, telling}
+use Rattle.x25_world.specs.{World.{World, AtEnd}, code.FitsHealing.{most_times, Tells, telling}}
 use Rattle.x25_world.proofs.HealingSchedule.{Delivered}
 use Rattle.x25_world.proofs.world.World.deliver_all.Given as goal
 

@@ -1,5 +1,4 @@
-use Rattle.std.proofs.Common.{ap}
-use Rattle.std.proofs.lemmas.Result.{err_from_is_err_and}
+use Rattle.std.proofs.{Common.{ap}, lemmas.Result.{err_from_is_err_and}}
 use Rattle.x25_station.specs.Config.{config_refusal}
 use Rattle.x25_world.specs.code.ShownLine.{ShownLine}
 use Rattle.x25_world.proofs.WorldLemmas.{made_as, refused_as, refused_later}

@@ -1,6 +1,5 @@
 use Rattle.std.proofs.Common.{inr, refl}
-use Rattle.x25_world.specs.World.{established}
-use Rattle.x25_world.specs.code.FitsWorld.{ClaimsOfNew, ClaimsOfSetUp}
+use Rattle.x25_world.specs.{World.{established}, code.FitsWorld.{ClaimsOfNew, ClaimsOfSetUp}}
 use Rattle.x25_world.proofs.WorldLemmas.{made_world, claims_of_new, all_of_sessions, established_up, claims_of_set_up}
 use Rattle.x25_world.proofs.world.World.establish.Goals as goal
 

@@ -1,10 +1,7 @@
 use Rattle.std.proofs.lemmas.Result.{err_from_is_err_and}
 use Rattle.x25_bits.specs.declared.role.Role.TheVariants.{Dte, Dce}
-use Rattle.x25_world.specs.World.{run}
-use Rattle.x25_world.specs.Healing.{deliveries, firing, both_tried, pull_rounds, fire_and_pull}
-use Rattle.x25_world.specs.code.FitsHealing.{most_times, telling}
-use Rattle.x25_world.proofs.HealingSchedule.{goes_behind, stops_first, stops_behind}
-use Rattle.x25_world.proofs.HealingRounds.{fired_at, counts_both}
+use Rattle.x25_world.specs.{World.{run}, Healing.{deliveries, firing, both_tried, pull_rounds, fire_and_pull}, code.FitsHealing.{most_times, telling}}
+use Rattle.x25_world.proofs.{HealingSchedule.{goes_behind, stops_first, stops_behind}, HealingRounds.{fired_at, counts_both}}
 use Rattle.x25_world.proofs.world.World.go_on.Goals as goal
 
 pub returns-in_err-before-clause-stopped : goal.returns-in_err-before-clause-stopped

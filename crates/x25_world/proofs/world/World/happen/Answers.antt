@@ -1,6 +1,5 @@
 use Rattle.std.proofs.Common.{sym, subst}
-use Rattle.x25_world.specs.code.ShownWorld.{ShownWorld}
-use Rattle.x25_world.specs.code.FitsWorld.{FitsWorld}
+use Rattle.x25_world.specs.{code.ShownWorld.{ShownWorld}, code.FitsWorld.{FitsWorld}}
 use Rattle.x25_world.proofs.world.World.happen.Goals as goal
 
 pub returns-clause-acted : goal.returns-clause-acted

@@ -1,11 +1,7 @@
 use Rattle.std.proofs.Common.{sym, subst, arith}
-use Rattle.x25_world.specs.World.{run}
-use Rattle.x25_world.specs.Healing.{healing, RestShows, ArrivesByHealing, RestShowsAll}
-use Rattle.x25_world.specs.laws.SessionClaims.{SessionsKeepOrder}
+use Rattle.x25_world.specs.{World.{run}, Healing.{healing, RestShows, ArrivesByHealing, RestShowsAll}, laws.SessionClaims.{SessionsKeepOrder}}
 use Rattle.x25_world.specs.code.FitsHealing.{most_times, telling}
-use Rattle.x25_world.proofs.WorldLemmas.{run_append, all_of_sessions}
-use Rattle.x25_world.proofs.HealingSchedule.{tells_nothing}
-use Rattle.x25_world.proofs.HealingRounds.{holds_healed}
+use Rattle.x25_world.proofs.{WorldLemmas.{run_append, all_of_sessions}, HealingSchedule.{tells_nothing}, HealingRounds.{holds_healed}}
 use Rattle.x25_world.proofs.world.World.heal.Goals as goal
 
 pub returns-in-Ok-clause-goes : goal.returns-in-Ok-clause-goes

@@ -1,9 +1,7 @@
 use Rattle.std.proofs.Common.{List, ◌≡◌, ◌-◌, ◌+◌, ◌*◌, ◌≤◌, false}
 use Rattle.std.specs.Prelude.{is_none}
 use Rattle.x25_station.specs.declared.config.Cfg.{Cfg}
-use Rattle.x25_world.specs.World.{World, AtEnd}
-use Rattle.x25_world.specs.Healing.{next_end, pull_rounds}
-use Rattle.x25_world.specs.code.FitsHealing.{most_times, Tells, telling}
+use Rattle.x25_world.specs.{World.{World, AtEnd}, Healing.{next_end, pull_rounds}, code.FitsHealing.{most_times, Tells, telling}}
 use Rattle.x25_world.proofs.HealingSchedule.{Begun}
 use Rattle.x25_world.proofs.world.World.pull_all.Given as goal
 

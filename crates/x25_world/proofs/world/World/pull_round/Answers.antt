@@ -1,11 +1,7 @@
 use Rattle.std.proofs.lemmas.Result.{err_from_is_err_and}
 use Rattle.x25_bits.specs.declared.role.Role.TheVariants.{Dte, Dce}
-use Rattle.x25_world.specs.World.{run}
-use Rattle.x25_world.specs.laws.WaitClaims.{pull_at}
-use Rattle.x25_world.specs.Healing.{deliveries, both_tried}
-use Rattle.x25_world.specs.code.FitsHealing.{most_times, telling}
-use Rattle.x25_world.proofs.HealingSchedule.{goes_behind, stops_first, stops_behind}
-use Rattle.x25_world.proofs.HealingRounds.{count_round}
+use Rattle.x25_world.specs.{World.{run}, laws.WaitClaims.{pull_at}, Healing.{deliveries, both_tried}, code.FitsHealing.{most_times, telling}}
+use Rattle.x25_world.proofs.{HealingSchedule.{goes_behind, stops_first, stops_behind}, HealingRounds.{count_round}}
 use Rattle.x25_world.proofs.world.World.pull_round.Goals as goal
 
 pub returns-in_err-count-clause-stopped : goal.returns-in_err-count-clause-stopped

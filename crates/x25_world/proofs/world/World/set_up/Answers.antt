@@ -1,8 +1,5 @@
-use Rattle.std.proofs.Common.{Err, sym, subst}
-use Rattle.std.proofs.lemmas.Result.{err_from_is_err_and}
-use Rattle.x25_world.specs.World.{connected}
-use Rattle.x25_world.specs.code.ShownWorld.{ShownWorld}
-use Rattle.x25_world.specs.code.FitsWorld.{FitsWorld}
+use Rattle.std.proofs.{Common.{Err, sym, subst}, lemmas.Result.{err_from_is_err_and}}
+use Rattle.x25_world.specs.{World.{connected}, code.ShownWorld.{ShownWorld}, code.FitsWorld.{FitsWorld}}
 use Rattle.x25_world.proofs.WorldLemmas.{only_memory}
 use Rattle.x25_world.proofs.world.World.set_up.Goals as goal
 

@@ -1,6 +1,5 @@
 use Rattle.std.proofs.Common.{inl, refl}
-use Rattle.x25_world.specs.World.{start}
-use Rattle.x25_world.specs.code.FitsWorld.{ClaimsOfNew}
+use Rattle.x25_world.specs.{World.{start}, code.FitsWorld.{ClaimsOfNew}}
 use Rattle.x25_world.proofs.WorldLemmas.{made_world, claims_of_new, all_of_sessions, start_up}
 use Rattle.x25_world.proofs.world.World.start.Goals as goal
 

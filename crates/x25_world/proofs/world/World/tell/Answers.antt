@@ -1,7 +1,6 @@
 use Rattle.std.proofs.Common.{◌∙◌, ap, sym, subst}
 use Rattle.x25_station.specs.code.Memory.{ShownEntries}
-use Rattle.x25_world.specs.code.ShownWorld.{ShownWorld}
-use Rattle.x25_world.specs.code.FitsWorld.{FitsWorld}
+use Rattle.x25_world.specs.{code.ShownWorld.{ShownWorld}, code.FitsWorld.{FitsWorld}}
 use Rattle.x25_world.proofs.WorldLemmas.{told_behind}
 use Rattle.x25_world.proofs.world.World.tell.Goals as goal
 

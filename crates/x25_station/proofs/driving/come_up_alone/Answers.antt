@@ -1,0 +1,25 @@
+use Rattle.std.proofs.Common.{◌∙◌, sym, subst, option_to_list}
+use Rattle.x25_link.specs.code.FitsLink.{LinkState, FitsWhole}
+use Rattle.x25_layer.specs.Layer.{goes_up}
+use Rattle.x25_layer.specs.laws.Rounds.{Putting}
+use Rattle.x25_layer.specs.code.FitsLayer.{FitsLayer}
+use Rattle.x25_station.specs.Config.{link_settings, layer_settings}
+use Rattle.x25_station.specs.Receiving.{kept_of}
+use Rattle.x25_station.specs.Station.{all_put, view_of}
+use Rattle.x25_station.proofs.LinkLemmas.{put_by_put}
+use Rattle.x25_station.proofs.RoundLemmas.{all_spelled}
+use Rattle.x25_station.proofs.driving.come_up_alone.Goals as goal
+
+pub returns : goal.returns
+returns c = record {
+  layer = λ c' l t fits link.
+      let lc = layer_settings c' in
+      subst (λ (p : Putting). FitsLayer lc c.up.new.self p.layer) (sym (c.calls_are_runs.ensures.up (view_of (link_settings c') t.near) lc)) (c.up.ensures.layer lc l fits);
+  link = λ c' l t fits link.
+      let lc = layer_settings c' in
+      let lk = link_settings c' in
+      let owed = (goes_up lc).owed in
+      subst (λ (p : Putting). FitsWhole c.put.new.link (kept_of lk (all_put lk p.put t))) (sym (c.calls_are_runs.ensures.up (view_of lk t.near) lc))
+      (subst (λ (y : LinkState). FitsWhole c.put.new.link y) (all_spelled (kept_of lk t) owed c.to_put.result.now (c.to_put.ensures ∙ c.up.ensures.put lc l fits) ∙ put_by_put lk (option_to_list owed) t)
+      (c.put.ensures.link (kept_of lk t) link));
+}

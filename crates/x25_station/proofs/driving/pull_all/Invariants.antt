@@ -1,0 +1,23 @@
+use Rattle.std.proofs.Common.{◌≡◌, ℕ, ◌+◌, ◌*◌, ◌≤◌, true}
+use Rattle.x25_link.specs.code.FitsLink.{LinkState, FitsWhole, limit_of, up_of}
+use Rattle.x25_link.specs.code.Frames.{places_left}
+use Rattle.x25_layer.specs.Layer.{LayerSettings}
+use Rattle.x25_layer.specs.laws.Rounds.{Putting}
+use Rattle.x25_layer.specs.code.FitsLayer.{FitsLayer}
+use Rattle.x25_station.specs.code.OverLink.{after_all}
+use Rattle.x25_station.proofs.RoundLemmas.{Within}
+use Rattle.x25_station.proofs.driving.pull_all.Given as goal
+
+-- some rounds and a part of the next one are done
+abbrev pub invariant-loop-left : goal.invariant-loop-left
+invariant-loop-left l = record {
+  up : up_of l.link ≡ true;
+  longest : 4099 ≤ limit_of l.link;
+  few : l.left ≤ 15;
+  places : l.left ≤ places_left l.link.frames;
+  high : l.channel ≤ 4095;
+  within : (c : LayerSettings) (x : LinkState) (s : Putting) → FitsLayer c l.initial.layer s.layer → FitsWhole l.initial.link (after_all x s.put) → Within c x s l.layer l.link l.channel l.left;
+}
+
+abbrev pub decreases-loop-left : goal.decreases-loop-left
+decreases-loop-left l = l.left * 4096 + l.channel

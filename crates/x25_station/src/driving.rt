@@ -1,0 +1,301 @@
+//! The packet layer over the link: what a call of the layer has to put is put, and then the data packets that wait, in
+//! rounds (profile): channels in rising order, one packet each, until a round gives none, while fewer than 8 wait.
+ghost use Rattle.std.specs.Prelude.{◌≡◌, ◌==◌, ◌⊎◌, ◌+◌, ◌<◌, ◌≤◌, [], length, true, false, Option, Some, IfOk};
+ghost use Rattle.x25_packet.specs.Packet.{PlainPacket};
+ghost use Rattle.x25_packet.specs.Spelling.{spelling_of};
+ghost use Rattle.x25_circuit.specs.Request.{plain_request};
+ghost use Rattle.x25_circuit.specs.code.PartialMessage.{spares};
+ghost use Rattle.x25_link.specs.code.FitsLink.{LinkState as State, FitsWhole, after_put_to, limit_of, up_of};
+ghost use Rattle.x25_link.specs.code.FitsLink.{waiting_of};
+ghost use Rattle.x25_link.specs.code.Frames.{places_left};
+ghost use Rattle.x25_layer.specs.Layer.{LayerSettings};
+ghost use Rattle.x25_layer.specs.Layer.{Layer as LayerState};
+ghost use Rattle.x25_layer.specs.Calls.{Asks, Dials, Restarts, PullsAll, free_channel};
+ghost use Rattle.x25_layer.specs.Full.{IsNotFull};
+ghost use Rattle.x25_layer.specs.Report.{plain_report, handed_over_in};
+ghost use Rattle.x25_layer.specs.laws.Rounds.{LinkView, Putting, begin, rounds, hears, comes_up};
+ghost use Rattle.x25_layer.specs.code.Answering.{spelled};
+ghost use Rattle.x25_layer.specs.code.FitsLayer.{FitsLayer};
+ghost use Rattle.x25_station.specs.code.OverLink.{after_all, after_octets, seen_at, Drives};
+ghost use Rattle.x25_station.specs.code.OverLink.{all_with, seen_with, DrivesWith};
+ghost use Rattle.x25_given.specs.Writing.{write};
+ghost use Rattle.x25_station.specs.Giving.{suits};
+ghost use Rattle.x25_station.specs.Receiving.{CanPut, PutsBehind};
+
+use x25_circuit::{Octets, Proposal, Request};
+use x25_given::Writing;
+use x25_layer::{Layer, LayerError, LinkState, Report, calls_are_runs};
+use x25_link::{Link, OrderedLink};
+
+/// A data packet is pulled where fewer packets than these wait in the link.
+const FEW: usize = 8;
+
+/// The most data packets that the rounds of a call put: each is pulled where fewer than 8 packets wait, and of those
+/// that don't wait at most 7 aren't acknowledged.
+const MOST_PULLED: usize = 15;
+
+/// What the layer is told of the link.
+#[inline(always)]
+pub(crate) fn state(link: &Link) -> LinkState
+    ensures up { result.is_up ≡ up_of link.now }
+    ensures full { result.is_full ≡ false → waiting_of link.now < 256 }
+    ensures waits { result.is_full ≡ (waiting_of link.now == 256) }
+{
+    LinkState {
+        is_up: link.is_up(),
+        is_full: link.waiting() == 256,
+    }
+}
+
+// Puts these octets into the link, which has a place for them, where there are any.
+#[inline(always)]
+fn put(link: &mut Link, octets: &[u8])
+    requires up { up_of link.old ≡ true }
+    requires free { (octets.now ≡ []) ⊎ (waiting_of link.old < 256) }
+    requires places { 0 < places_left link.old.frames }
+    requires longest { 4099 ≤ limit_of link.old }
+    requires long { length octets.now ≤ 4099 }
+    requires short { (length octets.now ≤ 260) ⊎ (waiting_of link.old < 8) }
+    ensures link { (x : State) → FitsWhole link.old x → FitsWhole link.new (after_octets x octets.now) }
+    ensures places { places_left link.old.frames ≤ places_left link.new.frames + 1 }
+    ensures up { up_of link.new ≡ up_of link.old }
+    ensures longest { limit_of link.new ≡ limit_of link.old }
+{
+    if octets.is_empty() {
+        return;
+    }
+    link.put(octets).unwrap();
+}
+
+// Puts the data packets of all channels, in rounds, while fewer than 8 packets wait in the link.
+#[inline(always)]
+fn pull_all(layer: &mut Layer, link: &mut Link)
+    requires up { up_of link.old ≡ true }
+    requires longest { 4099 ≤ limit_of link.old }
+    requires places { 15 ≤ places_left link.old.frames }
+    ensures layer { (c : LayerSettings) (s : Putting) (x : State) → FitsLayer c layer.old s.layer
+        → FitsWhole link.old (after_all x s.put) → FitsLayer c layer.new (rounds (seen_at x) c s).layer }
+    ensures link { (c : LayerSettings) (s : Putting) (x : State) → FitsLayer c layer.old s.layer
+        → FitsWhole link.old (after_all x s.put) → FitsWhole link.new (after_all x (rounds (seen_at x) c s).put) }
+{
+    calls_are_runs();
+    let mut left = MOST_PULLED;
+    let mut channel = 0;
+    while left > 0 && link.waiting() < FEW {
+        match layer.pull(channel) {
+            Some(next) => {
+                put(link, layer.to_put());
+                left -= 1;
+                channel = next;
+            }
+            None => {
+                if channel == 0 {
+                    return;
+                }
+                channel = 0;
+            }
+        }
+    }
+}
+
+// Puts what a call of the layer has to put, and pulls.
+#[inline(always)]
+fn drive(layer: &mut Layer, link: &mut Link)
+    requires up { up_of link.old ≡ true }
+    requires free { (layer.old.sheet ≡ []) ⊎ (waiting_of link.old < 256) }
+    requires places { 16 ≤ places_left link.old.frames }
+    requires longest { 4099 ≤ limit_of link.old }
+    requires short { length layer.old.sheet ≤ 260 }
+    ensures layer { (c : LayerSettings) (l : LayerState) (packet : Option PlainPacket) (x : State)
+        → FitsLayer c layer.old l → layer.old.sheet ≡ spelled packet → FitsWhole link.old x
+        → FitsLayer c layer.new (rounds (seen_at x) c (begin l packet)).layer }
+    ensures link { (c : LayerSettings) (l : LayerState) (packet : Option PlainPacket) (x : State)
+        → FitsLayer c layer.old l → layer.old.sheet ≡ spelled packet → FitsWhole link.old x
+        → FitsWhole link.new (after_all x (rounds (seen_at x) c (begin l packet)).put) }
+{
+    put(link, layer.to_put());
+    pull_all(layer, link);
+}
+
+/// LinkUp: RESTART is put alone.
+pub(crate) fn come_up_alone(layer: &mut Layer, link: &mut Link)
+    requires put { CanPut link.old }
+    ensures { PutsBehind layer.old link.old layer.new link.new (λ view c l. (comes_up view c).step) }
+{
+    calls_are_runs();
+    layer.up();
+    put(link, layer.to_put());
+}
+
+/// Octets that the link handed up.
+#[inline(always)]
+pub(crate) fn packet_up<'a>(
+    layer: &mut Layer,
+    link: &mut Link,
+    wide: bool,
+    octets: &'a [u8],
+    spare: &mut Option<Octets>,
+) -> Report<'a>
+    requires put { CanPut link.old }
+    requires left { IsNotFull layer.old }
+    requires spare { spares spare.old ≡ 1 }
+    ensures puts { PutsBehind layer.old link.old layer.new link.new
+        (λ view c l. (hears view c wide l octets.now).step) }
+    ensures told { (c : LayerSettings) (l : LayerState) (view : LinkView) → FitsLayer c layer.old l
+        → plain_report result ≡ (hears view c wide l octets.now).notices }
+    ensures nothing { plain_report result ≡ [] → result ≡ Report.Nothing }
+    ensures spare { spares spare.new + handed_over_in result ≡ 1 }
+{
+    let told = layer.packet(wide, octets, spare);
+    drive(layer, link);
+    told
+}
+
+/// What a user asks of the circuit of a channel.
+#[inline(always)]
+pub(crate) fn ask(
+    layer: &mut Layer,
+    link: &mut Link,
+    channel: u16,
+    request: Request<'_>,
+) -> Result<(), LayerError>
+    requires longest { 4099 ≤ limit_of link.old }
+    requires places { 16 ≤ places_left link.old.frames }
+    ensures { Drives layer.old link.old layer.new link.new result (Asks channel (plain_request request.entry)) }
+{
+    layer.ask(state(link), channel, request)?;
+    drive(layer, link);
+    Ok(())
+}
+
+/// A restart of all channels.
+pub(crate) fn restart(
+    layer: &mut Layer,
+    link: &mut Link,
+    cause: u8,
+    diagnostic: u8,
+) -> Result<(), LayerError>
+    requires longest { 4099 ≤ limit_of link.old }
+    requires places { 16 ≤ places_left link.old.frames }
+    ensures { Drives layer.old link.old layer.new link.new result (Restarts cause diagnostic) }
+{
+    layer.restart(state(link), cause, diagnostic)?;
+    drive(layer, link);
+    Ok(())
+}
+
+/// What waits is pulled, and nothing else happens.
+pub(crate) fn pull(layer: &mut Layer, link: &mut Link) -> Result<(), LayerError>
+    requires longest { 4099 ≤ limit_of link.old }
+    requires places { 15 ≤ places_left link.old.frames }
+    ensures { Drives layer.old link.old layer.new link.new result PullsAll }
+{
+    if let Some(error) = layer.unready(state(link)) {
+        return Err(error);
+    }
+    pull_all(layer, link);
+    Ok(())
+}
+
+/// A new call.
+pub(crate) fn call(
+    layer: &mut Layer,
+    link: &mut Link,
+    called: &str,
+    calling: &str,
+    user: &[u8],
+    proposal: &Proposal,
+) -> Result<u16, LayerError>
+    requires longest { 4099 ≤ limit_of link.old }
+    requires places { 16 ≤ places_left link.old.frames }
+    ensures does { Drives layer.old link.old layer.new link.new result
+        (Dials called.now calling.now user.now proposal.now) }
+    ensures channel { (c : LayerSettings) (l : LayerState) → FitsLayer c layer.old l
+        → IfOk result (λ channel. free_channel c.circuit.role l.circuits c.channels ≡ Some channel) }
+{
+    let channel = layer.call(state(link), called, calling, user, proposal)?;
+    drive(layer, link);
+    Ok(channel)
+}
+
+// Puts what a call of the layer has to put, with what is given, and pulls.
+fn drive_with(layer: &mut Layer, link: &mut Link, writing: Writing<'_>)
+    requires up { up_of link.old ≡ true }
+    requires free { (layer.old.sheet ≡ []) ⊎ (waiting_of link.old < 256) }
+    requires places { 16 ≤ places_left link.old.frames }
+    requires longest { 4099 ≤ limit_of link.old }
+    requires short { length layer.old.sheet ≤ 260 }
+    ensures layer { (c : LayerSettings) (l : LayerState) (packet : PlainPacket) (x : State) → FitsLayer c layer.old l
+        → layer.old.sheet ≡ spelling_of packet → FitsWhole link.old x
+        → FitsLayer c layer.new (rounds (seen_with writing.entry x) c (begin l (Some packet))).layer }
+    ensures link { (c : LayerSettings) (l : LayerState) (packet : PlainPacket) (x : State) → FitsLayer c layer.old l
+        → layer.old.sheet ≡ spelling_of packet → FitsWhole link.old x
+        → FitsWhole link.new (all_with writing.entry x
+        (rounds (seen_with writing.entry x) c (begin l (Some packet))).put) }
+{
+    if layer.to_put().is_empty() {
+        return;
+    }
+    put_with(link, layer.to_put(), writing);
+    pull_all(layer, link);
+}
+
+// Puts the octets of a packet with what is given.
+fn put_with(link: &mut Link, octets: &[u8], writing: Writing<'_>)
+    requires up { up_of link.old ≡ true }
+    requires free { waiting_of link.old < 256 }
+    requires places { 0 < places_left link.old.frames }
+    requires longest { 4099 ≤ limit_of link.old }
+    requires short { length octets.now ≤ 260 }
+    ensures link { (x : State) → FitsWhole link.old x
+        → FitsWhole link.new (after_put_to x (write writing.entry octets.now)) }
+    ensures places { places_left link.old.frames ≤ places_left link.new.frames + 1 }
+    ensures up { up_of link.new ≡ up_of link.old }
+    ensures longest { limit_of link.new ≡ limit_of link.old }
+{
+    match writing.written(octets) {
+        Some(written) => link.put(&written).unwrap(),
+        None => link.put(octets).unwrap(),
+    }
+}
+
+/// What a user asks of the circuit of a channel, with what is given beside its packet.
+pub(crate) fn ask_with(
+    layer: &mut Layer,
+    link: &mut Link,
+    writing: Writing<'_>,
+    channel: u16,
+    request: Request<'_>,
+) -> Result<(), LayerError>
+    requires packet { suits writing (Asks channel (plain_request request)) ≡ true }
+    requires longest { 4099 ≤ limit_of link.old }
+    requires places { 16 ≤ places_left link.old.frames }
+    ensures { DrivesWith writing.entry layer.old link.old layer.new link.new result
+        (Asks channel (plain_request request.entry)) }
+{
+    layer.ask(state(link), channel, request)?;
+    drive_with(layer, link, writing);
+    Ok(())
+}
+
+/// A new call, with what is given beside its packet.
+pub(crate) fn call_with(
+    layer: &mut Layer,
+    link: &mut Link,
+    writing: Writing<'_>,
+    called: &str,
+    calling: &str,
+    user: &[u8],
+    proposal: &Proposal,
+) -> Result<u16, LayerError>
+    requires longest { 4099 ≤ limit_of link.old }
+    requires places { 16 ≤ places_left link.old.frames }
+    ensures does { DrivesWith writing.entry layer.old link.old layer.new link.new result
+        (Dials called.now calling.now user.now proposal.now) }
+    ensures channel { (c : LayerSettings) (l : LayerState) → FitsLayer c layer.old l
+        → IfOk result (λ channel. free_channel c.circuit.role l.circuits c.channels ≡ Some channel) }
+{
+    let channel = layer.call(state(link), called, calling, user, proposal)?;
+    drive_with(layer, link, writing);
+    Ok(channel)
+}
