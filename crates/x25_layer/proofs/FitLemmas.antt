@@ -199,10 +199,6 @@ pub if_none : {X : Type 0} {P Q : Type 0} (o : Option X) → (P → Q) → IfNon
 if_none None by p = by p
 if_none (Some x) by p = tt
 
--- what stands where there is no packet, and for each a number falls
-pub fits_as : {c : LayerSettings} {v w : code.Layer} {l : Layer} → w ≡ v → FitsLayer c v l → FitsLayer c w l
-fits_as {c} {v} {w} {l} same fits = subst (λ (u : code.Layer). FitsLayer c u l) (sym same) fits
-
 -- the same counts
 pub counts_left : (v w : circuit_code.Circuit) → clears_of w ≡ clears_of v → resets_of w ≡ resets_of v → HasCountsLeft v → HasCountsLeft w
 counts_left v w clears resets left =

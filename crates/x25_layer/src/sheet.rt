@@ -10,7 +10,7 @@ use crate::sending::on_channel;
 use std::alloc::{AllocError, Global};
 use std::marker::Model;
 use x25_circuit::Owed;
-use x25_link::N1;
+use x25_frame::N1;
 use x25_packet::{Packet, encode};
 
 /// Memory for one packet: its octets, or none.

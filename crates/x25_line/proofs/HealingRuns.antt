@@ -4,7 +4,7 @@ use Rattle.std.proofs.lemmas.Bool.{and_right}
 use Rattle.std.specs.Prelude.{nat_lt}
 use Rattle.x25_frame.specs.Reading.{frame_of}
 use Rattle.x25_link.specs.{declared.phase.Phase.{Phase}, declared.phase.Phase.TheVariants.{Down, Up}, declared.phase.Reason.TheVariants.{Retries}}
-use Rattle.x25_link.specs.{OrderedLink.{Lists}, Station.{Settings, LinkStation, Side, is_busy, with_near, with_nothing, fresh, ended}}
+use Rattle.x25_link.specs.{Station.{Settings, LinkStation, Lists, Side, is_busy, with_near, with_nothing, fresh, ended}}
 use Rattle.x25_link.specs.{Hearing.{Step, quiet, leaves, other}, Link.{alone, puts, fires, asks_again, connects, disconnects, take_step}}
 use Rattle.x25_link.specs.{laws.LinkLaws.{ended_lists}, laws.RestLaw.{HasSaidAll}}
 use Rattle.x25_line.specs.{laws.Stations.{Event, Near, Far}, laws.Sessions.{Sessions, acts, swapped, run, from_nothing, from_set_up}}

@@ -1,3 +1,4 @@
+pub mod Choices
 pub mod Frames
 pub mod Kept
 pub mod StationLines

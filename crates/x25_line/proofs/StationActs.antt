@@ -4,14 +4,14 @@ use Rattle.std.proofs.lemmas.Bool.{leb-true}
 use Rattle.std.specs.Prelude.{nat_le, nat_lt}
 use Rattle.x25_frame.specs.{Frame.{PlainFrame, sabm, disc}, Reading.{frame_of}, declared.error.FrameError.{FrameError}}
 use Rattle.x25_link.specs.{declared.phase.Phase.{Phase}, declared.phase.Phase.TheVariants.{Down, Waiting, Up, Closed}, declared.phase.Reason.{Reason}}
-use Rattle.x25_link.specs.{declared.phase.Reason.TheVariants.{Retries, FrmrSent, Reset, Local, Counts}, declared.error.LinkError.{LinkError}}
+use Rattle.x25_link.specs.{declared.phase.Reason.TheVariants.{Retries, FrmrSent, Reset, Local, Counts}}
 use Rattle.x25_link.specs.{Station.{Settings, LinkStation, is_up, with_nothing}, Hearing.{Step, other}}
 use Rattle.x25_link.specs.Link.{take_step, put_step, put_refusal, timer_step, timer_refusal, timer_runs, connect_step, connect_refusal, disconnect_step, disconnect_refusal, abandon_step}
 use Rattle.x25_link.specs.{laws.NoteLaw.{IsQuiet}, laws.WindowMachine.{Window, nothing}, laws.SetUp.{Is, TakesPart}}
 use Rattle.x25_link.specs.laws.WindowLaw.{Stays, Ends, Follows, IsOut, sets_up, StaysOut}
 use Rattle.x25_line.specs.laws.Stations.{Stations, Act, Put, Deliver, T1, Connect, Disconnect, Abandon, Probe, Lose, Damage, after_step, unless, delivered, replaced, is_visible, acts}
 use Rattle.x25_line.specs.{laws.LawsBelow.{Laws}, laws.PeerClaims.{IsNoFrmr}}
-use Rattle.x25_line.proofs.StationLines.{AreParting}
+use Rattle.x25_line.proofs.{Choices.{unless_by, if_by}, StationLines.{AreParting}}
 use Rattle.x25_line.proofs.StationSteps.{MayBeAway, away_is_not_up, out_is_away, AsUp, IsAway, FitsEnd, not_both, Leaves, last_parting, last_away, empty_lists, declining_parting}
 use Rattle.x25_line.proofs.StationAway.{closed_takes, waits_on, waiting_parting, up_takes_part, connects_from, second_false}
 
@@ -70,14 +70,6 @@ quiet_no_frmr : (step : Step) → IsQuiet step → NotesNoFrmr step.notes.down
 quiet_no_frmr step quiet = rw quiet tt
 
 module _ (c : Settings) (P : Stations → Type 0) (laws : Laws) (keeps : Lasts c P) where
-  unless_lasts : (o : Option LinkError) (w v : Stations) → P w → (o ≡ None → P v) → P (unless o w v)
-  unless_lasts (Some e) w v h g = h
-  unless_lasts None w v h g = g refl
-
-  if_lasts : (b : Bool) (w v : Stations) → P w → (b ≡ true → P v) → P (if b then v else w)
-  if_lasts true w v h g = g refl
-  if_lasts false w v h g = h
-
   deliver_lasts : (w : Stations) (os : List (List ℕ)) → w.back ≡ os → P w → (delivered c os w).near.came_up ≡ false → P (delivered c os w)
   deliver_lasts w [] is h once = h
   deliver_lasts w (o ∷ os) is h once = go (keeps.fits w h)
@@ -133,7 +125,7 @@ module _ (c : Settings) (P : Stations → Type 0) (laws : Laws) (keeps : Lasts c
   put_lasts w packet h short = go (keeps.fits w h)
     where
       go : FitsEnd MayAsk c w.near.station (keeps.machine w h) → P (unless (put_refusal w.near.station) w (after_step c w w.back (packet ∷ []) (put_step c packet w.near.station)))
-      go (inl u) = unless_lasts (put_refusal w.near.station) w _ h (λ _. keeps.puts w h packet u short)
+      go (inl u) = unless_by P (put_refusal w.near.station) w _ h (λ _. keeps.puts w h packet u short)
       go (inr away) = rw (away_is_not_up MayAsk w.near.station.phase away.away) h
 
   -- timer T1 runs out
@@ -165,16 +157,16 @@ module _ (c : Settings) (P : Stations → Type 0) (laws : Laws) (keeps : Lasts c
       by_phase : (q : Phase) → s.phase ≡ q → IsAway MayAsk s → MayBeAway MayAsk q → P (unless (timer_refusal s) w (after_step c w w.back [] (timer_step c s)))
       by_phase Down phase away may = rw (ap (λ (q : Phase). timer_runs q s) phase) h
       by_phase Waiting phase away may =
-          unless_lasts (timer_refusal s) w _ h (λ _. keeps.parts w h (timer_step c s) (waiting_timer w away (nat_lt s.tries c.retries) (timer_step c s) (laws.set_up.timer c s phase)))
+          unless_by P (timer_refusal s) w _ h (λ _. keeps.parts w h (timer_step c s) (waiting_timer w away (nat_lt s.tries c.retries) (timer_step c s) (laws.set_up.timer c s phase)))
       by_phase Up phase away may = absurd may
       by_phase Closed phase away may = rw (ap (λ (q : Phase). timer_runs q s) phase) h
 
       go : FitsEnd MayAsk c s (keeps.machine w h) → P (unless (timer_refusal s) w (after_step c w w.back [] (timer_step c s)))
-      go (inl u) = unless_lasts (timer_refusal s) w _ h (λ _. timer_by w h u (nat_lt s.tries c.retries) (timer_step c s) (laws.window.timer c s (record { up = u.up; sound = u.sound })))
+      go (inl u) = unless_by P (timer_refusal s) w _ h (λ _. timer_by w h u (nat_lt s.tries c.retries) (timer_step c s) (laws.window.timer c s (record { up = u.up; sound = u.sound })))
       go (inr away) = by_phase s.phase refl away away.away
 
   connect_lasts : (w : Stations) → P w → P (unless (connect_refusal w.near.station.phase) w (after_step c w w.back [] (connect_step c w.near.station)))
-  connect_lasts w h = unless_lasts (connect_refusal w.near.station.phase) w _ h (λ accepted. go (connects_from w.near.station.phase accepted) (keeps.fits w h))
+  connect_lasts w h = unless_by P (connect_refusal w.near.station.phase) w _ h (λ accepted. go (connects_from w.near.station.phase accepted) (keeps.fits w h))
     where
       s : LinkStation
       s = w.near.station
@@ -187,7 +179,7 @@ module _ (c : Settings) (P : Stations → Type 0) (laws : Laws) (keeps : Lasts c
           (asks_parts (record s { phase = Waiting; tries = 0 }) (sabm true ∷ []) (connect_step c s) i.near i.out i.packet (tt, tt) (record { away = tt; empty = away.empty }) (subst NotesNoFrmr (sym i.down) tt))
 
   disconnect_lasts : (w : Stations) → P w → P (unless (disconnect_refusal w.near.station.phase) w (after_step c w w.back [] (disconnect_step c w.near.station)))
-  disconnect_lasts w h = unless_lasts (disconnect_refusal w.near.station.phase) w _ h (λ _. keeps.parts w h (disconnect_step c s) (go (keeps.fits w h)))
+  disconnect_lasts w h = unless_by P (disconnect_refusal w.near.station.phase) w _ h (λ _. keeps.parts w h (disconnect_step c s) (go (keeps.fits w h)))
     where
       s : LinkStation
       s = w.near.station
@@ -233,12 +225,12 @@ module _ (c : Settings) (P : Stations → Type 0) (laws : Laws) (keeps : Lasts c
 
   pub acts_last : (a : Act) (w : Stations) → P w → (acts c a w).near.came_up ≡ false → P (acts c a w)
   acts_last (Put packet) w h once =
-      if_lasts (nat_le (length packet) c.longest) w (unless (put_refusal w.near.station) w (after_step c w w.back (packet ∷ []) (put_step c packet w.near.station))) h (λ short. put_lasts w packet h (leb-true _ _ short))
+      if_by P (nat_le (length packet) c.longest) w (unless (put_refusal w.near.station) w (after_step c w w.back (packet ∷ []) (put_step c packet w.near.station))) h (λ short. put_lasts w packet h (leb-true _ _ short))
   acts_last Deliver w h once = deliver_lasts w w.back refl h once
   acts_last T1 w h once = timer_lasts w h
   acts_last Connect w h once = connect_lasts w h
   acts_last Disconnect w h once = disconnect_lasts w h
-  acts_last Abandon w h once = if_lasts (is_up w.near.station.phase) w (after_step c w w.back [] (abandon_step c w.near.station)) h (λ up. abandon_lasts w h up)
-  acts_last Probe w h once = if_lasts (is_up w.near.station.phase) w (after_step c w w.back [] (timer_step c w.near.station)) h (λ up. probe_lasts w h up)
+  acts_last Abandon w h once = if_by P (is_up w.near.station.phase) w (after_step c w w.back [] (abandon_step c w.near.station)) h (λ up. abandon_lasts w h up)
+  acts_last Probe w h once = if_by P (is_up w.near.station.phase) w (after_step c w w.back [] (timer_step c w.near.station)) h (λ up. probe_lasts w h up)
   acts_last (Lose i) w h once = keeps.loses w h i
-  acts_last (Damage i octets) w h once = if_lasts (is_visible octets) w (record w { back = replaced w.back i octets }) h (λ visible. keeps.damages w h i octets visible)
+  acts_last (Damage i octets) w h once = if_by P (is_visible octets) w (record w { back = replaced w.back i octets }) h (λ visible. keeps.damages w h i octets visible)

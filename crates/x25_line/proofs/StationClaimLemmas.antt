@@ -4,8 +4,8 @@ use Rattle.std.proofs.{lemmas.Bool.{eqb-true, and_parts}, lemmas.List.{take-appe
 use Rattle.std.specs.Prelude.{replicate, ◌&&◌}
 use Rattle.x25_frame.specs.laws.ReadingLaw.{ReadsSpelled}
 use Rattle.x25_window.specs.laws.Window.{End, Frame}
-use Rattle.x25_link.specs.{declared.phase.Reason.TheVariants.{Retries}, Outgoing.{waits}, OrderedLink.{Lists, no_packets}}
-use Rattle.x25_link.specs.{Station.{Settings, LinkStation, is_up, lists_of}, Link.{is_idle}, laws.WindowMachine.{Window}}
+use Rattle.x25_link.specs.{declared.phase.Reason.TheVariants.{Retries}, Outgoing.{waits}}
+use Rattle.x25_link.specs.{Station.{Settings, LinkStation, Lists, is_up, lists_of, no_packets}, Link.{is_idle}, laws.WindowMachine.{Window}}
 use Rattle.x25_line.specs.{laws.InWindow.{IsPrefix}, laws.Line.{Line}, laws.Stations.{StationEnd, Stations, Event, run, start}}
 use Rattle.x25_line.specs.laws.WholeNumbers.{machine_run, machine_at_start, MachineGoesAlong}
 use Rattle.x25_line.specs.laws.StationClaims.{AreJoined, IsSetUpOnce, Always, InOrder, BothInOrder, HasItsLists, BothHaveTheirLists, NotesItsEnd, BothNoteTheirEnds, OneLinkUnlessConnected, IsBehind, AreInWindow, NoFrmrSent, AllSentAreWhole}

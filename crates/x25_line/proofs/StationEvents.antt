@@ -5,6 +5,7 @@ use Rattle.x25_link.specs.{declared.error.LinkError.{LinkError}, Station.{Settin
 use Rattle.x25_link.specs.Link.{put_step, put_refusal, timer_step, timer_refusal, connect_step, connect_refusal, disconnect_step, disconnect_refusal, abandon_step}
 use Rattle.x25_line.specs.laws.Stations.{Stations, Act, Put, Deliver, T1, Connect, Disconnect, Abandon, Probe, Lose, Damage, Near, Far, after_step, unless, delivered, replaced, is_visible, acts, swapped}
 use Rattle.x25_line.specs.laws.StationClaims.{HandsOne, EachEventHandsOne}
+use Rattle.x25_line.proofs.Choices.{unless_by, if_by}
 
 -- a step that hands nothing up, to which nothing was handed down, and that doesn't note LinkUp
 record HandsNothing (w v : Stations) : Type 0 where
@@ -25,12 +26,10 @@ step_hands_nothing c w back step none low =
     record { up = rw none (append-nil w.near.up); down = append-nil w.near.down; came_up = ap (λ (b : Bool). w.near.came_up || b) low ∙ or_false w.near.came_up; far = refl }
 
 nothing_unless : (o : Option LinkError) (w v : Stations) → HandsNothing w v → HandsNothing w (unless o w v)
-nothing_unless (Some e) w v h = nothing_changes w
-nothing_unless None w v h = h
+nothing_unless o w v h = unless_by (HandsNothing w) o w v (nothing_changes w) (λ _. h)
 
 nothing_if : (b : Bool) (w v : Stations) → HandsNothing w v → HandsNothing w (if b then v else w)
-nothing_if true w v h = h
-nothing_if false w v h = nothing_changes w
+nothing_if b w v h = if_by (HandsNothing w) b w v (nothing_changes w) (λ _. h)
 
 packet_if : (b : Bool) (x y : Step) → x.packet ≡ None → y.packet ≡ None → (if b then x else y).packet ≡ None
 packet_if true x y e f = e

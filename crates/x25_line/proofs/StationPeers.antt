@@ -7,16 +7,16 @@ use Rattle.x25_frame.specs.{Frame.{PlainFrame, info, rr, rnr, rej, sabm, disc, u
 use Rattle.x25_frame.specs.{declared.error.FrameError.{FrameError}, declared.error.FrameError.TheVariants.{Undefined, NoInfoAllowed, TooLong}}
 use Rattle.x25_window.specs.{code.Modulo.{resolved}, laws.Window.{after}, laws.Window.Step.{HandDown, Hear, Take}}
 use Rattle.x25_link.specs.{declared.phase.Reason.{Reason}, declared.phase.Reason.TheVariants.{Disc, Dm, FrmrSent, FrmrGot}}
-use Rattle.x25_link.specs.{declared.error.LinkError.{LinkError}, Station.{Settings, LinkStation, is_up}, Hearing.{Step, other}}
+use Rattle.x25_link.specs.{Station.{Settings, LinkStation, is_up}, Hearing.{Step, other}}
 use Rattle.x25_link.specs.Link.{take_step, put_step, put_refusal, timer_refusal, connect_refusal, disconnect_refusal}
 use Rattle.x25_link.specs.laws.WindowMachine.{Window, Input, hands_down, receives, nothing}
 use Rattle.x25_link.specs.laws.WindowLaw.{window_of, after_input, MayHandUp, ending_of, brought_by, Stays, Ends, Follows}
-use Rattle.x25_line.specs.laws.Stations.{StationEnd, Stations, Act, Put, Deliver, T1, Connect, Disconnect, Abandon, Probe, Lose, Damage, Event, Near, Far, after_step, unless, delivered, replaced, is_visible, acts, swapped, happens, run, start}
+use Rattle.x25_line.specs.laws.Stations.{StationEnd, Stations, Act, Put, Deliver, T1, Connect, Disconnect, Abandon, Probe, Lose, Damage, Event, Near, Far, after_step, delivered, replaced, is_visible, acts, swapped, happens, run, start}
 use Rattle.x25_line.specs.{laws.StationClaims.{AreJoined, IsSetUpOnce, Always, HandsOne}, laws.LawsBelow.{Laws}, laws.Said.{Said, Tells, said}}
 use Rattle.x25_line.specs.{laws.Peer.{Peer, fresh_peer, hearing, IsWanted, taking, MayMake, MayHear}, laws.PeerClaims.{IsNoFrmr}}
 use Rattle.x25_line.specs.laws.PeerJoined.{our_end, with_peer, Ours, HandsDown, Sends, Hears, Loses, Damages, IsReached, at_start, goes_on}
 use Rattle.x25_line.specs.{laws.StationPeers.{seen, IsPeer, AreBothPeers}, laws.SessionClaims.{Each}}
-use Rattle.x25_line.proofs.{StationSends.{AllWithin, within_push}, StationSteps.{MayBeAway, AsUp, IsAway, FitsEnd, no_packet_of, Leaves, empty_lists}}
+use Rattle.x25_line.proofs.{Choices.{unless_both, if_both}, StationSends.{AllWithin, within_push}, StationSteps.{MayBeAway, AsUp, IsAway, FitsEnd, no_packet_of, Leaves, empty_lists}}
 use Rattle.x25_line.proofs.{StationAway.{is_up_phase, frmr_three}, StationEvents.{each_hands_one}, StationRuns.{joined_swapped, once_before}}
 use Rattle.x25_line.proofs.StationSays.{machine_of, MayDo, AllFree, parting_free, frmr_free, free_all, runs_said}
 use Rattle.x25_line.proofs.StationActs.{MayAsk, NotesNoFrmr, NoSabm, Parts, ends_parts, Lasts, acts_last}
@@ -310,13 +310,8 @@ module _ (d : Settings) (high : d.window ≤ 7) (reads : ReadsSpelled) (laws : L
 -- ---- what the station does that sees the peer
 
 -- an act looks at nothing of the other end
-alike_unless : (p : Peer) (o : Option LinkError) (w v x y : Stations) → with_peer p w ≡ with_peer p x → with_peer p v ≡ with_peer p y → with_peer p (unless o w v) ≡ with_peer p (unless o x y)
-alike_unless p (Some e) w v x y same done = same
-alike_unless p None w v x y same done = done
-
-alike_if : (p : Peer) (b : Bool) (w v x y : Stations) → with_peer p w ≡ with_peer p x → with_peer p v ≡ with_peer p y → with_peer p (if b then v else w) ≡ with_peer p (if b then y else x)
-alike_if p true w v x y same done = done
-alike_if p false w v x y same done = same
+abbrev SameBut : Peer → Stations → Stations → Type 0
+SameBut p w v = with_peer p w ≡ with_peer p v
 
 alike_delivered : (c : Settings) (p : Peer) (w : Stations) (os : List (List ℕ)) → with_peer p (delivered c os w) ≡ with_peer p (delivered c os (our_end (with_peer p w)))
 alike_delivered c p w [] = refl
@@ -325,16 +320,16 @@ alike_delivered c p w (o ∷ os) = refl
 alike : (c : Settings) (p : Peer) (a : Act) (w : Stations) → with_peer p (acts c a w) ≡ with_peer p (acts c a (our_end (with_peer p w)))
 alike c p (Put packet) w =
     let x = our_end (with_peer p w) in
-    alike_if p (nat_le (length packet) c.longest) w _ x _ refl
-    (alike_unless p (put_refusal w.near.station) w (after_step c w w.back (packet ∷ []) (put_step c packet w.near.station)) x (after_step c x w.back (packet ∷ []) (put_step c packet w.near.station)) refl refl)
+    if_both (SameBut p) (nat_le (length packet) c.longest) w _ x _ refl
+    (unless_both (SameBut p) (put_refusal w.near.station) w (after_step c w w.back (packet ∷ []) (put_step c packet w.near.station)) x (after_step c x w.back (packet ∷ []) (put_step c packet w.near.station)) refl refl)
 alike c p Deliver w = alike_delivered c p w w.back
-alike c p T1 w = alike_unless p (timer_refusal w.near.station) w _ (our_end (with_peer p w)) _ refl refl
-alike c p Connect w = alike_unless p (connect_refusal w.near.station.phase) w _ (our_end (with_peer p w)) _ refl refl
-alike c p Disconnect w = alike_unless p (disconnect_refusal w.near.station.phase) w _ (our_end (with_peer p w)) _ refl refl
-alike c p Abandon w = alike_if p (is_up w.near.station.phase) w _ (our_end (with_peer p w)) _ refl refl
-alike c p Probe w = alike_if p (is_up w.near.station.phase) w _ (our_end (with_peer p w)) _ refl refl
+alike c p T1 w = unless_both (SameBut p) (timer_refusal w.near.station) w _ (our_end (with_peer p w)) _ refl refl
+alike c p Connect w = unless_both (SameBut p) (connect_refusal w.near.station.phase) w _ (our_end (with_peer p w)) _ refl refl
+alike c p Disconnect w = unless_both (SameBut p) (disconnect_refusal w.near.station.phase) w _ (our_end (with_peer p w)) _ refl refl
+alike c p Abandon w = if_both (SameBut p) (is_up w.near.station.phase) w _ (our_end (with_peer p w)) _ refl refl
+alike c p Probe w = if_both (SameBut p) (is_up w.near.station.phase) w _ (our_end (with_peer p w)) _ refl refl
 alike c p (Lose i) w = refl
-alike c p (Damage i octets) w = alike_if p (is_visible octets) w _ (our_end (with_peer p w)) _ refl refl
+alike c p (Damage i octets) w = if_both (SameBut p) (is_visible octets) w _ (our_end (with_peer p w)) _ refl refl
 
 -- ---- one station sees the other as a peer
 

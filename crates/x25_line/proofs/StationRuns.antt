@@ -15,7 +15,7 @@ use Rattle.x25_line.specs.laws.WholeNumbers.{first_of, place_of, taken_out, gone
 use Rattle.x25_line.specs.laws.LawsBelow.{Laws}
 use Rattle.x25_line.specs.laws.StationClaims.{AreJoined, IsSetUpOnce, AcceptsNoConnect, AcceptsNoConnectAt, NoneConnects, number_in, numbered_on, IsReached, at_start, near_moves, far_moves, NotesUp, HandsOne}
 use Rattle.x25_line.specs.{laws.Line.{Line, moved, swapped as line_swapped}, laws.Line.Move.{HandsDown, Loses}}
-use Rattle.x25_line.proofs.Kept.{Kept, Kept-moved, Kept-swapped}
+use Rattle.x25_line.proofs.{Choices.{unless_by, if_by}, Kept.{Kept, Kept-moved, Kept-swapped}}
 use Rattle.x25_line.proofs.StationLines.{IsOrderly, orderly_where, AreOrderly, AreParting, shows_lost, shows_damaged, orderly_lost, orderly_damaged, visible_reads, whole_more, either_way}
 use Rattle.x25_line.proofs.StationSends.{AllWithin, within_push}
 use Rattle.x25_line.proofs.StationSteps.{MayBeAway, away_is_not_up, out_is_away, AsUp, IsAway, FitsEnd, NotesOnce, Joint, Leads, machine_is, left_alone, stands_still, J-stays, not_both, quiet_notes, vain_notes, quiet_joint, parts_joint, ends_joint, read_joint, away_joint, declining_parting}
@@ -30,12 +30,10 @@ reached_swapped k j l (far_moves v m h ok) = near_moves (line_swapped v) m (reac
 -- what is refused changes nothing
 leads_unless : (MayAsk : Type 0) (c d : Settings) (o : Option LinkError) (w v : Stations) (l : Line (List ℕ)) → Joint MayAsk c d w l → (o ≡ None → Leads MayAsk c d w l l.back v)
     → Leads MayAsk c d w l l.back (unless o w v)
-leads_unless MayAsk c d (Some e) w v l h g = stands_still MayAsk c d w l h
-leads_unless MayAsk c d None w v l h g = g refl
+leads_unless MayAsk c d o w v l h g = unless_by (Leads MayAsk c d w l l.back) o w v (stands_still MayAsk c d w l h) g
 
 leads_if : (MayAsk : Type 0) (c d : Settings) (b : Bool) (w v : Stations) (l : Line (List ℕ)) → Joint MayAsk c d w l → (b ≡ true → Leads MayAsk c d w l l.back v) → Leads MayAsk c d w l l.back (if b then v else w)
-leads_if MayAsk c d true w v l h g = g refl
-leads_if MayAsk c d false w v l h g = stands_still MayAsk c d w l h
+leads_if MayAsk c d b w v l h g = if_by (Leads MayAsk c d w l l.back) b w v (stands_still MayAsk c d w l h) g
 
 pub orderly_sets_up : (r : Result PlainFrame FrameError) → IsOrderly ⊥ r → sets_up r ≡ false
 orderly_sets_up (Ok (sabm p)) h = absurd h

@@ -7,8 +7,8 @@ use Rattle.x25_frame.specs.{Frame.{PlainFrame, info, rr, rnr, rej, disc, ua, dm}
 use Rattle.x25_frame.specs.{declared.error.FrameError.{FrameError}, declared.error.FrameError.TheVariants.{Short, BadFcs, BadAddress}}
 use Rattle.x25_window.specs.{laws.Window.{End, Numbered, Frame, after}, laws.Window.Step.{Hear, Take}}
 use Rattle.x25_link.specs.{declared.phase.Phase.{Phase}, declared.phase.Phase.TheVariants.{Waiting, Up}, declared.phase.Reason.{Reason}}
-use Rattle.x25_link.specs.{declared.phase.Reason.TheVariants.{Retries, Disc, Dm, FrmrSent, Reset}, declared.phase.Notes.{Notes}, OrderedLink.{no_packets}}
-use Rattle.x25_link.specs.{laws.NoteLaw.{IsQuiet, Tells}, Outgoing.{Outgoing, no_packet}, Station.{Settings, LinkStation, is_up, lists_of}}
+use Rattle.x25_link.specs.{declared.phase.Reason.TheVariants.{Retries, Disc, Dm, FrmrSent, Reset}, declared.phase.Notes.{Notes}}
+use Rattle.x25_link.specs.{laws.NoteLaw.{IsQuiet, Tells}, Outgoing.{Outgoing, no_packet}, Station.{Settings, LinkStation, is_up, lists_of, no_packets}}
 use Rattle.x25_link.specs.{Hearing.{Step, other}, laws.WindowMachine.{Window, Input, receives, nothing, Shows, ShowAll}}
 use Rattle.x25_link.specs.laws.WindowLaw.{IsSound, window_of, brought_by, after_input, MayHandUp, if_valid, ending_of, ends_in, AreLast, Stays, Ends, Follows, IsOut, AreDeclining}
 use Rattle.x25_line.specs.{laws.Line.{Line, MayTake, FrontMayBeTaken, arrived, front_arrived, takes_item}, laws.Line.Move.{Arrives, Loses}}

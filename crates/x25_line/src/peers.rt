@@ -3,7 +3,7 @@
 ghost use Rattle.x25_line.specs.laws.SessionClaims.{Throughout, MeetInStep, MetAreInOrder, UnmetHandNothingUp};
 ghost use Rattle.x25_line.specs.laws.EndClaims.{OfAnyTwoEnds, KeepSessions};
 ghost use Rattle.x25_line.specs.laws.PeerSessionClaims.{WithAnyPeer, OfBothEnds, EachMeetsLatest, IdleHasArrived};
-ghost use Rattle.x25_line.specs.laws.PeerSessionClaims.{WithAnyLapbPeer, SendsNoFrmr};
+ghost use Rattle.x25_line.specs.laws.PeerSessionClaims.{WithAnyLapbPeer, SendsNoFrmr, AsksInLatest};
 ghost use Rattle.x25_line.specs.laws.SessionPeers.{AreBothPeers};
 ghost use Rattle.x25_line.specs.rows.PeerSessionRows.{CrossingPeerMoves};
 
@@ -36,7 +36,8 @@ pub fn two_ends_keep_sessions()
 /// The session of an end that is in one meets no other than the latest of the other end. Where the station is idle,
 /// and the peer is in a session or met the station's, all that the station was handed down in this session was taken
 /// in the peer's latest. To a peer that sends no frame that LAPB modulo 8 doesn't have, and none that is too long,
-/// the station never sends FRMR (`no_frmr`).
+/// the station never sends FRMR (`no_frmr`). No SABM of the station on the line is older than its present session
+/// (`asks`).
 pub fn any_peer_keeps_sessions()
     ensures step { WithAnyPeer (OfBothEnds MeetInStep) }
     ensures order { WithAnyPeer (OfBothEnds MetAreInOrder) }
@@ -44,6 +45,7 @@ pub fn any_peer_keeps_sessions()
     ensures agree { WithAnyPeer EachMeetsLatest }
     ensures idle { WithAnyPeer IdleHasArrived }
     ensures no_frmr { WithAnyLapbPeer SendsNoFrmr }
+    ensures asks { WithAnyPeer AsksInLatest }
 {
     laws_below();
 }

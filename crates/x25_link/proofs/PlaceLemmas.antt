@@ -72,13 +72,6 @@ some_left s l n k xs q room small few short long all = by_test (nat_le n 260)
     by_test true = omega (arith, room, small, few, short)
     by_test false = omega (arith, room, small, few, long, all, longs_few xs, longs_few q)
 
-pub plain_left : (s l : ShownSpares) (n : ℕ) (q : List (List ℕ)) → length q < 256 → s.left + length q ≡ 263 + longs q → l.left + longs q ≡ l.all → l.all ≡ 256 → 0 < left_for s l n
-plain_left s l n q few short long all = by_test (nat_le n 260)
-  where
-    by_test : (b : Bool) → 0 < (if b then s.left else l.left)
-    by_test true = omega (arith, few, short)
-    by_test false = omega (arith, few, long, all, longs_few q)
-
 -- ---- the first packet goes: its place comes back
 
 pub goes : (left long all n m : ℕ) (xs rest : List (List ℕ)) (x : List ℕ) → xs ≡ x ∷ rest → m ≤ n → left + (length xs + n) ≡ 263 + (longs xs + m)

@@ -1,4 +1,4 @@
--- The number of each refusal of a link, and which of them `put` may answer (profile).
+-- The number of each refusal of a link (profile).
 use Rattle.std.specs.Prelude.{ℕ}
 use Rattle.x25_link.specs.declared.error.LinkError.{LinkError}
 use Rattle.x25_link.specs.declared.error.LinkError.TheVariants.{NotUp, QueueFull, NotRunning, AlreadyWaiting, Closed}
@@ -13,10 +13,3 @@ number_of Closed = 13
 number_of BadConfig = 14
 number_of AlreadyUp = 15
 number_of NoMemory = 70
-
--- 9, 10 and 70
-abbrev pub RefusesPut : LinkError → Type 0
-RefusesPut NotUp = Unit {0}
-RefusesPut QueueFull = Unit {0}
-RefusesPut NoMemory = Unit {0}
-RefusesPut e = ⊥

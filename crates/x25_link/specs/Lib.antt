@@ -1,6 +1,4 @@
 pub mod Error
-pub mod OrderedLink
-pub mod PlainLink
 pub mod Outgoing
 pub mod Station
 pub mod Hearing

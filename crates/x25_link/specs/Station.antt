@@ -6,7 +6,6 @@ use Rattle.x25_bits.specs.declared.role.Role.{Role}
 use Rattle.x25_frame.specs.Frame.{PlainFrame, info, rr, rnr}
 use Rattle.x25_link.specs.declared.phase.Phase.{Phase}
 use Rattle.x25_link.specs.declared.phase.Phase.TheVariants.{Down, Waiting, Up, Closed}
-use Rattle.x25_link.specs.OrderedLink.{Lists}
 use Rattle.x25_link.specs.Outgoing.{Outgoing, no_packet, waits, is_open, next_packet, moved_on}
 
 -- which end it is, k (section 2.4.8.6), N1 in octets of information (section 2.4.8.5, own unit) and N2 (section
@@ -28,6 +27,16 @@ pub record LinkStation : Type 0 where
   pub peer_busy : Bool
   pub rejecting : Bool
   pub said_busy : Bool
+
+-- the packets handed down, how many of these are acknowledged, and the packets handed up
+pub record Lists : Type 0 where
+  pub given : List (List ℕ)
+  pub acked : ℕ
+  pub taken : List (List ℕ)
+
+-- those of a link that was just set up
+abbrev pub no_packets : Lists
+no_packets = record { given = []; acked = 0; taken = [] }
 
 abbrev pub lists_of : LinkStation → Lists
 lists_of s = record { given = s.outgoing.given; acked = s.outgoing.acked; taken = s.taken }

@@ -1,4 +1,4 @@
-//! The LAPB station of ITU-T X.25 (10/96), section 2, modulo 8, and the link that the packet layer stands on.
+//! The LAPB station of ITU-T X.25 (10/96), section 2, modulo 8.
 #![tactic(auto)]
 
 mod calls;
@@ -10,11 +10,9 @@ mod hearing;
 mod law;
 mod link;
 mod numbered_frames;
-mod ordered_link;
 mod outgoing;
 mod phase;
 mod places;
-mod plain_link;
 mod station;
 mod waiting_packets;
 
@@ -26,8 +24,5 @@ pub use law::{
     sets_up_by_rows, tells_whether_busy,
 };
 pub use link::Link;
-pub use ordered_link::OrderedLink;
 pub use phase::{Notes, Phase, Reason};
-pub use plain_link::PlainLink;
 pub use x25_bits::Role;
-pub use x25_frame::N1;

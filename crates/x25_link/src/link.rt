@@ -1,17 +1,13 @@
-ghost use Rattle.std.specs.Prelude.{◌≡◌, ℕ, ◌+◌, ◌%◌, ◌<◌, ◌≤◌, ◌↔◌, ◌++◌, List, [], length, map};
-ghost use Rattle.std.specs.Prelude.{Bool, true, false, Some, None, Ok, IfOk, IfErr, OnOk, OnErr, IsOk};
-ghost use Rattle.std.specs.Prelude.{IsErrOf};
-ghost use Rattle.x25_frame.specs.Spelling.{spelling_of};
-ghost use Rattle.x25_link.specs.Station.{Settings, LinkStation as StationState, awaits_ua, with_nothing};
-ghost use Rattle.x25_link.specs.Link.{Refuses, config_refusal, take_step, put_refusal, put_step, connect_refusal};
+ghost use Rattle.std.specs.Prelude.{◌≡◌, ◌+◌, ◌<◌, ◌≤◌, [], length, true, None, Ok, IfOk, OnOk, OnErr, IsOk};
+ghost use Rattle.x25_link.specs.Station.{Settings, LinkStation as StationState, is_up, awaits_ua, with_nothing};
+ghost use Rattle.x25_link.specs.Outgoing.{waits};
+ghost use Rattle.x25_link.specs.Link.{Refuses, config_refusal, take_step, put_refusal, connect_refusal};
 ghost use Rattle.x25_link.specs.Link.{connect_step, disconnect_refusal, disconnect_step, timer_refusal, timer_runs};
 ghost use Rattle.x25_link.specs.Link.{timer_step, abandon_step, is_idle, probe_refusal, relink_refusal, relink_step};
-ghost use Rattle.x25_link.specs.Error.{RefusesPut};
-ghost use Rattle.x25_link.specs.code.FitsLink.{FitsLink, Does, limit_of, up_of, waiting_of};
+ghost use Rattle.x25_link.specs.code.FitsLink.{LinkState as State, FitsLink, FitsWhole, Does, after_put_to};
+ghost use Rattle.x25_link.specs.code.FitsLink.{limit_of, up_of, waiting_of};
 ghost use Rattle.x25_link.specs.code.Frames.{places_left};
 ghost use Rattle.x25_link.specs.declared.phase.Phase.TheVariants.{Down};
-
-mod in_order;
 
 use crate::error::LinkError;
 use crate::frames::{Frames, MOST_FRAMES};
@@ -204,25 +200,46 @@ impl Link {
         self.station.timer_runs()
     }
 
-    // Hands a packet down, and leaves its frame behind the others.
+    /// The most octets of a packet that is handed down.
+    pub fn limit(&self) -> usize
+        ensures { result ≡ limit_of self.now }
+    {
+        self.station.parameters.n1
+    }
+
+    /// How many packets wait to be sent.
+    pub fn waiting(&self) -> usize
+        ensures value { result ≡ waiting_of self.now }
+        ensures state { (c : Settings) (s : StationState) → FitsLink c self.now s → result ≡ waits s.outgoing }
+        ensures few { result ≤ 256 }
+    {
+        self.station.outgoing.waiting()
+    }
+
+    /// Whether the link is up.
+    pub fn is_up(&self) -> bool
+        ensures value { result ≡ up_of self.now }
+        ensures state { (c : Settings) (s : StationState) → FitsLink c self.now s → result ≡ is_up s.phase }
+    {
+        self.station.phase.is_up()
+    }
+
+    /// Copies a packet of at most `limit()` octets, and hands it down behind all others. It takes no memory.
+    ///
+    /// 9 where the link isn't up, then 10 where 256 packets wait, and else 70 alone: where 25 frames stand, or where 8
+    /// or more packets wait and this one has more than 260 octets.
     #[inline(always)]
-    fn hand_down(&mut self, packet: &[u8]) -> Result<(), LinkError>
+    pub fn put(&mut self, packet: &[u8]) -> Result<(), LinkError>
         requires { length packet.now ≤ limit_of self.old }
-        ensures state { (c : Settings) (s : StationState) → FitsLink c self.old s
-            → OnOk result (FitsLink c self.new (put_step c packet.now s).side.near) }
-        ensures frames { (c : Settings) (s : StationState) → FitsLink c self.old s → OnOk result
-            (self.new.frames ≡ self.old.frames ++ map (spelling_of c.role) (put_step c packet.now s).side.out) }
-        ensures places { OnOk result (places_left self.old.frames ≤ places_left self.new.frames + 1) }
+        ensures state { (x : State) → FitsWhole self.old x
+            → OnOk result (FitsWhole self.new (after_put_to x packet.now)) }
         ensures refused { (c : Settings) (s : StationState) → FitsLink c self.old s → Refuses (put_refusal s) result }
-        ensures not_up { IsErrOf result LinkError.NotUp ↔ (up_of self.old ≡ false) }
-        ensures full { IsErrOf result LinkError.QueueFull ↔ ((up_of self.old ≡ true) × (waiting_of self.old ≡ 256)) }
-        ensures kinds { IfErr result RefusesPut }
         ensures accepted { up_of self.old ≡ true → waiting_of self.old < 256 → 0 < places_left self.old.frames
             → length packet.now ≤ 260 → IsOk result }
         ensures long { up_of self.old ≡ true → waiting_of self.old < 8 → 0 < places_left self.old.frames → IsOk result }
+        ensures places { OnOk result (places_left self.old.frames ≤ places_left self.new.frames + 1) }
         ensures up_stays { up_of self.new ≡ up_of self.old }
         ensures longest_stays { limit_of self.new ≡ limit_of self.old }
-        ensures waits_more { OnOk result (waiting_of self.new ≤ waiting_of self.old + 1) }
         ensures err { OnErr result (self.new ≡ self.old) }
     {
         if !self.station.phase.is_up() {

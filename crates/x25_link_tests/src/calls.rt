@@ -2,7 +2,7 @@
 
 use std::alloc::Global;
 use x25_bits::Role;
-use x25_link::{Frames, Heard, Link, LinkError, OrderedLink, PlainLink};
+use x25_link::{Frames, Heard, Link, LinkError};
 
 // A value in a place of its own: a body that holds the box lets go of it by one call, and not of each part of the
 // value, and so does one that doesn't know what it is.
@@ -24,11 +24,6 @@ pub fn link_for(
 /// A link just made, for packets of at most 4,099 octets.
 pub fn link(alloc: Global, role: Role, k: u8, n2: u8) -> Result<Box<Link>, LinkError> {
     link_for(alloc, role, k, 4099, n2)
-}
-
-/// A plain link just made.
-pub fn plain_link(alloc: Global) -> Result<Box<PlainLink>, LinkError> {
-    boxed(alloc, PlainLink::new(alloc)?).ok_or(LinkError::NoMemory)
 }
 
 /// A list of no frames.

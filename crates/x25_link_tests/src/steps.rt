@@ -6,7 +6,7 @@ use crate::calls::{
 use std::alloc::Global;
 use x25_bits::{Role, Seq};
 use x25_frame::{Frame, encode};
-use x25_link::{Frames, Heard, Link, LinkError, OrderedLink, Reason};
+use x25_link::{Frames, Heard, Link, LinkError, Reason};
 
 /// What happens at a link.
 #[derive(Clone, Copy)]

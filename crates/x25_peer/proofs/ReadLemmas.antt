@@ -1,9 +1,8 @@
 -- What packets are read as, and what a link's peer sends and hears.
 use Rattle.std.proofs.Common.{◌≡◌, ℕ, ◌≤◌, List, [], ◌∷◌, ◌++◌, length, drop, Bool, true, false, Some, None, Result, Ok, refl, sym, ap, subst, ◌∙◌, append_assoc, arith}
 use Rattle.std.proofs.lemmas.List.{length-append, drop_all}
-use Rattle.x25_frame.specs.{Frame.{PlainFrame}, declared.error.FrameError.{FrameError}}
 use Rattle.x25_packet.specs.Packet.{PlainPacket}
-use Rattle.x25_line.specs.{laws.Said.{Said, Tells, Odd, said}, laws.Peer.{Peer, MaySay, MaySend, MayMake, MayHear, hearing, taking}}
+use Rattle.x25_line.specs.{laws.Said.{Said, Tells, Odd}, laws.Peer.{Peer, MaySay, MayMake, hearing, taking}}
 use Rattle.x25_layer.specs.{Layer.{LayerNotice}, laws.Transcript.{Entry}}
 use Rattle.x25_station.specs.{Config.{Settings}, Entry.{StationEntry, in_layer, notice_in, layer_entries, layer_notices}, laws.ReadLaw.{AreReadable}}
 use Rattle.x25_peer.specs.laws.BesideSessions.{read_by, ReadAs}
@@ -79,13 +78,13 @@ ok_same p q x e f = cc
 
 -- ---- the peer's link sends and hears what it was handed down
 
-pub sent_same : (p q : Peer) (r : Result PlainFrame FrameError) → MaySend (Unit {0}) p r q → (q.given ≡ p.given) × (q.taken ≡ p.taken)
-sent_same p q r may = by (said r) may
+pub said_same : (p q : Peer) (s : Said) → MaySay ⊥ p s q → (q.given ≡ p.given) × (q.taken ≡ p.taken)
+said_same p q s may = by s may
   where
     is : (x : Peer) → x.given ≡ p.given → x.taken ≡ p.taken → q ≡ x → (q.given ≡ p.given) × (q.taken ≡ p.taken)
     is x given taken e = (ap (λ (y : Peer). y.given) e ∙ given, ap (λ (y : Peer). y.taken) e ∙ taken)
 
-    by : (s : Said) → MaySay (Unit {0}) p s q → (q.given ≡ p.given) × (q.taken ≡ p.taken)
+    by : (s : Said) → MaySay ⊥ p s q → (q.given ≡ p.given) × (q.taken ≡ p.taken)
     by (Tells None nr) m = is _ refl refl m.2
     by (Tells (Some c) nr) m = is _ refl refl m.4
     by Odd m = is _ refl refl m.1
@@ -102,8 +101,8 @@ hears_more p true false nr packet = record { given = refl; taken = omega (arith)
 hears_more p false true nr packet = (let longer = length-append p.taken (packet ∷ []) in record { given = refl; taken = omega (arith, longer) })
 hears_more p false false nr packet = record { given = refl; taken = omega (arith) }
 
-pub heard_same : (p q : Peer) (r : Result PlainFrame FrameError) → MayHear p r q → HearsMore p q
-heard_same p q r m = by (said r) m
+pub made_more : (p q : Peer) (s : Said) → MayMake p s q → HearsMore p q
+made_more p q s m = by s m
   where
     is : (x : Peer) → HearsMore p x → q ≡ x → HearsMore p q
     is x more e = subst (HearsMore p) (sym e) more

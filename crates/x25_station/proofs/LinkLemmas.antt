@@ -1,5 +1,5 @@
 -- The link after packets were put one by one, as the packet layer sees it, is the link of the station's step.
-use Rattle.std.proofs.Common.{Result, Ok, Err, IsOk, OnOk, OnErr, arith, subst, ◌≡◌, ◌≤◌, ℕ, List, [], ◌∷◌, refl, sym, ap, ◌∙◌}
+use Rattle.std.proofs.Common.{Result, Ok, OnOk, subst, ◌≡◌, ℕ, List, [], ◌∷◌, refl, sym, ap, ◌∙◌}
 use Rattle.std.proofs.Math.Path.{fun_ext}
 use Rattle.std.proofs.lemmas.List.{map-append}
 use Rattle.x25_packet.specs.Packet.{PlainPacket}
@@ -8,7 +8,7 @@ use Rattle.x25_frame.specs.Spelling.{spelling_of}
 use Rattle.x25_link.specs.Outgoing.{waits}
 use Rattle.x25_link.specs.Station.{Settings as LinkSettings, LinkStation, Side, is_up}
 use Rattle.x25_link.specs.Link.{alone, put_step}
-use Rattle.x25_link.specs.code.FitsLink.{up_at, waits_of, after_put_to}
+use Rattle.x25_link.specs.code.FitsLink.{waits_of}
 use Rattle.x25_layer.specs.laws.Rounds.{LinkView}
 use Rattle.x25_station.specs.code.OverLink as over
 use Rattle.x25_station.specs.Receiving.{kept_of}
@@ -40,8 +40,3 @@ same_view c t = ap (λ (f : List PlainPacket → ℕ). record { is_up = is_up t.
 -- what holds of an answer that isn't an error
 pub on_ok : {T E : Type 0} (r : Result T E) (u : T) (X : Type 0) → r ≡ Ok u → OnOk r X → X
 on_ok {T = T} {E = E} r u X is h = subst (λ (x : Result T E). OnOk x X) is h
-
--- nor is one that isn't where a place is left
-pub ok_where : {T E : Type 0} (r : Result T E) (n : ℕ) → OnErr r (n ≡ 0) → 16 ≤ n → IsOk r
-ok_where (Ok x) n missing many = refl
-ok_where (Err e) n missing many = absurd (omega (arith, missing, many))

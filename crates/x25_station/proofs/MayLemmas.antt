@@ -1,10 +1,9 @@
 -- What holds of a request that may be asked, and of its refusals, holds of each request.
 use Rattle.std.proofs.Common.{◌≡◌, ℕ, Bool, true, false, refl, subst}
-use Rattle.x25_packet.specs.declared.marks.Marks.{Marks}
 use Rattle.x25_circuit.specs.Calling.{Request, Calls, Accepts, Clears, Sends, Interrupts, Resets, SaysReady, SaysNotReady}
-use Rattle.x25_layer.specs.Calls.{LayerRequest, Asks, Dials, Restarts, PullsAll, asks_memory}
+use Rattle.x25_layer.specs.Calls.{Asks, asks_memory}
 use Rattle.x25_station.specs.declared.error.StationError.{StationError}
-use Rattle.x25_station.specs.Command.{may_ask, may_mark}
+use Rattle.x25_station.specs.Command.{may_ask}
 use Rattle.x25_station.specs.Giving.{not_taken}
 use Rattle.x25_station.specs.Step.{Step, Outcome, Did, Refused, where_asked}
 
@@ -21,28 +20,6 @@ pub where_holds : (P : Outcome → Type 0) (may : Bool) (o : Outcome) → ((e : 
 where_holds P true o refused holds = holds
 where_holds P false (Did k) refused holds = refused not_taken
 where_holds P false (Refused e) refused holds = holds
-
--- ---- who reads packets in all their forms may ask for anything
-
-pub mark_wide : (marks : Marks) → may_mark true marks ≡ true
-mark_wide marks = by marks.d
-  where
-    by : (d : Bool) → may_mark true (record { q = marks.q; d = d }) ≡ true
-    by true = refl
-    by false = refl
-
-pub ask_wide : (request : LayerRequest) → may_ask true request ≡ true
-ask_wide (Asks h (Sends marks user)) = mark_wide marks
-ask_wide (Asks h (Calls called calling user proposal)) = refl
-ask_wide (Asks h (Accepts answer)) = refl
-ask_wide (Asks h (Clears cause diagnostic)) = refl
-ask_wide (Asks h (Interrupts user)) = refl
-ask_wide (Asks h (Resets cause diagnostic)) = refl
-ask_wide (Asks h SaysReady) = refl
-ask_wide (Asks h SaysNotReady) = refl
-ask_wide (Dials called calling user proposal) = refl
-ask_wide (Restarts cause diagnostic) = refl
-ask_wide PullsAll = refl
 
 -- what may not be asked asks for memory
 pub memory_unasked : (wide : Bool) (h : ℕ) (request : Request) → may_ask wide (Asks h request) ≡ false → asks_memory (Asks h request) ≡ true

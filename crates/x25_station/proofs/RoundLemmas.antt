@@ -4,9 +4,9 @@ use Rattle.std.proofs.lemmas.Bool.{lt-ltb, ltb-true}
 use Rattle.std.proofs.lemmas.Option.{none-some}
 use Rattle.x25_packet.specs.Packet.{PlainPacket}
 use Rattle.x25_packet.specs.Spelling.{spelling_of}
-use Rattle.x25_link.specs.OrderedLink.{Lists, handed_down}
+use Rattle.x25_link.specs.Station.{Lists}
 use Rattle.x25_link.specs.code.FitsLink.{ShownLink, LinkState, FitsWhole, waiting_of, lists_in, waits_of, after_put_to}
-use Rattle.x25_link.specs.laws.LinkLaws.{put_adds, link_waits, link_close}
+use Rattle.x25_link.specs.laws.LinkLaws.{handed_down, put_adds, link_waits, link_close}
 use Rattle.x25_layer.specs.declared.layer.Layer as layer_code
 use Rattle.x25_layer.specs.Layer.{LayerSettings, Layer}
 use Rattle.x25_layer.specs.Calls.{layer_pulled}

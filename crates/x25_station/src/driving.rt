@@ -25,7 +25,7 @@ ghost use Rattle.x25_station.specs.Receiving.{CanPut, PutsBehind};
 use x25_circuit::{Octets, Proposal, Request};
 use x25_given::Writing;
 use x25_layer::{Layer, LayerError, LinkState, Report, calls_are_runs};
-use x25_link::{Link, OrderedLink};
+use x25_link::Link;
 
 /// A data packet is pulled where fewer packets than these wait in the link.
 const FEW: usize = 8;

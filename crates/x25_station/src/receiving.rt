@@ -30,7 +30,7 @@ use crate::linking::note_down;
 use crate::station::Station;
 use crate::step::Step;
 use x25_layer::Layer;
-use x25_link::{Link, Notes, OrderedLink, holds_few, notes_what_changes};
+use x25_link::{Link, Notes, holds_few, notes_what_changes};
 use x25_packet::{channel, taking_keeps_octets};
 
 // The channel that a packet names, and 0 where it names none.

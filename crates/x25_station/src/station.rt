@@ -6,7 +6,7 @@ use std::alloc::Global;
 use x25_bits::Role;
 use x25_frame::N1;
 use x25_layer::{Awaits, Layer, LayerError, Stretch};
-use x25_link::{Link, LinkError, OrderedLink};
+use x25_link::{Link, LinkError};
 
 /// A station of X.25, DTE or DCE: its link and its packet layer.
 ///

@@ -1,15 +1,13 @@
 -- The worked row of a program and a peer, by computing.
-use Rattle.std.proofs.Common.{◌≡◌, ℕ, true, false, List, [], ◌∷◌, ◌<◌, length, Ok, Result, sym, subst, refl, arith}
+use Rattle.std.proofs.Common.{ℕ, true, List, [], ◌∷◌, ◌<◌, length, refl, arith}
 use Rattle.std.proofs.lemmas.List.Elements.{All-nil, All-cons}
 use Rattle.std.specs.Fmt.{digits}
-use Rattle.std.specs.Prelude.{codes}
+use Rattle.std.specs.Prelude.{codes, Some}
 use Rattle.hex.specs.Hex.{decode_pairs}
 use Rattle.x25_bits.specs.FrameCheck.{fcs_of, number_of, divided, low_bits, add, divisor}
 use Rattle.x25_bits.specs.FrameCheck.Sealed.{is_sealed}
-use Rattle.x25_bits.specs.declared.role.Role.TheVariants.{Dte, Dce}
-use Rattle.x25_frame.specs.Frame.{PlainFrame, info, sabm, ua}
+use Rattle.x25_bits.specs.declared.role.Role.TheVariants.{Dte}
 use Rattle.x25_frame.specs.Reading.{frame_of}
-use Rattle.x25_frame.specs.declared.error.FrameError.{FrameError}
 use Rattle.x25_packet.specs.Packet.{call, restart, restart_conf}
 use Rattle.x25_packet.specs.Digits.{halves_of, packed}
 use Rattle.x25_packet.specs.Facilities.{facilities_of}
@@ -19,9 +17,8 @@ use Rattle.x25_circuit.specs.Hearing.{request_in}
 use Rattle.x25_link.specs.Station.{pumped}
 use Rattle.x25_line.specs.laws.Sessions.{Entry, Meeting}
 use Rattle.x25_line.specs.laws.Peer.{Peer, numbered_to, told_to, taking, hearing}
-use Rattle.x25_line.specs.laws.Peer as once
-use Rattle.x25_line.specs.laws.PeerSessions.{PeerEnd, begins, now, with_now, hears, numbered, takes_sabm}
-use Rattle.x25_line.specs.laws.PeerSessions as peers
+use Rattle.x25_line.specs.laws.PeerSessions.{PeerEnd, begins, now, with_now, untouched, without, nothing, put}
+use Rattle.x25_line.specs.laws.Ends.{sends, listens, moves, takes_sabm}
 use Rattle.x25_handshakes.specs.laws.PeerCalls.{PlacesCall}
 use Rattle.x25_handshakes.specs.laws.PeerChannel.{InCall}
 use Rattle.x25_handshakes.specs.laws.Handshake.{At}
@@ -36,7 +33,7 @@ use Rattle.x25_station.specs.Config.{Settings, settings_from}
 use Rattle.x25_pipe.specs.Pipe.{saying_line, event_in, event_turn, turn, turns, piped}
 use Rattle.x25_world.specs.laws.TapOctets.{AreOfFrame}
 use Rattle.x25_peer.specs.laws.BesideSessions as beside
-use Rattle.x25_peer.specs.laws.BesideSessions.{BesideSessions, their_now, their_layer, layer_went, layer_heard}
+use Rattle.x25_peer.specs.laws.BesideSessions.{BesideSessions, links_of, their_now, their_layer, layer_went, layer_heard}
 use Rattle.x25_joined.specs.laws.BesidePeer.{Program, nothing_read, bare, reads, IsReached, at_start, goes_on, Reads, Takes, Elsewhere}
 use Rattle.x25_joined.specs.rows.BesidePeerRows.{of_all_forms, CallIsAccepted}
 use Rattle.x25_joined.proofs.rows.JoinedRowLemmas.{opens}
@@ -82,26 +79,6 @@ call_octets = 3 ∷ 34 ∷ 16 ∷ 1 ∷ 11 ∷ 0 ∷ 0 ∷ 117 ∷ 40 ∷ []
 abbrev sent : ℕ → List ℕ → Entry
 sent session octets = record { session = session; octets = octets }
 
-sabm_reads : frame_of Dte 4099 sabm_octets ≡ Ok (sabm true)
-unfolding digits decode_pairs piped event_turn turn turns event_in lines_of line_in parts_of number_in lose_in damage_in drain_in command_in with_fields small_number_in params_in with_params_in call_in accept_in send_in interrupt_in saying_line entry_line frame_line refusal_line pumped frame_of read_of halves_of packed own_in facilities_of is_sealed fcs_of number_of divided low_bits add divisor
-sabm_reads = refl
-
-ua_reads : frame_of Dce 4099 ua_octets ≡ Ok (ua true)
-unfolding digits decode_pairs piped event_turn turn turns event_in lines_of line_in parts_of number_in lose_in damage_in drain_in command_in with_fields small_number_in params_in with_params_in call_in accept_in send_in interrupt_in saying_line entry_line frame_line refusal_line pumped frame_of read_of halves_of packed own_in facilities_of is_sealed fcs_of number_of divided low_bits add divisor
-ua_reads = refl
-
-restart_reads : frame_of Dte 4099 restart_octets ≡ Ok (info 0 0 false restart_packet)
-unfolding digits decode_pairs piped event_turn turn turns event_in lines_of line_in parts_of number_in lose_in damage_in drain_in command_in with_fields small_number_in params_in with_params_in call_in accept_in send_in interrupt_in saying_line entry_line frame_line refusal_line pumped frame_of read_of halves_of packed own_in facilities_of is_sealed fcs_of number_of divided low_bits add divisor
-restart_reads = refl
-
-confirmation_reads : frame_of Dce 4099 confirmation_octets ≡ Ok (info 0 1 false confirmation_packet)
-unfolding digits decode_pairs piped event_turn turn turns event_in lines_of line_in parts_of number_in lose_in damage_in drain_in command_in with_fields small_number_in params_in with_params_in call_in accept_in send_in interrupt_in saying_line entry_line frame_line refusal_line pumped frame_of read_of halves_of packed own_in facilities_of is_sealed fcs_of number_of divided low_bits add divisor
-confirmation_reads = refl
-
-call_reads : frame_of Dce 4099 call_octets ≡ Ok (info 1 1 false call_packet)
-unfolding digits decode_pairs piped event_turn turn turns event_in lines_of line_in parts_of number_in lose_in damage_in drain_in command_in with_fields small_number_in params_in with_params_in call_in accept_in send_in interrupt_in saying_line entry_line frame_line refusal_line pumped frame_of read_of halves_of packed own_in facilities_of is_sealed fcs_of number_of divided low_bits add divisor
-call_reads = refl
-
 none_fit : AreOfFrame []
 none_fit = record { each = All-nil IsOctet; short = omega arith }
 
@@ -136,16 +113,18 @@ call_is_accepted =
     let r1 : IsReached ours p1 = goes_on p0 p1 at_start (Reads (codes "dte connect") (record { is_line = opens (codes "dte connect") refl; is_no_frame = tt; in_time = tt })) in
     let e2 : PeerEnd = begins p0.peer in
     let p2 : Program = record p1 { peer = e2; out = []; back = sent 1 ua_octets ∷ [] } in
-    let r2 : IsReached ours p2 = goes_on p1 p2 r1 (Elsewhere (record (bare ours p1) { peer = e2; out = []; back = sent 1 ua_octets ∷ [] })
-    (beside.Links _ (peers.Answers (sent 0 sabm_octets) [] ua_octets true e2 refl ua_reads (takes_sabm true sabm_reads))) tt) in
+    let v2 : BesideSessions = record (bare ours p1) { peer = e2; out = []; back = sent 1 ua_octets ∷ [] } in
+    let r2 : IsReached ours p2 = goes_on p1 p2 r1 (Elsewhere v2
+    (beside.Links (links_of v2) (record { does = λ crossing. moves _ (takes_sabm 0 [] refl); left = without 0; puts = put _ (λ odd. tt) })) tt) in
     let p3 : Program = record p2 { read = codes "dte connect\n< 01738357\n"; out = sent 1 restart_octets ∷ []; back = [] } in
     let r3 : IsReached ours p3 = goes_on p2 p3 r2 (Takes (sent 1 ua_octets) [] refl ua_fits) in
     let x4 : Peer = taking true restart_packet (hearing true 0 (now e2)) in
     let e4 : PeerEnd = with_now x4 e2 in
     let met : Meeting = record { near = 1; far = 1 } in
     let p4 : Program = record p3 { peer = e4; out = []; met = met ∷ [] } in
-    let r4 : IsReached ours p4 = goes_on p3 p4 r3 (Elsewhere (record (bare ours p3) { peer = e4; out = []; met = met ∷ [] })
-    (beside.Links _ (peers.Hears (sent 1 restart_octets) [] e4 refl (hears x4 refl (subst (λ (r : Result PlainFrame FrameError). once.MayHear (now e2) r x4) (sym restart_reads) (true, true, refl, refl))))) tt) in
+    let v4 : BesideSessions = record (bare ours p3) { peer = e4; out = []; met = met ∷ [] } in
+    let r4 : IsReached ours p4 = goes_on p3 p4 r3 (Elsewhere v4
+    (beside.Links (links_of v4) (record { does = λ crossing. listens _ [] x4 refl refl (true, true, refl, refl); left = without 0; puts = nothing })) tt) in
     let v5 : BesideSessions = layer_heard (bare ours p4) (layer_after ours p4) [] (confirmation_packet ∷ []) in
     let p5 : Program = record p4 { peer = v5.peer; theirs = v5.theirs } in
     let r5 : IsReached ours p5 = goes_on p4 p5 r4 (Elsewhere v5 (beside.LayerHears (restart 0 0) (restart 0 0 ∷ []) [] (restart_conf ∷ []) (confirmation_packet ∷ []) refl (refl, tt) refl (record { are = refl; configured = (λ has. absurd has, tt) }) (refl, tt)) tt) in
@@ -156,15 +135,21 @@ call_is_accepted =
     let x7 : Peer = told_to 1 (numbered_to 0 (now p6.peer)) in
     let e7 : PeerEnd = with_now x7 p6.peer in
     let p7 : Program = record p6 { peer = e7; back = sent 1 confirmation_octets ∷ [] } in
-    let r7 : IsReached ours p7 = goes_on p6 p7 r6 (Elsewhere (record (bare ours p6) { peer = e7; back = sent 1 confirmation_octets ∷ [] })
-    (beside.Links _ (peers.Sends confirmation_octets e7 (numbered (info 0 1 false confirmation_packet) x7 refl refl (subst (λ (r : Result PlainFrame FrameError). once.MaySend (Unit {0}) (now p6.peer) r x7) (sym confirmation_reads)
-    (0, 1, record { number = refl; same = refl; window = omega arith; again = omega arith }, record { number = refl; rising = omega arith; taken = omega arith }, refl))))) tt) in
+    let v7 : BesideSessions = record (bare ours p6) { peer = e7; back = sent 1 confirmation_octets ∷ [] } in
+    let r7 : IsReached ours p7 = goes_on p6 p7 r6 (Elsewhere v7 (beside.Links (links_of v7) (record {
+      does = λ crossing. sends (Some (record { ns = 0; packet = confirmation_packet })) 1 x7 refl (0, 1, record { number = refl; same = refl; window = omega arith; again = omega arith }, record { number = refl; rising = omega arith; taken = omega arith }, refl);
+      left = untouched;
+      puts = put _ (λ odd. tt);
+    })) tt) in
     let x8 : Peer = told_to 1 (numbered_to 1 (now p7.peer)) in
     let e8 : PeerEnd = with_now x8 p7.peer in
     let p8 : Program = record p7 { peer = e8; back = sent 1 confirmation_octets ∷ sent 1 call_octets ∷ [] } in
-    let r8 : IsReached ours p8 = goes_on p7 p8 r7 (Elsewhere (record (bare ours p7) { peer = e8; back = sent 1 confirmation_octets ∷ sent 1 call_octets ∷ [] })
-    (beside.Links _ (peers.Sends call_octets e8 (numbered (info 1 1 false call_packet) x8 refl refl (subst (λ (r : Result PlainFrame FrameError). once.MaySend (Unit {0}) (now p7.peer) r x8) (sym call_reads)
-    (1, 1, record { number = refl; same = refl; window = omega arith; again = omega arith }, record { number = refl; rising = omega arith; taken = omega arith }, refl))))) tt) in
+    let v8 : BesideSessions = record (bare ours p7) { peer = e8; back = sent 1 confirmation_octets ∷ sent 1 call_octets ∷ [] } in
+    let r8 : IsReached ours p8 = goes_on p7 p8 r7 (Elsewhere v8 (beside.Links (links_of v8) (record {
+      does = λ crossing. sends (Some (record { ns = 1; packet = call_packet })) 1 x8 refl (1, 1, record { number = refl; same = refl; window = omega arith; again = omega arith }, record { number = refl; rising = omega arith; taken = omega arith }, refl);
+      left = untouched;
+      puts = put _ (λ odd. tt);
+    })) tt) in
     let p9 : Program = reads ours p8 (codes "< 03201000ff05d7\n") (sent 1 call_octets ∷ []) (met ∷ met ∷ []) in
     let r9 : IsReached ours p9 = goes_on p8 p9 r8 (Takes (sent 1 confirmation_octets) (sent 1 call_octets ∷ []) refl confirmation_fits) in
     let p10 : Program = reads ours p9 (codes "< 032210010b00007528\n") [] (met ∷ met ∷ met ∷ []) in

@@ -1,8 +1,7 @@
 -- Whatever an end does keeps what holds of two ends over sessions.
 use Rattle.std.proofs.Common.{◌≡◌, ◌≤◌, ◌+◌, ◌⊎◌, inl, inr, ℕ, suc, List, [], ◌∷◌, ◌++◌, map, remove, Option, refl, sym, subst, arith, ap}
 use Rattle.x25_line.specs.{laws.Said.{sabm_of, ua_of, disc_of, Said, Carried, Tells, Sabm, Disc, Ua, Else, Odd}, laws.Sessions.{Meeting, turned}, laws.SessionClaims.{Each, InStep}}
-use Rattle.x25_line.specs.laws.PeerSessions.{Stand, Out, Asking, In}
-use Rattle.x25_line.specs.laws.Ends.{Letter, letter, Two, swapped, how_many, OfTells, IsPatient, heard, spoilt, Moves, free, odd, asks, closes, leaves, hears, takes_ua, takes_sabm, waits_on, takes_disc, loses, damages, begin_at}
+use Rattle.x25_line.specs.laws.Ends.{Stand, Out, Asking, In, Letter, letter, Two, swapped, how_many, OfTells, IsPatient, heard, spoilt, Moves, free, odd, asks, closes, leaves, hears, takes_ua, takes_sabm, waits_on, takes_disc, loses, damages, begin_at}
 use Rattle.x25_line.proofs.ends.Meetings.{IsPaired, IsBegun, begun_later, paired_anew, above_paired, begun_turned, paired_turned, in_step_turned}
 use Rattle.x25_line.proofs.ends.Lines.{count_push, Less, gone, less_removes, less_spoils, AllTold, told_map, Never, Of, are_none, after_clean, asked_none, asked_now, asked_never, asked_begins}
 use Rattle.x25_line.proofs.ends.Held.{IsOlder, Side, first_side, near_at, far_at, near_stands, far_stands, less_near, less_far, push_near, push_far, leave_near, leave_far, close_near, ask_near, ask_far, begin_near, begin_far, new_far}

@@ -1,6 +1,6 @@
 -- What is known of an end in each session, once one of these is another.
 use Rattle.std.proofs.{Common.{◌≡◌, ◌==◌, ◌⊎◌, inl, inr, ℕ, Bool, true, false, if◌then◌else◌, refl, ap, ◌∙◌, sym}, lemmas.Bool.{eq-eqb, eqb-true}}
-use Rattle.x25_line.specs.{laws.Peer.{Peer}, laws.PeerSessions.{put_for}}
+use Rattle.x25_line.specs.{laws.Peer.{Peer}, laws.Ends.{put_for}}
 
 pub same_or_other : (n b : ℕ) → (n ≡ b) ⊎ ((n == b) ≡ false)
 same_or_other n b = go (n == b) refl

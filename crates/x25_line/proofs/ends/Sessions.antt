@@ -3,8 +3,7 @@ use Rattle.std.proofs.Common.{◌≡◌, ◌≤◌, ◌<◌, ◌==◌, ◌⊎◌
 use Rattle.x25_window.specs.code.Modulo.{resolved}
 use Rattle.x25_line.specs.{laws.InWindow.{IsPrefix}, laws.Said.{sabm_of, Said, Carried, Tells, Sabm, Disc, Ua, Else, Odd}, laws.Sessions.{Meeting, turned}}
 use Rattle.x25_line.specs.{laws.SessionClaims.{Each, SomeMet}, laws.Peer.{Peer, fresh_peer, MaySay, MayMake}}
-use Rattle.x25_line.specs.laws.PeerSessions.{Stand, Out, Asking, In, put_for}
-use Rattle.x25_line.specs.laws.Ends.{Letter, letter, Two, how_many, meets, heard, OfTells, AreOf, Moves, free, odd, asks, closes, hears, takes_ua, takes_sabm, waits_on, takes_disc, loses, damages, Ends, ends_swapped, near_now, with_near, begins, fresh_where, Does, is_handed, sends, listens, moves, begin_at, IsReached, at_start, set_up, near_does, far_does}
+use Rattle.x25_line.specs.laws.Ends.{Stand, Out, Asking, In, put_for, Letter, letter, Two, how_many, meets, heard, OfTells, AreOf, Moves, free, odd, asks, closes, hears, takes_ua, takes_sabm, waits_on, takes_disc, loses, damages, Ends, ends_swapped, near_now, with_near, begins, fresh_where, with_packet, Does, sends, listens, moves, begin_at, IsReached, at_start, set_up, near_handed, far_handed, near_does, far_does}
 use Rattle.x25_line.specs.laws.EndClaims.{InOrder, MetInOrder, KeepSessions, OfAnyTwoEnds}
 use Rattle.x25_line.proofs.Order.{Told, told, only, IsApart, only_append, only_quiet, Left, left_front, left_deeper, Hold, starts, hold_turned, handed, says, left, makes, in_order, valid_front}
 use Rattle.x25_line.proofs.ends.Meetings.{IsPaired, near_turned, far_turned, all_meet, some_meets}
@@ -261,7 +260,7 @@ at_now w h is = rw (h.held.near.is_in is) h.line
 still_unmet : (w : Ends) (h : All w) (r : Peer) → r.taken ≡ (near_now w).taken → (n : ℕ) → ((with_near r w n).taken ≡ []) ⊎ SomeMet (λ (m : Meeting). m.near ≡ n) w.two.met
 still_unmet w h r same n = elim (h.near_unmet n) [ inl none ↦ inl (put_alike (λ (p : Peer). p.taken) w.two.near.begun r w.near_of same n ∙ none) | inr some ↦ inr some ]
 
-handed_all : (w : Ends) (packet : List ℕ) → w.two.near.stand ≡ In → (h : All w) → All (record w { near_of = with_near (record (near_now w) { given = (near_now w).given ++ packet ∷ [] }) w })
+handed_all : (w : Ends) (packet : List ℕ) → w.two.near.stand ≡ In → (h : All w) → All (with_packet packet w)
 handed_all w packet is h =
     let r : Peer = record (near_now w) { given = (near_now w).given ++ packet ∷ [] } in
     let hold = handed (near_now w) (w.far_of h.held.q) (of h.held.p w.two.out) (of h.held.q w.two.back) packet (at_now w h is) in
@@ -320,7 +319,6 @@ heard_all w e rest r is on may h =
     (λ n. elim (h.far_unmet n) [ inl none ↦ inl none | inr some ↦ inr (heard_more (λ (m : Meeting). m.far ≡ n) w.two.near.stand b e w.two.met some) ])
 
 does_all : (w v : Ends) → Does w v → All w → All v
-does_all w v (is_handed packet is) h = handed_all w packet is h
 does_all w v (sends carried nr r is may) h = sent_all w carried nr r is may h
 does_all w v (listens e rest r is on may) h = heard_all w e rest r is on may h
 does_all w v (moves u m) h = begun_all w u m h
@@ -331,6 +329,8 @@ starts_all stand b = record { held = first_held stand b; near_later = λ n less.
 pub reached_all : (w : Ends) → IsReached w → All w
 reached_all w at_start = starts_all Out 0
 reached_all w set_up = starts_all In 1
+reached_all w (near_handed v packet r is) = handed_all v packet is (reached_all v r)
+reached_all w (far_handed v packet r is) = all_turned (with_packet packet (ends_swapped v)) (handed_all (ends_swapped v) packet is (all_turned v (reached_all v r)))
 reached_all w (near_does v u r m) = does_all v u m (reached_all v r)
 reached_all w (far_does v u r m) = all_turned u (does_all (ends_swapped v) u m (all_turned v (reached_all v r)))
 

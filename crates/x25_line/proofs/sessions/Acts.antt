@@ -1,21 +1,13 @@
 -- What each act leaves: of its end what each step of a station keeps, the other end as it was, and of the line to it all but one entry at most.
-use Rattle.std.proofs.Common.{◌≡◌, ℕ, ◌≤◌, List, [], ◌∷◌, length, Bool, true, false, if◌then◌else◌, Option, Some, None, refl, sym, subst}
+use Rattle.std.proofs.Common.{◌≡◌, ℕ, ◌≤◌, List, [], ◌∷◌, length, refl, sym, subst}
 use Rattle.std.proofs.lemmas.Bool.{leb-true}
 use Rattle.std.specs.Prelude.{nat_le}
-use Rattle.x25_link.specs.{declared.error.LinkError.{LinkError}, Station.{Settings, LinkStation, is_up}}
+use Rattle.x25_link.specs.{Station.{Settings, LinkStation, is_up}}
 use Rattle.x25_link.specs.Link.{take_step, put_step, timer_step, connect_step, disconnect_step, abandon_step, put_refusal, timer_refusal, connect_refusal, disconnect_refusal}
 use Rattle.x25_line.specs.laws.Stations.{Act, Put, Deliver, T1, Connect, Disconnect, Abandon, Probe, Lose, Damage, is_visible}
-use Rattle.x25_line.specs.laws.Sessions.{Entry, Sessions, unless, delivered, acts}
+use Rattle.x25_line.specs.laws.Sessions.{Entry, Sessions, delivered, acts}
 use Rattle.x25_line.proofs.sessions.EntryLines.{Less, whole, gone, less_removes, less_replaces}
-
--- an act that is refused changes nothing
-pub unless_by : (Q : Sessions → Type 0) (o : Option LinkError) (w v : Sessions) → Q w → (o ≡ None → Q v) → Q (unless o w v)
-unless_by Q (Some e) w v h k = h
-unless_by Q None w v h k = k refl
-
-pub if_by : (Q : Sessions → Type 0) (b : Bool) (w v : Sessions) → Q w → (b ≡ true → Q v) → Q (if b then v else w)
-if_by Q true w v h k = k refl
-if_by Q false w v h k = h
+use Rattle.x25_line.proofs.Choices.{unless_by, if_by}
 
 pub record Keeps (c : Settings) (P : LinkStation → Type 0) : Type 0 where
   pub takes : (o : List ℕ) (s : LinkStation) → P s → P (take_step c o s).side.near

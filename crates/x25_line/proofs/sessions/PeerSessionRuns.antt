@@ -1,17 +1,18 @@
 -- What a station and a peer reach are two ends that keep the rules, and that says the claims.
-use Rattle.std.proofs.{Common.{◌≡◌, inl, inr, ◌≤◌, ℕ, List, [], ◌∷◌, map, length, true, refl, sym, ap, ◌∙◌}, lemmas.Bool.{and_parts}}
+use Rattle.std.proofs.{Common.{◌≡◌, inl, inr, ◌≤◌, ℕ, ◌+◌, List, [], ◌∷◌, map, length, true, refl, sym, ap, ◌∙◌}, lemmas.Bool.{and_parts}}
 use Rattle.x25_frame.specs.laws.ReadingLaw.{ReadsSpelled}
 use Rattle.x25_link.specs.{declared.phase.Phase.{Phase}, declared.phase.Phase.TheVariants.{Down, Up}, Station.{Settings, is_up}, Hearing.{other}}
 use Rattle.x25_link.specs.{Link.{is_idle}, laws.WindowMachine.{Window}}
-use Rattle.x25_line.specs.{laws.Stations.{Act, T1}, laws.Sessions.{Meeting, turned, acts, start_with}}
+use Rattle.x25_line.specs.{laws.Stations.{Act, T1}, laws.Sessions.{Meeting, turned, acts, start_with, sabm_in, ua_in, disc_in, how_many}}
 use Rattle.x25_line.specs.{laws.SessionClaims.{Each, IsInOrder, MeetInStep, MetAreInOrder, UnmetHandNothingUp}, laws.LawsBelow.{SessionLaws}}
 use Rattle.x25_line.specs.laws.Peer.{fresh_peer}
-use Rattle.x25_line.specs.laws.PeerSessions.{Stand, PeerSessions, Out, In, both_ends, as_end, with_peer, begin_with, IsReached, at_start, set_up, goes_on}
-use Rattle.x25_line.specs.laws.PeerSessionClaims.{WithAnyPeer, WithAnyLapbPeer, OfBothEnds, IdleHasArrived, EachMeetsLatest, SendsNoFrmr}
-use Rattle.x25_line.specs.{laws.Ends.{Ends, ends_swapped}, laws.EndClaims.{MetInOrder, KeepSessions}}
-use Rattle.x25_line.proofs.{StationClaimLemmas.{idle_all}, StationAway.{is_up_phase}, sessions.SessionMay.{stand_of}, sessions.SessionSeen.{Seen, start_seen}}
-use Rattle.x25_line.proofs.{sessions.SessionSeenSteps.{IsTimely, station_acts}, sessions.SessionWith.{outs, backs, at, IsWith, station_may, Kept}}
+use Rattle.x25_line.specs.laws.PeerSessions.{Stand, PeerSessions, Out, In, both_ends, as_end, with_peer, begin_with, stand_of, IsReached, at_start, set_up, goes_on}
+use Rattle.x25_line.specs.laws.PeerSessionClaims.{IdleHasArrived, EachMeetsLatest}
+use Rattle.x25_line.specs.{laws.Ends.{AreOf, Ends, ends_swapped}, laws.EndClaims.{MetInOrder, KeepSessions}}
+use Rattle.x25_line.proofs.{StationClaimLemmas.{idle_all}, StationAway.{is_up_phase}, sessions.SessionSeen.{Seen, start_seen}}
+use Rattle.x25_line.proofs.{sessions.SessionSeenSteps.{IsTimely, station_acts}, sessions.SessionWith.{outs, backs, at, IsWith, station_may}}
 use Rattle.x25_line.proofs.{sessions.PeerMoves.{peer_held}, ends.Sessions.{All, all_turned, reached_all, keep_sessions, latest, some_stands, all_taken}}
+use Rattle.x25_line.proofs.{sessions.SessionHeld.{Owes}, sessions.Letters.{asked_letters, sabms, uas, discs}}
 use Rattle.x25_line.specs.laws.PeerSessions as sessions
 use Rattle.x25_line.specs.laws.Ends as ends
 
@@ -23,21 +24,25 @@ SeenWith Odd c w = Seen c (IsWith Odd c w.peer) (both_ends w)
 seen_at_start : (Odd : Type 0) (c : Settings) (stand : Stand) (p : Phase) (b : ℕ) → (let peer = (begin_with stand (start_with p b)).peer in IsWith Odd c peer [] [] p b (λ n. fresh_peer) []) → SeenWith Odd c (begin_with stand (start_with p b))
 seen_at_start Odd c stand p b reached = start_seen c (IsWith Odd c (begin_with stand (start_with p b)).peer) p b (as_end (begin_with stand (start_with p b)).peer) reached
 
+-- what the station owes, counted in octets
+owes_octets : (Odd : Type 0) (c : Settings) (w : PeerSessions) (h : SeenWith Odd c w) → Owes w.near.station.phase (how_many sabm_in c.role c.longest w.out + how_many ua_in (other c.role) c.longest w.back) (how_many disc_in c.role c.longest w.out)
+owes_octets Odd c w h = rw (sabms c.role c.longest w.out, uas (other c.role) c.longest w.back, discs c.role c.longest w.out) h.reached.ends.kept.owes
+
 module _ (reads : ReadsSpelled) (rests : SessionLaws) where
   station_timely : (Odd : Type 0) (c : Settings) (high : c.window ≤ 7) (w : PeerSessions) (act : Act) → sessions.IsTimely c act w
-      → IsTimely c high reads rests (λ es. sessions.AllAskedIn (other c.role) c.longest w.peer.begun es) (IsWith Odd c w.peer) (station_may Odd c w.peer) act (both_ends w)
-  station_timely Odd c high w T1 timely = λ waiting. (let due = timely waiting in (due.sabm, due.ua, due.crossing))
+      → IsTimely c high reads rests (λ es. AreOf w.peer.begun (backs c es)) (IsWith Odd c w.peer) (station_may Odd c w.peer) act (both_ends w)
+  station_timely Odd c high w T1 timely = λ waiting. (let due = timely waiting in (due.sabm, due.ua, asked_letters (other c.role) c.longest w.peer.begun w.back due.crossing))
   station_timely Odd c high w act timely = tt
 
   station_held : (Odd : Type 0) (c : Settings) (high : c.window ≤ 7) (w : PeerSessions) → SeenWith Odd c w → (act : Act) → sessions.IsTimely c act w → SeenWith Odd c (with_peer w.peer (acts c act (both_ends w)))
   station_held Odd c high w h act timely =
-      let k = station_acts c high reads rests (λ es. sessions.AllAskedIn (other c.role) c.longest w.peer.begun es) (IsWith Odd c w.peer) (station_may Odd c w.peer) act (both_ends w)
-      (station_timely Odd c high w act timely) h.reached.kept.owes h in
+      let k = station_acts c high reads rests (λ es. AreOf w.peer.begun (backs c es)) (IsWith Odd c w.peer) (station_may Odd c w.peer) act (both_ends w)
+      (station_timely Odd c high w act timely) (owes_octets Odd c w h) h in
       record { all = k.all; reached = k.reached; up = k.up; given = k.given; taken = k.taken; later = k.later; tags = k.tags }
 
   reached_seen : (Odd : Type 0) (c : Settings) → c.window ≤ 7 → (w : PeerSessions) → IsReached Odd c w → SeenWith Odd c w
-  reached_seen Odd c high w at_start = seen_at_start Odd c Out Down 0 (record { reached = ends.at_start; kept = record { owes = (refl, refl); present = tt; frmr = λ lapb. refl; lapb = λ lapb. tt } })
-  reached_seen Odd c high w set_up = seen_at_start Odd c In Up 1 (record { reached = ends.set_up; kept = record { owes = (refl, refl); present = tt; frmr = λ lapb. refl; lapb = λ lapb. tt } })
+  reached_seen Odd c high w at_start = seen_at_start Odd c Out Down 0 (record { ends = record { reached = ends.at_start; kept = record { owes = (refl, refl); present = tt } }; octets = record { frmr = λ lapb. refl; lapb = λ lapb. tt } })
+  reached_seen Odd c high w set_up = seen_at_start Odd c In Up 1 (record { ends = record { reached = ends.set_up; kept = record { owes = (refl, refl); present = tt } }; octets = record { frmr = λ lapb. refl; lapb = λ lapb. tt } })
   reached_seen Odd c high w (goes_on v u reached event) =
       let h = reached_seen Odd c high v reached in
       peer_held Odd c v h w event (station_held Odd c high v h)
@@ -49,17 +54,20 @@ module _ (reads : ReadsSpelled) (rests : SessionLaws) where
     h = reached_seen Odd c high w reached
 
     abbrev pub two : Ends
-    two = at Odd c w.peer (backs Odd c w.back) w.met (stand_of w.near.station.phase) w.near.begun h.all (outs Odd c w.out)
+    two = at Odd c w.peer (backs c w.back) w.met (stand_of w.near.station.phase) w.near.begun h.all (outs c w.out)
 
     pub all_of : All two
-    all_of = reached_all two h.reached.reached
+    all_of = reached_all two h.reached.ends.reached
 
     keeps : KeepSessions two
-    keeps = keep_sessions two h.reached.reached
+    keeps = keep_sessions two h.reached.ends.reached
 
     -- what is kept of the lines
-    pub lines : Kept Odd c w.peer.begun w.near.station.phase w.back w.out
-    lines = h.reached.kept
+    pub lines : IsWith Odd c w.peer w.back w.met w.near.station.phase w.near.begun h.all w.out
+    lines = h.reached
+
+    pub owes_is : Owes w.near.station.phase (how_many sabm_in c.role c.longest w.out + how_many ua_in (other c.role) c.longest w.back) (how_many disc_in c.role c.longest w.out)
+    owes_is = owes_octets Odd c w h
 
     in_order : (m : Meeting) → MetInOrder h.all w.peer.of_session m → IsInOrder w.near (as_end w.peer) m
     in_order m k = record {
@@ -107,21 +115,3 @@ module _ (reads : ReadsSpelled) (rests : SessionLaws) where
       near = λ up. keeps.latest (up_in up);
       peer = λ is. peer_latest w.met (latest (ends_swapped two) (all_turned two all_of) is);
     }
-
-  pub meet_in_step : WithAnyPeer (OfBothEnds MeetInStep)
-  meet_in_step c low high w reached = step_is (Unit {0}) c high w reached
-
-  pub met_in_order : WithAnyPeer (OfBothEnds MetAreInOrder)
-  met_in_order c low high w reached = order_is (Unit {0}) c high w reached
-
-  pub unmet_nothing : WithAnyPeer (OfBothEnds UnmetHandNothingUp)
-  unmet_nothing c low high w reached = unmet_is (Unit {0}) c high w reached
-
-  pub idle_arrived : WithAnyPeer IdleHasArrived
-  idle_arrived c low high w reached = idle_is (Unit {0}) c high w reached
-
-  pub meets_latest : WithAnyPeer EachMeetsLatest
-  meets_latest c low high w reached = latest_is (Unit {0}) c high w reached
-
-  pub sends_no_frmr : WithAnyLapbPeer SendsNoFrmr
-  sends_no_frmr c low high w reached = (reached_seen ⊥ c high w reached).reached.kept.frmr (λ never. never)

@@ -16,7 +16,7 @@ use Rattle.x25_line.specs.laws.LawsBelow.{SessionLaws}
 use Rattle.x25_line.proofs.{StationSteps.{not_both, not_afresh}, StationEvents.{timer_packet, timer_up}, sessions.SessionLines.{Read, none_is_some}}
 use Rattle.x25_line.proofs.{sessions.SessionHeld.{extended_same, extended_other}, sessions.SessionSteps.{end_after, nothing_handed}}
 use Rattle.x25_line.proofs.{sessions.SessionUp.{follows_no_packet}, sessions.SessionTakes.{read_of}, sessions.SessionSeenRuns.{Both, both_swapped}}
-use Rattle.x25_line.proofs.{sessions.TwoSessions.{hears_latest, running, throughout_of}, ends.Meetings.{twice_turned}, sessions.Acts.{unless_by, if_by}}
+use Rattle.x25_line.proofs.{sessions.TwoSessions.{hears_latest, running, throughout_of}, ends.Meetings.{twice_turned}, Choices.{unless_by, if_by}}
 
 -- ---- a step
 

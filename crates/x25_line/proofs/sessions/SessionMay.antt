@@ -6,13 +6,8 @@ use Rattle.x25_link.specs.{declared.phase.Reason.TheVariants.{FrmrSent}, Station
 use Rattle.x25_link.specs.laws.WindowLaw.{ending_of}
 use Rattle.x25_line.specs.{laws.Stations.{is_visible}, laws.StationClaims.{number_in}}
 use Rattle.x25_line.specs.{laws.Sessions.{Entry, Meeting, sabm_in, ua_in, disc_in, how_many, heard, replaced}, laws.Peer.{Peer, fresh_peer, MaySend, MayHear}}
-use Rattle.x25_line.specs.laws.PeerSessions.{Stand, Out, Asking, In, put_for}
+use Rattle.x25_line.specs.laws.Ends.{put_for}
 use Rattle.x25_line.proofs.{StationSays.{machine_of}, sessions.SessionLines.{Read}}
-
-abbrev pub stand_of : Phase → Stand
-stand_of Waiting = Asking
-stand_of Up = In
-stand_of phase = Out
 
 -- what is read of octets that it sends, and of those that come to it
 abbrev pub sends_read : Settings → List ℕ → Read

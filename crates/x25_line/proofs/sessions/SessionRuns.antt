@@ -15,7 +15,7 @@ use Rattle.x25_line.specs.laws.SessionClaims.{Throughout, octets_of, AllOf, IsSe
 use Rattle.x25_line.specs.laws.LawsBelow.{SessionLaws}
 use Rattle.x25_line.proofs.{StationSteps.{Holds}, StationAway.{connects_from}, StationRuns.{joined_swapped, joint_swapped, start_machine}}
 use Rattle.x25_line.proofs.{StationClaimLemmas.{is_behind, holds_order, holds_lists, holds_window, holds_whole}, sessions.SessionLines.{octets_sent}}
-use Rattle.x25_line.proofs.{sessions.EntryLines.{removes_at, replaces_at}, sessions.Acts.{unless_by, if_by}}
+use Rattle.x25_line.proofs.{sessions.EntryLines.{removes_at, replaces_at}, Choices.{unless_by, if_by}}
 use Rattle.x25_line.proofs.{sessions.SessionHeld.{is_there, is_out, IsThere, OnLine, Held, counted_there, stays_on}, sessions.SessionSteps.{went_by}}
 use Rattle.x25_line.proofs.sessions.SessionChanges.{change_held}
 use Rattle.x25_line.proofs.sessions.SessionActs.{in_session, put_held, timer_up_held, abandon_held, connect_held, timer_waiting_held, disconnect_held}

@@ -3,7 +3,7 @@ use Rattle.std.proofs.Common.{◌≡◌, ℕ, ◌+◌, ◌≤◌, List, [], ◌�
 use Rattle.x25_bits.specs.declared.role.Role.{Role}
 use Rattle.x25_frame.specs.{Frame.{PlainFrame}, Spelling.{spelling_of}, laws.ReadingLaw.{ReadsSpelled}}
 use Rattle.x25_link.specs.{Station.{Settings}, declared.phase.Phase.{Phase}, declared.phase.Phase.TheVariants.{Up}, laws.WindowMachine.{Window, Runs}}
-use Rattle.x25_line.specs.{laws.Sessions.{Entry, Meeting, sent_in}, laws.Peer.{Peer}, laws.PeerSessions.{put_for}}
+use Rattle.x25_line.specs.{laws.Sessions.{Entry, Meeting, sent_in}, laws.Peer.{Peer}, laws.Ends.{put_for}}
 use Rattle.x25_line.proofs.{StationSays.{machine_of, Said, MaySay, said_run}, StationLines.{good_reads}, StationSends.{AllWithin}}
 use Rattle.x25_line.proofs.{sessions.SessionMay.{entry, MayDo}, ends.Puts.{put_same, put_alike}}
 

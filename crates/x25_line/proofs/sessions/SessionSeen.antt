@@ -8,7 +8,7 @@ use Rattle.x25_link.specs.{declared.phase.Phase.{Phase}, declared.phase.Phase.Th
 use Rattle.x25_link.specs.{Station.{Settings, LinkStation, is_up, with_nothing, fresh}, Hearing.{Step}, laws.WindowMachine.{Window, Input}}
 use Rattle.x25_link.specs.laws.WindowLaw.{window_of, after_input, Stays, IsSound}
 use Rattle.x25_line.specs.laws.Sessions.{Entry, SessionEnd, start_with, Meeting, Sessions, sabm_in, how_many, sent_in, begun_by, extended, after_step}
-use Rattle.x25_line.specs.{laws.Peer.{Peer, fresh_peer}, laws.PeerSessions.{put_for, AllAskedIn}}
+use Rattle.x25_line.specs.{laws.Peer.{Peer, fresh_peer}, laws.Ends.{put_for}, laws.PeerSessions.{AllAskedIn}}
 use Rattle.x25_line.proofs.{StationSays.{machine_of}, StationSends.{AllWithin}, StationSteps.{not_both}, StationAway.{is_up_phase}}
 use Rattle.x25_line.proofs.{sessions.SessionHeld.{extended_nil, extended_same, extended_other}, sessions.SessionSteps.{stepped}, sessions.SessionMay.{MayDo}}
 use Rattle.x25_line.proofs.{sessions.SessionSays.{runs_said}, ends.Puts.{same_or_other, put_same, put_apart}}

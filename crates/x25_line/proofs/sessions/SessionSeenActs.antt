@@ -12,7 +12,7 @@ use Rattle.x25_link.specs.laws.SetUp.{Is, TakesPart, reset_from, waiting_after, 
 use Rattle.x25_link.specs.laws.WindowMachine.{Window, Input, receives, nothing}
 use Rattle.x25_link.specs.laws.WindowLaw.{window_of, brought_by, after_input, MayHandUp, ending_of, ends_in, Stays, Ends, Follows, AreDeclining, StaysOut}
 use Rattle.x25_line.specs.{laws.StationClaims.{number_in}, laws.Sessions.{Entry, Meeting, Sessions, sabm_in, disc_in, how_many, sent_in, after_step, heard}}
-use Rattle.x25_line.specs.{laws.LawsBelow.{SessionLaws}, laws.Peer.{Peer, fresh_peer, MayHear, hearing, taking, IsWanted}, laws.PeerSessions.{put_for}}
+use Rattle.x25_line.specs.{laws.LawsBelow.{SessionLaws}, laws.Peer.{Peer, fresh_peer, MayHear, hearing, taking, IsWanted}, laws.Ends.{put_for}}
 use Rattle.x25_line.proofs.{StationSays.{machine_of}, StationPeers.{low_resolved}, StationSteps.{no_packet_of, not_afresh}}
 use Rattle.x25_line.proofs.{StationAway.{is_up_phase, frmr_three, waits_on}, sessions.SessionLines.{Read}}
 use Rattle.x25_line.proofs.sessions.SessionMay.{entry, sends_read, hears_read, heard_in, IsClear, MayAsk, MayDo}

@@ -1,33 +1,26 @@
 -- Each of two stations over sessions is a peer of the other, after each list of events.
-use Rattle.std.proofs.Common.{◌≡◌, ℕ, ◌+◌, List, [], ◌∷◌, ◌++◌, ◌⊎◌, inl, inr, length, map, Bool, true, false, if◌then◌else◌, Option, Some, None, Ok, refl, sym, ap, ◌∙◌, subst, arith}
+use Rattle.std.proofs.Common.{◌≡◌, ℕ, suc, ◌+◌, List, [], ◌∷◌, ◌++◌, ◌⊎◌, inl, inr, length, map, remove, true, Ok, refl, sym, ap, ◌∙◌, subst, arith}
 use Rattle.std.specs.Prelude.{nat_le}
 use Rattle.x25_bits.specs.declared.role.Role.{Role}
-use Rattle.x25_frame.specs.{Frame.{PlainFrame, ua}, Reading.{frame_of}, laws.ReadingLaw.{ReadsSpelled}}
-use Rattle.x25_link.specs.{declared.error.LinkError.{LinkError}, declared.phase.Phase.{Phase}, declared.phase.Phase.TheVariants.{Down, Waiting, Up}}
+use Rattle.x25_frame.specs.{Frame.{PlainFrame, sabm, disc, ua, dm, frmr}, Reading.{frame_of}, laws.ReadingLaw.{ReadsSpelled}}
+use Rattle.x25_link.specs.{declared.phase.Phase.{Phase}, declared.phase.Phase.TheVariants.{Down, Waiting, Up, Closed}}
 use Rattle.x25_link.specs.{Station.{Settings, is_up}, Hearing.{other}, Link.{put_step, put_refusal, timer_refusal, connect_refusal, disconnect_refusal}}
 use Rattle.x25_line.specs.laws.Stations.{Act, Put, Deliver, T1, Connect, Disconnect, Abandon, Probe, Lose, Damage, Event, Near, Far, is_visible}
-use Rattle.x25_line.specs.laws.StationClaims.{AreJoined, number_in}
-use Rattle.x25_line.specs.laws.Sessions.{Entry, SessionEnd, Meeting, Sessions, turned, swapped, sabm_in, ua_in, disc_in, how_many, after_step, unless, heard, delivered, acts, happens, run, from_nothing, from_set_up, IsTimely, IsTimelyAt, AreTimely}
+use Rattle.x25_line.specs.{laws.StationClaims.{AreJoined}, laws.Said.{said, sabm_of, disc_of, ua_of}}
+use Rattle.x25_line.specs.laws.Sessions.{Entry, SessionEnd, Meeting, Sessions, turned, swapped, sabm_in, ua_in, disc_in, how_many, replaced, after_step, delivered, acts, happens, run, from_nothing, from_set_up, IsTimely, IsTimelyAt, AreTimely}
 use Rattle.x25_line.specs.{laws.SessionClaims.{Throughout}, laws.LawsBelow.{SessionLaws}, laws.Peer.{Peer, fresh_peer}}
-use Rattle.x25_line.specs.laws.PeerSessions.{Out, Asking, PeerEnd, PeerSessions, is_in, both_ends, with_peer, with_now, begins, stands, AllAskedIn, IsFree, IsReached, goes_on}
+use Rattle.x25_line.specs.laws.PeerSessions.{PeerEnd, PeerSessions, both_ends, with_peer, AllAskedIn, stand_of, letters, IsLeft, untouched, without, damaged, Puts, nothing, HandsDown, Theirs, IsReached, goes_on}
+use Rattle.x25_line.specs.laws.Ends.{Letter, letter, AreOf, Ends, Does, listens, moves, free, asks, closes, leaves, hears, takes_ua, takes_sabm, waits_on, takes_disc, loses, damages}
 use Rattle.x25_line.specs.laws.SessionPeers.{IsPeer, AreBothPeers}
-use Rattle.x25_line.proofs.{StationRuns.{joined_swapped}, sessions.SessionLines.{Read}, sessions.SessionHeld.{Owes}, sessions.EntryLines.{asked_fewer}}
-use Rattle.x25_line.proofs.{sessions.Acts.{Stays, Anything, acts_still}, sessions.SessionMay.{stand_of, sends_read, hears_read, heard_in, MayDo}}
-use Rattle.x25_line.proofs.{ends.Meetings.{twice_turned}, sessions.SessionSeen.{Seen, start_seen}, sessions.PeerSessionRuns.{lines}}
+use Rattle.x25_line.proofs.{Choices.{unless_both, if_both}, StationRuns.{joined_swapped}, sessions.SessionLines.{Read}, sessions.SessionHeld.{Owes}, sessions.EntryLines.{asked_fewer}}
+use Rattle.x25_line.proofs.{sessions.Acts.{Stays, Anything, acts_still}, sessions.SessionMay.{sends_read, hears_read, entry, heard_in, MayDo}}
+use Rattle.x25_line.proofs.{ends.Meetings.{twice_turned}, sessions.SessionSeen.{Seen, start_seen}, sessions.PeerSessionRuns.{owes_is}, sessions.SessionWith.{tells_does}}
+use Rattle.x25_line.proofs.sessions.Letters.{heard_said, letters_push, letters_removed, letters_replaced, many_said, puts_frame}
 use Rattle.x25_line.specs.laws.PeerSessions as sessions
+use Rattle.x25_line.specs.laws.Ends as ends
 use Rattle.x25_line.proofs.sessions.SessionSeenSteps as own
-use Rattle.x25_line.specs.laws.Said.{said}
 
 -- ---- a station is known as a peer
-
-stands_in : (p : Phase) → is_in (stand_of p) ≡ is_up p
-stands_in Down = refl
-stands_in p = refl
-
-turned_heard : (b : Bool) (m : Option PlainFrame) (pair : Meeting) (met : List Meeting) → map turned (heard b m pair met) ≡ heard b m (turned pair) (map turned met)
-turned_heard true None pair met = refl
-turned_heard true (Some f) pair met = refl
-turned_heard false m pair met = refl
 
 -- the near end, with settings d, as a peer of the far end, with settings c
 module _ (c d : Settings) (joined : AreJoined c d) (far : SessionEnd) where
@@ -52,67 +45,92 @@ module _ (c d : Settings) (joined : AreJoined c d) (far : SessionEnd) where
   heard_many : (kind : Read → ℕ) (es : List Entry) → how_many kind (other d.role) d.longest es ≡ how_many kind c.role c.longest es
   heard_many kind es = ap (λ (r : Role). how_many kind r d.longest es) joined.near_role ∙ ap (λ (n1 : ℕ). how_many kind c.role n1 es) (sym joined.longest)
 
-  -- who meets whom, as the far end has it
-  same_met : (p : Phase) (b : ℕ) (e : Entry) (met : List Meeting) → sessions.heard_by (end p b (λ n. fresh_peer)) (frame_of c.role c.longest e.octets) e (map turned met) ≡ map turned (heard_in d p b e met)
-  same_met p b e met =
-      ap (λ (x : Bool). heard x (number_in (frame_of c.role c.longest e.octets)) (record { near = e.session; far = b }) (map turned met)) (stands_in p)
-      ∙ ap (λ (x : Read). heard (is_up p) (number_in x) (record { near = e.session; far = b }) (map turned met)) (sym (here e.octets))
-      ∙ sym (turned_heard (is_up p) (number_in (hears_read d e.octets)) (record { near = b; far = e.session }) met)
+  abbrev ins : List Entry → List Letter
+  ins es = letters c.role c.longest es
 
-  comes : (e : Entry) (es : List Entry) (met : List Meeting) (p : Phase) (b : ℕ) (all : ℕ → Peer) (out : List Entry) (q : PeerEnd) → sessions.MayHear (end p b all) (frame_of c.role c.longest e.octets) q
-      → IsPeerOf (e ∷ es) met p b all out → IsReached ⊥ c (at es (heard_in d p b e met) q out)
-  comes e es met p b all out q may h =
-      rw (sym (same_met p b e met)) (goes_on _ _ h (sessions.Theirs _ (sessions.Hears e es q refl may)))
+  abbrev outs : List Entry → List Letter
+  outs es = letters (other c.role) c.longest es
 
-  sends : (es : List Entry) (met : List Meeting) (p q : PeerEnd) (out : List Entry) (octets : List ℕ) → sessions.MaySend ⊥ c (at es met p out) (sends_read d octets) q → IsReached ⊥ c (at es met p out)
-      → IsReached ⊥ c (at es met q (out ++ sessions.entry q octets ∷ []))
-  sends es met p q out octets may h = goes_on _ _ h (sessions.Theirs _ (sessions.Sends octets q (rw (sym (there octets)) may)))
+  -- who meets whom, as it hears the front
+  same_met : (p : Phase) (b : ℕ) (e : Entry) (met : List Meeting) → heard_in d p b e met ≡ ends.heard (stand_of p) b (letter e.session (said (frame_of c.role c.longest e.octets))) met
+  same_met p b e met = heard_said p b e.session (hears_read d e.octets) met ∙ ap (λ (r : Read). ends.heard (stand_of p) b (letter e.session (said r)) met) (here e.octets)
 
-  answers : (e : Entry) (es : List Entry) (met : List Meeting) (p q : PeerEnd) (out : List Entry) (octets : List ℕ) (f : Bool) → sends_read d octets ≡ Ok (ua f) → sessions.MayAnswer p (hears_read d e.octets) q
-      → IsReached ⊥ c (at (e ∷ es) met p out) → IsReached ⊥ c (at es met q (out ++ sessions.entry q octets ∷ []))
-  answers e es met p q out octets f read may h =
-      goes_on _ _ h (sessions.Theirs _ (sessions.Answers e es octets f q refl (sym (there octets) ∙ read) (rw (sym (here e.octets)) may)))
+  front : (e : Entry) (es : List Entry) (r : Read) → hears_read d e.octets ≡ r → ins (e ∷ es) ≡ letter e.session (said r) ∷ ins es
+  front e es r read = ap (λ (x : Read). letter e.session (said x) ∷ ins es) (sym (here e.octets) ∙ read)
+
+  abbrev view : List Letter → List Meeting → Phase → ℕ → (ℕ → Peer) → List Letter → Ends
+  view back met p b all out = record {
+    two = record { near = record { stand = stand_of p; begun = b }; far = record { stand = stand_of far.station.phase; begun = far.begun }; out = out; back = back; met = met };
+    near_of = all;
+    far_of = λ n. fresh_peer;
+  }
+
+  module _ (es fs : List Entry) {met now : List Meeting} (p q : Phase) {b m : ℕ} {all those : ℕ → Peer} (out : List Entry) where
+    goes : (more : List Entry) (left from : List Letter) → IsLeft es fs → Puts ⊥ c out more → ins fs ≡ left → outs more ≡ from → (AreOf far.begun (ins es) → Does (view (ins es) met p b all (outs out)) (view left now q m those from))
+        → IsPeerOf es met p b all out → IsPeerOf fs now q m those more
+    goes more left from less puts back there does h = goes_on _ _ h (Theirs (at fs now (end q m those) more) (record {
+      does = λ crossing. rw (twice_turned met, twice_turned now, back, there) (does crossing);
+      left = less;
+      puts = puts;
+    }))
+
+    -- it puts a frame on the line
+    sent : (n : ℕ) (octets : List ℕ) (f : PlainFrame) → sends_read d octets ≡ Ok f → IsLeft es fs → (AreOf far.begun (ins es) → Does (view (ins es) met p b all (outs out)) (view (ins fs) now q m those (outs out ++ letter n (said (Ok f)) ∷ [])))
+        → IsPeerOf es met p b all out → IsPeerOf fs now q m those (out ++ entry n octets ∷ [])
+    sent n octets f read less does h =
+        let is = sym (there octets) ∙ read in
+        goes (out ++ entry n octets ∷ []) (ins fs) (outs out ++ letter n (said (Ok f)) ∷ []) less (puts_frame n octets f is) refl (letters_push (other c.role) c.longest out n octets (Ok f) is) does h
+
+    -- or none
+    stays : IsLeft es fs → (AreOf far.begun (ins es) → Does (view (ins es) met p b all (outs out)) (view (ins fs) now q m those (outs out))) → IsPeerOf es met p b all out → IsPeerOf fs now q m those out
+    stays less does h = goes out (ins fs) (outs out) less nothing refl refl does h
+
+  passes : (e : Entry) (es : List Entry) (met : List Meeting) (p : Phase) (b : ℕ) (all : ℕ → Peer) (out : List Entry) → IsPeerOf (e ∷ es) met p b all out → IsPeerOf es (heard_in d p b e met) p b all out
+  passes e es met p b all out h = stays (e ∷ es) es p p out (without 0) (λ crossing. rw (same_met p b e met) (moves _ (hears _ (ins es) refl))) h
+
+  leaves_now : (es : List Entry) (met : List Meeting) (p : Phase) (b : ℕ) (all : ℕ → Peer) (out : List Entry) → IsPeerOf es met p b all out → IsPeerOf es met Down b all out
+  leaves_now es met p b all out h = stays es es p Down out untouched (λ crossing. moves _ leaves) h
 
   pub peer_may : MayDo d (λ es. Unit {0}) IsPeerOf
   peer_may = record {
-    handed = λ es met b all out packet h. goes_on _ _ h (sessions.HandsDown packet refl);
-    tells = λ es met b all out octets f q read number may h.
-        sends es met (end Up b all) (with_now q (end Up b all)) out octets
-        (sessions.numbered f q (ap number_in read ∙ number) refl (rw read may)) h;
-    declines = λ es met p b all out octets f read h. sends es met (end p b all) (end p b all) out octets (sessions.free (subst (λ r. IsFree ⊥ (said r)) (sym read) tt)) h;
+    handed = λ es met b all out packet h. goes_on _ _ h (HandsDown packet refl);
+    tells = λ es met b all out octets f q read number may h. sent es es Up Up out b octets f read untouched (λ crossing. tells_does (view (ins es) met Up b all (outs out)) f q refl number may) h;
+    declines = λ es met p b all out octets f read h. sent es es p p out b octets (dm f) read untouched (λ crossing. moves _ free) h;
     asks = λ es met p b all out octets pf read due clear h.
-        (let sabms = sent_many sabm_in out in let discs = sent_many disc_in out in let uas = heard_many ua_in es in let sabm = clear.sabm in let disc = clear.disc in let ua = clear.ua in
-        sends es met (end p b all) (stands Asking (end p b all)) out octets
-        (sessions.asks pf read (record { sabm = omega (arith, sabm, sabms); disc = omega (arith, disc, discs); ua = omega (arith, ua, uas) })) h);
-    closes = λ es met p b all out octets pf read h. sends es met (end p b all) (stands Out (end p b all)) out octets (sessions.closes pf read) h;
-    leaves = λ es met b all out h. goes_on _ _ h (sessions.Theirs _ sessions.Leaves);
-    gives_up = λ es met b all out due clear h. goes_on _ _ h (sessions.Theirs _ sessions.Leaves);
-    passes = λ e es met p b all out h. comes e es met p b all out (end p b all) sessions.passes_over h;
+        (let sabms = sent_many sabm_in out in let discs = sent_many disc_in out in let uas = heard_many ua_in es in let no_sabm = clear.sabm in let no_disc = clear.disc in let no_ua = clear.ua in
+        let sabm_letters = many_said (other c.role) c.longest sabm_of out in let disc_letters = many_said (other c.role) c.longest disc_of out in let ua_letters = many_said c.role c.longest ua_of es in
+        sent es es p Waiting out b octets (sabm pf) read untouched (λ crossing. moves _ (asks (record {
+          sabm = omega (arith, no_sabm, sabms, sabm_letters);
+          disc = omega (arith, no_disc, discs, disc_letters);
+          ua = omega (arith, no_ua, uas, ua_letters);
+          crossing = crossing;
+        }))) h);
+    closes = λ es met p b all out octets pf read h. sent es es p Closed out b octets (disc pf) read untouched (λ crossing. moves _ closes) h;
+    leaves = λ es met b all out h. leaves_now es met Up b all out h;
+    gives_up = λ es met b all out due clear h. leaves_now es met Waiting b all out h;
+    passes = passes;
     hears = λ e es met b all out q may h.
-        comes e es met Up b all out (with_now q (end Up b all)) (sessions.hears q refl (rw (sym (here e.octets)) may)) h;
-    takes_ua = λ e es met b all out read h. goes_on _ _ h (sessions.Theirs _ (sessions.Hears e es (begins (end Waiting b all)) refl (sessions.takes_ua refl (sym (here e.octets) ∙ read))));
-    takes_sabm = λ e es met p b all out octets pf f read sent part h.
-        answers e es met (end p b all) (begins (end p b all)) out octets f sent (sessions.takes_sabm pf read) h;
-    waits_on = λ e es met b all out octets pf f read sent h. answers e es met (end Waiting b all) (end Waiting b all) out octets f sent (sessions.waits_on pf read refl) h;
-    takes_disc = λ e es met b all out octets pf f read sent h.
-        goes_on _ _ (answers e es met (end Up b all) (end Up b all) out octets f sent (sessions.takes_disc pf read) h) (sessions.Theirs _ sessions.Leaves);
+        stays (e ∷ es) es Up Up out (without 0) (λ crossing. rw (same_met Up b e met) (listens _ (ins es) q refl refl (rw (sym (here e.octets)) may))) h;
+    takes_ua = λ e es met b all out read h. stays (e ∷ es) es Waiting Up out (without 0) (λ crossing. moves _ (takes_ua e.session (ins es) (front e es (Ok (ua true)) read) refl)) h;
+    takes_sabm = λ e es met p b all out octets pf f read answer part h.
+        sent (e ∷ es) es p Up out (suc b) octets (ua f) answer (without 0) (λ crossing. moves _ (takes_sabm e.session (ins es) (front e es (Ok (sabm pf)) read))) h;
+    waits_on = λ e es met b all out octets pf f read answer h.
+        sent (e ∷ es) es Waiting Waiting out b octets (ua f) answer (without 0) (λ crossing. moves _ (waits_on e.session (ins es) (front e es (Ok (sabm pf)) read) refl)) h;
+    takes_disc = λ e es met b all out octets pf f read answer h.
+        leaves_now es met Up b all (out ++ entry b octets ∷ [])
+        (sent (e ∷ es) es Up Up out b octets (ua f) answer (without 0) (λ crossing. moves _ (takes_disc e.session (ins es) (front e es (Ok (disc pf)) read))) h);
     faults = λ e es met b all out octets f why ending read h.
-        sends es (heard_in d Up b e met) (end Down b all) (end Down b all) out octets (sessions.free (subst (λ r. IsFree ⊥ (said r)) (sym read) tt))
-        (goes_on _ _ (comes e es met Up b all out (end Up b all) sessions.passes_over h) (sessions.Theirs _ sessions.Leaves));
-    loses = λ es met p b all out i h. goes_on _ _ h (sessions.Theirs _ (sessions.Loses i));
-    damages = λ es met p b all out i octets visible h. goes_on _ _ h (sessions.Theirs _ (sessions.Damages i octets visible));
+        sent es es Down Down out b octets (frmr f why) read untouched (λ crossing. moves _ free) (leaves_now es (heard_in d Up b e met) Up b all out (passes e es met Up b all out h));
+    loses = λ es met p b all out i h. goes es (remove es i) p p out out (remove (ins es) i) (outs out) (without i) nothing (letters_removed c.role c.longest es i) refl (λ crossing. moves _ (loses i)) h;
+    damages = λ es met p b all out i octets visible h.
+        goes es (replaced es i octets) p p out out (ends.spoilt (ins es) i) (outs out) (damaged i octets visible) nothing (letters_replaced c.role c.longest octets visible es i) refl (λ crossing. moves _ (damages i)) h;
   }
 
 -- ---- what the other end does
 
 -- an act looks at nothing of the other end
-alike_unless : (p : PeerEnd) (o : Option LinkError) (w v x y : Sessions) → with_peer p w ≡ with_peer p x → with_peer p v ≡ with_peer p y → with_peer p (unless o w v) ≡ with_peer p (unless o x y)
-alike_unless p (Some e) w v x y same done = same
-alike_unless p None w v x y same done = done
-
-alike_if : (p : PeerEnd) (b : Bool) (w v x y : Sessions) → with_peer p w ≡ with_peer p x → with_peer p v ≡ with_peer p y → with_peer p (if b then v else w) ≡ with_peer p (if b then y else x)
-alike_if p true w v x y same done = done
-alike_if p false w v x y same done = same
+abbrev SameBut : PeerEnd → Sessions → Sessions → Type 0
+SameBut p w v = with_peer p w ≡ with_peer p v
 
 alike_delivered : (c : Settings) (p : PeerEnd) (w : Sessions) (es : List Entry) → with_peer p (delivered c es w) ≡ with_peer p (delivered c es (both_ends (with_peer p w)))
 alike_delivered c p w [] = refl
@@ -121,16 +139,16 @@ alike_delivered c p w (e ∷ es) = refl
 pub alike : (c : Settings) (p : PeerEnd) (a : Act) (w : Sessions) → with_peer p (acts c a w) ≡ with_peer p (acts c a (both_ends (with_peer p w)))
 alike c p (Put packet) w =
     let x = both_ends (with_peer p w) in
-    alike_if p (nat_le (length packet) c.longest) w _ x _ refl
-    (alike_unless p (put_refusal w.near.station) w (after_step c w w.back w.met (packet ∷ []) (put_step c packet w.near.station)) x (after_step c x w.back w.met (packet ∷ []) (put_step c packet w.near.station)) refl refl)
+    if_both (SameBut p) (nat_le (length packet) c.longest) w _ x _ refl
+    (unless_both (SameBut p) (put_refusal w.near.station) w (after_step c w w.back w.met (packet ∷ []) (put_step c packet w.near.station)) x (after_step c x w.back w.met (packet ∷ []) (put_step c packet w.near.station)) refl refl)
 alike c p Deliver w = alike_delivered c p w w.back
-alike c p T1 w = alike_unless p (timer_refusal w.near.station) w _ (both_ends (with_peer p w)) _ refl refl
-alike c p Connect w = alike_unless p (connect_refusal w.near.station.phase) w _ (both_ends (with_peer p w)) _ refl refl
-alike c p Disconnect w = alike_unless p (disconnect_refusal w.near.station.phase) w _ (both_ends (with_peer p w)) _ refl refl
-alike c p Abandon w = alike_if p (is_up w.near.station.phase) w _ (both_ends (with_peer p w)) _ refl refl
-alike c p Probe w = alike_if p (is_up w.near.station.phase) w _ (both_ends (with_peer p w)) _ refl refl
+alike c p T1 w = unless_both (SameBut p) (timer_refusal w.near.station) w _ (both_ends (with_peer p w)) _ refl refl
+alike c p Connect w = unless_both (SameBut p) (connect_refusal w.near.station.phase) w _ (both_ends (with_peer p w)) _ refl refl
+alike c p Disconnect w = unless_both (SameBut p) (disconnect_refusal w.near.station.phase) w _ (both_ends (with_peer p w)) _ refl refl
+alike c p Abandon w = if_both (SameBut p) (is_up w.near.station.phase) w _ (both_ends (with_peer p w)) _ refl refl
+alike c p Probe w = if_both (SameBut p) (is_up w.near.station.phase) w _ (both_ends (with_peer p w)) _ refl refl
 alike c p (Lose i) w = refl
-alike c p (Damage i octets) w = alike_if p (is_visible octets) w _ (both_ends (with_peer p w)) _ refl refl
+alike c p (Damage i octets) w = if_both (SameBut p) (is_visible octets) w _ (both_ends (with_peer p w)) _ refl refl
 
 -- a station, with settings d, as a peer of the other end of these sessions
 abbrev pub SeenAt : (c d : Settings) → AreJoined c d → Sessions → Type 0
@@ -196,7 +214,7 @@ module _ (c d : Settings) (joined : AreJoined c d) (reads : ReadsSpelled) (rests
 
   -- the other end, which sees it as its peer, with what that has on the line
   other_owes : (w : Sessions) → S w → Owes w.far.station.phase (how_many sabm_in c.role c.longest w.back + how_many ua_in (other c.role) c.longest w.out) (how_many disc_in c.role c.longest w.back)
-  other_owes w h = (lines reads rests ⊥ c joined.near_high (at c d joined w.far w.back w.met (end c d joined w.far w.near.station.phase w.near.begun h.all) w.out) h.reached).owes
+  other_owes w h = owes_is reads rests ⊥ c joined.near_high (at c d joined w.far w.back w.met (end c d joined w.far w.near.station.phase w.near.begun h.all) w.out) h.reached
 
 -- ---- both ends
 

@@ -17,7 +17,7 @@ use Rattle.x25_line.proofs.{StationSends.{within_push}, StationSteps.{no_packet_
 use Rattle.x25_line.proofs.{sessions.SessionLines.{Read}, sessions.SessionHeld.{Owes}, sessions.SessionMay.{hears_read, IsClear, MayDo}}
 use Rattle.x25_line.proofs.sessions.SessionSeen.{Seen, build_quiet, stays_seen, reached_in, unchanged, changed}
 use Rattle.x25_line.proofs.sessions.SessionSeenActs.{put_none, put_asks, put_closes, sets_up_seen, up_seen, out_seen, answer_seen, waiting_seen}
-use Rattle.x25_line.proofs.sessions.Acts.{unless_by, if_by}
+use Rattle.x25_line.proofs.Choices.{unless_by, if_by}
 use Rattle.x25_link.specs.declared.error.LinkError.TheVariants as error
 use Rattle.x25_frame.specs.declared.error.FrameError.TheVariants.{Short}
 

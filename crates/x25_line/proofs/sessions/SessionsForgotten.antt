@@ -1,5 +1,5 @@
 -- With the sessions forgotten, two stations over sessions are the two stations by themselves.
-use Rattle.std.proofs.Common.{◌≡◌, ◌≤◌, ◌<◌, ℕ, zero, suc, List, [], ◌∷◌, ◌++◌, length, map, remove, Bool, true, false, if◌then◌else◌, Option, Some, None, refl, sym, ap, ◌∙◌, subst, arith, append-nil, append_assoc}
+use Rattle.std.proofs.Common.{◌≡◌, ◌≤◌, ◌<◌, ℕ, zero, suc, List, [], ◌∷◌, ◌++◌, length, map, remove, Bool, true, false, if◌then◌else◌, Option, refl, sym, ap, ◌∙◌, subst, arith, append-nil, append_assoc}
 use Rattle.std.specs.Prelude.{nat_le, option_to_list, ◌||◌}
 use Rattle.x25_frame.specs.Spelling.{spelling_of}
 use Rattle.x25_link.specs.{declared.error.LinkError.{LinkError}, Station.{Settings, LinkStation, is_up}, Hearing.{Step}}
@@ -7,7 +7,7 @@ use Rattle.x25_link.specs.Link.{take_step, put_step, put_refusal, timer_step, ti
 use Rattle.x25_line.specs.laws.Stations.{StationEnd, Stations, Act, Put, Deliver, T1, Connect, Disconnect, Abandon, Probe, Lose, Damage, Event, Near, Far, is_visible, start}
 use Rattle.x25_line.specs.laws.Sessions.{Entry, SessionEnd, Meeting, Sessions, extended, begun_by, after_step, unless, delivered, replaced, acts, swapped, happens, from_set_up, run}
 use Rattle.x25_line.specs.laws.SessionClaims.{octets_of, all_of, IsEndOf, SessionsAreStations, SetUpIsTheStart}
-use Rattle.x25_line.proofs.{sessions.SessionSteps.{end_after}, sessions.SessionLines.{octets_append, octets_sent}}
+use Rattle.x25_line.proofs.{Choices.{unless_both, if_both}, sessions.SessionSteps.{end_after}, sessions.SessionLines.{octets_append, octets_sent}}
 use Rattle.x25_line.proofs.sessions.SessionHeld.{extended_same, extended_other}
 use Rattle.x25_line.specs.laws.Stations as one
 
@@ -89,14 +89,6 @@ module _ (E F : SessionEnd → StationEnd → Type 0) (S : Type 0) (lasts : Last
     sent = λ s. ap (λ (fs : List _). fs ++ step.side.out) (h.sent s);
   }
 
-  unless_alike : (o : Option LinkError) (w y : Sessions) (v z : Stations) → A w v → A y z → A (unless o w y) (one.unless o v z)
-  unless_alike (Some e) w y v z h k = h
-  unless_alike None w y v z h k = k
-
-  if_alike : (b : Bool) (w y : Sessions) (v z : Stations) → A w v → A y z → A (if b then y else w) (if b then z else v)
-  if_alike true w y v z h k = k
-  if_alike false w y v z h k = h
-
   -- a step that takes nothing off the line
   own_alike : (c : Settings) (w : Sessions) (v : Stations) → A w v → (down : List (List ℕ)) (step : LinkStation → Step) → A (after_step c w w.back w.met down (step w.near.station)) (one.after_step c v v.back down (step v.near.station))
   own_alike c w v h down step =
@@ -104,12 +96,12 @@ module _ (E F : SessionEnd → StationEnd → Type 0) (S : Type 0) (lasts : Last
 
   -- where it isn't refused
   refused_alike : (c : Settings) (w : Sessions) (v : Stations) → A w v → (down : List (List ℕ)) (refusal : LinkStation → Option LinkError) (step : LinkStation → Step)
-      → A (unless (refusal w.near.station) w (after_step c w w.back w.met down (step w.near.station))) (one.unless (refusal v.near.station) v (one.after_step c v v.back down (step v.near.station)))
+      → A (unless (refusal w.near.station) w (after_step c w w.back w.met down (step w.near.station))) (unless (refusal v.near.station) v (one.after_step c v v.back down (step v.near.station)))
   refused_alike c w v h down refusal step =
       let next : Sessions = after_step c w w.back w.met down (step w.near.station) in
       let there : Stations = one.after_step c v v.back down (step v.near.station) in
-      subst (λ (t : LinkStation). A (unless (refusal w.near.station) w next) (one.unless (refusal t) v there)) (sym (lasts.station w.near v.near h.near))
-      (unless_alike (refusal w.near.station) w next v there h (own_alike c w v h down step))
+      subst (λ (t : LinkStation). A (unless (refusal w.near.station) w next) (unless (refusal t) v there)) (sym (lasts.station w.near v.near h.near))
+      (unless_both A (refusal w.near.station) w next v there h (own_alike c w v h down step))
 
   -- or where it is Up
   up_alike : (c : Settings) (w : Sessions) (v : Stations) → A w v → (step : LinkStation → Step)
@@ -118,7 +110,7 @@ module _ (E F : SessionEnd → StationEnd → Type 0) (S : Type 0) (lasts : Last
       let next : Sessions = after_step c w w.back w.met [] (step w.near.station) in
       let there : Stations = one.after_step c v v.back [] (step v.near.station) in
       subst (λ (t : LinkStation). A (if is_up w.near.station.phase then next else w) (if is_up t.phase then there else v)) (sym (lasts.station w.near v.near h.near))
-      (if_alike (is_up w.near.station.phase) w next v there h (own_alike c w v h [] step))
+      (if_both A (is_up w.near.station.phase) w next v there h (own_alike c w v h [] step))
 
   left_alike : (w : Sessions) (v : Stations) → A w v → (es : List Entry) (os : List (List ℕ)) → os ≡ octets_of es → A (record w { back = es }) (record v { back = os })
   left_alike w v h es os same = record { near = h.near; far = h.far; out = h.out; back = same; sent = h.sent }
@@ -129,7 +121,7 @@ module _ (E F : SessionEnd → StationEnd → Type 0) (S : Type 0) (lasts : Last
       rw (lasts.station w.near v.near h.near) (step_alike c w v h es _ [] (take_step c e.octets w.near.station))
 
   acts_alike : (c : Settings) (a : Act) (w : Sessions) (v : Stations) → A w v → A (acts c a w) (one.acts c a v)
-  acts_alike c (Put packet) w v h = if_alike (nat_le (length packet) c.longest) w _ v _ h (refused_alike c w v h (packet ∷ []) put_refusal (put_step c packet))
+  acts_alike c (Put packet) w v h = if_both A (nat_le (length packet) c.longest) w _ v _ h (refused_alike c w v h (packet ∷ []) put_refusal (put_step c packet))
   acts_alike c Deliver w v h = subst (λ (os : List (List ℕ)). A (delivered c w.back w) (one.delivered c os v)) (sym h.back) (deliver_alike c w v h w.back)
   acts_alike c T1 w v h = refused_alike c w v h [] timer_refusal (timer_step c)
   acts_alike c Connect w v h = refused_alike c w v h [] (λ s. connect_refusal s.phase) (connect_step c)
@@ -138,7 +130,7 @@ module _ (E F : SessionEnd → StationEnd → Type 0) (S : Type 0) (lasts : Last
   acts_alike c Probe w v h = up_alike c w v h (timer_step c)
   acts_alike c (Lose i) w v h = left_alike w v h (remove w.back i) (remove v.back i) (ap (λ (os : List (List ℕ)). remove os i) h.back ∙ octets_removed w.back i)
   acts_alike c (Damage i octets) w v h =
-      if_alike (is_visible octets) w (record w { back = replaced w.back i octets }) v (record v { back = one.replaced v.back i octets }) h
+      if_both A (is_visible octets) w (record w { back = replaced w.back i octets }) v (record v { back = one.replaced v.back i octets }) h
       (left_alike w v h (replaced w.back i octets) (one.replaced v.back i octets) (ap (λ (os : List (List ℕ)). one.replaced os i octets) h.back ∙ octets_replaced w.back i octets))
 
 -- ---- runs

@@ -7,11 +7,11 @@ use Rattle.x25_link.specs.{Station.{Settings, is_up}, Hearing.{other}, Link.{is_
 use Rattle.x25_line.specs.{laws.InWindow.{IsPrefix}, laws.StationClaims.{AreJoined, number_in}, laws.Said.{said, Odd}}
 use Rattle.x25_line.specs.laws.Sessions.{Entry, Meeting, Sessions, swapped, sabm_in, ua_in, disc_in, how_many, run}
 use Rattle.x25_line.specs.laws.SessionClaims.{Throughout, AllOf, Each, SomeMet, IsInOrder, MeetInStep, MetAreInOrder, UnmetHandNothingUp, OnlyBegunHaveLists, EachHearsLatest, EachMeetsLatest, IdleHasArrived}
-use Rattle.x25_line.specs.{laws.LawsBelow.{SessionLaws}, laws.PeerSessions.{PeerEnd, as_end, with_peer, AllAskedIn, IsReached}}
+use Rattle.x25_line.specs.{laws.LawsBelow.{SessionLaws}, laws.PeerSessions.{PeerEnd, as_end, with_peer, AllAskedIn, stand_of, letters, IsReached}}
 use Rattle.x25_line.specs.{laws.Ends.{letter, OfSabm, OfTells}, laws.PeerSessionClaims.{frmr_in}}
 use Rattle.x25_line.proofs.{sessions.SessionWith.{NoneOdd}, StationAway.{is_up_phase}, StationLines.{consed, IsOrderly}, sessions.SessionLines.{Read, numbers}}
-use Rattle.x25_line.proofs.{sessions.SessionHeld.{Owes, OnLine}, sessions.SessionMay.{stand_of}, sessions.Letters.{letters}}
-use Rattle.x25_line.proofs.sessions.PeerSessionRuns.{two, all_of, lines, up_in, step_is, order_is, unmet_is, idle_is, latest_is}
+use Rattle.x25_line.proofs.{sessions.SessionHeld.{Owes, OnLine}}
+use Rattle.x25_line.proofs.sessions.PeerSessionRuns.{two, all_of, lines, owes_is, up_in, step_is, order_is, unmet_is, idle_is, latest_is}
 use Rattle.x25_line.proofs.{sessions.SessionSeenRuns.{end, tags_there, Both, both_swapped, throughout_both}, ends.Meetings.{twice_turned, far_turned}}
 use Rattle.x25_line.proofs.{ends.Lines.{AllTold, Never, Of, AllTags, IsAsked, AllAsked}, ends.Sessions.{far_high}}
 
@@ -115,7 +115,7 @@ module _ (reads : ReadsSpelled) (rests : SessionLaws) where
     near_owes =
         let p = w.near.station.phase in
         subst (λ (n1 : ℕ). Owes p (how_many sabm_in (other d.role) n1 w.out + how_many ua_in (other c.role) c.longest w.back) (how_many disc_in (other d.role) n1 w.out)) far_joined.longest
-        (rw far_joined.near_role (lines reads rests ⊥ c far_joined.near_high (with_peer peer w) reached).owes)
+        (rw far_joined.near_role (owes_is reads rests ⊥ c far_joined.near_high (with_peer peer w) reached))
 
     quiet : (e : Entry) (es : List Entry) → w.back ≡ e ∷ es → sabm_in (frame_of (other c.role) c.longest e.octets) ≡ 1 → numbers (other c.role) c.longest es ≡ []
     quiet e es is one =
@@ -124,10 +124,10 @@ module _ (reads : ReadsSpelled) (rests : SessionLaws) where
 
     -- no FRMR is on the line from it, and nothing on that to it is answered by FRMR
     no_frmr : how_many frmr_in c.role c.longest w.out ≡ 0
-    no_frmr = (lines reads rests ⊥ c far_joined.near_high (with_peer peer w) reached).frmr (λ never. never)
+    no_frmr = (lines reads rests ⊥ c far_joined.near_high (with_peer peer w) reached).octets.frmr (λ never. never)
 
     none_odd : NoneOdd (other c.role) c.longest w.back
-    none_odd = (lines reads rests ⊥ c far_joined.near_high (with_peer peer w) reached).lapb (λ never. never)
+    none_odd = (lines reads rests ⊥ c far_joined.near_high (with_peer peer w) reached).octets.lapb (λ never. never)
 
     pub in_step : MeetInStep c d w
     in_step = step_is reads rests ⊥ c far_joined.near_high (with_peer peer w) reached
@@ -167,24 +167,6 @@ module _ (reads : ReadsSpelled) (rests : SessionLaws) where
   pub throughout_of : (Holds : Settings → Settings → Sessions → Type 0)
       → ((c d : Settings) (near_joined : AreJoined d c) (far_joined : AreJoined c d) (w : Sessions) → Both c d near_joined far_joined w → Holds c d w) → Throughout Holds
   throughout_of Holds holds c d joined begin is events timely = holds c d _ joined (run c d events begin) (throughout_both reads rests c d joined begin is events timely)
-
-  pub meet_in_step : Throughout MeetInStep
-  meet_in_step = throughout_of MeetInStep in_step
-
-  pub met_in_order : Throughout MetAreInOrder
-  met_in_order = throughout_of MetAreInOrder orders
-
-  pub unmet_nothing : Throughout UnmetHandNothingUp
-  unmet_nothing = throughout_of UnmetHandNothingUp unmet
-
-  pub only_begun : Throughout OnlyBegunHaveLists
-  only_begun = throughout_of OnlyBegunHaveLists begun
-
-  pub each_hears_latest : Throughout EachHearsLatest
-  each_hears_latest = throughout_of EachHearsLatest latest
-
-  pub each_meets_latest : Throughout EachMeetsLatest
-  each_meets_latest = throughout_of EachMeetsLatest agree
 
   pub idle_has_arrived : Throughout IdleHasArrived
   idle_has_arrived = throughout_of IdleHasArrived arrived

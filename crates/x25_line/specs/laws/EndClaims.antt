@@ -2,8 +2,8 @@
 use Rattle.std.specs.Prelude.{◌≡◌, ◌≤◌, ◌⊎◌, ℕ, List, [], ◌∷◌, length, Option}
 use Rattle.x25_window.specs.code.Modulo.{resolved}
 use Rattle.x25_line.specs.{laws.InWindow.{IsPrefix}, laws.Said.{Carried, Tells}, laws.Sessions.{Meeting}}
-use Rattle.x25_line.specs.{laws.SessionClaims.{Each, SomeMet, InStep}, laws.Peer.{Peer}, laws.PeerSessions.{In}}
-use Rattle.x25_line.specs.laws.Ends.{Letter, Ends, near_now, IsReached}
+use Rattle.x25_line.specs.{laws.SessionClaims.{Each, SomeMet, InStep}, laws.Peer.{Peer}}
+use Rattle.x25_line.specs.laws.Ends.{In, Letter, Ends, near_now, IsReached}
 
 abbrev pub OfAnyTwoEnds : (Ends → Type 0) → Type 0
 OfAnyTwoEnds Holds = (w : Ends) → IsReached w → Holds w

@@ -1,10 +1,16 @@
 -- Two ends of any kind, set up and set up again by either at any moment: the rules of docs/PEER.md, the same for both.
 -- A letter on the line is what the rules look at in a frame, and the session in which it was sent, which no end reads.
 -- Each move is of the near end, or of the line to it. The far end's moves are those of the two swapped.
-use Rattle.std.specs.Prelude.{◌≡◌, ◌+◌, ℕ, zero, suc, Bool, true, false, List, [], ◌∷◌, ◌++◌, map, remove, Option}
+use Rattle.std.specs.Prelude.{◌≡◌, ◌+◌, ◌==◌, ℕ, zero, suc, Bool, true, false, if◌then◌else◌, List, [], ◌∷◌, ◌++◌, map}
+use Rattle.std.specs.Prelude.{remove, Option}
 use Rattle.x25_line.specs.laws.Said.{Said, Carried, Tells, Sabm, Disc, Ua, Else, Odd, sabm_of, ua_of, disc_of}
 use Rattle.x25_line.specs.{laws.Sessions.{Meeting, turned}, laws.Peer.{Peer, fresh_peer, MaySay, MayMake}}
-use Rattle.x25_line.specs.laws.PeerSessions.{Stand, Out, Asking, In, put_for}
+
+-- An end is out of a session, or awaits the UA to its SABM, or is in a session.
+pub data Stand : Type 0 where
+  Out : Stand
+  Asking : Stand
+  In : Stand
 
 -- where an end stands, and how many sessions it began
 pub record Stander : Type 0 where
@@ -113,6 +119,9 @@ begins m = false
 
 -- ---- with what each end was handed down, sent and took in each session, by its number
 
+abbrev pub put_for : ℕ → Peer → (ℕ → Peer) → ℕ → Peer
+put_for session peer all n = if n == session then peer else all n
+
 pub record Ends : Type 0 where
   pub two : Two
   pub near_of : ℕ → Peer
@@ -131,9 +140,13 @@ abbrev pub fresh_where : Bool → ℕ → (ℕ → Peer) → ℕ → Peer
 fresh_where true session all = put_for (suc session) fresh_peer all
 fresh_where false session all = all
 
+-- the near end is handed down a packet
+abbrev pub with_packet : List ℕ → Ends → Ends
+with_packet packet w = record w {
+  near_of = with_near (record (near_now w) { given = (near_now w).given ++ packet ∷ [] }) w;
+}
+
 pub data Does (w : Ends) : Ends → Type 0 where
-  is_handed : (packet : List ℕ) → w.two.near.stand ≡ In
-      → Does w (record w { near_of = with_near (record (near_now w) { given = (near_now w).given ++ packet ∷ [] }) w })
   sends : (carried : Option Carried) (nr : ℕ) (q : Peer) → w.two.near.stand ≡ In
       → MaySay ⊥ (near_now w) (Tells carried nr) q
       → Does w (record w {
@@ -163,5 +176,8 @@ begin_at stand begun =
 pub data IsReached : Ends → Type 0 where
   at_start : IsReached (begin_at Out 0)
   set_up : IsReached (begin_at In 1)
+  near_handed : (w : Ends) (packet : List ℕ) → IsReached w → w.two.near.stand ≡ In → IsReached (with_packet packet w)
+  far_handed : (w : Ends) (packet : List ℕ) → IsReached w → w.two.far.stand ≡ In
+      → IsReached (ends_swapped (with_packet packet (ends_swapped w)))
   near_does : (w v : Ends) → IsReached w → Does w v → IsReached v
   far_does : (w v : Ends) → IsReached w → Does (ends_swapped w) v → IsReached (ends_swapped v)

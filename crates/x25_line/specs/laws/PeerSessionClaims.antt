@@ -3,7 +3,7 @@ use Rattle.std.specs.Prelude.{◌≡◌, ◌≤◌, ◌⊎◌, ℕ, true, Result
 use Rattle.x25_frame.specs.{Frame.{PlainFrame, frmr}, declared.error.FrameError.{FrameError}}
 use Rattle.x25_link.specs.{Station.{Settings, is_up}, Link.{is_idle}}
 use Rattle.x25_line.specs.{laws.Sessions.{Meeting, Sessions, how_many}, laws.SessionClaims.{Each, SomeMet}}
-use Rattle.x25_line.specs.laws.PeerSessions.{PeerSessions, IsReached, In, now, both_ends}
+use Rattle.x25_line.specs.{laws.PeerSessions.{PeerSessions, IsReached, In, now, both_ends, letters}, laws.Ends.{AreOf}}
 
 -- whatever happens, with any peer that keeps the rules of `Peer` and of set-up
 abbrev pub WithAnyPeer : (Settings → PeerSessions → Type 0) → Type 0
@@ -31,6 +31,10 @@ pub record EachMeetsLatest (c : Settings) (w : PeerSessions) : Type 0 where
   pub near : is_up w.near.station.phase ≡ true
       → Each (λ (m : Meeting). m.near ≡ w.near.begun → m.far ≡ w.peer.begun) w.met
   pub peer : w.peer.stand ≡ In → Each (λ (m : Meeting). m.far ≡ w.peer.begun → m.near ≡ w.near.begun) w.met
+
+-- no SABM of the station on the line is older than its present session
+abbrev pub AsksInLatest : Settings → PeerSessions → Type 0
+AsksInLatest c w = AreOf w.near.begun (letters c.role c.longest w.out)
 
 abbrev pub frmr_in : Result PlainFrame FrameError → ℕ
 frmr_in (Ok (frmr f why)) = 1

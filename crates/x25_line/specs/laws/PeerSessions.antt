@@ -1,25 +1,18 @@
 -- A station and a peer, set up and set up again at any moment by either end, over a line of octets that keeps order
 -- and may lose or visibly damage any frame (profile: the line). A session of an end begins as it comes to be set up:
--- the station's as it notes LinkUp, the peer's by its own rules, which stand here beside those of `Peer`. ITU-T X.25
--- (10/96), sections 2.4.4 and 2.4.8.1; docs/PEER.md has the rules in words.
-use Rattle.std.specs.Prelude.{◌≡◌, ◌⊎◌, ℕ, suc, ◌==◌, Bool, true, false, if◌then◌else◌, List, [], ◌∷◌, ◌++◌, remove}
-use Rattle.std.specs.Prelude.{Some, Result, Ok}
+-- the station's as it notes LinkUp, the peer's by the rules of `Ends`. ITU-T X.25 (10/96), sections 2.4.4 and 2.4.8.1;
+-- docs/PEER.md has the rules in words.
+use Rattle.std.specs.Prelude.{◌≡◌, ◌⊎◌, ℕ, suc, List, [], ◌∷◌, ◌++◌, map, remove, true}
 use Rattle.x25_bits.specs.declared.role.Role.{Role}
-use Rattle.x25_frame.specs.{Frame.{PlainFrame, sabm, disc, ua}, Reading.{frame_of}}
-use Rattle.x25_frame.specs.declared.error.FrameError.{FrameError}
-use Rattle.x25_link.specs.{declared.phase.Phase.TheVariants.{Down, Waiting}, Station.{Settings, with_nothing}}
-use Rattle.x25_link.specs.Hearing.{other}
-use Rattle.x25_line.specs.{laws.Stations.{Act, T1, is_visible}, laws.StationClaims.{number_in}}
-use Rattle.x25_line.specs.laws.Sessions.{Entry, SessionEnd, Meeting, Sessions, acts, heard, replaced, from_nothing}
-use Rattle.x25_line.specs.{laws.Sessions.{from_set_up, sabm_in, ua_in, disc_in, how_many}, laws.SessionClaims.{Each}}
-use Rattle.x25_line.specs.{laws.Peer.{Peer, fresh_peer}, laws.Said.{Said, Else, Odd as OddSaid, said}}
-use Rattle.x25_line.specs.laws.Peer as once
-
--- A peer is out of a session, or awaits the UA to its SABM, or is in a session.
-pub data Stand : Type 0 where
-  Out : Stand
-  Asking : Stand
-  In : Stand
+use Rattle.x25_frame.specs.Reading.{frame_of}
+use Rattle.x25_link.specs.{declared.phase.Phase.{Phase}, declared.phase.Phase.TheVariants.{Down, Waiting, Up}}
+use Rattle.x25_link.specs.{Station.{Settings, with_nothing}, Hearing.{other}}
+use Rattle.x25_line.specs.{laws.Stations.{Act, T1, is_visible}, laws.Said.{Odd as OddSaid, said}}
+use Rattle.x25_line.specs.laws.Peer.{Peer, fresh_peer}
+use Rattle.x25_line.specs.laws.Sessions.{Entry, SessionEnd, Meeting, Sessions, turned, acts, replaced, from_nothing}
+use Rattle.x25_line.specs.{laws.Sessions.{from_set_up, sabm_in, ua_in, how_many}, laws.SessionClaims.{Each}}
+use Rattle.x25_line.specs.laws.Ends.{Letter, letter, AreOf, Ends, Does, put_for}
+pub use Rattle.x25_line.specs.laws.Ends.{Stand, Out, Asking, In}
 
 -- where it stands, how many sessions it began, and what is known of it in each, by its number
 pub record PeerEnd : Type 0 where
@@ -27,17 +20,9 @@ pub record PeerEnd : Type 0 where
   pub begun : ℕ
   pub of_session : ℕ → Peer
 
-abbrev pub is_in : Stand → Bool
-is_in Out = false
-is_in Asking = false
-is_in In = true
-
 -- the latest session
 abbrev pub now : PeerEnd → Peer
 now p = p.of_session p.begun
-
-abbrev pub put_for : ℕ → Peer → (ℕ → Peer) → ℕ → Peer
-put_for session peer all n = if n == session then peer else all n
 
 abbrev pub with_now : Peer → PeerEnd → PeerEnd
 with_now peer p = record { stand = p.stand; begun = p.begun; of_session = put_for p.begun peer p.of_session }
@@ -45,9 +30,6 @@ with_now peer p = record { stand = p.stand; begun = p.begun; of_session = put_fo
 -- Begins: a session begins with all numbers 0 and all lists empty (section 2.4.4.1).
 abbrev pub begins : PeerEnd → PeerEnd
 begins p = record { stand = In; begun = suc p.begun; of_session = put_for (suc p.begun) fresh_peer p.of_session }
-
-abbrev pub stands : Stand → PeerEnd → PeerEnd
-stands stand p = record { stand = stand; begun = p.begun; of_session = p.of_session }
 
 -- The station; the peer; the line from the station and the line to it, front first; and who heard whom, the latest
 -- first, the station's sessions being the near ones.
@@ -73,46 +55,6 @@ both_ends w = record { near = w.near; far = as_end w.peer; out = w.out; back = w
 abbrev pub with_peer : PeerEnd → Sessions → PeerSessions
 with_peer p v = record { near = v.near; peer = p; out = v.out; back = v.back; met = v.met }
 
--- ---- the peer's rules of set-up
-
--- Patient: it sends SABM only where none of its own, no DISC of its own and no UA to it is on the line: its T1 is
--- longer than a command and the answer to it are (section 2.4.8.1).
-pub record IsPatient (c : Settings) (w : PeerSessions) : Type 0 where
-  pub sabm : how_many sabm_in (other c.role) c.longest w.back ≡ 0
-  pub disc : how_many disc_in (other c.role) c.longest w.back ≡ 0
-  pub ua : how_many ua_in c.role c.longest w.out ≡ 0
-
--- DM, FRMR, and octets that read as no frame. `Odd` is that of `Peer`: it holds where it may send what is answered by
--- FRMR.
-abbrev pub IsFree : Type 0 → Said → Type 0
-IsFree Odd Else = Unit {0}
-IsFree Odd OddSaid = Odd
-IsFree Odd other = ⊥
-
--- Octets that it may send unasked, by what they read as. In: those with an N(R) in a session alone, by the rules of
--- `Peer` (section 2.4.5). Leaves: it leaves its session as it sends SABM or DISC (sections 2.4.4.1 and 2.4.4.3).
-pub data MaySend (Odd : Type 0) (c : Settings) (w : PeerSessions) (read : Result PlainFrame FrameError)
-    : PeerEnd → Type 0 where
-  numbered : (frame : PlainFrame) (q : Peer) → number_in read ≡ Some frame → w.peer.stand ≡ In
-      → once.MaySend Odd (now w.peer) read q → MaySend Odd c w read (with_now q w.peer)
-  asks : (p : Bool) → read ≡ Ok (sabm p) → IsPatient c w → MaySend Odd c w read (stands Asking w.peer)
-  closes : (p : Bool) → read ≡ Ok (disc p) → MaySend Odd c w read (stands Out w.peer)
-  free : IsFree Odd (said read) → MaySend Odd c w read w.peer
-
--- Octets that come to it, by what they read as. It may pass over anything, hears and takes by the rules of `Peer` in a
--- session alone, and begins one where it takes the UA that it awaits.
-pub data MayHear (p : PeerEnd) (read : Result PlainFrame FrameError) : PeerEnd → Type 0 where
-  passes_over : MayHear p read p
-  hears : (q : Peer) → p.stand ≡ In → once.MayHear (now p) read q → MayHear p read (with_now q p)
-  takes_ua : p.stand ≡ Asking → read ≡ Ok (ua true) → MayHear p read (begins p)
-
--- Ua: it sends UA to SABM and DISC alone, as it takes it, and one to each. By SABM it begins a session, or waits on
--- where it awaits UA itself (section 2.4.4.5.1).
-pub data MayAnswer (p : PeerEnd) (read : Result PlainFrame FrameError) : PeerEnd → Type 0 where
-  takes_sabm : (pf : Bool) → read ≡ Ok (sabm pf) → MayAnswer p read (begins p)
-  waits_on : (pf : Bool) → read ≡ Ok (sabm pf) → p.stand ≡ Asking → MayAnswer p read p
-  takes_disc : (pf : Bool) → read ≡ Ok (disc pf) → MayAnswer p read p
-
 -- ---- timer T1 of the station while it awaits UA
 
 -- each SABM was sent in this session, or since it ended
@@ -133,36 +75,50 @@ IsTimely c act w = Unit {0}
 
 -- ---- events
 
-abbrev pub entry : PeerEnd → List ℕ → Entry
-entry p octets = record { session = p.begun; octets = octets }
+-- an end is out of a session that isn't Up, and awaits UA where it is Waiting
+abbrev pub stand_of : Phase → Stand
+stand_of Waiting = Asking
+stand_of Up = In
+stand_of phase = Out
 
--- what the peer hears in a session meets it
-abbrev pub heard_by : PeerEnd → Result PlainFrame FrameError → Entry → List Meeting → List Meeting
-heard_by p read e met = heard (is_in p.stand) (number_in read) (record { near = e.session; far = p.begun }) met
+-- what the rules look at in the octets on a line, from an end in this role
+abbrev pub letters : Role → ℕ → List Entry → List Letter
+letters from n1 [] = []
+letters from n1 (e ∷ es) = letter e.session (said (frame_of from n1 e.octets)) ∷ letters from n1 es
 
--- of the peer's link, and of the line to it
-pub data PeerHappens (Odd : Type 0) (c : Settings) (w : PeerSessions) : PeerSessions → Type 0 where
-  -- it leaves its session, or gives up, without a frame
-  Leaves : PeerHappens Odd c w (record w { peer = stands Out w.peer })
-  -- it sends octets unasked
-  Sends : (octets : List ℕ) (q : PeerEnd) → MaySend Odd c w (frame_of (other c.role) c.longest octets) q
-      → PeerHappens Odd c w (record w { peer = q; back = w.back ++ entry q octets ∷ [] })
-  -- the front octets come to it
-  Hears : (e : Entry) (rest : List Entry) (q : PeerEnd) → w.out ≡ e ∷ rest
-      → MayHear w.peer (frame_of c.role c.longest e.octets) q
-      → PeerHappens Odd c w (record w {
-        peer = q;
-        out = rest;
-        met = heard_by w.peer (frame_of c.role c.longest e.octets) e w.met;
-      })
-  -- it answers them by UA
-  Answers : (e : Entry) (rest : List Entry) (octets : List ℕ) (f : Bool) (q : PeerEnd) → w.out ≡ e ∷ rest
-      → frame_of (other c.role) c.longest octets ≡ Ok (ua f) → MayAnswer w.peer (frame_of c.role c.longest e.octets) q
-      → PeerHappens Odd c w (record w { peer = q; out = rest; back = w.back ++ entry q octets ∷ [] })
-  -- the octets at this place of the line to the peer are lost, or others come in their place
-  Loses : (place : ℕ) → PeerHappens Odd c w (record w { out = remove w.out place })
-  Damages : (place : ℕ) (octets : List ℕ) → is_visible octets ≡ true
-      → PeerHappens Odd c w (record w { out = replaced w.out place octets })
+-- As the peer sees it, whose end is the near one here. Of what the station was handed down and took nothing is known.
+abbrev pub seen_by_peer : Settings → PeerSessions → Ends
+seen_by_peer c w = record {
+  two = record {
+    near = record { stand = w.peer.stand; begun = w.peer.begun };
+    far = record { stand = stand_of w.near.station.phase; begun = w.near.begun };
+    out = letters (other c.role) c.longest w.back;
+    back = letters c.role c.longest w.out;
+    met = map turned w.met;
+  };
+  near_of = w.peer.of_session;
+  far_of = λ n. fresh_peer;
+}
+
+-- the line to it is as it was, or lacks the octets at one place, or has others there
+pub data IsLeft (es : List Entry) : List Entry → Type 0 where
+  untouched : IsLeft es es
+  without : (place : ℕ) → IsLeft es (remove es place)
+  damaged : (place : ℕ) (octets : List ℕ) → is_visible octets ≡ true → IsLeft es (replaced es place octets)
+
+-- It puts octets behind the line from it, or none. `Odd` holds where it may send what is answered by FRMR.
+pub data Puts (Odd : Type 0) (c : Settings) (es : List Entry) : List Entry → Type 0 where
+  nothing : Puts Odd c es es
+  put : (e : Entry) → (said (frame_of (other c.role) c.longest e.octets) ≡ OddSaid → Odd)
+      → Puts Odd c es (es ++ e ∷ [])
+
+-- The peer does what any end may, by the rules of `Ends`, or the line to it loses or visibly damages octets. An end
+-- that asks looks to the other's SABMs on the line: none of the station's is ever older than its present session.
+pub record PeerHappens (Odd : Type 0) (c : Settings) (w v : PeerSessions) : Type 0 where
+  pub does : AreOf w.near.begun (letters c.role c.longest w.out)
+      → Does (seen_by_peer c w) (seen_by_peer c (record v { near = w.near }))
+  pub left : IsLeft w.out v.out
+  pub puts : Puts Odd c w.back v.back
 
 pub data Happens (Odd : Type 0) (c : Settings) (w : PeerSessions) : PeerSessions → Type 0 where
   -- The station acts, by its definition: a packet is handed down, octets come, T1 runs out, connect, disconnect,
@@ -173,7 +129,7 @@ pub data Happens (Odd : Type 0) (c : Settings) (w : PeerSessions) : PeerSessions
       → Happens Odd c w (record w {
         peer = with_now (record (now w.peer) { given = (now w.peer).given ++ packet ∷ [] }) w.peer;
       })
-  Theirs : (v : PeerSessions) → PeerHappens Odd c w v → Happens Odd c w v
+  Theirs : (v : PeerSessions) → PeerHappens Odd c w v → Happens Odd c w (record v { near = w.near })
 
 -- nothing was set up yet, or both ends were just set up, each in its first session
 abbrev pub begin_with : Stand → Sessions → PeerSessions

@@ -6,13 +6,14 @@ use Rattle.std.specs.Prelude.{◌++◌, length, map, remove, Option, Some, None,
 use Rattle.x25_bits.specs.declared.role.Role.{Role}
 use Rattle.x25_frame.specs.{Frame.{PlainFrame}, Spelling.{spelling_of}, Reading.{frame_of}}
 use Rattle.x25_frame.specs.declared.error.FrameError.{FrameError}
-use Rattle.x25_link.specs.{declared.error.LinkError.{LinkError}, declared.phase.Phase.{Phase}}
+use Rattle.x25_link.specs.{declared.phase.Phase.{Phase}}
 use Rattle.x25_link.specs.declared.phase.Phase.TheVariants.{Down, Up, Waiting}
 use Rattle.x25_link.specs.{Station.{Settings, LinkStation, is_up, with_nothing}, Hearing.{Step, other}}
 use Rattle.x25_link.specs.Link.{take_step, put_step, put_refusal, timer_step, timer_refusal, connect_step}
 use Rattle.x25_link.specs.Link.{connect_refusal, disconnect_step, disconnect_refusal, abandon_step}
 use Rattle.x25_line.specs.laws.Stations.{Act, Put, Deliver, T1, Connect, Disconnect, Abandon, Probe, Lose, Damage}
 use Rattle.x25_line.specs.{laws.Stations.{Event, Near}, laws.Stations.{Far, is_visible}}
+pub use Rattle.x25_line.specs.laws.Stations.{unless}
 use Rattle.x25_line.specs.{laws.StationClaims.{number_in}, laws.Said.{said, sabm_of, ua_of, disc_of}}
 
 -- octets on the line, and the session in which they were sent
@@ -81,11 +82,6 @@ after_step c w back met down step =
       met = met;
       sent = w.sent ++ step.side.out;
     }
-
--- what is refused changes nothing
-abbrev pub unless : Option LinkError → Sessions → Sessions → Sessions
-unless (Some e) w done = w
-unless None w done = done
 
 -- a packet of at most N1 octets is handed down
 abbrev pub handed_down : Settings → List ℕ → Sessions → Sessions

@@ -8,7 +8,7 @@ use Rattle.x25_frame.specs.{Spelling.{information_of, IsInRange, MayCarry, IsWit
 use Rattle.x25_frame.specs.declared.error.FrameError.{FrameError}
 use Rattle.x25_window.specs.laws.Window.{End, fresh_end}
 use Rattle.x25_link.specs.{declared.phase.Reason.{Reason}, declared.phase.Reason.TheVariants.{Retries}}
-use Rattle.x25_link.specs.{OrderedLink.{no_packets}, Station.{Settings, is_up, lists_of}, Hearing.{other}}
+use Rattle.x25_link.specs.{Station.{Settings, is_up, lists_of, no_packets}, Hearing.{other}}
 use Rattle.x25_link.specs.{Link.{connect_refusal, is_idle}, laws.WindowMachine.{ShowAll}, laws.WindowLaw.{window_of}}
 use Rattle.x25_line.specs.laws.InWindow.{InWindow, IsPrefix}
 use Rattle.x25_line.specs.laws.Line.{Line, Move, AllowsMove, moved, swapped as line_swapped}

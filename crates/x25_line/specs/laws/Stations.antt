@@ -48,7 +48,7 @@ after_step c w back down step = record {
 }
 
 -- what is refused changes nothing
-abbrev pub unless : Option LinkError → Stations → Stations → Stations
+abbrev pub unless : {W : Type 0} → Option LinkError → W → W → W
 unless (Some e) w done = w
 unless None w done = done
 

@@ -13,9 +13,8 @@ use Rattle.x25_link.specs.declared.phase.Phase.TheVariants.{Down, Waiting, Up, C
 use Rattle.x25_link.specs.declared.phase.Reason.{Reason}
 use Rattle.x25_link.specs.declared.phase.Reason.TheVariants.{Disc, Dm, FrmrSent, FrmrGot, Retries, Counts, Local, Reset}
 use Rattle.x25_link.specs.declared.phase.Notes.{Notes}
-use Rattle.x25_link.specs.OrderedLink.{no_packets}
 use Rattle.x25_link.specs.Outgoing.{no_packet, waits}
-use Rattle.x25_link.specs.Station.{Settings, LinkStation, Side, lists_of, fresh, is_up, is_busy, with_near, sends, ready, send_next, may_send, pumped, owes_ready, ended}
+use Rattle.x25_link.specs.Station.{Settings, LinkStation, Side, lists_of, no_packets, fresh, is_up, is_busy, with_near, sends, ready, send_next, may_send, pumped, owes_ready, ended}
 use Rattle.x25_link.specs.Hearing.{Step, quiet, leaves, other, rejects, is_valid, acknowledged, is_taken, takes, answers, passes_over, reject_of, hears_info, peer_is, goes_back, polls, numbered, row_of_frame, row_of}
 use Rattle.x25_link.specs.Link.{alone, closed_by, hears, puts, connects, asks_again, fires, disconnects, when_down, when_waiting, relinks}
 use Rattle.x25_link.specs.laws.SetUp.{reset_from}

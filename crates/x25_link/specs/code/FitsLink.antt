@@ -5,9 +5,8 @@ use Rattle.x25_frame.specs.Spelling.{spelling_of}
 use Rattle.x25_link.specs.declared.error.LinkError.{LinkError}
 use Rattle.x25_link.specs.declared.heard.Heard.{Heard}
 use Rattle.x25_link.specs.declared.station.LinkStation.{LinkStation as StationCode}
-use Rattle.x25_link.specs.OrderedLink.{Lists}
 use Rattle.x25_link.specs.Outgoing.{waits}
-use Rattle.x25_link.specs.Station.{Settings, LinkStation, lists_of, is_up, may_send, owes_ready}
+use Rattle.x25_link.specs.Station.{Settings, LinkStation, Lists, lists_of, is_up, may_send, owes_ready}
 use Rattle.x25_link.specs.Hearing.{Step, acknowledges}
 use Rattle.x25_link.specs.Link.{RefusesOnly, put_step}
 use Rattle.x25_link.specs.code.Fits.{FitsStation}
@@ -52,7 +51,7 @@ pub record Does (old new : ShownLink) (result : Result Heard LinkError) (refusal
   pub refused : (c : Settings) (s : LinkStation) → FitsLink c old s → RefusesOnly (refusal s) result
   pub err : OnErr result (new ≡ old)
 
--- ---- a link as one that keeps order
+-- ---- a link in one value
 
 -- what it stands for: its settings, the station, and the frames that `swap_frames` will hand out
 pub record LinkState : Type 0 where

@@ -1,18 +1,20 @@
 -- What holds of each state that a link stands for: a packet is handed down behind all others, what is acknowledged is a
 -- beginning of what was handed down, and how many packets wait and stand unacknowledged.
-use Rattle.std.specs.Prelude.{◌≡◌, ℕ, zero, suc, ◌+◌, ◌≤◌, Bool, true, false, if◌then◌else◌, List, length, refl}
+use Rattle.std.specs.Prelude.{◌≡◌, ℕ, zero, suc, ◌+◌, ◌≤◌, Bool, true, false, if◌then◌else◌, refl}
+use Rattle.std.specs.Prelude.{List, [], ◌∷◌, ◌++◌, length}
 use Rattle.std.proofs.Common.{sym, ap, subst, ◌∙◌, arith}
 use Rattle.std.proofs.Math.Nat.{le_trans}
 use Rattle.std.proofs.lemmas.List.{length-take-le, length-drop}
 use Rattle.x25_link.specs.declared.phase.Phase.{Phase}
-use Rattle.x25_link.specs.OrderedLink.{Lists, handed_down}
-use Rattle.x25_link.specs.PlainLink.{ShownPlain, FitsPlain, unacknowledged}
 use Rattle.x25_link.specs.Outgoing.{added}
-use Rattle.x25_link.specs.Station.{Side, lists_of, is_up, with_near, is_busy, ready, send_next, may_send, pumped}
+use Rattle.x25_link.specs.Station.{Side, Lists, lists_of, is_up, with_near, is_busy, ready, send_next, may_send, pumped}
 use Rattle.x25_link.specs.Station.{owes_ready, ended}
 use Rattle.x25_link.specs.Link.{alone}
 use Rattle.x25_link.specs.code.FitsLink.{ShownLink, LinkState, FitsWhole, waiting_of, up_of, lists_in, waits_of, up_at}
 use Rattle.x25_link.specs.code.FitsLink.{after_put_to}
+
+abbrev pub handed_down : Lists → List ℕ → Lists
+handed_down x packet = record { given = x.given ++ packet ∷ []; acked = x.acked; taken = x.taken }
 
 by_if : (b : Bool) (u v : Side) (x : Lists) → lists_of u.near ≡ x → lists_of v.near ≡ x
     → (let w : Side = if b then u else v in lists_of w.near) ≡ x
@@ -72,13 +74,6 @@ pub ended_phase : (k : ℕ) (t : Side) → (ended k t).near.phase ≡ t.near.pha
 ended_phase k t = phase_if (owes_ready (pumped 7 k t).near) (ready false false (pumped 7 k t)) (pumped 7 k t) _
     (ready_phase (pumped 7 k t)) refl ∙ pumped_phase 7 k t
 
-pub put_stays_up : (x : LinkState) (packet : List ℕ) → up_at (after_put_to x packet) ≡ up_at x
-put_stays_up x packet = ap is_up (ended_phase x.settings.window
-    (with_near (alone x.station) (record x.station { outgoing = added packet x.station.outgoing })))
-
-pub link_few : (v : ShownLink) (x : LinkState) → FitsWhole v x → waits_of x ≤ 256
-link_few v x fits = subst (λ (n : ℕ). n ≤ 256) (link_waits v x fits) fits.link.near.outgoing.few
-
 pub link_close : (v : ShownLink) (x : LinkState) → FitsWhole v x
     → length (lists_in x).given ≤ (lists_in x).acked + waits_of x + 7
 link_close v x fits =
@@ -86,14 +81,3 @@ link_close v x fits =
     let outgoing = fits.link.near.outgoing in
     let sound = outgoing.sender.sound in
     omega (arith, sound.room, sound.window_high, outgoing.sent, length-take-le o.sent o.given outgoing.sent)
-
--- ---- a plain link
-
-pub plain_waits : (v : ShownPlain) (x : Lists) → FitsPlain v x → length v.queue ≡ unacknowledged x
-plain_waits v x fits = ap length fits.queue ∙ length-drop x.acked x.given
-
-pub plain_few : (v : ShownPlain) (x : Lists) → FitsPlain v x → unacknowledged x ≤ 256
-plain_few v x fits = subst (λ (n : ℕ). n ≤ 256) (plain_waits v x fits) fits.few
-
-pub plain_close : (v : ShownPlain) (x : Lists) → FitsPlain v x → length x.given ≤ x.acked + unacknowledged x + 7
-plain_close v x fits = omega (arith, fits.acked)

@@ -2,9 +2,8 @@
 use Rattle.std.specs.Prelude.{◌≡◌, ℕ, ◌≤◌, true, false, List, ◌++◌, Some, None, option_to_list}
 use Rattle.x25_link.specs.declared.phase.Phase.TheVariants.{Down, Up}
 use Rattle.x25_link.specs.declared.phase.Reason.{Reason}
-use Rattle.x25_link.specs.OrderedLink.{no_packets}
 use Rattle.x25_link.specs.Outgoing.{waits}
-use Rattle.x25_link.specs.Station.{Settings, LinkStation, lists_of, fresh, is_up}
+use Rattle.x25_link.specs.Station.{Settings, LinkStation, lists_of, no_packets, fresh, is_up}
 use Rattle.x25_link.specs.Hearing.{Step}
 use Rattle.x25_link.specs.Link.{take_step, put_step, timer_step, connect_step, disconnect_step, abandon_step}
 use Rattle.x25_link.specs.Link.{relink_step}

@@ -1,21 +1,22 @@
 -- What happens on the line and at the peer, beside a station over sessions.
-use Rattle.std.proofs.Common.{◌≡◌, ℕ, zero, suc, ◌==◌, ◌≤◌, ◌<◌, List, [], ◌∷◌, ◌++◌, length, drop, Bool, true, false, if◌then◌else◌, Ok, Result, refl, sym, ap, subst, ◌∙◌, append_assoc, append-nil, eq-eqb, arith}
+use Rattle.std.proofs.Common.{◌≡◌, ℕ, zero, suc, ◌==◌, ◌≤◌, ◌<◌, List, [], ◌∷◌, ◌++◌, map, length, drop, Bool, true, false, if◌then◌else◌, Ok, refl, sym, ap, subst, ◌∙◌, append_assoc, append-nil, eq-eqb, arith}
 use Rattle.std.proofs.{lemmas.Bool.{eqb-true}, lemmas.List.{drop-append-le}}
 use Rattle.std.specs.Prelude.{remove}
-use Rattle.x25_frame.specs.{Frame.{PlainFrame}, Reading.{frame_of}, declared.error.FrameError.{FrameError}}
 use Rattle.x25_packet.specs.{Packet.{PlainPacket}, Spelling.{channel_of, HasChannel}}
-use Rattle.x25_link.specs.{Station.{Settings as LinkSettings, LinkStation}, Hearing.{other}}
-use Rattle.x25_line.specs.{laws.Stations.{is_visible}, laws.StationClaims.{number_in}, laws.Sessions.{Entry, Meeting, Sessions, acts, replaced}}
+use Rattle.x25_link.specs.{Station.{Settings as LinkSettings, LinkStation}}
+use Rattle.x25_line.specs.{laws.Stations.{is_visible}, laws.Sessions.{Entry, Meeting, Sessions, turned, acts, replaced}}
 use Rattle.x25_line.specs.laws.Peer.{Peer, fresh_peer}
-use Rattle.x25_line.specs.laws.PeerSessions.{PeerEnd, PeerSessions, Out, In, is_in, now, with_now, begins, stands, entry, heard_by, MaySend, numbered, asks, closes, free, MayHear, passes_over, hears, takes_ua, MayAnswer, takes_sabm, waits_on, takes_disc, IsReached, goes_on, Ours, HandsDown, both_ends, with_peer}
+use Rattle.x25_line.specs.laws.PeerSessions.{PeerEnd, PeerSessions, now, with_now, begins, IsReached, goes_on, Ours, HandsDown, both_ends, with_peer}
+use Rattle.x25_line.specs.laws.Ends.{Stand, In, Letter, Two, meets, heard, Ends, near_now, fresh_where, begins as begins_by, Moves, hears, takes_ua, takes_sabm, Does, sends, listens, moves}
+use Rattle.x25_line.specs.{laws.Said.{Said, Tells}, laws.SessionClaims.{Each}}
 use Rattle.x25_handshakes.specs.{laws.Handshake.{Live}, laws.Layers.{On}}
 use Rattle.x25_handshakes.specs.laws.PeerLayer.{PeerChannels, LayerDeed, MayDoLayer, does_layer, layer_packet_of, layer_taking, ready_taking}
 use Rattle.x25_handshakes.specs.laws.PeerLayers.{other_role, AreElsewhere}
 use Rattle.x25_layer.specs.{laws.Bare.{bare, bare_layer, bare_layers}, laws.PeerJoined.{Joined, IsConfigured, Answers}}
-use Rattle.x25_station.specs.{Config.{Settings, link_settings, longest_packet}, laws.ReadLaw.{IsReachedByOctets}}
+use Rattle.x25_station.specs.{Config.{Settings, link_settings}, laws.ReadLaw.{IsReachedByOctets}}
 use Rattle.x25_peer.specs.laws.BesideSessions.{read_by, ReadAs}
 use Rattle.x25_peer.specs.laws.BesideSessions.{Theirs, BesideSessions, in_session, links_of, handed_down, their_now, their_layer, coming, layer_went, layer_heard}
-use Rattle.x25_peer.proofs.{ReadLemmas.{ReadFirst, read_append, ok_same, sent_same, heard_same}, sessions.Meetings.{CanMeet, could_meet}}
+use Rattle.x25_peer.proofs.{ReadLemmas.{ReadFirst, read_append, ok_same, said_same, made_more}, sessions.Meetings.{CanMeet}}
 use Rattle.x25_peer.proofs.sessions.SessionLinks.{links_with, LinkReached}
 use Rattle.x25_peer.proofs.sessions.Standing.{Below, in_other, both_cases, PairReached, IsRead, AreAnew, downs_of, ups_of, Stands, way, taken_begins, up_few}
 use Rattle.x25_line.specs.laws.Stations as line
@@ -76,32 +77,45 @@ begins_goes p anew = record {
     taken m true is = (let none : length (p.of_session m).taken ≡ 0 = ap (λ (i : ℕ). length (p.of_session i).taken) (eqb-true m (suc p.begun) is) ∙ ap length next.1 in omega (arith, none))
     taken m false is = omega (arith)
 
-sends_goes : (c : LinkSettings) (w : PeerSessions) (r : Result PlainFrame FrameError) (q : PeerEnd) → AreAnew w.peer → MaySend (Unit {0}) c w r q → GoesTo w.peer q
-sends_goes c w r q anew (numbered frame x is stand may) =
-    (let same = sent_same (now w.peer) x r may in
-    let long : length x.taken ≡ length (now w.peer).taken = ap length same.1 in
-    with_now_goes w.peer x anew same.0 (omega (arith, long)))
-sends_goes c w r q anew (asks p is patient) = record { given = λ m. refl; taken = λ m. omega (arith); anew = anew }
-sends_goes c w r q anew (closes p is) = record { given = λ m. refl; taken = λ m. omega (arith); anew = anew }
-sends_goes c w r q anew (free may) = stays_peer w.peer anew
+-- a peer that is an end here
+abbrev end_of : Ends → PeerEnd
+end_of w = record { stand = w.two.near.stand; begun = w.two.near.begun; of_session = w.near_of }
 
-hears_goes : (p : PeerEnd) (r : Result PlainFrame FrameError) (q : PeerEnd) → AreAnew p → MayHear p r q → GoesTo p q
-hears_goes p r q anew passes_over = stays_peer p anew
-hears_goes p r q anew (hears x stand may) = (let same = heard_same (now p) x r may in with_now_goes p x anew same.given same.taken)
-hears_goes p r q anew (takes_ua asking is) = begins_goes p anew
+moves_goes : (w : Ends) (v : Two) (m : Moves w.two v) → AreAnew (end_of w) → GoesTo (end_of w) (record { stand = v.near.stand; begun = v.near.begun; of_session = fresh_where (begins_by m) w.two.near.begun w.near_of })
+moves_goes w v (takes_ua s rest is asking) anew = begins_goes (end_of w) anew
+moves_goes w v (takes_sabm s rest is) anew = begins_goes (end_of w) anew
+moves_goes w v m anew = record { given = λ m. refl; taken = λ m. omega (arith); anew = anew }
 
-answers_goes : (p : PeerEnd) (r : Result PlainFrame FrameError) (q : PeerEnd) → AreAnew p → MayAnswer p r q → GoesTo p q
-answers_goes p r q anew (takes_sabm pf is) = begins_goes p anew
-answers_goes p r q anew (waits_on pf is asking) = stays_peer p anew
-answers_goes p r q anew (takes_disc pf is) = stays_peer p anew
+does_goes : (w v : Ends) → AreAnew (end_of w) → Does w v → GoesTo (end_of w) (end_of v)
+does_goes w v anew (sends carried nr x on may) =
+    (let same = said_same (near_now w) x (Tells carried nr) may in
+    let long : length x.taken ≡ length (near_now w).taken = ap length same.1 in
+    with_now_goes (end_of w) x anew same.0 (omega (arith, long)))
+does_goes w v anew (listens e rest x is on may) = (let same = made_more (near_now w) x e.said may in with_now_goes (end_of w) x anew same.given same.taken)
+does_goes w v anew (moves u m) = moves_goes w u m anew
 
--- what the station was handed down and handed up is nothing to the peer
-may_send : (c : LinkSettings) (link : LinkStation) (begun : ℕ) (down up down₂ up₂ : ℕ → List (List ℕ)) (peer : PeerEnd) (out back : List Entry) (met : List Meeting) (r : Result PlainFrame FrameError) (q : PeerEnd)
-    → MaySend (Unit {0}) c (links_with link begun down up peer out back met) r q → MaySend (Unit {0}) c (links_with link begun down₂ up₂ peer out back met) r q
-may_send c link begun down up down₂ up₂ peer out back met r q (numbered frame x is stand may) = numbered frame x is stand may
-may_send c link begun down up down₂ up₂ peer out back met r q (asks p is patient) = asks p is (record { sabm = patient.sabm; disc = patient.disc; ua = patient.ua })
-may_send c link begun down up down₂ up₂ peer out back met r q (closes p is) = closes p is
-may_send c link begun down up down₂ up₂ peer out back met r q (free may) = free may
+-- what held of all who met held before
+heard_less : (P : Meeting → Type 0) (s : Stand) (b : ℕ) (e : Letter) (met : List Meeting) → Each P (heard s b e met) → Each P met
+heard_less P In b e met h = by e.said h
+  where
+    by : (s : Said) → Each P (meets s (record { near = b; far = e.session }) met) → Each P met
+    by (Tells carried nr) h = h.1
+    by s h = h
+heard_less P s b e met h = h
+
+met_less : (P : Meeting → Type 0) (w v : Ends) → Does w v → Each P v.two.met → Each P w.two.met
+met_less P w v (sends carried nr x on may) h = h
+met_less P w v (listens e rest x is on may) h = heard_less P w.two.near.stand w.two.near.begun e w.two.met h
+met_less P w v (moves u (hears e rest is)) h = heard_less P w.two.near.stand w.two.near.begun e w.two.met h
+met_less P w v (moves u m) h = h
+
+each_turned : (P : Meeting → Type 0) (met : List Meeting) → Each P met → Each (λ (m : Meeting). P (turned m)) (map turned met)
+each_turned P [] h = tt
+each_turned P (m ∷ met) h = (h.0, each_turned P met h.1)
+
+turned_back : (P : Meeting → Type 0) (met : List Meeting) → Each (λ (m : Meeting). P (turned m)) (map turned met) → Each P met
+turned_back P [] h = tt
+turned_back P (m ∷ met) h = (h.0, turned_back P met h.1)
 
 -- ---- what it is read as
 
@@ -220,24 +234,10 @@ module _ (below : Below) (c : Settings) (low : 1 ≤ c.window) (high : c.window 
 
   -- of the peer's link, and of the line to it
   pub theirs : (v : PeerSessions) → peers.PeerHappens (Unit {0}) (link_settings c) (links_of w) v → Stands c (record w { peer = v.peer; out = v.out; back = v.back; met = v.met })
-  theirs v (peers.Loses place) = relinked w.peer (remove w.out place) w.back w.met (stays_peer w.peer h.anew) as_it_met (link_goes w.peer (remove w.out place) w.back w.met (peers.Theirs _ (peers.Loses place)))
-  theirs v (peers.Damages place octets visible) =
-      relinked w.peer (replaced w.out place octets) w.back w.met (stays_peer w.peer h.anew) as_it_met (link_goes w.peer (replaced w.out place octets) w.back w.met (peers.Theirs _ (peers.Damages place octets visible)))
-  theirs v peers.Leaves =
-      relinked (stands Out w.peer) w.out w.back w.met (record { given = λ m. refl; taken = λ m. omega (arith); anew = h.anew }) as_it_met (link_goes (stands Out w.peer) w.out w.back w.met (peers.Theirs _ peers.Leaves))
-  theirs v (peers.Sends octets q may) =
-      let r = frame_of (other c.role) longest_packet octets in
-      relinked q w.out (w.back ++ entry q octets ∷ []) w.met (sends_goes (link_settings c) (links_of w) r q h.anew may) as_it_met
-      (link_goes q w.out (w.back ++ entry q octets ∷ []) w.met
-      (peers.Theirs _ (peers.Sends octets q (may_send (link_settings c) w.near.link w.begun (links_of w).near.down (links_of w).near.up h.link.downs h.link.ups w.peer w.out w.back w.met r q may))))
-  theirs v (peers.Hears e rest q front may) =
-      let r = frame_of c.role longest_packet e.octets in
-      relinked q rest w.back (heard_by w.peer r e w.met) (hears_goes w.peer r q h.anew may)
-      (λ n m can. could_meet n m (is_in w.peer.stand) (number_in r) (record { near = e.session; far = w.peer.begun }) w.met can)
-      (link_goes q rest w.back (heard_by w.peer r e w.met) (peers.Theirs _ (peers.Hears e rest q front may)))
-  theirs v (peers.Answers e rest octets f q front is may) =
-      relinked q rest (w.back ++ entry q octets ∷ []) w.met (answers_goes w.peer (frame_of c.role longest_packet e.octets) q h.anew may) as_it_met
-      (link_goes q rest (w.back ++ entry q octets ∷ []) w.met (peers.Theirs _ (peers.Answers e rest octets f q front is may)))
+  theirs v k =
+      let m = k.does (below.asks (link_settings c) low high links h.link.reached) in
+      relinked v.peer v.out v.back v.met (does_goes _ _ h.anew m) (λ n s can. turned_back _ w.met (met_less _ _ _ m (each_turned _ v.met can)))
+      (link_goes v.peer v.out v.back v.met (peers.Theirs (links_with w.near.link w.begun h.link.downs h.link.ups v.peer v.out v.back v.met) (record { does = k.does; left = k.left; puts = k.puts })))
 
   -- ---- its packet layer
 

@@ -8,7 +8,7 @@ use Rattle.x25_link.specs.laws.NoteLaw.{TakeTells, TakeHandsUp, TimerTells, PutT
 use Rattle.x25_link.specs.laws.SetUp.{RelinkIsTwoSteps}
 use Rattle.x25_line.specs.{laws.InWindow.{IsPrefix}, laws.Peer.{Peer}, laws.Sessions.{Entry, Meeting, extended}}
 use Rattle.x25_line.specs.{laws.SessionClaims.{MeetInStep, MetAreInOrder, UnmetHandNothingUp, IsInOrder}, laws.PeerSessions.{PeerEnd, PeerSessions, as_end}}
-use Rattle.x25_line.specs.laws.PeerSessionClaims.{WithAnyPeer, OfBothEnds, EachMeetsLatest, IdleHasArrived}
+use Rattle.x25_line.specs.laws.PeerSessionClaims.{WithAnyPeer, OfBothEnds, EachMeetsLatest, IdleHasArrived, AsksInLatest}
 use Rattle.x25_layer.specs.{Layer.{Layer, goes_up}, laws.TwoLayers.{End, started}}
 use Rattle.x25_station.specs.{Config.{Settings, link_settings, layer_settings}, Entry.{layer_entries, layer_notices}}
 use Rattle.x25_station.specs.laws.GivenLaw.{GivenIsJoined, GivenIsRead}
@@ -26,6 +26,7 @@ pub record Below : Type 0 where
   pub unmet : WithAnyPeer (OfBothEnds UnmetHandNothingUp)
   pub agree : WithAnyPeer EachMeetsLatest
   pub idle : WithAnyPeer IdleHasArrived
+  pub asks : WithAnyPeer AsksInLatest
   pub readable : PutsBesidePeersAreReadable
   pub request : RequestIsJoined
   pub given : GivenIsJoined

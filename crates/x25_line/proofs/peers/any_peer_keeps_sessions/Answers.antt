@@ -1,14 +1,16 @@
-use Rattle.x25_line.proofs.sessions.PeerSessionRuns.{meet_in_step, met_in_order, unmet_nothing, meets_latest, idle_arrived, sends_no_frmr}
+use Rattle.x25_line.proofs.{sessions.PeerSessionRuns.{h, lines, step_is, order_is, unmet_is, latest_is, idle_is}, sessions.Letters.{asked_letters}}
 use Rattle.x25_line.proofs.peers.any_peer_keeps_sessions.Goals as goal
 
 pub returns : goal.returns
 returns c =
-    let below = c.laws_below.ensures in
+    let reads = c.laws_below.ensures.reads in
+    let rests = c.laws_below.ensures.healing.sessions in
     record {
-      step = meet_in_step below.reads below.healing.sessions;
-      order = met_in_order below.reads below.healing.sessions;
-      unmet = unmet_nothing below.reads below.healing.sessions;
-      agree = meets_latest below.reads below.healing.sessions;
-      idle = idle_arrived below.reads below.healing.sessions;
-      no_frmr = sends_no_frmr below.reads below.healing.sessions;
+      step = λ s low high w r. step_is reads rests (Unit {0}) s high w r;
+      order = λ s low high w r. order_is reads rests (Unit {0}) s high w r;
+      unmet = λ s low high w r. unmet_is reads rests (Unit {0}) s high w r;
+      agree = λ s low high w r. latest_is reads rests (Unit {0}) s high w r;
+      idle = λ s low high w r. idle_is reads rests (Unit {0}) s high w r;
+      no_frmr = λ s low high w r. (lines reads rests ⊥ s high w r).octets.frmr (λ never. never);
+      asks = λ s low high w r. asked_letters s.role s.longest w.near.begun w.out (h reads rests (Unit {0}) s high w r).tags;
     }

@@ -9,6 +9,7 @@ known c = record {
   unmet = c.any_peer_keeps_sessions.ensures.unmet;
   agree = c.any_peer_keeps_sessions.ensures.agree;
   idle = c.any_peer_keeps_sessions.ensures.idle;
+  asks = c.any_peer_keeps_sessions.ensures.asks;
   readable = c.puts_beside_peers_are_readable.ensures;
   request = c.steps_are_joined.ensures.request;
   given = c.steps_are_joined.ensures.given;
