@@ -8,8 +8,8 @@ goes once more later, or one that is left out. Of each copy the rules of order o
 numbers. Of the link they are rules 1 to 3 and 5, and that numbers go one by one when they go for the first time (2.4.5.1), from each set-up
 on to the next unnumbered frame: SABM and UA, but for a SABM whose sender has got UA to another one and has sent neither DISC nor a frame
 with a number since. Of packets they are rules 15 and 17, from each CALL and its CALL ACCEPTED on to the next packet of the channel that is
-neither DATA, RR nor RNR, nor RESTART. An end is told of where no run of an end that keeps them explains its frames, whatever came or was
-lost.
+neither DATA, RR nor RNR, or of channel 0, where octets that spell no packet may be of any channel. An end is told of where no run of an end
+that keeps them explains its frames, whatever came or was lost.
 
 A break is missed where `judge` tells no rule up to that frame; where a number goes before those in front of it, manners do too. An end is
 accused where `judge` tells one of these rules of it, and it broke none up to there, whatever the other end broke.
@@ -24,7 +24,7 @@ from typing import NamedTuple
 
 import judge_runs
 import runs
-from runs import ACCEPTED, CALL, DISC, OTHERS, RESTART, RESTART_CONFIRMATION, RNR, RR, SABM, UA
+from runs import ACCEPTED, CALL, DISC, OTHERS, RNR, RR, SABM, UA
 
 from x25tools import losses  # where runs finds it
 from x25tools.x25lines import fcs
@@ -148,10 +148,10 @@ class Calls:
     def passes(self, frame):
         """A packet goes for the first time: the rule that is broken, if any, and whether it is told of here."""
         kind = frame.kind()
-        if kind is None or kind in (RESTART, RESTART_CONFIRMATION):
+        channel = frame.channel() if kind is not None else 0
+        if channel == 0:
             self.__init__()
             return None, False
-        channel = frame.channel()
         if frame.has_pr() and channel in self.calls:
             rule = self.calls[channel].passes(frame)
             if rule:

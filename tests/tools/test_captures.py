@@ -280,6 +280,17 @@ class XotStreams(unittest.TestCase):
         segments = (True, 0, b"", 2), (True, 1, self.call[:9]), (True, 5000, b"", 2), (True, 5001, self.call), (False, 1, self.accept)
         self.assertEqual(self.read(segments), (self.expected, {"packet broken off at the end of its connection": 1}))
 
+    def test_a_new_connection_on_the_same_ports_has_its_own_number(self):
+        """Its SYN comes twice, and of a third one the answer to it alone was captured."""
+        first = [(True, 0, b"", 2), (False, 0, b"", 18, 1998, 1), (True, 1, self.call), (False, 1, self.accept)]
+        second = [(True, 5000, b"", 2), (True, 5000, b"", 2), (False, 700, b"", 18, 1998, 5001), (True, 5001, self.call), (False, 701, self.accept)]
+        third = [(False, 20, b"", 18, 1998, 9001), (True, 9001, self.call)]
+        records = [(0, 0, samples.ethernet(samples.ipv4(to_server, samples.tcp(to_server, *rest)))) for to_server, *rest in first + second + third]
+        done = support.run("pcap2x25.py", "--list", given=samples.pcap(records, link_type=1))
+        ends = "XOT 10.0.0.1:40000 > 10.0.0.2:1998"
+        rows = [f"{number}\t{ends}\t{counts}" for number, counts in ((1, "> 1\t< 1"), (2, "> 1\t< 1"), (3, "> 1\t< 0"))]
+        self.assertEqual((done.stdout.decode().splitlines(), done.stderr), (rows, b""))
+
 
 class LocalNetworks(ToolCase):
     """lapbether and LLC."""

@@ -189,7 +189,7 @@ class Converter:
                 self._add("lapbether", self._lapbether.name(), is_of_dte, frame)
         elif kind == lan.COOKED_LLC and octets[:1] == bytes([lan.X25_ACCESS_POINT]):
             for name, is_of_dte, packet in self._llc.take(source, target, octets, is_cut):
-                self._add_packet(name, is_of_dte, packet)
+                self._add_packet(name, name, is_of_dte, packet)
         else:
             self.passed["frame of LLC with another access point" if kind == lan.COOKED_LLC else f"frame of the type {kind:04x}"] += 1
 
@@ -240,7 +240,7 @@ class Converter:
         """Adds the packets that came by streams of XOT."""
         for stream, packets in streams:
             for packet in packets:
-                self._add_packet(stream.name, stream.is_of_dte, packet)
+                self._add_packet(f"{stream.name} {stream.opened}", stream.name, stream.is_of_dte, packet)
 
     def _add_gaps(self, dropped: int) -> None:
         """Frames aren't there that the program which captured has dropped, of whichever connections; the numbers of TCP and LLC show where theirs are
@@ -251,12 +251,12 @@ class Converter:
                 for is_of_dte in True, False:
                     self._add(key, key, is_of_dte, None)
 
-    def _add_packet(self, name: str, is_of_dte: bool, packet: bytes | None) -> None:
+    def _add_packet(self, key: str, name: str, is_of_dte: bool, packet: bytes | None) -> None:
         """Adds the packet of a connection without frames of LAPB; None is a gap."""
         if packet is not None and len(packet) > x25lines.MOST_INFORMATION:
             self.notes["packet that is longer than a frame may be"] += 1
             packet = None
-        self._add(name, name, is_of_dte, packet, True)
+        self._add(key, name, is_of_dte, packet, True)
 
     def _add(self, key: str, name: str, is_of_dte: bool, octets: bytes | None, is_made_up: bool = False) -> None:
         """Adds a frame of the connection with a key, or a packet, which is put into the next I frame of its direction; None is a gap, where there

@@ -46,16 +46,16 @@ class Stream:
     """One direction of a connection, between two ends: puts segments in order, and cuts what comes into packets.
 
     The DTE is the end that opened the connection to the port of XOT. Where a capture begins within a connection, and after a gap, the first segment
-    that begins with a packet is the first that is read.
+    that begins with a packet is the first that is read. `opened` is the number of the SYN that opened the connection, where it was seen.
     """
 
-    def __init__(self, ends: Ends, port: int, notes: Counter[str]) -> None:
+    def __init__(self, ends: Ends, port: int, opened: int | None, notes: Counter[str]) -> None:
         source, target = ends[::2], ends[1::2]
         self.is_of_dte = target[1] == port
         client, server = (source, target) if self.is_of_dte else (target, source)
         self.name = f"XOT {_end(client)} > {_end(server)}"
+        self.opened = opened
         self._notes = notes
-        self._start: int | None = None
         self._next: int | None = None
         self._ahead: dict[int, bytes] = {}
         self._held = b""
@@ -63,13 +63,12 @@ class Stream:
 
     def take(self, sequence: int, flags: int, octets: bytes) -> list[bytes | None]:
         """Takes the octets of a segment, which stand there in the stream; answers the X.25 packets that are whole now, and None where some are
-        missing, or a connection begins anew."""
+        missing."""
         packets: list[bytes | None] = []
         if flags & SYN:
-            if sequence != self._start:
-                packets += [*self.end(), None]
-                self._begin(sequence)
             sequence = (sequence + 1) % SEQUENCES
+            if self._next is None:
+                self._next, self._is_in_step = sequence, True
         if octets:
             if self._next is None:
                 self._next = sequence
@@ -99,12 +98,6 @@ class Stream:
             self._notes["packet broken off at the end of its connection"] += 1
             self._held = b""
         return packets
-
-    def _begin(self, sequence: int) -> None:
-        """Begins a connection, whose first octet stands after the number of its SYN."""
-        self._start = sequence
-        self._next = (sequence + 1) % SEQUENCES
-        self._is_lost, self._is_in_step = False, True
 
     def _distance(self, sequence: int) -> int:
         """How far behind the octet that is wanted next a number stands; below 0, before it."""
@@ -180,7 +173,7 @@ def is_like_xot(octets: bytes) -> bool:
 
 
 class Xot:
-    """All connections of a capture to and from one port, each known by its two ends.
+    """All connections of a capture to and from one port, each known by its two ends and the number of the SYN that opened it.
 
     `notes` counts what was left out, by why, and `passed` what was no part of it.
     """
@@ -211,15 +204,22 @@ class Xot:
             return []
         if missing > 0:
             self._notes["segment that was captured in part"] += 1
-        stream, closed = self._streams.get(ends), []
+        back_ends = ends[1], ends[0], ends[3], ends[2]
+        opened = (wanted - 1 if flags & ACK else sequence) % SEQUENCES if flags & SYN else None
+        ended = self._reopen(ends, back_ends, opened) if flags & SYN else []
+        stream, back, closed = self._streams.get(ends), self._streams.get(back_ends), []
         if stream is None:
-            stream = self._streams[ends] = Stream(ends, self._port, self._notes)
+            stream = self._streams[ends] = Stream(ends, self._port, back.opened if back else opened, self._notes)
             if len(self._streams) > MOST_STREAMS:
                 closed = self._close(next(iter(self._streams)))
         # What its sender took of the other way came before this.
-        back = self._streams.get((ends[1], ends[0], ends[3], ends[2])) if flags & ACK else None
-        taken = [(back, back.taken(wanted))] if back else []
-        return [*taken, (stream, stream.take(sequence, flags, octets)), *closed]
+        taken = [(back, back.taken(wanted))] if back and flags & ACK else []
+        return [*ended, *taken, (stream, stream.take(sequence, flags, octets)), *closed]
+
+    def _reopen(self, ends: Ends, back_ends: Ends, opened: int | None) -> list[tuple[Stream, list[bytes | None]]]:
+        """Ends the connection of these ends where a SYN opens another one; answers what it still holds."""
+        of_another = [it for it in (ends, back_ends) if it in self._streams and self._streams[it].opened != opened]
+        return [closed for it in of_another for closed in self._close(it)]
 
     def _tell(self, fragments: list[ip.Carried]) -> None:
         """Notes the fragments that hold some of what one end sent the other, or of a segment to or from the port."""

@@ -1,5 +1,5 @@
 -- What is given beside a packet doesn't change what the packet is.
-use Rattle.std.proofs.Common.{ℕ, zero, suc, ◌+◌, ◌<◌, ◌≤◌, ◌≡◌, ◌∙◌, Bool, true, false, List, [], ◌∷◌, ◌++◌, length, get_or, refl, ap, ap₂, sym, subst, arith, Option, Some, None, Result, Ok, Err, All, length-append}
+use Rattle.std.proofs.Common.{ℕ, zero, suc, ◌+◌, ◌≤◌, ◌≡◌, ◌∙◌, Bool, true, false, List, [], ◌∷◌, ◌++◌, length, get_or, refl, ap, ap₂, sym, subst, arith, Option, Some, None, Result, Ok, length-append}
 use Rattle.std.specs.Prelude.{cond, ◌&&◌, ◌||◌, nat_eq, nat_le, nat_lt}
 use Rattle.std.proofs.lemmas.Bool.{and_from, le-leb}
 use Rattle.std.proofs.lemmas.Option.{same_Some}
@@ -7,7 +7,6 @@ use Rattle.x25_packet.proofs.AddressLaws.{called_again, calling_again, length-pa
 use Rattle.x25_packet.specs.Digits.{IsAddress, halves_of, hold_digits}
 use Rattle.x25_packet.specs.Facilities as strict_field
 use Rattle.x25_packet.specs.Packet as strict
-use Rattle.x25_packet.specs.Reading.{packet_of}
 use Rattle.x25_packet.specs.Spelling as strict_spelling
 use Rattle.x25_packet.specs.declared.error.PacketError.{PacketError}
 use Rattle.x25_packet.specs.declared.facilities.Directions.{Directions}
@@ -17,8 +16,6 @@ use Rattle.x25_packet.specs.Narrowing.{field_said, narrow_of, narrowed, taken_of
 use Rattle.x25_packet.specs.WidePacket.{PlainWide, call, accept, extended_clear}
 use Rattle.x25_packet.specs.WidePacket.Spelling.{spelling_of, may_have, IsPacket}
 use Rattle.x25_packet.specs.WideReading.{wide_of}
-use Rattle.x25_packet.specs.Taking.{taken_in, or_taken}
-use Rattle.x25_packet.specs.laws.NarrowLaw.{ReadsAlike}
 use Rattle.x25_packet.specs.laws.TakingLaw.{TakesWhatIsSpelled}
 use Rattle.x25_packet.specs.declared.wide_packet.Forms.TheVariants.{Any}
 use Rattle.x25_packet.proofs.AgainLaws.{only_found}
@@ -223,7 +220,7 @@ call_taken most channel b called calling field user within is on a c f short may
         kind = (
           record {
             addresses = record { called = omega arith; calling = omega arith; size = length-pairs called calling; halves = packed_holds called calling a c };
-            fields = record { facilities = still.whole; few = omega (arith, sum, field_few, more_few); short = short };
+            fields = record { facilities = still.whole; few = omega (arith, sum, field_few, more_few); short = omega (arith, short) };
           },
           may,
         );
@@ -273,30 +270,21 @@ clear_taken most channel cause diagnostic b is on =
       taken = refl;
     }
 
--- ---- octets that are a packet in the form that a station writes too are the same packet
-
-either : (most : ℕ) (v : strict.PlainPacket) (octets : List ℕ) → ReadsAlike → most ≤ 128 → All (λ octet. octet < 256) octets → taken_of (wide_of most octets) ≡ Ok v → taken_in most octets ≡ Ok v
-either most v octets alike within small wide = by (packet_of most octets) refl
-  where
-    by : (r : Result strict.PlainPacket PacketError) → packet_of most octets ≡ r → or_taken r (taken_of (wide_of most octets)) ≡ Ok v
-    by (Ok u) e = sym (alike most u octets within small e) ∙ wide
-    by (Err e) same = wide
-
-pub written_is_read : TakesWhatIsSpelled → ReadsAlike → WrittenIsRead
-written_is_read spelled alike b most (strict.call channel called calling field user) within allowed h may small =
-    either most _ _ alike within small (taken_as most b _ (call_taken most channel b called calling field user within (given_when b allowed) h.0 h.1 h.2 h.3 h.4 may))
-written_is_read spelled alike b most (strict.accept channel field) within allowed h may small = either most _ _ alike within small (taken_as most b _ (accept_taken most channel b field (given_when b allowed) h.0 h.1))
-written_is_read spelled alike b most (strict.clear channel cause diagnostic) within allowed h may small = either most _ _ alike within small (taken_as most b _ (clear_taken most channel cause diagnostic b (given_when b allowed) h))
-written_is_read spelled alike b most (strict.clear_conf channel) within allowed h may small = spelled most _ within small h
-written_is_read spelled alike b most (strict.user_data channel q m ps pr user) within allowed h may small = spelled most _ within small h
-written_is_read spelled alike b most (strict.rr channel pr) within allowed h may small = spelled most _ within small h
-written_is_read spelled alike b most (strict.rnr channel pr) within allowed h may small = spelled most _ within small h
-written_is_read spelled alike b most (strict.interrupt channel user) within allowed h may small = spelled most _ within small h
-written_is_read spelled alike b most (strict.interrupt_conf channel) within allowed h may small = spelled most _ within small h
-written_is_read spelled alike b most (strict.reset channel cause diagnostic) within allowed h may small = spelled most _ within small h
-written_is_read spelled alike b most (strict.reset_conf channel) within allowed h may small = spelled most _ within small h
-written_is_read spelled alike b most (strict.restart cause diagnostic) within allowed h may small = spelled most _ within small h
-written_is_read spelled alike b most strict.restart_conf within allowed h may small = spelled most _ within small h
+pub written_is_read : TakesWhatIsSpelled → WrittenIsRead
+written_is_read spelled b most (strict.call channel called calling field user) within allowed h may small =
+    taken_as most b _ (call_taken most channel b called calling field user within (given_when b allowed) h.0 h.1 h.2 h.3 h.4 may)
+written_is_read spelled b most (strict.accept channel field) within allowed h may small = taken_as most b _ (accept_taken most channel b field (given_when b allowed) h.0 h.1)
+written_is_read spelled b most (strict.clear channel cause diagnostic) within allowed h may small = taken_as most b _ (clear_taken most channel cause diagnostic b (given_when b allowed) h)
+written_is_read spelled b most (strict.clear_conf channel) within allowed h may small = spelled most _ within small h
+written_is_read spelled b most (strict.user_data channel q m ps pr user) within allowed h may small = spelled most _ within small h
+written_is_read spelled b most (strict.rr channel pr) within allowed h may small = spelled most _ within small h
+written_is_read spelled b most (strict.rnr channel pr) within allowed h may small = spelled most _ within small h
+written_is_read spelled b most (strict.interrupt channel user) within allowed h may small = spelled most _ within small h
+written_is_read spelled b most (strict.interrupt_conf channel) within allowed h may small = spelled most _ within small h
+written_is_read spelled b most (strict.reset channel cause diagnostic) within allowed h may small = spelled most _ within small h
+written_is_read spelled b most (strict.reset_conf channel) within allowed h may small = spelled most _ within small h
+written_is_read spelled b most (strict.restart cause diagnostic) within allowed h may small = spelled most _ within small h
+written_is_read spelled b most strict.restart_conf within allowed h may small = spelled most _ within small h
 
 -- ---- and read in the form in which it was written
 

@@ -1,6 +1,6 @@
 -- What is spelled as a packet is read so.
 use Rattle.std.proofs.Common.{ℕ, ◌+◌, ◌*◌, ◌/◌, ◌%◌, ◌<◌, ◌≤◌, ◌≡◌, ◌∙◌, Bool, true, false, List, [], ◌∷◌, ◌++◌, length, take, drop, refl, ap, inl, inr, arith, nat_eq, nat_lt, Option, Some, None, Ok, length-append}
-use Rattle.std.specs.Prelude.{nat_le, ◌||◌}
+use Rattle.std.specs.Prelude.{max, nat_le, ◌||◌}
 use Rattle.std.proofs.lemmas.Bool.{le-leb, le-ltb, ne_eqb}
 use Rattle.std.proofs.lemmas.List.{take_at, drop_at}
 use Rattle.x25_bits.specs.Bits.{bit}
@@ -75,7 +75,7 @@ short_again most (Some f) (inr fast) = rw fast (always (nat_le (length f.user) m
 
 call_again : (forms : Forms) (a : Bool) (most : ℕ) (b : PlainBlock) → IsCall forms a most b → call_of forms a most (block_octets a b) ≡ Ok (call b)
 call_again Written a most b h = ap (mapped call) (block_again Written a most b h)
-call_again Any a most b h = ap (called most) (block_again Any a 128 b h.0) ∙ rw (short_again most b.fields h.1) refl
+call_again Any a most b h = ap (called most) (block_again Any a (max most 128) b h.0) ∙ rw (short_again most b.fields h.1) refl
 
 -- an ACCEPT that a station writes
 answer_again : (b : PlainBlock) → b.called ≡ 0 → b.calling ≡ 0 → IsBlock Written false 0 b → HasFacilities b.fields → written_answer (block_octets false b) ≡ Ok tt

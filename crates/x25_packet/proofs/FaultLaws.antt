@@ -29,7 +29,8 @@ use Rattle.x25_packet.specs.WideReading.{when, mapped, field_read, fields_of, wi
 use Rattle.x25_packet.proofs.AgainLaws.{bit_lt}
 use Rattle.x25_packet.proofs.FieldLaws.{no_field as none_is_field}
 use Rattle.x25_packet.proofs.FoundLaws.{AreSmall, bit_eq, field_read_found, is_true}
-use Rattle.x25_packet.proofs.NarrowLaws.{error_read, no_d}
+use Rattle.x25_packet.proofs.NarrowLaws.{error_read}
+use Rattle.x25_packet.proofs.WiderLaws.{no_d}
 use Rattle.x25_packet.proofs.FacilityLaws.{chosen}
 use Rattle.x25_packet.proofs.FacilityFaults.{err_ok, err_same, facilities_fault}
 

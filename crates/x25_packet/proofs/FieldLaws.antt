@@ -1,6 +1,8 @@
 -- The facility field that a station writes is facilities of all classes, is short, and says itself.
-use Rattle.std.proofs.Common.{ℕ, ◌≤◌, ◌≡◌, List, [], ◌∷◌, ◌++◌, length, refl, subst, sym, arith, Option, Some, None, Ok}
+use Rattle.std.proofs.Common.{ℕ, ◌≤◌, ◌≡◌, ◌∙◌, false, List, [], ◌∷◌, ◌++◌, length, refl, ap, subst, sym, arith, Option, Some, None, Ok}
 use Rattle.x25_packet.specs.declared.facilities.Directions.{Directions}
+use Rattle.x25_packet.specs.declared.facilities.Facilities.{Facilities}
+use Rattle.x25_packet.specs.declared.wide_facilities.Own.{Own}
 use Rattle.x25_packet.specs.Facilities as strict_field
 use Rattle.x25_packet.specs.Narrowing.{field_said}
 use Rattle.x25_packet.specs.WideFacilities.{class_b, none_own, own_in, IsFacilityField}
@@ -10,6 +12,19 @@ pub record SaysItself (field : List ℕ) : Type 0 where
   pub whole : IsFacilityField field
   pub few : length field ≤ 6
   pub said : field_said (own_in none_own 0 field) ≡ Ok field
+
+-- what it asks for
+says_own : (sizes windows : Option Directions)
+    → (let own : Own = record { fast_select = false; packet_size = sizes; window_size = windows } in own ≡ own_in none_own 0 (strict_field.facility 66 sizes ++ strict_field.facility 67 windows))
+unfolding own_in
+says_own None None = refl
+says_own (Some s) None = refl
+says_own None (Some w) = refl
+says_own (Some s) (Some w) = refl
+
+pub own_written : (field : List ℕ) (facilities : Facilities) → field ≡ strict_field.field_of facilities
+    → (let own : Own = record { fast_select = false; packet_size = facilities.packet_size; window_size = facilities.window_size } in own ≡ own_in none_own 0 field)
+own_written field facilities e = says_own facilities.packet_size facilities.window_size ∙ ap (own_in none_own 0) (sym e)
 
 says : (sizes windows : Option Directions) → strict_field.IfGiven sizes (strict_field.AreWithin 4 12) → strict_field.IfGiven windows (strict_field.AreWithin 1 7)
     → SaysItself (strict_field.facility 66 sizes ++ strict_field.facility 67 windows)

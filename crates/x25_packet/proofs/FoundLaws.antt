@@ -1,6 +1,6 @@
 -- What is read as a packet is spelled so.
 use Rattle.std.proofs.Common.{ℕ, zero, suc, ◌+◌, ◌*◌, ◌/◌, ◌%◌, ◌<◌, ◌≤◌, ◌≡◌, ◌≢◌, ◌∙◌, Bool, true, false, not, List, [], ◌∷◌, ◌++◌, length, get_or, take, drop, refl, ap, sym, subst, inl, inr, arith, nat_eq, nat_lt, Option, Some, None, Result, Ok, Err}
-use Rattle.std.specs.Prelude.{cond, nat_le, ◌||◌}
+use Rattle.std.specs.Prelude.{cond, max, nat_le, ◌||◌}
 use Rattle.std.proofs.lemmas.Bool.{and_parts, leb-true, ltb-false, eqb-true, eqb-false}
 use Rattle.std.proofs.lemmas.List.{take-append-drop, length-take-le}
 use Rattle.x25_packet.specs.declared.error.PacketError.{PacketError}
@@ -11,8 +11,7 @@ use Rattle.x25_packet.specs.declared.wide_packet.Forms.TheVariants.{Written, Any
 use Rattle.x25_packet.specs.Block.{PlainFields, PlainBlock, fields_octets, block_octets, optional_octets, bound_of, hold_addresses, IsField, MayBeFields, IsBlock, MayBeBlock}
 use Rattle.x25_packet.specs.Facilities.{facilities_of}
 use Rattle.x25_packet.specs.WideFacilities.{are_facilities, asks_fast_select}
-use Rattle.x25_packet.specs.Narrowing.{HasAddresses}
-use Rattle.x25_packet.specs.WidePacket.{registration, registration_conf, PlainKind, PlainWide, call, accept, clear, extended_clear, clear_conf, user_data, rr, rnr, rej, interrupt, interrupt_conf, reset, reset_conf, restart, restart_conf, diagnostic}
+use Rattle.x25_packet.specs.WidePacket.{registration, registration_conf, PlainKind, PlainWide, call, accept, extended_clear, clear_conf, rr, rnr, rej, interrupt_conf, reset, reset_conf, restart, restart_conf}
 use Rattle.x25_packet.specs.WidePacket.Spelling.{type_of, body_of, reason_octets, may_have, HasFacilities, HasPlace, IsAnswer, IsShort, IsKind, MayLack, Spells}
 use Rattle.x25_packet.specs.WideReading.{when, mapped, is_over, field_read, fields_of, with_addresses, addressed, block_of, optional_block, bare, is_short, called, call_of, written_answer, accept_of, reason_of, caused, clear_of, clear_conf_of, interrupt_of, data_of, diagnostic_of, registered, rej_of, others, unchannelled, named, channelled, kind_of, has_format, with_head, read_of}
 use Rattle.x25_packet.proofs.FacilityLaws.{chosen, ok_err, ok_same, facilities_found}
@@ -20,11 +19,11 @@ use Rattle.x25_packet.proofs.FieldLaws.{field_few}
 use Rattle.x25_packet.proofs.FacilityLemmas.{field_found}
 
 -- no error by a test
-passed : {A : Type 0} (b : Bool) (e : PacketError) (r : Result A PacketError) (v : A) → cond b (Err e) r ≡ Ok v → (b ≡ false) × (r ≡ Ok v)
+pub passed : {A : Type 0} (b : Bool) (e : PacketError) (r : Result A PacketError) (v : A) → cond b (Err e) r ≡ Ok v → (b ≡ false) × (r ≡ Ok v)
 passed true e r v h = absurd (ok_err h)
 passed false e r v h = (refl, h)
 
-kept : {A : Type 0} (b : Bool) (r : Result A PacketError) (e : PacketError) (v : A) → cond b r (Err e) ≡ Ok v → (b ≡ true) × (r ≡ Ok v)
+pub kept : {A : Type 0} (b : Bool) (r : Result A PacketError) (e : PacketError) (v : A) → cond b r (Err e) ≡ Ok v → (b ≡ true) × (r ≡ Ok v)
 kept true r e v h = (refl, h)
 kept false r e v h = absurd (ok_err h)
 
@@ -32,7 +31,7 @@ pub is_true : (b : Bool) → not b ≡ false → b ≡ true
 is_true true h = refl
 is_true false h = let bad : true ≡ false = h in cc
 
-mapped_found : {A B : Type 0} (f : A → B) (r : Result A PacketError) (v : B) → mapped f r ≡ Ok v → (w : A) × (r ≡ Ok w) × (f w ≡ v)
+pub mapped_found : {A B : Type 0} (f : A → B) (r : Result A PacketError) (v : B) → mapped f r ≡ Ok v → (w : A) × (r ≡ Ok w) × (f w ≡ v)
 mapped_found f (Ok w) v e = (w, refl, ok_same e)
 mapped_found f (Err x) v e = absurd (ok_err e)
 
@@ -45,7 +44,7 @@ front a b xs ys h k = cc
 abbrev pub AreSmall : List ℕ → Type 0
 AreSmall octets = (i : ℕ) → get_or octets i 0 < 256
 
-when_found : {A : Type 0} (r : Result (Unit {0}) PacketError) (next : Result A PacketError) (v : A) → when r next ≡ Ok v → (r ≡ Ok tt) × (next ≡ Ok v)
+pub when_found : {A : Type 0} (r : Result (Unit {0}) PacketError) (next : Result A PacketError) (v : A) → when r next ≡ Ok v → (r ≡ Ok tt) × (next ≡ Ok v)
 when_found (Ok tt) next v e = (refl, e)
 when_found (Err x) next v e = absurd (ok_err e)
 
@@ -87,7 +86,7 @@ pub record BlockFound (forms : Forms) (a : Bool) (most : ℕ) (octets : List ℕ
   pub is_block : IsBlock forms a most b
   pub spelled : octets ≡ block_octets a b
 
-with_addresses_found : (called calling : ℕ) (addresses : List ℕ) (r : Result (Option PlainFields) PacketError) (b : PlainBlock) → with_addresses called calling addresses r ≡ Ok b
+pub with_addresses_found : (called calling : ℕ) (addresses : List ℕ) (r : Result (Option PlainFields) PacketError) (b : PlainBlock) → with_addresses called calling addresses r ≡ Ok b
     → (f : Option PlainFields) × (r ≡ Ok f) × ((let w : PlainBlock = record { called = called; calling = calling; addresses = addresses; fields = f } in w) ≡ b)
 with_addresses_found called calling addresses (Ok f) b e = (f, refl, ok_same e)
 with_addresses_found called calling addresses (Err x) b e = absurd (ok_err e)
@@ -195,9 +194,9 @@ call_found Written a most channel body k on small e =
     let parts = mapped_found call (block_of Written a most body) k e in
     let found = block_found Written a most body parts.0 small parts.1 in
     subst (Found Written a most channel 11 body) parts.2 (record { is_kind = found.is_block; place = on; type_is = refl; body_is = found.spelled })
-call_found Any a most channel body k on small e = go (block_of Any a 128 body) (λ b. block_found Any a 128 body b small) e
+call_found Any a most channel body k on small e = go (block_of Any a (max most 128) body) (λ b. block_found Any a (max most 128) body b small) e
   where
-    go : (r : Result PlainBlock PacketError) → ((b : PlainBlock) → r ≡ Ok b → BlockFound Any a 128 body b) → called most r ≡ Ok k → Found Any a most channel 11 body k
+    go : (r : Result PlainBlock PacketError) → ((b : PlainBlock) → r ≡ Ok b → BlockFound Any a (max most 128) body b) → called most r ≡ Ok k → Found Any a most channel 11 body k
     go (Err x) f e = absurd (ok_err e)
     go (Ok b) f e =
         let short = kept (is_short most b.fields) _ _ k e in
@@ -423,25 +422,3 @@ found_spells forms most (first ∷ second ∷ kind ∷ body) w small e =
       };
       spelling = front _ _ _ _ (rw (q, d) (omega (arith, few, less, modulo))) (front _ _ _ _ (omega (arith, few, less)) (front _ _ _ _ (sym found.type_is) found.body_is));
     })
-
--- the addresses of a packet are addresses
-pub has_addresses : (forms : Forms) (a : Bool) (most : ℕ) (k : PlainKind) → IsKind forms a most k → HasAddresses a k
-has_addresses Written a most (call block) h = h.addresses
-has_addresses Any a most (call block) h = h.0.addresses
-has_addresses forms a most (accept block) h = tt
-has_addresses forms a most (clear cause reason) h = tt
-has_addresses forms a most (extended_clear cause reason block) h = tt
-has_addresses forms a most (clear_conf block) h = tt
-has_addresses forms a most (user_data m ps pr user) h = tt
-has_addresses forms a most (rr pr) h = tt
-has_addresses forms a most (rnr pr) h = tt
-has_addresses forms a most (rej pr) h = tt
-has_addresses forms a most (interrupt user) h = tt
-has_addresses forms a most interrupt_conf h = tt
-has_addresses forms a most (reset cause reason) h = tt
-has_addresses forms a most reset_conf h = tt
-has_addresses forms a most (restart cause reason) h = tt
-has_addresses forms a most restart_conf h = tt
-has_addresses forms a most (diagnostic number explanation) h = tt
-has_addresses forms a most (registration octets) h = tt
-has_addresses forms a most (registration_conf octets) h = tt

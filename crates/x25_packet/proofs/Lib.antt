@@ -7,6 +7,7 @@ pub mod FieldLaws
 pub mod HalfLemmas
 pub mod FoundLaws
 pub mod AgainLaws
+pub mod WiderLaws
 pub mod NarrowLaws
 pub mod FaultLaws
 pub mod NarrowRange

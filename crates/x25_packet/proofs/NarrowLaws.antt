@@ -1,6 +1,5 @@
 -- What a station writes is read alike in both forms.
-use Rattle.std.proofs.Common.{ℕ, ◌+◌, ◌*◌, ◌/◌, ◌%◌, ◌<◌, ◌≤◌, ◌≡◌, ◌≢◌, ◌∙◌, Bool, true, false, List, [], ◌∷◌, ◌++◌, length, drop, refl, ap, sym, subst, inl, arith, nat_eq, not, Option, Some, None, Result, Ok, Err}
-use Rattle.std.specs.Prelude.{◌||◌}
+use Rattle.std.proofs.Common.{ℕ, ◌+◌, ◌*◌, ◌/◌, ◌%◌, ◌<◌, ◌≤◌, ◌≡◌, ◌≢◌, ◌∙◌, Bool, true, false, List, [], ◌∷◌, ◌++◌, length, drop, refl, ap, sym, subst, arith, nat_eq, Option, Some, None, Result, Ok, Err}
 use Rattle.std.proofs.lemmas.Bool.{and_parts, eqb-true}
 use Rattle.x25_bits.specs.Bits.{bit}
 use Rattle.x25_packet.specs.declared.error.PacketError.{PacketError}
@@ -12,16 +11,17 @@ use Rattle.x25_packet.specs.Facilities as strict_field
 use Rattle.x25_packet.specs.Packet as strict
 use Rattle.x25_packet.specs.Reading.{packet_of}
 use Rattle.x25_packet.specs.Spelling as strict_spelling
-use Rattle.x25_packet.specs.Block.{PlainBlock, PlainFields, IsBlock, MayBeFields}
+use Rattle.x25_packet.specs.Block.{PlainBlock, PlainFields, IsBlock}
 use Rattle.x25_packet.specs.Narrowing.{narrow_of, narrowed, taken_of}
 use Rattle.x25_packet.specs.WidePacket.{PlainKind, PlainWide, call, accept, clear, extended_clear, clear_conf, user_data, rr, rnr, rej, interrupt, interrupt_conf, reset, reset_conf, restart, restart_conf, diagnostic, registration, registration_conf}
-use Rattle.x25_packet.specs.WidePacket.Spelling.{spelling_of, type_of, may_have, HasFacilities, HasPlace, IsAnswer, IsKind, IsPacket, IsShort, MayLack, Spells}
+use Rattle.x25_packet.specs.WidePacket.Spelling.{spelling_of, type_of, may_have, HasFacilities, HasPlace, IsAnswer, IsKind, IsPacket, Spells}
 use Rattle.x25_packet.specs.WideReading.{read_of, wide_of}
 use Rattle.x25_packet.proofs.AddressLaws.{drop_first, address_at, block_packed, block_when, called_again, calling_again, length-halves_at, length-pairs, packed_holds}
 use Rattle.x25_packet.proofs.AgainLaws.{read_again}
 use Rattle.x25_packet.proofs.FacilityLaws.{ok_err, ok_same}
 use Rattle.x25_packet.proofs.FieldLaws.{no_field, says_itself}
 use Rattle.x25_packet.proofs.FoundLaws.{AreSmall, empty_of, found_spells}
+use Rattle.x25_packet.proofs.WiderLaws.{no_d, taken_wider}
 
 -- ---- a packet that a station writes is spelled in its form
 
@@ -195,86 +195,11 @@ appended_again most v before after h plain e =
 
 -- ---- it is one of any form
 
-wider_fields : (most more : ℕ) (f : Option PlainFields) → most ≤ more → MayBeFields Written most f → MayBeFields Any more f
-wider_fields most more None within h = absurd h
-wider_fields most more (Some f) within h = let short = h.short in
-    record { facilities = (says_itself f.facilities h.facilities).whole; few = h.few; short = omega (arith, within, short) }
-
-wider_block : (a : Bool) (most more : ℕ) (b : PlainBlock) → most ≤ more → IsBlock Written a most b → IsBlock Any a more b
-wider_block a most more b within h = record { addresses = h.addresses; fields = wider_fields most more b.fields within h.fields }
-
-short_in : (most : ℕ) (f : Option PlainFields) → MayBeFields Written most f → IsShort most f
-short_in most None h = absurd h
-short_in most (Some f) h = inl h.short
-
-any_may_lack : (reason : Option ℕ) → MayLack Any reason
-any_may_lack None = tt
-any_may_lack (Some reason) = tt
-
-wider_kind : (a : Bool) (most : ℕ) (k : PlainKind) → most ≤ 128 → IsKind Written a most k → IsKind Any a most k
-wider_kind a most (call block) within h = (wider_block a most 128 block within h, short_in most block.fields h.fields)
-wider_kind a most (accept None) within h = tt
-wider_kind a most (accept (Some block)) within h = wider_block a 0 128 block (omega arith) h.0
-wider_kind a most (clear cause reason) within h = any_may_lack reason
-wider_kind a most (extended_clear cause reason block) within h = absurd h
-wider_kind a most (clear_conf None) within h = tt
-wider_kind a most (clear_conf (Some block)) within h = absurd (cc)
-wider_kind a most (user_data m ps pr user) within h = h
-wider_kind a most (rr pr) within h = h
-wider_kind a most (rnr pr) within h = h
-wider_kind a most (rej pr) within h = absurd h
-wider_kind a most (interrupt user) within h = h
-wider_kind a most interrupt_conf within h = tt
-wider_kind a most (reset cause reason) within h = any_may_lack reason
-wider_kind a most reset_conf within h = tt
-wider_kind a most (restart cause reason) within h = any_may_lack reason
-wider_kind a most restart_conf within h = tt
-wider_kind a most (diagnostic number explanation) within h = absurd h
-wider_kind a most (registration octets) within h = absurd h
-wider_kind a most (registration_conf octets) within h = absurd h
-
--- of a packet in the form that a station writes
-pub no_d : (a d : Bool) (type : ℕ) → may_have Written a d type ≡ true → d ≡ false
-no_d a false type h = refl
-no_d a true type h = let bad : false ≡ true = (and_parts (not a || nat_eq (type % 2) 0) false h).1 in absurd (cc)
-
-wider_marks : (a d : Bool) (type : ℕ) → may_have Written a d type ≡ true → may_have Any a d type ≡ true
-wider_marks false false type h = refl
-wider_marks true false type h = rw (and_parts (nat_eq (type % 2) 0) true h).0 refl
-wider_marks a true type h = let bad : true ≡ false = no_d a true type h in absurd (cc)
-
-pub wider : (most : ℕ) (w : PlainWide) → most ≤ 128 → IsPacket Written most w → IsPacket Any most w
-wider most w within h = record {
-  channel = h.channel;
-  place = h.place;
-  marks = wider_marks w.bit_8 w.d (type_of w.kind) h.marks;
-  kind = wider_kind w.bit_8 most w.kind within h.kind;
-}
-
-taken_wide : (most : ℕ) (v : strict.PlainPacket) → most ≤ 128 → Taken Written most v → Taken Any most v
-taken_wide most v within t = record { wide = t.wide; packet = wider most t.wide within t.packet; spelling = t.spelling; taken = t.taken }
-
 -- the octets of a packet in its ranges, of data with D too, are taken for it
-pub spelled_taken : (most : ℕ) (v : strict.PlainPacket) → most ≤ 128 → strict_spelling.IsInRange most v → taken_of (wide_of most (strict_spelling.spelling_of v)) ≡ Ok v
-spelled_taken most v few h = taken_as Any most v (by v h)
-  where
-    by : (v : strict.PlainPacket) → strict_spelling.IsInRange most v → Taken Any most v
-    by (strict.call channel called calling field user) h = taken_wide most (strict.call channel called calling field user) few (taken most (strict.call channel called calling field user) h tt)
-    by (strict.accept channel field) h = taken_wide most (strict.accept channel field) few (taken most (strict.accept channel field) h tt)
-    by (strict.clear channel cause reason) h = taken_wide most (strict.clear channel cause reason) few (taken most (strict.clear channel cause reason) h tt)
-    by (strict.clear_conf channel) h = taken_wide most (strict.clear_conf channel) few (taken most (strict.clear_conf channel) h tt)
-    by (strict.user_data channel marks m ps pr user) h = data_taken Any most channel marks m ps pr user (any_marks marks.q marks.d m ps pr) h.0 h.1 h.2 h.3
-    by (strict.rr channel pr) h = taken_wide most (strict.rr channel pr) few (taken most (strict.rr channel pr) h tt)
-    by (strict.rnr channel pr) h = taken_wide most (strict.rnr channel pr) few (taken most (strict.rnr channel pr) h tt)
-    by (strict.interrupt channel user) h = taken_wide most (strict.interrupt channel user) few (taken most (strict.interrupt channel user) h tt)
-    by (strict.interrupt_conf channel) h = taken_wide most (strict.interrupt_conf channel) few (taken most (strict.interrupt_conf channel) h tt)
-    by (strict.reset channel cause reason) h = taken_wide most (strict.reset channel cause reason) few (taken most (strict.reset channel cause reason) h tt)
-    by (strict.reset_conf channel) h = taken_wide most (strict.reset_conf channel) few (taken most (strict.reset_conf channel) h tt)
-    by (strict.restart cause reason) h = taken_wide most (strict.restart cause reason) few (taken most (strict.restart cause reason) h tt)
-    by strict.restart_conf h = taken_wide most strict.restart_conf few (taken most strict.restart_conf h tt)
-
-pub alike : (most : ℕ) (v : strict.PlainPacket) (octets : List ℕ) → most ≤ 128 → strict_spelling.Spells most v octets → taken_of (wide_of most octets) ≡ Ok v
-alike most v octets few spells = ap (λ (o : List ℕ). taken_of (wide_of most o)) spells.spelling ∙ spelled_taken most v few spells.in_range
+pub spelled_taken : (most : ℕ) (v : strict.PlainPacket) → strict_spelling.IsInRange most v → taken_of (wide_of most (strict_spelling.spelling_of v)) ≡ Ok v
+spelled_taken most (strict.user_data channel marks m ps pr user) h =
+    taken_as Any most (strict.user_data channel marks m ps pr user) (data_taken Any most channel marks m ps pr user (any_marks marks.q marks.d m ps pr) h.0 h.1 h.2 h.3)
+spelled_taken most v h = taken_wider most v (strict_spelling.spelling_of v) (written_again most v h tt)
 
 -- ---- what is read in the form that a station writes is taken for a packet that is spelled so
 

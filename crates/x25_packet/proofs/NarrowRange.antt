@@ -1,6 +1,6 @@
 -- What a packet is taken for is in its ranges.
-use Rattle.std.proofs.Common.{ℕ, ◌+◌, ◌-◌, ◌<◌, ◌≤◌, ◌≡◌, Bool, true, false, List, [], length, refl, sym, subst, inl, inr, arith, Option, Some, None, Result, Ok, Err, IfOk}
-use Rattle.std.specs.Prelude.{nat_le, ◌&&◌, if◌then◌else◌}
+use Rattle.std.proofs.Common.{ℕ, ◌+◌, ◌-◌, ◌<◌, ◌≤◌, ◌≡◌, Bool, true, false, List, [], length, refl, sym, subst, inl, inr, arith, Option, Some, None, Result, Ok, Err}
+use Rattle.std.specs.Prelude.{max, nat_le, ◌&&◌, if◌then◌else◌}
 use Rattle.std.proofs.lemmas.Bool.{and_parts, leb-true}
 use Rattle.x25_packet.proofs.AddressLaws.{address_at, block_when}
 use Rattle.x25_packet.specs.Digits.{IsAddress, halves_at, hold_digits}
@@ -14,7 +14,6 @@ use Rattle.x25_packet.specs.WideFacilities.{none_own, own_in}
 use Rattle.x25_packet.specs.Narrowing.{are_within, field_in, field_said, field_taken, user_taken, called_taken, calling_taken, digits_behind, with_field}
 use Rattle.x25_packet.specs.WidePacket.{PlainKind, call, accept, clear, extended_clear, clear_conf, user_data, rr, rnr, rej, interrupt, interrupt_conf, reset, reset_conf, restart, restart_conf, diagnostic, registration, registration_conf}
 use Rattle.x25_packet.specs.WidePacket.Spelling.{HasPlace, IsKind}
-use Rattle.x25_packet.specs.WideReading.{Gives}
 use Rattle.x25_packet.specs.declared.wide_facilities.Own.{Own}
 use Rattle.x25_packet.specs.declared.wide_packet.Forms.TheVariants.{Any}
 use Rattle.x25_packet.proofs.FacilityLaws.{chosen, ok_err, ok_same}
@@ -76,9 +75,9 @@ field_fits (registration_conf octets) field e = nothing_fits field e
 
 -- ---- the packet
 
-user_few : (f : Option PlainFields) → MayBeFields Any 128 f → length (user_taken f) ≤ 128
-user_few None h = omega arith
-user_few (Some f) h = h.short
+user_few : (most : ℕ) (f : Option PlainFields) → most ≤ 128 → MayBeFields Any (max most 128) f → length (user_taken f) ≤ 128
+user_few most None within h = omega arith
+user_few most (Some f) within h = let short = h.short in omega arith
 
 no_digits : IsAddress []
 no_digits = record { short = omega arith; decimal = refl }
@@ -118,29 +117,24 @@ abbrev pub InRange : Result strict.PlainPacket PacketError → Type 0
 InRange (Ok v) = strict_spelling.IsInRange 128 v
 InRange (Err e) = Unit {0}
 
-pub in_range : (most channel : ℕ) (q d : Bool) (k : PlainKind) (field : List ℕ) → channel ≤ 4095 → HasPlace channel k → IsKind Any q most k
+pub in_range : (most channel : ℕ) (q d : Bool) (k : PlainKind) (field : List ℕ) → most ≤ 128 → channel ≤ 4095 → HasPlace channel k → IsKind Any q most k
     → strict_field.IsFacilityField field → InRange (with_field channel q d k field)
-in_range most channel q d (call block) field few place h f =
-    ((place, few), called_address q block h.0.addresses, calling_address q block h.0.addresses, f, user_few block.fields h.0.fields)
-in_range most channel q d (accept block) field few place h f = ((place, few), f)
-in_range most channel q d (clear cause reason) field few place h f = (place, few)
-in_range most channel q d (extended_clear cause reason block) field few place h f = (place, few)
-in_range most channel q d (clear_conf block) field few place h f = (place, few)
-in_range most channel q d (user_data m ps pr user) field few place h f = ((place, few), h.0, h.1, h.2)
-in_range most channel q d (rr pr) field few place h f = ((place, few), h)
-in_range most channel q d (rnr pr) field few place h f = ((place, few), h)
-in_range most channel q d (rej pr) field few place h f = tt
-in_range most channel q d (interrupt user) field few place h f = ((place, few), h.0, h.1)
-in_range most channel q d interrupt_conf field few place h f = (place, few)
-in_range most channel q d (reset cause reason) field few place h f = (place, few)
-in_range most channel q d reset_conf field few place h f = (place, few)
-in_range most channel q d (restart cause reason) field few place h f = tt
-in_range most channel q d restart_conf field few place h f = tt
-in_range most channel q d (diagnostic number explanation) field few place h f = tt
-in_range most channel q d (registration octets) field few place h f = tt
-in_range most channel q d (registration_conf octets) field few place h f = tt
-
-pub given_in_range : {A : Type 0} (plain : A → strict.PlainPacket) (r : Result A PacketError) (read : Result strict.PlainPacket PacketError) → Gives plain r read → InRange read
-    → IfOk r (λ p. strict_spelling.IsInRange 128 (plain p))
-given_in_range plain (Ok p) read e h = subst InRange e h
-given_in_range plain (Err x) read e h = tt
+in_range most channel q d (call block) field within few place h f =
+    ((place, few), called_address q block h.0.addresses, calling_address q block h.0.addresses, f, user_few most block.fields within h.0.fields)
+in_range most channel q d (accept block) field within few place h f = ((place, few), f)
+in_range most channel q d (clear cause reason) field within few place h f = (place, few)
+in_range most channel q d (extended_clear cause reason block) field within few place h f = (place, few)
+in_range most channel q d (clear_conf block) field within few place h f = (place, few)
+in_range most channel q d (user_data m ps pr user) field within few place h f = ((place, few), h.0, h.1, h.2)
+in_range most channel q d (rr pr) field within few place h f = ((place, few), h)
+in_range most channel q d (rnr pr) field within few place h f = ((place, few), h)
+in_range most channel q d (rej pr) field within few place h f = tt
+in_range most channel q d (interrupt user) field within few place h f = ((place, few), h.0, h.1)
+in_range most channel q d interrupt_conf field within few place h f = (place, few)
+in_range most channel q d (reset cause reason) field within few place h f = (place, few)
+in_range most channel q d reset_conf field within few place h f = (place, few)
+in_range most channel q d (restart cause reason) field within few place h f = tt
+in_range most channel q d restart_conf field within few place h f = tt
+in_range most channel q d (diagnostic number explanation) field within few place h f = tt
+in_range most channel q d (registration octets) field within few place h f = tt
+in_range most channel q d (registration_conf octets) field within few place h f = tt

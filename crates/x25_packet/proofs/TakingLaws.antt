@@ -1,28 +1,27 @@
 -- What a station takes octets for: its channel, its user data, and the ranges of its fields.
 use Rattle.std.proofs.Common.{ℕ, zero, suc, lit≤, ◌+◌, ◌*◌, ◌/◌, ◌%◌, ◌<◌, ◌≤◌, ◌≡◌, ◌∙◌, Bool, true, false, List, [], ◌∷◌, ◌++◌, length, take, refl, ap, sym, subst, arith, All, Some, Result, Ok, Err}
 use Rattle.x25_bits.specs.Bits.{bit}
-use Rattle.x25_packet.specs.declared.wide_packet.Forms.{Forms}
-use Rattle.x25_packet.specs.declared.wide_packet.Forms.TheVariants.{Written, Any}
+use Rattle.x25_packet.specs.declared.wide_packet.Forms.TheVariants.{Any}
 use Rattle.x25_packet.specs.Packet as strict
-use Rattle.x25_packet.specs.Reading.{packet_of, channel_in}
+use Rattle.x25_packet.specs.Reading.{channel_in}
 use Rattle.x25_packet.specs.Spelling as strict_spelling
 use Rattle.x25_packet.specs.Spelling.{HasChannel, channel_of}
 use Rattle.x25_packet.specs.declared.error.PacketError.{PacketError}
-use Rattle.x25_packet.specs.laws.ReadingLaw.{ReadsWhatIsSpelled}
 use Rattle.x25_packet.specs.Narrowing.{field_in, narrow_of, narrowed, taken_of, with_field}
 use Rattle.x25_packet.specs.WidePacket.{PlainKind, PlainWide, call, accept, clear, extended_clear, clear_conf, user_data, rr, rnr, rej, interrupt, interrupt_conf, reset, reset_conf, restart, restart_conf, diagnostic, registration, registration_conf}
-use Rattle.x25_packet.specs.WidePacket.Spelling.{spelling_of, body_of, IsPacket, Spells}
-use Rattle.x25_packet.specs.WideReading.{read_of, wide_of}
-use Rattle.x25_packet.specs.Taking.{or_taken, read_in}
+use Rattle.x25_packet.specs.WidePacket.Spelling.{spelling_of, body_of, Spells}
+use Rattle.x25_packet.specs.WideReading.{wide_of}
+use Rattle.x25_packet.specs.Taking.{read_in}
 use Rattle.x25_packet.specs.laws.TakingLaw.{TakesWhatIsWritten, TakesWhatIsSpelled, TakesOnItsChannel, TakesItsUserData, TakesAllBehindThree, TakesInRange}
-use Rattle.x25_packet.proofs.NarrowLaws.{alike, spelled_taken, wider}
+use Rattle.x25_packet.proofs.NarrowLaws.{spelled_taken}
+use Rattle.x25_packet.proofs.WiderLaws.{taken_wider}
 use Rattle.x25_packet.proofs.NarrowRange.{InRange, in_range, field_fits}
 use Rattle.x25_packet.proofs.FacilityLaws.{ok_err, ok_same}
 use Rattle.x25_packet.proofs.FoundLaws.{AreSmall, found_spells}
 
 pub takes_what_is_written : TakesWhatIsWritten
 takes_what_is_written false most v octets e = e
-takes_what_is_written true most v octets e = ap (λ r. or_taken r (taken_of (wide_of most octets))) e
+takes_what_is_written true most v octets e = taken_wider most v octets e
 
 -- ---- the channel that the first two octets name
 
@@ -98,24 +97,22 @@ all_small [] small i = lit≤ tt
 all_small (octet ∷ octets) small zero = small zero 0 (omega arith)
 all_small (octet ∷ octets) small (suc i) = all_small octets (λ k d low. small (suc k) d (omega (arith, low))) i
 
--- what is read is a packet of either form, and what it is taken for
-module _ (most : ℕ) (v : strict.PlainPacket) (octets : List ℕ) (small : All (λ octet. octet < 256) octets) (P : Type 0)
-    (of : (forms : Forms) (w : PlainWide) → Spells forms most w octets → narrow_of w ≡ Ok v → P) where
-  by_form : (forms : Forms) (r : Result PlainWide PacketError) → read_of forms most octets ≡ r → taken_of r ≡ Ok v → P
-  by_form forms (Ok w) is e = of forms w (found_spells forms most octets w (all_small octets small) is) e
-  by_form forms (Err x) is e = absurd (ok_err e)
-
-  by_strict : (r : Result strict.PlainPacket PacketError) → packet_of most octets ≡ r → or_taken r (taken_of (wide_of most octets)) ≡ Ok v → P
-  by_strict (Ok u) is e = by_form Written (read_of Written most octets) refl (is ∙ ap (λ p. Ok p) (ok_same e))
-  by_strict (Err x) is e = by_form Any (wide_of most octets) refl e
+-- what is read is a packet of any form, and what it is taken for
+module _ (most : ℕ) (v : strict.PlainPacket) (octets : List ℕ) (small : AreSmall octets) (P : Type 0) (of : (w : PlainWide) → Spells Any most w octets → narrow_of w ≡ Ok v → P) where
+  in_any : taken_of (wide_of most octets) ≡ Ok v → P
+  in_any e = by (wide_of most octets) refl e
+    where
+      by : (r : Result PlainWide PacketError) → wide_of most octets ≡ r → taken_of r ≡ Ok v → P
+      by (Ok w) is h = of w (found_spells Any most octets w small is) h
+      by (Err x) is h = absurd (ok_err h)
 
   in_either : (wide : Bool) → read_in wide most octets ≡ Ok v → P
-  in_either false e = by_form Written (read_of Written most octets) refl e
-  in_either true e = by_strict (packet_of most octets) refl e
+  in_either false e = in_any (taken_wider most v octets e)
+  in_either true e = in_any e
 
 pub takes_on_its_channel : TakesOnItsChannel
-takes_on_its_channel wide most v octets small e has = in_either most v octets small (channel_in octets ≡ Some (channel_of v))
-    (λ forms w spells is. ap channel_in spells.spelling ∙ wide_names w spells.packet.channel
+takes_on_its_channel wide most v octets small e has = in_either most v octets (all_small octets small) (channel_in octets ≡ Some (channel_of v))
+    (λ w spells is. ap channel_in spells.spelling ∙ wide_names w spells.packet.channel
     ∙ taken_with w v is (λ field said h. ap (λ (n : ℕ). Some n) (sym (with_names w.channel w.bit_8 w.d w.kind field v h has))))
     wide e
 
@@ -125,39 +122,31 @@ header n = omega arith
 pub takes_its_user_data : TakesItsUserData
 takes_its_user_data wide most channel marks m ps pr user octets small e =
     let v : strict.PlainPacket = strict.user_data channel marks m ps pr user in
-    in_either most v octets small (length octets ≡ 3 + length user)
-    (λ forms w spells is. ap length spells.spelling ∙ header (length (body_of w.bit_8 w.kind)) ∙ taken_with w v is (λ field said h. ap (λ (body : List ℕ). 3 + length body) (with_user w.channel w.bit_8 w.d w.kind field v h tt)))
+    in_either most v octets (all_small octets small) (length octets ≡ 3 + length user)
+    (λ w spells is. ap length spells.spelling ∙ header (length (body_of w.bit_8 w.kind)) ∙ taken_with w v is (λ field said h. ap (λ (body : List ℕ). 3 + length body) (with_user w.channel w.bit_8 w.d w.kind field v h tt)))
     wide e
 
 pub takes_all_behind_three : TakesAllBehindThree
 takes_all_behind_three wide most channel marks m ps pr user octets small e =
     let v : strict.PlainPacket = strict.user_data channel marks m ps pr user in
-    in_either most v octets small (octets ≡ take 3 octets ++ user)
-    (λ forms w spells is. subst (λ o. o ≡ take 3 o ++ user) (sym spells.spelling)
+    in_either most v octets (all_small octets small) (octets ≡ take 3 octets ++ user)
+    (λ w spells is. subst (λ o. o ≡ take 3 o ++ user) (sym spells.spelling)
     (taken_with w v is (λ field said h. ap (λ (body : List ℕ). take 3 (spelling_of w) ++ body) (with_user w.channel w.bit_8 w.d w.kind field v h tt))))
     wide e
 
 -- ---- the ranges of its fields
 
-any_form : (forms : Forms) (most : ℕ) (w : PlainWide) → most ≤ 128 → IsPacket forms most w → IsPacket Any most w
-any_form Written most w few h = wider most w few h
-any_form Any most w few h = h
+-- of octets that are taken for it
+pub taken_in_range : (most : ℕ) (v : strict.PlainPacket) (octets : List ℕ) → most ≤ 128 → AreSmall octets → (wide : Bool) → read_in wide most octets ≡ Ok v → strict_spelling.IsInRange 128 v
+taken_in_range most v octets few small = in_either most v octets small (strict_spelling.IsInRange 128 v)
+    (λ w spells is.
+    let packet = spells.packet in
+    taken_with w v is (λ field said h. subst InRange h (in_range most w.channel w.bit_8 w.d w.kind field few packet.channel packet.place packet.kind (field_fits w.kind field said))))
 
 pub takes_in_range : TakesInRange
-takes_in_range wide most v octets few small e = in_either most v octets small (strict_spelling.IsInRange 128 v)
-    (λ forms w spells is.
-    let packet = any_form forms most w few spells.packet in
-    taken_with w v is (λ field said h. subst InRange h (in_range most w.channel w.bit_8 w.d w.kind field packet.channel packet.place packet.kind (field_fits w.kind field said))))
-    wide e
+takes_in_range wide most v octets few small e = taken_in_range most v octets few (all_small octets small) wide e
 
 -- ---- what is spelled
 
-pub takes_what_is_spelled : ReadsWhatIsSpelled → TakesWhatIsSpelled
-takes_what_is_spelled reads most v few small h = go (packet_of most (strict_spelling.spelling_of v)) refl
-  where
-    widely : taken_of (wide_of most (strict_spelling.spelling_of v)) ≡ Ok v
-    widely = spelled_taken most v few h
-
-    go : (r : Result strict.PlainPacket PacketError) → packet_of most (strict_spelling.spelling_of v) ≡ r → or_taken r (taken_of (wide_of most (strict_spelling.spelling_of v))) ≡ Ok v
-    go (Ok u) is = sym (alike most u (strict_spelling.spelling_of v) few ((reads most u (strict_spelling.spelling_of v) small).0 is)) ∙ widely
-    go (Err x) is = widely
+pub takes_what_is_spelled : TakesWhatIsSpelled
+takes_what_is_spelled most v few small h = spelled_taken most v h

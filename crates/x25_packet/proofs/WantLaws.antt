@@ -1,12 +1,10 @@
 -- No reading of octets wants memory.
-use Rattle.std.proofs.Common.{ℕ, ◌≢◌, ◌+◌, ◌*◌, ◌/◌, ◌%◌, ◌==◌, Bool, true, false, cond, List, [], ◌∷◌, take, drop, Option, Some, None, Result, Ok, Err, refl}
-use Rattle.x25_packet.specs.Packet as strict
+use Rattle.std.proofs.Common.{ℕ, ◌≢◌, ◌+◌, ◌*◌, ◌/◌, ◌%◌, ◌==◌, Bool, true, false, cond, List, [], ◌∷◌, max, take, drop, Option, Some, None, Result, Ok, Err, refl}
 use Rattle.x25_packet.specs.Reading.FirstError.{FieldError}
 use Rattle.x25_packet.specs.Reading.FirstError.FieldError.{wrong_code, cut_off, out_of_range}
 use Rattle.x25_packet.specs.declared.wide_packet.Forms.{Forms}
 use Rattle.x25_packet.specs.declared.wide_packet.Forms.TheVariants.{Written, Any}
 use Rattle.x25_packet.specs.Facilities.{facilities_of}
-use Rattle.x25_packet.specs.Reading.{packet_of}
 use Rattle.x25_packet.specs.declared.error.PacketError.{PacketError}
 use Rattle.x25_packet.specs.declared.error.PacketError.TheVariants.{NoMemory, TooShort, BadFormat, Unidentified, TooLong, BadDigit, BadParameter}
 use Rattle.x25_packet.specs.Block.{PlainBlock, PlainFields}
@@ -15,7 +13,6 @@ use Rattle.x25_packet.specs.WideFacilities.{none_own, own_in}
 use Rattle.x25_packet.specs.declared.wide_facilities.Own.{Own}
 use Rattle.x25_packet.specs.WidePacket.{PlainKind, PlainWide, call, accept, clear, extended_clear, clear_conf, user_data, rr, rnr, rej, interrupt, interrupt_conf, reset, reset_conf, restart, restart_conf, diagnostic, registration, registration_conf}
 use Rattle.x25_packet.specs.WideReading.{when, field_read, no_fields, fields_of, with_addresses, addressed, block_of, optional_block, mapped, bare, called, call_of, answer_read, answer_most, accept_of, cause_alone, reason_of, caused, clear_of, clear_conf_of, interrupt_of, data_of, diagnostic_of, registered, rej_of, others, unchannelled, named, channelled, kind_of, has_format, with_head, read_of, wide_of}
-use Rattle.x25_packet.specs.Taking.{or_taken}
 use Rattle.x25_packet.specs.laws.TakingLaw.{TakesWithoutMemory}
 use Rattle.x25_packet.proofs.FacilityFaults.{facilities_fault}
 
@@ -107,7 +104,7 @@ called_read most (Err e) reads = λ h. reads (cc)
 
 call_read : (forms : Forms) (a : Bool) (most : ℕ) (body : List ℕ) → Reads (call_of forms a most body)
 call_read Written a most body = mapped_read _ _ (block_read Written a most body)
-call_read Any a most body = called_read most _ (block_read Any a 128 body)
+call_read Any a most body = called_read most _ (block_read Any a (max most 128) body)
 
 answer_reads : (forms : Forms) (body : List ℕ) → Reads (answer_read forms body)
 answer_reads Written [] = is_read
@@ -256,12 +253,8 @@ taken_read : (r : Result PlainWide PacketError) → Reads r → Reads (taken_of 
 taken_read (Ok w) reads = narrowed_read w (field_in w.kind) (in_read w.kind)
 taken_read (Err e) reads = λ h. reads (cc)
 
-or_read : (r wide : Result strict.PlainPacket PacketError) → Reads wide → Reads (or_taken r wide)
-or_read (Ok v) wide reads = λ h. cc
-or_read (Err e) wide reads = reads
-
 -- ---- both
 
 pub takes_without_memory : TakesWithoutMemory
 takes_without_memory false most octets small h = taken_read (read_of Written most octets) (forms_read Written most octets) h
-takes_without_memory true most octets small h = or_read (packet_of most octets) _ (taken_read (wide_of most octets) (forms_read Any most octets)) h
+takes_without_memory true most octets small h = taken_read (wide_of most octets) (forms_read Any most octets) h

@@ -6,7 +6,7 @@ use Rattle.x25_packet.specs.Digits.{halves_at, halves_of, hold_digits}
 use Rattle.x25_packet.specs.Facilities as written_field
 use Rattle.x25_packet.specs.WideFacilities.{IsFacilityField}
 use Rattle.x25_packet.specs.declared.block.Block.{Block}
-use Rattle.x25_packet.specs.declared.block.Fields.{Fields}
+use Rattle.x25_packet.specs.declared.fields.Fields.{Fields}
 use Rattle.x25_packet.specs.declared.wide_packet.Forms.{Forms}
 use Rattle.x25_packet.specs.declared.wide_packet.Forms.TheVariants.{Written, Any}
 

@@ -1,18 +1,13 @@
--- What a station takes octets for: the packet in the form that it writes, or else what the packet in any form is taken
--- for (profile).
-use Rattle.std.specs.Prelude.{ℕ, Bool, true, false, List, Result, Ok, Err}
+-- What a station takes octets for: what the packet in any form is taken for (profile).
+use Rattle.std.specs.Prelude.{ℕ, Bool, true, false, List, Result}
 use Rattle.x25_packet.specs.Packet.{PlainPacket}
 use Rattle.x25_packet.specs.Reading.{packet_of}
 use Rattle.x25_packet.specs.declared.error.PacketError.{PacketError}
 use Rattle.x25_packet.specs.Narrowing.{taken_of}
 use Rattle.x25_packet.specs.WideReading.{wide_of}
 
-abbrev pub or_taken : Result PlainPacket PacketError → Result PlainPacket PacketError → Result PlainPacket PacketError
-or_taken (Ok v) wide = Ok v
-or_taken (Err e) wide = wide
-
 abbrev pub taken_in : ℕ → List ℕ → Result PlainPacket PacketError
-taken_in most octets = or_taken (packet_of most octets) (taken_of (wide_of most octets))
+taken_in most octets = taken_of (wide_of most octets)
 
 -- what a station reads octets as: in the form that it writes alone, or in any
 abbrev pub read_in : Bool → ℕ → List ℕ → Result PlainPacket PacketError

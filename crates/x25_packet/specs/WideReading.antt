@@ -1,6 +1,7 @@
 -- What octets read as, in the form of each packet that a station writes or in any: the packet that they spell, or else
 -- their first error, from the front. ITU-T X.25 (10/96), section 5; the order of the errors is of the profile.
 use Rattle.std.specs.Prelude.{ℕ, ◌+◌, ◌*◌, ◌/◌, ◌%◌, ◌==◌, ◌&&◌, ◌||◌, nat_lt, nat_le, Bool, not, true, false, List}
+use Rattle.std.specs.Prelude.{max}
 use Rattle.std.specs.Prelude.{[], ◌∷◌, length, take, drop, if◌then◌else◌, Option, Some, None, Result, Ok, Err, ◌≡◌}
 use Rattle.x25_packet.specs.declared.error.PacketError.{PacketError}
 use Rattle.x25_packet.specs.declared.error.PacketError.TheVariants.{TooShort, BadFormat, Unidentified, TooLong}
@@ -85,7 +86,7 @@ abbrev pub bare : PlainKind → List ℕ → Result PlainKind PacketError
 bare kind [] = Ok kind
 bare kind (octet ∷ rest) = Err TooLong
 
--- user data of a CALL: more than `most` octets with fast select alone
+-- user data of a CALL: more than `most` octets with fast select alone, and then 128 at most
 abbrev pub is_short : ℕ → Option PlainFields → Bool
 is_short most None = true
 is_short most (Some f) = nat_le (length f.user) most || asks_fast_select f.facilities
@@ -96,7 +97,7 @@ called most (Err e) = Err e
 
 abbrev pub call_of : Forms → Bool → ℕ → List ℕ → Result PlainKind PacketError
 call_of Written a most body = mapped call (block_of Written a most body)
-call_of Any a most body = called most (block_of Any a 128 body)
+call_of Any a most body = called most (block_of Any a (max most 128) body)
 
 -- a station writes address lengths of 0 in an ACCEPT, and some facilities (profile)
 abbrev pub written_answer : List ℕ → Result (Unit {0}) PacketError

@@ -1,4 +1,3 @@
 -- What the laws of this crate say (src/law.rt), and the machines that they are about.
 pub mod ReadingLaw
-pub mod NarrowLaw
 pub mod TakingLaw

@@ -4,25 +4,20 @@ ghost use Rattle.x25_packet.specs.Block.{AreAddresses, called_in, calling_in, ho
 ghost use Rattle.x25_packet.specs.Block.{plain_fields};
 ghost use Rattle.x25_packet.specs.Block.{plain_optional};
 ghost use Rattle.x25_packet.specs.Narrowing.{called_taken, calling_taken, digits_behind};
+ghost use Rattle.x25_packet.specs.WideFacilities.{none_own, own_in};
 ghost use Rattle.x25_packet.specs.WideReading.{Gives, addressed, block_of, field_read, fields_of, is_over, no_fields};
 ghost use Rattle.x25_packet.specs.WideReading.{optional_block};
 
 use crate::digits::{Digits, hold_digits};
 use crate::error::PacketError;
 use crate::facilities::Facilities;
+use crate::fields::Fields;
 use crate::halves::Halves;
-use crate::wide_facilities::are_facilities;
+use crate::wide_facilities::{Own, are_facilities, own_facilities};
 use crate::wide_packet::Forms;
 
 /// The most octets of a facility field, section 7.1.
 const FIELD_OCTETS: usize = 109;
-
-/// A facility field and the user data behind it.
-#[derive(Clone, Copy, Debug)]
-pub struct Fields<'a> {
-    pub facilities: &'a [u8],
-    pub user: &'a [u8],
-}
 
 /// Addresses, and what may follow them.
 ///
@@ -56,20 +51,26 @@ fn is_over(forms: Forms, size: usize) -> bool
     }
 }
 
+/// What a facility field asks for.
 #[inline(always)]
-fn read_field(forms: Forms, field: &[u8]) -> Result<(), PacketError>
-    ensures { result ≡ field_read forms field.now }
+fn read_field(forms: Forms, field: &[u8]) -> Result<Own, PacketError>
+    ensures exact { Gives (λ own. tt) result (field_read forms field.now) }
+    ensures own { IfOk result (λ own. own ≡ own_in none_own 0 field.now) }
 {
     match forms {
         Forms::Written => {
-            Facilities::of(field)?;
-            Ok(())
+            let facilities = Facilities::of(field)?;
+            Ok(Own {
+                fast_select: false,
+                packet_size: facilities.packet_size,
+                window_size: facilities.window_size,
+            })
         }
         Forms::Any => {
             if !are_facilities(field) {
                 return Err(PacketError::BadParameter);
             }
-            Ok(())
+            Ok(own_facilities(field))
         }
     }
 }
@@ -93,11 +94,15 @@ fn read_fields<'a>(
         return Err(PacketError::TooShort);
     }
     let (facilities, user) = rest.split_at(size);
-    read_field(forms, facilities)?;
+    let own = read_field(forms, facilities)?;
     if user.len() > most {
         return Err(PacketError::TooLong);
     }
-    Ok(Some(Fields { facilities, user }))
+    Ok(Some(Fields {
+        facilities,
+        own,
+        user,
+    }))
 }
 
 /// Whether the half octets behind the first `count` are 0, and where A is 0 all are digits.

@@ -1,5 +1,4 @@
 //! The laws of both readings of packets, each the contract of a function that does nothing.
-ghost use Rattle.x25_packet.specs.laws.NarrowLaw.{ReadsAlike};
 ghost use Rattle.x25_packet.specs.laws.TakingLaw.{TakesAllBehindThree, TakesInRange, TakesItsUserData};
 ghost use Rattle.x25_packet.specs.laws.TakingLaw.{TakesOnItsChannel, TakesWhatIsSpelled, TakesWhatIsWritten};
 ghost use Rattle.x25_packet.specs.laws.TakingLaw.{TakesWithoutMemory};
@@ -10,13 +9,6 @@ pub fn reading_is_the_grammar()
     ensures spelled { ReadsWhatIsSpelled }
     ensures error { ReadsTheFirstError }
 {}
-
-/// What a station writes is taken for what it is, also where packets are read in all their forms.
-pub fn reads_alike()
-    ensures { ReadsAlike }
-{
-    reading_is_the_grammar();
-}
 
 /// What a station reads octets as, whether it reads one form or all: what they are in the form that it writes, where
 /// they are a packet then; in all forms data with D too; on the channel that they name; a data packet's user data is
@@ -29,6 +21,4 @@ pub fn taking_keeps_octets()
     ensures user { TakesAllBehindThree }
     ensures range { TakesInRange }
     ensures memory { TakesWithoutMemory }
-{
-    reading_is_the_grammar();
-}
+{}

@@ -1,21 +1,18 @@
 //! What a station takes a packet for: one of those that it writes itself.
-ghost use Rattle.std.specs.Prelude.{◌≡◌, ℕ, IfOk};
+ghost use Rattle.std.specs.Prelude.{◌≡◌};
 ghost use Rattle.x25_packet.specs.Packet.{plain as plain_written};
 ghost use Rattle.x25_packet.specs.Block.{plain_fields};
 ghost use Rattle.x25_packet.specs.Narrowing.{HasAddresses, are_within, field_in, field_said, field_taken, narrow_of};
 ghost use Rattle.x25_packet.specs.Narrowing.{user_taken, with_field};
-ghost use Rattle.x25_packet.specs.Spelling.{IsInRange};
 ghost use Rattle.x25_packet.specs.WidePacket.{plain, plain_kind};
-ghost use Rattle.x25_packet.specs.WidePacket.Spelling.{IsPacket};
 ghost use Rattle.x25_packet.specs.WideReading.{Gives};
-ghost use Rattle.x25_packet.specs.declared.wide_packet.Forms.TheVariants.{Any};
 
-use crate::block::Fields;
 use crate::error::PacketError;
 use crate::facilities::{Directions, Facilities, FacilityField};
+use crate::fields::Fields;
 use crate::marks::Marks;
 use crate::packet::Packet;
-use crate::wide_facilities::{Own, own_facilities};
+use crate::wide_facilities::Own;
 use crate::wide_packet::{Kind, WidePacket};
 
 fn are_within(least: u8, most: u8, values: Option<Directions>) -> bool
@@ -48,7 +45,7 @@ fn field_taken(fields: &Option<Fields>) -> Result<FacilityField, PacketError>
 {
     match fields {
         None => Ok(FacilityField::none()),
-        Some(fields) => field_said(own_facilities(fields.facilities)),
+        Some(fields) => field_said(fields.own),
     }
 }
 
@@ -145,12 +142,9 @@ fn with_field<'a>(packet: &WidePacket<'a>, field: FacilityField) -> Result<Packe
 /// 26: a packet size or window size out of its range. 22: REJ, DIAGNOSTIC and REGISTRATION, which a station doesn't
 /// know.
 #[inline(always)]
-pub fn narrow<'a>(packet: &WidePacket<'a>) -> Result<Packet<'a>, PacketError>
+pub(crate) fn narrow<'a>(packet: &WidePacket<'a>) -> Result<Packet<'a>, PacketError>
     requires { HasAddresses packet.now.bit_8 (plain_kind packet.now.kind) }
-    ensures exact { Gives plain_written result (narrow_of (plain packet.now)) }
-    // Its fields are in their ranges, so that it can be spelled.
-    ensures range { (most : ℕ) → IsPacket Any most (plain packet.now)
-        → IfOk result (λ p. IsInRange 128 (plain_written p)) }
+    ensures { Gives plain_written result (narrow_of (plain packet.now)) }
 {
     let field = field_in(packet)?;
     with_field(packet, field)

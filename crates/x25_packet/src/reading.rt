@@ -1,9 +1,11 @@
 //! Packets read from their octets.
 ghost use Rattle.std.specs.Prelude.{◌≡◌, ◌≤◌, IfErr, IfOk, IsOkAnd};
+ghost use Rattle.x25_packet.specs.Narrowing.{taken_of};
 ghost use Rattle.x25_packet.specs.Packet.{PlainPacket, plain};
 ghost use Rattle.x25_packet.specs.Reading.{Gives, channel_in, packet_of};
 ghost use Rattle.x25_packet.specs.Reading.FirstError.{IsFirstError};
 ghost use Rattle.x25_packet.specs.Spelling.{Spells, longest_user};
+ghost use Rattle.x25_packet.specs.WideReading.{read_of};
 
 use crate::error::PacketError;
 use crate::packet::Packet;
@@ -43,10 +45,15 @@ pub fn longest_user(long_data: bool) -> usize
     }
 }
 
-fn read_written<'a>(most: usize, octets: &'a [u8]) -> Result<Packet<'a>, PacketError>
-    ensures { Gives result (packet_of most octets.now) }
+/// What a station takes octets for, as a packet of these forms.
+pub(crate) fn read_forms<'a>(
+    forms: Forms,
+    most: usize,
+    octets: &'a [u8],
+) -> Result<Packet<'a>, PacketError>
+    ensures { Gives result (taken_of (read_of forms most octets.now)) }
 {
-    read(Forms::Written, most, octets)
+    read(forms, most, octets)
 }
 
 /// The packet that the octets spell, with at most `most` octets of user data in a CALL.
@@ -63,5 +70,5 @@ pub fn decode_within<'a>(most: usize, octets: &'a [u8]) -> Result<Packet<'a>, Pa
     // What is spelled so is read.
     ensures only { (v : PlainPacket) → Spells most v octets.now → IsOkAnd result (λ w. plain w ≡ v) }
 {
-    read_written(most, octets)
+    read_forms(Forms::Written, most, octets)
 }

@@ -12,11 +12,11 @@ ghost use Rattle.x25_packet.specs.WideReading.{read_of, reason_of, registered, r
 ghost use Rattle.x25_packet.specs.WideReading.{wide_of};
 ghost use Rattle.x25_packet.specs.declared.wide_packet.Forms.TheVariants.{Any};
 
-use crate::block::{Fields, read_block, read_optional_block};
+use crate::block::{read_block, read_optional_block};
 use crate::codes;
 use crate::error::PacketError;
+use crate::fields::Fields;
 use crate::made::{Head, Made};
-use crate::wide_facilities::own_facilities;
 use crate::wide_packet::{Forms, Kind, WidePacket};
 use x25_bits::Seq;
 
@@ -56,9 +56,7 @@ fn is_short(most: usize, fields: Option<Fields>) -> bool
 {
     match fields {
         None => true,
-        Some(fields) => {
-            fields.user.len() <= most || own_facilities(fields.facilities).fast_select
-        }
+        Some(fields) => { fields.user.len() <= most || fields.own.fast_select }
     }
 }
 
@@ -76,7 +74,7 @@ fn call<'a, M: Made<'a>>(
             M::made(head, Kind::Call { block })
         }
         Forms::Any => {
-            let block = read_block(forms, head.bit_8, FAST_SELECT_OCTETS, body)?;
+            let block = read_block(forms, head.bit_8, most.max(FAST_SELECT_OCTETS), body)?;
             if !is_short(most, block.fields) {
                 return Err(PacketError::TooLong);
             }
@@ -432,8 +430,6 @@ pub fn decode<'a>(most: usize, octets: &'a [u8]) -> Result<WidePacket<'a>, Packe
     ensures found { IfOk result (λ w. Spells Any most (plain w) octets.now) }
     // What is spelled so is read.
     ensures only { (v : PlainWide) → Spells Any most v octets.now → IsOkAnd result (λ w. plain w ≡ v) }
-    // So that `narrow` takes it.
-    ensures addresses { IfOk result (λ w. HasAddresses w.bit_8 (plain_kind w.kind)) }
 {
     read_any(most, octets)
 }

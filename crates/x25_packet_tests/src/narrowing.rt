@@ -1,8 +1,6 @@
 use crate::fields::are_digits;
 use std::alloc::Global;
-use x25_packet::{
-    Packet, PacketError, decode, narrow, read, reads_alike, take, taking_keeps_octets,
-};
+use x25_packet::{Packet, PacketError, read, take, taking_keeps_octets};
 
 /// What is taken of a packet: a cause, a diagnostic, and the facility field.
 type Taken = (u8, u8, &'static [u8]);
@@ -78,12 +76,6 @@ fn number_of(taken: &Result<Packet, PacketError>, wanted: &Taken) -> u8 {
     }
 }
 
-/// Of octets that are read in all forms.
-fn narrowed(octets: &[u8], wanted: &Taken) -> Result<u8, PacketError> {
-    let packet = decode(16, octets)?;
-    Ok(number_of(&narrow(&packet), wanted))
-}
-
 /// Of octets that a station takes.
 fn taken(octets: &[u8], wanted: &Taken) -> u8 {
     number_of(&take(16, octets), wanted)
@@ -94,15 +86,11 @@ fn read_in_all(octets: &[u8], wanted: &Taken) -> u8 {
     number_of(&read(true, 16, octets), wanted)
 }
 
-fn numbers(octets: &[u8], wanted: &Taken) -> (u8, u8, u8) {
-    let narrowed = match narrowed(octets, wanted) {
-        Ok(number) => number,
-        Err(error) => error.number(),
-    };
-    (narrowed, taken(octets, wanted), read_in_all(octets, wanted))
+fn numbers(octets: &[u8], wanted: &Taken) -> (u8, u8) {
+    (taken(octets, wanted), read_in_all(octets, wanted))
 }
 
-fn numbers_of(alloc: Global, text: &str, wanted: &Taken) -> Option<(u8, u8, u8)> {
+fn numbers_of(alloc: Global, text: &str, wanted: &Taken) -> Option<(u8, u8)> {
     let octets = hex::decode(alloc, text).ok()?;
     Some(numbers(octets.as_slice(), wanted))
 }
@@ -111,7 +99,7 @@ fn numbers_of(alloc: Global, text: &str, wanted: &Taken) -> Option<(u8, u8, u8)>
 fn taken_for_packets(rt: HostRuntime) {
     for &(text, number, wanted) in &ROWS {
         let found = numbers_of(rt.alloc(), text, &wanted);
-        assert_eq!(rt; found, Some((number, number, number)), "{text}");
+        assert_eq!(rt; found, Some((number, number)), "{text}");
     }
 }
 
@@ -125,7 +113,6 @@ fn strict_error(octets: &[u8]) -> u8 {
 
 #[test]
 fn reads_the_form_that_a_station_writes(rt: HostRuntime) {
-    reads_alike();
     taking_keeps_octets();
     let short = strict_error(&[0x10, 0x01, 0x13, 0x05]);
     assert_eq!(rt;

@@ -7,12 +7,10 @@ use Rattle.x25_packet.specs.Spelling.{IsInRange, IsWithoutD, spelling_of}
 use Rattle.x25_packet.specs.declared.marks.Marks.{Marks}
 use Rattle.x25_packet.specs.declared.error.PacketError.{PacketError}
 use Rattle.x25_packet.specs.laws.ReadingLaw.{ReadsWhatIsSpelled}
-use Rattle.x25_packet.specs.Narrowing.{taken_of}
 use Rattle.x25_packet.specs.WidePacket as wide
 use Rattle.x25_packet.specs.WidePacket.{PlainWide}
 use Rattle.x25_packet.specs.WideReading.{wide_of}
-use Rattle.x25_packet.specs.Taking.{or_taken}
-use Rattle.x25_packet.specs.laws.TakingLaw.{TakesWhatIsSpelled}
+use Rattle.x25_packet.specs.laws.TakingLaw.{TakesWhatIsSpelled, TakesWhatIsWritten}
 use Rattle.x25_given.specs.Given.{PlainGiven, may_give}
 use Rattle.x25_given.specs.Writing.{bare_block, call_block, fields, form_of, headed, write, written, written_read}
 use Rattle.x25_given.specs.laws.ReadingLaw.{MayGo, WrittenIsInForm, WrittenIsRead}
@@ -28,8 +26,8 @@ plainly : ReadsWhatIsSpelled → (g : PlainGiven) (v : PlainPacket) → IsInRang
 plainly reads g v range none octets = ap (written_read g (spelling_of v)) ((reads 128 v (spelling_of v) octets).1 (record { in_range = range; without_d = none; spelling = refl }))
 
 -- data, which D isn't read of in that form, are as they are
-data_written : TakesWhatIsSpelled → (g : PlainGiven) (h : ℕ) (q : Marks) (m : Bool) (ps pr : ℕ) (user : List ℕ) → (let v = packet.user_data h q m ps pr user in IsInRange 128 v → AreOctets (spelling_of v) → write g (spelling_of v) ≡ spelling_of v)
-data_written spelled g h q m ps pr user range octets = by (packet_of 128 o) refl
+data_written : TakesWhatIsSpelled → TakesWhatIsWritten → (g : PlainGiven) (h : ℕ) (q : Marks) (m : Bool) (ps pr : ℕ) (user : List ℕ) → (let v = packet.user_data h q m ps pr user in IsInRange 128 v → AreOctets (spelling_of v) → write g (spelling_of v) ≡ spelling_of v)
+data_written spelled alike g h q m ps pr user range octets = by (packet_of 128 o) refl
   where
     v : PlainPacket
     v = packet.user_data h q m ps pr user
@@ -39,49 +37,49 @@ data_written spelled g h q m ps pr user range octets = by (packet_of 128 o) refl
 
     by : (r : Result PlainPacket PacketError) → packet_of 128 o ≡ r → written_read g o r ≡ o
     by (Err e) is = refl
-    by (Ok u) is = ap (written g) (ok_same u v (sym (ap (λ (r : Result PlainPacket PacketError). or_taken r (taken_of (wide_of 128 o))) is) ∙ spelled 128 v (omega arith) octets range))
+    by (Ok u) is = ap (written g) (ok_same u v (sym (alike true 128 u o is) ∙ spelled 128 v (omega arith) octets range))
 
-pub given_written : ReadsWhatIsSpelled → TakesWhatIsSpelled → GivenIsWritten
-given_written reads spelled g (packet.user_data channel q m ps pr user) range octets = data_written spelled g channel q m ps pr user range octets
-given_written reads spelled g (packet.call channel called calling field user) range octets = plainly reads g (packet.call channel called calling field user) range tt octets
-given_written reads spelled g (packet.accept channel field) range octets = plainly reads g (packet.accept channel field) range tt octets
-given_written reads spelled g (packet.clear channel cause diagnostic) range octets = plainly reads g (packet.clear channel cause diagnostic) range tt octets
-given_written reads spelled g (packet.clear_conf channel) range octets = plainly reads g (packet.clear_conf channel) range tt octets
-given_written reads spelled g (packet.rr channel pr) range octets = plainly reads g (packet.rr channel pr) range tt octets
-given_written reads spelled g (packet.rnr channel pr) range octets = plainly reads g (packet.rnr channel pr) range tt octets
-given_written reads spelled g (packet.interrupt channel user) range octets = plainly reads g (packet.interrupt channel user) range tt octets
-given_written reads spelled g (packet.interrupt_conf channel) range octets = plainly reads g (packet.interrupt_conf channel) range tt octets
-given_written reads spelled g (packet.reset channel cause diagnostic) range octets = plainly reads g (packet.reset channel cause diagnostic) range tt octets
-given_written reads spelled g (packet.reset_conf channel) range octets = plainly reads g (packet.reset_conf channel) range tt octets
-given_written reads spelled g (packet.restart cause diagnostic) range octets = plainly reads g (packet.restart cause diagnostic) range tt octets
-given_written reads spelled g packet.restart_conf range octets = plainly reads g packet.restart_conf range tt octets
+pub given_written : ReadsWhatIsSpelled → TakesWhatIsSpelled → TakesWhatIsWritten → GivenIsWritten
+given_written reads spelled alike g (packet.user_data channel q m ps pr user) range octets = data_written spelled alike g channel q m ps pr user range octets
+given_written reads spelled alike g (packet.call channel called calling field user) range octets = plainly reads g (packet.call channel called calling field user) range tt octets
+given_written reads spelled alike g (packet.accept channel field) range octets = plainly reads g (packet.accept channel field) range tt octets
+given_written reads spelled alike g (packet.clear channel cause diagnostic) range octets = plainly reads g (packet.clear channel cause diagnostic) range tt octets
+given_written reads spelled alike g (packet.clear_conf channel) range octets = plainly reads g (packet.clear_conf channel) range tt octets
+given_written reads spelled alike g (packet.rr channel pr) range octets = plainly reads g (packet.rr channel pr) range tt octets
+given_written reads spelled alike g (packet.rnr channel pr) range octets = plainly reads g (packet.rnr channel pr) range tt octets
+given_written reads spelled alike g (packet.interrupt channel user) range octets = plainly reads g (packet.interrupt channel user) range tt octets
+given_written reads spelled alike g (packet.interrupt_conf channel) range octets = plainly reads g (packet.interrupt_conf channel) range tt octets
+given_written reads spelled alike g (packet.reset channel cause diagnostic) range octets = plainly reads g (packet.reset channel cause diagnostic) range tt octets
+given_written reads spelled alike g (packet.reset_conf channel) range octets = plainly reads g (packet.reset_conf channel) range tt octets
+given_written reads spelled alike g (packet.restart cause diagnostic) range octets = plainly reads g (packet.restart cause diagnostic) range tt octets
+given_written reads spelled alike g packet.restart_conf range octets = plainly reads g packet.restart_conf range tt octets
 
 -- octets that are no packet in the form that a station writes
 told_by : (o : List ℕ) (w : PlainWide) (r : Result PlainPacket PacketError) → packet_of 128 o ≡ r → ((u : PlainPacket) → packet_of 128 o ≡ Ok u → ⊥) → wide_of 128 o ≡ Ok w → unless_written r (beside_or_none (wide_of 128 o)) ≡ beside_kind w.kind
 told_by o w (Ok u) is none form = absurd (none u is)
 told_by o w (Err e) is none form = ap beside_or_none form
 
-told_as : ReadsWhatIsSpelled → WrittenIsRead → WrittenIsInForm → (g : PlainGiven) (v : PlainPacket) (w : PlainWide) → may_give g ≡ true → IsInRange 128 v → MayGo 128 g v → AreOctets (written g v) → written g v ≢ spelling_of v
+told_as : ReadsWhatIsSpelled → TakesWhatIsWritten → WrittenIsRead → WrittenIsInForm → (g : PlainGiven) (v : PlainPacket) (w : PlainWide) → may_give g ≡ true → IsInRange 128 v → MayGo 128 g v → AreOctets (written g v) → written g v ≢ spelling_of v
     → form_of g v ≡ Some w → beside_in true (written g v) ≡ beside_kind w.kind
-told_as reads read form g v w allowed range may octets other is = told_by (written g v) w (packet_of 128 (written g v)) refl none (form g 128 v w (omega arith) allowed range may is)
+told_as reads alike read form g v w allowed range may octets other is = told_by (written g v) w (packet_of 128 (written g v)) refl none (form g 128 v w (omega arith) allowed range may is)
   where
     none : (u : PlainPacket) → packet_of 128 (written g v) ≡ Ok u → ⊥
     none u found =
-        let taken = sym (ap (λ (r : Result PlainPacket PacketError). or_taken r (taken_of (wide_of 128 (written g v)))) found) ∙ read g 128 v (omega arith) allowed range may octets in
+        let taken = sym (alike true 128 u (written g v) found) ∙ read g 128 v (omega arith) allowed range may octets in
         let same : u ≡ v = ok_same u v taken in
         other (((reads 128 u (written g v) octets).0 found).spelling ∙ ap spelling_of same)
 
-pub given_told : ReadsWhatIsSpelled → WrittenIsRead → WrittenIsInForm → GivenIsTold
-given_told reads read form g (packet.call channel called calling field user) allowed range octets other = told_as reads read form g (packet.call channel called calling field user) (headed channel g.d (wide.call (call_block called calling (fields (field ++ g.facilities) user)))) allowed range (inl range.4) octets other refl
-given_told reads read form g (packet.accept channel field) allowed range octets other = told_as reads read form g (packet.accept channel field) (headed channel g.d (wide.accept (Some (bare_block (fields (field ++ g.facilities) g.user))))) allowed range tt octets other refl
-given_told reads read form g (packet.clear channel cause diagnostic) allowed range octets other = told_as reads read form g (packet.clear channel cause diagnostic) (headed channel false (wide.extended_clear cause diagnostic (bare_block (fields g.facilities g.user)))) allowed range tt octets other refl
-given_told reads read form g (packet.clear_conf channel) allowed range octets other = absurd (other refl)
-given_told reads read form g (packet.user_data channel q m ps pr user) allowed range octets other = absurd (other refl)
-given_told reads read form g (packet.rr channel pr) allowed range octets other = absurd (other refl)
-given_told reads read form g (packet.rnr channel pr) allowed range octets other = absurd (other refl)
-given_told reads read form g (packet.interrupt channel user) allowed range octets other = absurd (other refl)
-given_told reads read form g (packet.interrupt_conf channel) allowed range octets other = absurd (other refl)
-given_told reads read form g (packet.reset channel cause diagnostic) allowed range octets other = absurd (other refl)
-given_told reads read form g (packet.reset_conf channel) allowed range octets other = absurd (other refl)
-given_told reads read form g (packet.restart cause diagnostic) allowed range octets other = absurd (other refl)
-given_told reads read form g packet.restart_conf allowed range octets other = absurd (other refl)
+pub given_told : ReadsWhatIsSpelled → TakesWhatIsWritten → WrittenIsRead → WrittenIsInForm → GivenIsTold
+given_told reads alike read form g (packet.call channel called calling field user) allowed range octets other = told_as reads alike read form g (packet.call channel called calling field user) (headed channel g.d (wide.call (call_block called calling (fields (field ++ g.facilities) user)))) allowed range (inl range.4) octets other refl
+given_told reads alike read form g (packet.accept channel field) allowed range octets other = told_as reads alike read form g (packet.accept channel field) (headed channel g.d (wide.accept (Some (bare_block (fields (field ++ g.facilities) g.user))))) allowed range tt octets other refl
+given_told reads alike read form g (packet.clear channel cause diagnostic) allowed range octets other = told_as reads alike read form g (packet.clear channel cause diagnostic) (headed channel false (wide.extended_clear cause diagnostic (bare_block (fields g.facilities g.user)))) allowed range tt octets other refl
+given_told reads alike read form g (packet.clear_conf channel) allowed range octets other = absurd (other refl)
+given_told reads alike read form g (packet.user_data channel q m ps pr user) allowed range octets other = absurd (other refl)
+given_told reads alike read form g (packet.rr channel pr) allowed range octets other = absurd (other refl)
+given_told reads alike read form g (packet.rnr channel pr) allowed range octets other = absurd (other refl)
+given_told reads alike read form g (packet.interrupt channel user) allowed range octets other = absurd (other refl)
+given_told reads alike read form g (packet.interrupt_conf channel) allowed range octets other = absurd (other refl)
+given_told reads alike read form g (packet.reset channel cause diagnostic) allowed range octets other = absurd (other refl)
+given_told reads alike read form g (packet.reset_conf channel) allowed range octets other = absurd (other refl)
+given_told reads alike read form g (packet.restart cause diagnostic) allowed range octets other = absurd (other refl)
+given_told reads alike read form g packet.restart_conf allowed range octets other = absurd (other refl)

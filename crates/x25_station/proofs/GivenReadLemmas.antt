@@ -13,7 +13,7 @@ use Rattle.x25_packet.specs.Spelling.{IsInRange, addresses, body_of, header_of, 
 use Rattle.x25_packet.specs.laws.ReadingLaw.{ReadsWhatIsSpelled}
 use Rattle.x25_packet.specs.WideFacilities.{are_facilities, none_own, own_in}
 use Rattle.x25_packet.specs.Taking.{read_in}
-use Rattle.x25_packet.specs.laws.TakingLaw.{TakesWhatIsSpelled}
+use Rattle.x25_packet.specs.laws.TakingLaw.{TakesWhatIsSpelled, TakesWhatIsWritten}
 use Rattle.x25_given.specs.Given.{PlainGiven, may_give}
 use Rattle.x25_given.specs.Writing.{write, written}
 use Rattle.x25_given.specs.laws.ReadingLaw.{WrittenIsInForm, WrittenIsRead}
@@ -174,22 +174,22 @@ module _ (read : WrittenIsRead) (wide long_data : Bool) (g : PlainGiven) (allowe
   by_kind (restart cause diagnostic) range r = same_read (restart cause diagnostic) r
   by_kind restart_conf range r = same_read restart_conf r
 
-pub given_read : ReadsWhatIsSpelled → TakesWhatIsSpelled → WrittenIsRead → GivenIsRead
-given_read reads spelled read wide long_data g v allowed octets r =
+pub given_read : ReadsWhatIsSpelled → TakesWhatIsSpelled → TakesWhatIsWritten → WrittenIsRead → GivenIsRead
+given_read reads spelled alike read wide long_data g v allowed octets r =
     let range : IsInRange (longest_user long_data) v = r.in_range in
-    let same = given_written reads spelled g v (wider (longest_user long_data) (user_short long_data) v range) r.octets in
+    let same = given_written reads spelled alike g v (wider (longest_user long_data) (user_short long_data) v range) r.octets in
     subst (λ (o : List ℕ). IsReadInAll long_data o v) (sym same) (by_kind read wide long_data g allowed octets v range r)
 
 -- so the user of the other end is told the same of it, and then what was given
-pub given_heard : ReadsWhatIsSpelled → TakesWhatIsSpelled → WrittenIsRead → WrittenIsInForm → GivenIsHeard
-given_heard reads spelled read form c l g v wide allowed octets readable other =
+pub given_heard : ReadsWhatIsSpelled → TakesWhatIsSpelled → TakesWhatIsWritten → WrittenIsRead → WrittenIsInForm → GivenIsHeard
+given_heard reads spelled alike read form c l g v wide allowed octets readable other =
     let lc : LayerSettings = layer_settings c in
     let most = longest_user c.long_data in
     let o = write g (spelling_of v) in
     let within = wider most (user_short c.long_data) v readable.in_range in
-    let same : o ≡ written g v = given_written reads spelled g v within readable.octets in
-    let r = given_read reads spelled read c.wide c.long_data g v allowed octets readable in
-    let is : beside_in true o ≡ told g v = subst (λ (x : List ℕ). beside_in true x ≡ told g v) (sym same) (given_told reads read form g v allowed within (subst AreOctets same r.octets) (λ e. other (same ∙ e))) in
+    let same : o ≡ written g v = given_written reads spelled alike g v within readable.octets in
+    let r = given_read reads spelled alike read c.wide c.long_data g v allowed octets readable in
+    let is : beside_in true o ≡ told g v = subst (λ (x : List ℕ). beside_in true x ≡ told g v) (sym same) (given_told reads alike read form g v allowed within (subst AreOctets same r.octets) (λ e. other (same ∙ e))) in
     let answer : layer_answer lc c.wide l o ≡ layer_answer lc c.wide l (spelling_of v) =
     ap (answer_to lc l o) (ap (λ (b : Bool). read_in b most o) wide ∙ r.reads) ∙ sym (ap (answer_to lc l (spelling_of v)) readable.reads) in
     let a : LayerAnswer = layer_answer lc c.wide l o in

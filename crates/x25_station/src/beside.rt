@@ -36,6 +36,7 @@ fn without_user<'a>(fields: Option<Fields<'a>>) -> Option<Fields<'a>>
     match fields {
         Some(fields) => Some(Fields {
             facilities: fields.facilities,
+            own: fields.own,
             user: &[],
         }),
         None => None,

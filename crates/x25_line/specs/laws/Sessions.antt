@@ -83,13 +83,6 @@ after_step c w back met down step =
       sent = w.sent ++ step.side.out;
     }
 
--- a packet of at most N1 octets is handed down
-abbrev pub handed_down : Settings → List ℕ → Sessions → Sessions
-handed_down c packet w =
-    if nat_le (length packet) c.longest
-    then unless (put_refusal w.near.station) w
-    (after_step c w w.back w.met (packet ∷ []) (put_step c packet w.near.station)) else w
-
 -- an end that is Up hears a frame with an N(R)
 abbrev pub heard : Bool → Option PlainFrame → Meeting → List Meeting → List Meeting
 heard true (Some frame) m met = m ∷ met
@@ -110,7 +103,10 @@ replaced (e ∷ es) zero octets = record { session = e.session; octets = octets 
 replaced (e ∷ es) (suc i) octets = e ∷ replaced es i octets
 
 abbrev pub acts : Settings → Act → Sessions → Sessions
-acts c (Put packet) w = handed_down c packet w
+acts c (Put packet) w =
+    if nat_le (length packet) c.longest
+    then unless (put_refusal w.near.station) w
+    (after_step c w w.back w.met (packet ∷ []) (put_step c packet w.near.station)) else w
 acts c Deliver w = delivered c w.back w
 acts c T1 w = unless (timer_refusal w.near.station) w (after_step c w w.back w.met [] (timer_step c w.near.station))
 acts c Connect w = unless (connect_refusal w.near.station.phase) w

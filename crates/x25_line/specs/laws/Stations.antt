@@ -52,12 +52,6 @@ abbrev pub unless : {W : Type 0} → Option LinkError → W → W → W
 unless (Some e) w done = w
 unless None w done = done
 
--- a packet of at most N1 octets is handed down
-abbrev pub handed_down : Settings → List ℕ → Stations → Stations
-handed_down c packet w = if nat_le (length packet) c.longest
-    then unless (put_refusal w.near.station) w (after_step c w w.back (packet ∷ []) (put_step c packet w.near.station))
-    else w
-
 -- the front octets are taken off the line, and by the near end
 abbrev pub delivered : Settings → List (List ℕ) → Stations → Stations
 delivered c [] w = w
@@ -73,7 +67,7 @@ abbrev pub is_visible : List ℕ → Bool
 is_visible octets = nat_lt (length octets) 4 || not (is_sealed octets)
 
 pub data Act : Type 0 where
-  -- a packet is handed down
+  -- a packet of at most N1 octets is handed down
   Put : (packet : List ℕ) → Act
   -- the front octets come
   Deliver : Act
@@ -90,7 +84,9 @@ pub data Act : Type 0 where
   Damage : (place : ℕ) → (octets : List ℕ) → Act
 
 abbrev pub acts : Settings → Act → Stations → Stations
-acts c (Put packet) w = handed_down c packet w
+acts c (Put packet) w = if nat_le (length packet) c.longest
+    then unless (put_refusal w.near.station) w (after_step c w w.back (packet ∷ []) (put_step c packet w.near.station))
+    else w
 acts c Deliver w = delivered c w.back w
 acts c T1 w = unless (timer_refusal w.near.station) w (after_step c w w.back [] (timer_step c w.near.station))
 acts c Connect w = unless (connect_refusal w.near.station.phase) w

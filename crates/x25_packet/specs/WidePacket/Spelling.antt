@@ -1,6 +1,6 @@
 -- The octets that spell a packet. ITU-T X.25 (10/96), section 5.
 use Rattle.std.specs.Prelude.{ℕ, ◌+◌, ◌*◌, ◌/◌, ◌%◌, ◌<◌, ◌≤◌, ◌≡◌, ◌⊎◌, ◌==◌, ◌||◌, ◌&&◌, not, Bool, true, List, []}
-use Rattle.std.specs.Prelude.{◌∷◌, length}
+use Rattle.std.specs.Prelude.{max, ◌∷◌, length}
 use Rattle.std.specs.Prelude.{Option, Some, None}
 use Rattle.x25_bits.specs.Bits.{bit}
 use Rattle.x25_packet.specs.Block.{PlainBlock, PlainFields, block_octets, optional_octets, IsBlock, MayBeBlock, OfAny}
@@ -91,7 +91,7 @@ IsShort most (Some f) = (length f.user ≤ most) ⊎ (asks_fast_select f.facilit
 -- it a CALL has at most `most`, which is 16 in the standard.
 abbrev pub IsCall : Forms → Bool → ℕ → PlainBlock → Type 0
 IsCall Written a most block = IsBlock Written a most block
-IsCall Any a most block = IsBlock Any a 128 block × IsShort most block.fields
+IsCall Any a most block = IsBlock Any a (max most 128) block × IsShort most block.fields
 
 abbrev pub HasFacilities : Option PlainFields → Type 0
 HasFacilities None = ⊥

@@ -5,7 +5,7 @@ use Rattle.std.proofs.{lemmas.Bool.{eqb-true}, lemmas.List.{append_cancel_left}}
 use Rattle.x25_packet.specs.{Facilities.{IsFacilityField}, Packet.{PlainPacket, call, accept, clear, user_data}, declared.marks.Marks.{Marks}}
 use Rattle.x25_packet.specs.{Reading.{packet_of}, Spelling.{IsInRange, IsWithoutD, channel_of, longest_user, spelling_of}}
 use Rattle.x25_packet.specs.{declared.error.PacketError.{PacketError}, WideReading.{wide_of}, WidePacket.{PlainKind, PlainWide}}
-use Rattle.x25_packet.specs.{Narrowing.{with_field, narrowed, field_in, taken_of}, Taking.{or_taken, read_in}}
+use Rattle.x25_packet.specs.{Narrowing.{with_field, narrowed, field_in, taken_of}, Taking.{read_in}}
 use Rattle.x25_given.specs.{Given.{PlainGiven, may_give}, Writing.{write, written}}
 use Rattle.x25_circuit.specs.{Circuit.{Circuit}, Params.{Proposal, default_params, field_for, may_answer}, Cause.{may_clear_for}, declared.state.State.{State}}
 use Rattle.x25_circuit.specs.declared.state.State.TheVariants.{Free, Calling, Arriving, Open, Clearing}
@@ -153,7 +153,7 @@ module _ (laws : Laws) (cfg : Cfg) where
       o : List ℕ
       o = spelling_of p
 
-      by : (read : Result PlainPacket PacketError) (wide : Result PlainWide PacketError) → or_taken read (taken_of wide) ≡ Ok p → unless_written read (beside_or_none wide) ≡ nothing
+      by : (read : Result PlainPacket PacketError) (wide : Result PlainWide PacketError) → taken_of wide ≡ Ok p → unless_written read (beside_or_none wide) ≡ nothing
       by (Ok u) wide is = refl
       by (Err e) (Err f) is = refl
       by (Err e) (Ok w) is = data_brings h marks m ps pr user w (field_in w.kind) is

@@ -5,7 +5,7 @@ use Rattle.x25_packet.proofs.law.taking_keeps_octets.Goals as goal
 pub returns : goal.returns
 returns c = record {
   written = takes_what_is_written;
-  spelled = takes_what_is_spelled c.reading_is_the_grammar.ensures.spelled;
+  spelled = takes_what_is_spelled;
   channel = takes_on_its_channel;
   octets = takes_its_user_data;
   user = takes_all_behind_three;

@@ -11,14 +11,14 @@ use Rattle.x25_packet.proofs.NarrowLaws.{found_written, only_written}
 use Rattle.x25_packet.proofs.reading.decode_within.Goals as goal
 
 pub returns-clause-found : goal.returns-clause-found
-returns-clause-found c = go c.read_written.result c.read_written.ensures
+returns-clause-found c = go c.read_forms.result c.read_forms.ensures
   where
     go : (r : Result Packet PacketError) → Gives r (packet_of c.args.most c.args.octets.now) → IfOk r (λ v. Spells c.args.most (plain v) c.args.octets.now)
     go (Ok v) e = found_written c.args.most c.args.octets.now (λ i. omega (arith, c.type_inv.octets i)) (plain v) e
     go (Err f) e = tt
 
 pub returns-clause-only : goal.returns-clause-only
-returns-clause-only c = λ v spells. go c.read_written.result c.read_written.ensures v (only_written c.args.most c.args.octets.now v spells)
+returns-clause-only c = λ v spells. go c.read_forms.result c.read_forms.ensures v (only_written c.args.most c.args.octets.now v spells)
   where
     go : (r : Result Packet PacketError) → Gives r (packet_of c.args.most c.args.octets.now) → (v : PlainPacket)
         → packet_of c.args.most c.args.octets.now ≡ Ok v → IsOkAnd r (λ w. plain w ≡ v)
@@ -26,7 +26,7 @@ returns-clause-only c = λ v spells. go c.read_written.result c.read_written.ens
     go (Err f) e v h = absurd (ok_err (sym e ∙ h))
 
 pub returns-clause-fault : goal.returns-clause-fault
-returns-clause-fault c = go c.read_written.result c.read_written.ensures
+returns-clause-fault c = go c.read_forms.result c.read_forms.ensures
   where
     go : (r : Result Packet PacketError) → Gives r (packet_of c.args.most c.args.octets.now) → IfErr r (IsFirstError c.args.most c.args.octets.now)
     go (Ok v) e = tt

@@ -1,14 +1,13 @@
 use Rattle.std.proofs.Common.{◌≡◌, ◌∙◌, arith, sym, Result, Ok, Err, IfOk, IsOkAnd}
 use Rattle.x25_packet.specs.declared.error.PacketError.{PacketError}
-use Rattle.x25_packet.specs.WidePacket.{PlainWide, plain, plain_kind}
+use Rattle.x25_packet.specs.WidePacket.{PlainWide, plain}
 use Rattle.x25_packet.specs.WideReading.{Gives, wide_of}
 use Rattle.x25_packet.specs.WidePacket.Spelling.{Spells}
 use Rattle.x25_packet.specs.declared.wide_packet.WidePacket.{WidePacket}
 use Rattle.x25_packet.specs.declared.wide_packet.Forms.TheVariants.{Any}
 use Rattle.x25_packet.proofs.AgainLaws.{only_found}
-use Rattle.x25_packet.specs.Narrowing.{HasAddresses}
 use Rattle.x25_packet.proofs.FacilityLaws.{ok_err, ok_same}
-use Rattle.x25_packet.proofs.FoundLaws.{found_spells, has_addresses}
+use Rattle.x25_packet.proofs.FoundLaws.{found_spells}
 use Rattle.x25_packet.proofs.wide_reading.decode.Goals as goal
 
 pub returns-clause-found : goal.returns-clause-found
@@ -25,10 +24,3 @@ returns-clause-only c = λ v spells. go c.read_any.result c.read_any.ensures v (
         → wide_of c.args.most c.args.octets.now ≡ Ok v → IsOkAnd r (λ w. plain w ≡ v)
     go (Ok w) e v h = ok_same (sym e ∙ h)
     go (Err f) e v h = absurd (ok_err (sym e ∙ h))
-
-pub returns-clause-addresses : goal.returns-clause-addresses
-returns-clause-addresses c = go c.read_any.result c.read_any.ensures
-  where
-    go : (r : Result WidePacket PacketError) → Gives plain r (wide_of c.args.most c.args.octets.now) → IfOk r (λ w. HasAddresses w.bit_8 (plain_kind w.kind))
-    go (Ok w) e = has_addresses Any w.bit_8 c.args.most (plain_kind w.kind) (found_spells Any c.args.most c.args.octets.now (plain w) (λ i. omega (arith, c.type_inv.octets i)) e).packet.kind
-    go (Err f) e = tt
