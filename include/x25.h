@@ -56,7 +56,8 @@ typedef struct {
     uint8_t later;     /* 0: room for settings of later versions, as is `more` */
     uint16_t incoming; /* channels 1 to this number are one-way incoming: a DTE doesn't call on them; the same at both ends */
     uint16_t outgoing; /* so many of the highest are one-way outgoing: a DCE doesn't call on them; the same at both ends */
-    uint32_t more;
+    uint16_t message;  /* the most octets of a message, for which each call has memory, or 0 for 65,535; the same at both ends */
+    uint16_t more;
 } x25_settings;
 
 /* The name of a stretch of a channel: the restarts done since link set-up, the clears done since the last of these, and the
@@ -196,7 +197,7 @@ enum {
     X25_IN_USE = 17,             /* the x25_station holds one (x25_new) */
     X25_BAD_STATE = 30,          /* the channel isn't in a state in which this may be asked */
     X25_QUEUE_FULL = 31,         /* 8 messages wait on the channel */
-    X25_TOO_LONG = 32,           /* a message is of more than 65,535 octets */
+    X25_TOO_LONG = 32,           /* a message is too long */
     X25_INTERRUPTING = 33,       /* an interrupt isn't confirmed yet */
     X25_BAD_PARAMETER = 34,      /* a parameter is out of its range */
     X25_RESTARTING = 40,         /* a restart is under way */
@@ -258,7 +259,7 @@ uint32_t x25_receive(x25_station *station, const uint8_t *octets, size_t octets_
    left it. 34 where the octets of the next aren't there; X25_NO_MEMORY where it is refused for what was answered to those before. */
 uint32_t x25_receive_all(x25_station *station, const uint8_t *octets, size_t octets_count, const size_t *counts, size_t counts_count,
                          size_t *taken);
-/* Sends a message of at most 65,535 octets on a channel, with or without the qualifier. 9, 40, 42, 30, 32, 31. */
+/* Sends a message of at most `message` octets of the settings on a channel, with or without the qualifier. 9, 40, 42, 30, 32, 31. */
 uint32_t x25_send(x25_station *station, uint16_t channel, bool q, const uint8_t *user, size_t user_count);
 /* The same, and asks that its delivery be confirmed, by D of its last packet: X25_EVENT_CONFIRMED tells that the other end has taken
    it. After a reset, a clearing or a restart nothing is told of messages before. 34 too, where the station isn't wide. */

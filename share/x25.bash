@@ -14,9 +14,10 @@ _x25() {
             sim:--channels) words="1 2 4 16" ;;
             station:--channels) words="1 16 255 4095" ;;
             station:--incoming | station:--outgoing) words="0 1 16" ;;
-            sim:*) words="--tap --events --down --loose --long --say-sizes --wide --k --n2 --channels --help" ;;
+            sim:--message | station:--message) words="4096 65535" ;;
+            sim:*) words="--tap --events --down --loose --long --say-sizes --wide --k --n2 --channels --message --help" ;;
             station:station) words="dte dce --help" ;;
-            station:*) words="--long --say-sizes --wide --k --n2 --channels --incoming --outgoing --clock --t1 --t3 --t20 --t21 --t22 --t23 --help" ;;
+            station:*) words="--long --say-sizes --wide --k --n2 --channels --incoming --outgoing --message --clock --t1 --t3 --t20 --t21 --t22 --t23 --help" ;;
             judge:--at) words="line dte dce either" ;;
             judge:*) words="--k --at --long --loose --wide --manners --strict --help" ;;
             deframe:deframe) words="dte dce --help" ;;

@@ -210,6 +210,26 @@ static void try_sizes(void)
     x25_free(&dce.station);
 }
 
+/* A call between two new stations, whose messages have two octets at most. */
+static void try_longest(void)
+{
+    x25_settings two_octets = one_channel;
+    two_octets.message = 2;
+    expect("new", x25_new(&dte.station, X25_DTE, two_octets), 0);
+    expect("new", x25_new(&dce.station, X25_DCE, two_octets), 0);
+    expect("connect", x25_connect(&dte.station), 0);
+    take(&dte);
+    deliver_all();
+    ask(&dte, "call 1 2 -");
+    deliver_all();
+    ask(&dce, "accept 1");
+    deliver_all();
+    expect("a message of three octets", x25_send(&dte.station, 1, false, (const uint8_t *)"abc", 3), X25_TOO_LONG);
+    expect("one of two", x25_send(&dte.station, 1, false, (const uint8_t *)"ab", 2), 0);
+    x25_free(&dte.station);
+    x25_free(&dce.station);
+}
+
 /* An acceptance with both of its lengths, 0, as Linux writes it: a station takes it that reads in all forms, and any other clears. */
 static void try_forms(bool wide)
 {
@@ -591,6 +611,7 @@ int main(void)
     try_many();
     try_one_way();
     try_sizes();
+    try_longest();
     try_forms(true);
     try_forms(false);
     try_beside();

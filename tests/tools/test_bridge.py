@@ -111,6 +111,7 @@ class Forms(unittest.TestCase):
         self.assert_says("'9' is no number from 1 to 7", "dte", "--stdio", "--k", "9")
         self.assert_says("'0' is no number from 1 to 255", "dte", "--stdio", "--n2", "0")
         self.assert_says("'4096' is no number from 1 to 4095", "dte", "--stdio", "--channels", "4096")
+        self.assert_says("'0' is no number from 1 to 65535", "dte", "--stdio", "--message", "0")
         self.assert_says("more channels are one-way than there are", "dte", "--stdio", "--channels", "3", "--incoming", "2", "--outgoing", "2")
         self.assert_says("name one line", "dte", "--stdio", "--xot", "there")
         self.assert_says("XOT loses and damages nothing", "dte", "--xot", "there", "--lose", "0.1")

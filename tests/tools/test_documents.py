@@ -186,8 +186,9 @@ class Commands(unittest.TestCase):
         self.check(r"(?<![\w/.-])x25 ([a-z]+)\b", {*tasks, *COMMANDS, "help"})
 
     def test_each_option_is_there(self):
-        sources = [path for path in files() if path.endswith(".py") or path.startswith(".ci/") or os.path.basename(path) == "parser.rt"]
-        known = {option for path in sources for option in re.findall(r"--([a-z][\w-]+)|Flag\(\s*\"([\w-]+)\"", text_of(path)) for option in option}
+        sources = [path for path in files() if path.endswith(".py") or path.startswith(".ci/") or os.path.basename(path) in ("parser.rt", "options.rt")]
+        words = r"--([a-z][\w-]+)|Flag\(\s*\"([\w-]+)\"|Numbered::\w+ => \"([\w-]+)\""
+        known = {option for path in sources for option in re.findall(words, text_of(path)) for option in option}
         self.check(r"(?<![\w-])--([a-z][\w-]+)", known | {"version", "help", "test", "only", "start", "generated", "no-install-recommends"})
 
     def test_each_script_is_there(self):

@@ -215,9 +215,10 @@ class Circuits(ToolCase):
 
     CALL, ACCEPTED, DATA = bytes.fromhex("10010b43123456700041"), bytes.fromhex("10010f"), bytes.fromhex("1001006869")
 
-    def judged(self, ways, status, lost=()):
-        """The lines of a connection whose packets go these ways; those of `lost` weren't captured."""
-        records, sequences = [], {True: 1, False: 1}
+    def judged(self, ways, status, lost=(), is_opened=False):
+        """The lines of a connection whose packets go these ways, and which is seen to be opened; those of `lost` weren't captured."""
+        syn = samples.tcp(True, 0, b"", 2)
+        records, sequences = [(0, 0, samples.ethernet(samples.ipv4(True, syn)))] * is_opened, {True: 1, False: 1}
         for at, (is_of_client, packet) in enumerate(ways):
             stream = samples.xot(packet)
             if at not in lost:
@@ -234,6 +235,13 @@ class Circuits(ToolCase):
         lines = self.judged(ways, 1)
         self.assertTrue(lines[-4].endswith("< RR ch=9 R=3 ! dce: P(R) acknowledges what was never sent (4.4.1.3): at most 1"), lines)
         self.assertEqual(lines[-3:-1], ["# dte channel 1: 2 packets, 1 judged, 1 not judged", "# dce channel 9: 2 packets, 1 judged, 1 not judged"])
+
+    def test_one_that_was_captured_from_its_beginning_on_has_no_call_then(self):
+        ways = [(True, self.CALL), (False, self.ACCEPTED), (False, self.ACCEPTED)]
+        lines = self.judged(ways, 1, is_opened=True)
+        self.assertEqual([line[line.index(" ! ") :] for line in lines if " ! " in line], [" ! dce: CALL ACCEPTED of no call (4.1.4)"])
+        self.assertEqual(lines[-3:-1], ["# dte channel 1: 1 packets, 1 judged, 0 not judged", "# dce channel 1: 2 packets, 2 judged, 0 not judged"])
+        self.assertEqual([line for line in self.judged(ways, 1, lost=[0], is_opened=True) if " ! " in line], [])
 
     def test_a_gap_is_shown_and_stands_in_a_trace(self):
         ways = [(True, self.CALL), (False, self.ACCEPTED), (True, self.DATA), (True, self.DATA), (False, bytes.fromhex("100141"))]

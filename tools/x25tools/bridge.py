@@ -95,7 +95,7 @@ MOST_UNSENT = 1 << 20
 QUIET_T1S = 5
 MOST_CHANNELS = 4095
 # The words of the station that are numbers and not times.
-NUMBERS = ("k", "n2", "channels", "incoming", "outgoing")
+NUMBERS = ("k", "n2", "channels", "incoming", "outgoing", "message")
 OTHER = {">": "<", "<": ">"}
 OTHER_END = {"dte": "dce ", "dce": "dte "}
 CALL, UA, DM = 0x0B, 0x63, 0x0F
@@ -476,6 +476,7 @@ def add_station_words(parser: argparse.ArgumentParser) -> None:
     parser.add_argument("--channels", type=within(int, 1, MOST_CHANNELS), default=1, metavar="N", help="logical channels, 1 to 4095 (1)")
     for name, kept in (("incoming", "1 to N, on which a DTE doesn't call"), ("outgoing", "the N highest, on which a DCE doesn't call")):
         parser.add_argument(f"--{name}", type=within(int, 0, MOST_CHANNELS), metavar="N", help=f"one-way {name} channels: {kept} (0)")
+    parser.add_argument("--message", type=within(int, 1, 65535), metavar="N", help="how many octets a message may have, 1 to 65535 (65535)")
     parser.add_argument("--long", action="store_true", help="a call may have up to 128 octets of user data")
     parser.add_argument("--no-wide", dest="wide", action="store_false", help="read packets only in the form that a station writes")
     parser.add_argument("--t1", type=within(float, 0.001, 86_400), default=1, metavar="SECONDS", help="how long T1 is (1)")

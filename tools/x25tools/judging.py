@@ -19,6 +19,8 @@ ENDS = {"dte": ">", "dce": "<"}
 
 # SABM of the DTE, and the UA of the DCE.
 SET_UP = ["> 013febdf", "< 01738357"]
+# RESTART of the DTE and its confirmation, each in an I frame.
+RESTARTED = ["> 01001000fb00007702", "< 03201000ff05d7"]
 SABM, SABME, UA, DISC, DM, FRMR, P_OR_F = 0x2F, 0x6F, 0x63, 0x43, 0x0F, 0x87, 0x10
 # The octets of RR, RNR or REJ with their frame check sequence, by what numbers count by: modulo 128 they have a second octet of control.
 OCTETS_OF_READY = {4: 8, 5: 128}
@@ -109,7 +111,8 @@ class Judge:
         """What judges a connection."""
         if not connection.is_made_up:
             return Frames(*self._asked)
-        return (Circuit if (connection.name or "").startswith("XOT ") else Packets)(*self._asked)
+        kind = Circuit if (connection.name or "").startswith("XOT ") else Packets
+        return kind(*self._asked, connection.is_opened)
 
     def counts(self) -> Iterator[tuple[int, str]]:
         """Yields the number of each connection, and a line of how much was judged, of its frames and of the packets of each channel, or of what was told."""
@@ -248,12 +251,15 @@ class Frames:
 
 
 class Packets(Frames):
-    """The packets of a connection without frames, each in an I frame that was made up. TCP and LLC show where one is missing."""
+    """The packets of a connection without frames, each in an I frame that was made up. TCP and LLC show where one is missing. One that was captured from
+    its beginning on begins without a call."""
 
-    def __init__(self, program: str | None, words: list[str], reading: list[str], at: str) -> None:
+    def __init__(self, program: str | None, words: list[str], reading: list[str], at: str, is_opened: bool) -> None:
         super().__init__(program, words, reading, at)
-        self._judge.texts("".join([f"{line}\n" for line in SET_UP]))
-        self._next = dict.fromkeys(OTHER, 0)
+        self._next, self._heard_before = dict.fromkeys(OTHER, 0), 0
+        before = SET_UP + [heard for line in RESTARTED[: 2 * is_opened] for heard in self._heard(line)]
+        self._judge.texts("".join([f"{line}\n" for line in before]))
+        self._heard_before = int(is_opened)
 
     def _place(self) -> str:
         return "line"
@@ -264,7 +270,9 @@ class Packets(Frames):
         if x25lines.is_gap(line):
             return [line, *(_ready(it, self._next[OTHER[it]]) for it in OTHER)]
         self._next[direction] = (self._next[direction] + 1) % 8
-        heard = _sealed(direction, bytes.fromhex(line[2:6]) + self._packet(direction, bytes.fromhex(line[6:-4])))
+        control, before = int(line[4:6], 16), self._heard_before
+        numbers = (((control >> 5) + before) << 5 | ((control >> 1) + before) % 8 << 1) & 0xFF
+        heard = _sealed(direction, bytes((int(line[2:4], 16), numbers)) + self._packet(direction, bytes.fromhex(line[6:-4])))
         return [heard, _ready(OTHER[direction], self._next[direction])]
 
     def _packet(self, _: str, packet: bytes) -> bytes:
@@ -275,18 +283,19 @@ class Packets(Frames):
         self._modulus, self._has_own = 8, True
 
     def _counted(self, end: str, channel: str | None, seen: int, judged: int) -> Iterator[str]:
-        return super()._counted(end, channel, seen, judged) if channel is not None else iter(())
+        before = self._heard_before if channel == "0" else 0
+        return super()._counted(end, channel, seen - before, judged - before) if channel is not None and seen > before else iter(())
 
 
 class Circuit(Packets):
     """The packets of a connection of XOT, which is one circuit, whatever number each end has for it: where the numbers differ, both are judged by
     that of the end whose packet came first."""
 
-    def __init__(self, program: str | None, words: list[str], reading: list[str], at: str) -> None:
-        super().__init__(program, words, reading, at)
+    def __init__(self, program: str | None, words: list[str], reading: list[str], at: str, is_opened: bool) -> None:
         # Of each direction the numbers that were used; and where one is judged by another, both.
         self._used: dict[str, set[int]] = {direction: set() for direction in OTHER}
         self._renamed: dict[str, tuple[int, int]] = {}
+        super().__init__(program, words, reading, at, is_opened)
 
     def _packet(self, direction: str, packet: bytes) -> bytes:
         if len(packet) < 2:

@@ -57,12 +57,14 @@ MOST_CONNECTIONS = 65_536
 
 
 class Connection:
-    """What two ends sent each other: its number from 1, its name, how many frames there were each way, and whether they are made up."""
+    """What two ends sent each other: its number from 1, its name, how many frames there were each way, whether they are made up, and whether it was
+    captured from its beginning on."""
 
-    def __init__(self, number: int, name: str | None, is_made_up: bool) -> None:
+    def __init__(self, number: int, name: str | None, is_made_up: bool, is_opened: bool = False) -> None:
         self.number = number
         self.name = name
         self.is_made_up = is_made_up
+        self.is_opened = is_opened
         self.sent = dict.fromkeys(OTHER, 0)
 
     def __eq__(self, other: object) -> bool:
@@ -135,6 +137,8 @@ class Converter:
         if options.lapb is not None:
             self._readers[options.lapb] = self._bare
         self._connections: dict[str, Connection] = {}
+        # Those of which something wasn't captured before the first packet.
+        self._late: set[str] = set()
         self.notes: Counter[str] = Counter()
         self.passed: Counter[str] = Counter()
         self._doubts = Doubts()
@@ -189,7 +193,7 @@ class Converter:
                 self._add("lapbether", self._lapbether.name(), is_of_dte, frame)
         elif kind == lan.COOKED_LLC and octets[:1] == bytes([lan.X25_ACCESS_POINT]):
             for name, is_of_dte, packet in self._llc.take(source, target, octets, is_cut):
-                self._add_packet(name, name, is_of_dte, packet)
+                self._add_packet(name, name, is_of_dte, packet, False)
         else:
             self.passed["frame of LLC with another access point" if kind == lan.COOKED_LLC else f"frame of the type {kind:04x}"] += 1
 
@@ -240,7 +244,7 @@ class Converter:
         """Adds the packets that came by streams of XOT."""
         for stream, packets in streams:
             for packet in packets:
-                self._add_packet(f"{stream.name} {stream.opened}", stream.name, stream.is_of_dte, packet)
+                self._add_packet(f"{stream.name} {stream.opened}", stream.name, stream.is_of_dte, packet, stream.opened is not None)
 
     def _add_gaps(self, dropped: int) -> None:
         """Frames aren't there that the program which captured has dropped, of whichever connections; the numbers of TCP and LLC show where theirs are
@@ -251,14 +255,16 @@ class Converter:
                 for is_of_dte in True, False:
                     self._add(key, key, is_of_dte, None)
 
-    def _add_packet(self, key: str, name: str, is_of_dte: bool, packet: bytes | None) -> None:
-        """Adds the packet of a connection without frames of LAPB; None is a gap."""
+    def _add_packet(self, key: str, name: str, is_of_dte: bool, packet: bytes | None, is_opened: bool) -> None:
+        """Adds the packet of a connection without frames of LAPB, which was seen to be opened, or wasn't; None is a gap."""
         if packet is not None and len(packet) > x25lines.MOST_INFORMATION:
             self.notes["packet that is longer than a frame may be"] += 1
             packet = None
-        self._add(key, name, is_of_dte, packet, True)
+        if packet is None and key not in self._connections:
+            self._late.add(key)
+        self._add(key, name, is_of_dte, packet, True, is_opened and key not in self._late)
 
-    def _add(self, key: str, name: str, is_of_dte: bool, octets: bytes | None, is_made_up: bool = False) -> None:
+    def _add(self, key: str, name: str, is_of_dte: bool, octets: bytes | None, is_made_up: bool = False, is_opened: bool = False) -> None:
         """Adds a frame of the connection with a key, or a packet, which is put into the next I frame of its direction; None is a gap, where there
         is such a connection."""
         direction = "<>"[is_of_dte != self._options.swap]
@@ -267,7 +273,7 @@ class Converter:
             if connection is not None:
                 self._add_line(connection, f"{direction} {x25lines.GAP}\n")
             return
-        connection = connection or self._begun(key, name, is_made_up)
+        connection = connection or self._begun(key, name, is_made_up, is_opened)
         if connection is not None:
             connection.name = name
             if is_made_up:
@@ -283,12 +289,12 @@ class Converter:
         times.append(self._now)
         lines.append(line)
 
-    def _begun(self, key: str, name: str, is_made_up: bool) -> Connection | None:
+    def _begun(self, key: str, name: str, is_made_up: bool, is_opened: bool) -> Connection | None:
         """A new connection, or None where there are too many."""
         if len(self._connections) == MOST_CONNECTIONS:
             self.notes[f"frame of a connection after the first {MOST_CONNECTIONS:,}"] += 1
             return None
-        self._connections[key] = Connection(len(self._connections) + 1, name, is_made_up)
+        self._connections[key] = Connection(len(self._connections) + 1, name, is_made_up, is_opened)
         return self._connections[key]
 
     def tell(self) -> int:

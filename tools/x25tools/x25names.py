@@ -69,7 +69,7 @@ REFUSALS = {
     15: "the link is up",
     30: "not in this state of the channel",
     31: "8 messages wait",
-    32: "a message of more than 65,535 octets",
+    32: "a message that is too long",
     33: "an interrupt isn't confirmed yet",
     34: "a parameter is out of range",
     40: "a restart is under way",

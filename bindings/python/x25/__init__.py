@@ -191,7 +191,8 @@ class _Settings(ctypes.Structure):
         ("later", ctypes.c_uint8),
         ("incoming", ctypes.c_uint16),
         ("outgoing", ctypes.c_uint16),
-        ("more", ctypes.c_uint32),
+        ("message", ctypes.c_uint16),
+        ("more", ctypes.c_uint16),
     ]
 
 
@@ -313,7 +314,7 @@ class Station:
     """A station, DTE or DCE: window k, n2 tries of a command, 1 to 4,095 channels, whether a call may have 128 octets of user data,
     whether calls and acceptances say packet sizes and windows, as X.25 over TCP asks for, and whether packets are read in all the forms
     that X.25 lets equipment send. Of its channels the first `incoming` are one-way incoming, on which a DTE doesn't call, and the last
-    `outgoing` one-way outgoing, on which a DCE doesn't."""
+    `outgoing` one-way outgoing, on which a DCE doesn't. A message has at most `message` octets, and each call has memory for so many."""
 
     def __init__(
         self,
@@ -327,6 +328,7 @@ class Station:
         library: str | None = None,
         incoming: int = 0,
         outgoing: int = 0,
+        message: int = 65535,
     ) -> None:
         # It is held from a call to the end of its answer.
         self._lock = threading.RLock()
@@ -339,8 +341,9 @@ class Station:
         self._take_first = functools.partial(self._take_all, self._slot, _size(0), self._items_at, _MOST, self._room, _SPACE)
         self._end = end
         fit = all(0 <= setting < 256 for setting in (end, k, n2)) and all(0 <= count < 65536 for count in (channels, incoming, outgoing))
-        self._check(0 if fit else 14)
-        self._check(self._library.x25_new(self._slot, end, _Settings(k, n2, channels, long_data, say_sizes, wide, 0, incoming, outgoing)))
+        self._check(0 if fit and 0 < message < 65536 else 14)
+        settings = _Settings(k, n2, channels, long_data, say_sizes, wide, 0, incoming, outgoing, message)
+        self._check(self._library.x25_new(self._slot, end, settings))
 
     def __enter__(self) -> Station:
         return self
@@ -447,7 +450,7 @@ class Station:
             self._release()
 
     def send(self, channel: int, user: bytes, q: bool = False, confirm: bool = False) -> Answer:
-        """Sends a message of at most 65,535 octets, with or without the qualifier. One that is wide may ask that its delivery be confirmed:
+        """Sends a message that isn't too long, with or without the qualifier. One that is wide may ask that its delivery be confirmed:
         CONFIRMED tells that the other end has taken it."""
         send = self._library.x25_send_asking if confirm else self._library.x25_send
         return self._on(send, channel, q, user, len(user))

@@ -28,7 +28,8 @@ pub enum End {
 /// The window, 1 to 7; how often a command is sent again, 1 to 255; how many channels there are, 1 to 4,095; whether a call may have
 /// 128 octets of user data in place of 16; whether calls and acceptances say packet sizes and windows, as X.25 over TCP asks for;
 /// whether packets are read in all the forms that X.25 lets equipment send; and how many of the lowest channels are one-way incoming,
-/// on which a DTE doesn't call, and of the highest one-way outgoing, on which a DCE doesn't.
+/// on which a DTE doesn't call, and of the highest one-way outgoing, on which a DCE doesn't. A message has at most `message` octets,
+/// of which 0 stands for 65,535, and each call has memory for so many.
 #[derive(Clone, Copy, Debug, PartialEq, Eq)]
 pub struct Settings {
     pub k: u8,
@@ -39,6 +40,7 @@ pub struct Settings {
     pub wide: bool,
     pub incoming: u16,
     pub outgoing: u16,
+    pub message: u16,
 }
 
 impl Default for Settings {
@@ -52,6 +54,7 @@ impl Default for Settings {
             wide: false,
             incoming: 0,
             outgoing: 0,
+            message: 65_535,
         }
     }
 }
@@ -375,7 +378,7 @@ impl Station {
         }
     }
 
-    /// Sends a message of at most 65,535 octets, with or without the qualifier.
+    /// Sends a message that isn't too long, with or without the qualifier.
     pub fn send(&mut self, channel: u16, q: bool, user: &[u8]) -> Result<Answer, Refused> {
         let number =
             unsafe { raw::x25_send(self.slot.get(), channel, q, user.as_ptr(), user.len()) };

@@ -25,7 +25,8 @@ pub struct Settings {
     later: u8,
     incoming: u16,
     outgoing: u16,
-    more: u32,
+    message: u16,
+    more: u16,
 }
 
 impl Settings {
@@ -40,6 +41,7 @@ impl Settings {
             later: 0,
             incoming: settings.incoming,
             outgoing: settings.outgoing,
+            message: settings.message,
             more: 0,
         }
     }

@@ -40,7 +40,7 @@ abbrev pub settings_in : StationOptions → ℕ → ℕ → Cfg
 settings_in s incoming outgoing = record {
   k = s.k;
   n2 = s.n2;
-  channels = record { count = s.channels; incoming = incoming; outgoing = outgoing };
+  channels = record { count = s.channels; incoming = incoming; outgoing = outgoing; message = s.message };
   long_data = s.long;
   say_sizes = s.say_sizes;
   wide = s.wide;

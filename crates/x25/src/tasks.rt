@@ -28,6 +28,7 @@ fn settings_of(options: StationOptions, incoming: u16, outgoing: u16) -> Cfg
             count: options.channels,
             incoming,
             outgoing,
+            message: options.message,
         },
         long_data: options.long,
         say_sizes: options.say_sizes,

@@ -14,7 +14,7 @@ text_of n =
     else if n == 17 then codes "a station is held where one was to be made"
     else if n == 30 then codes "not in this state of the channel"
     else if n == 31 then codes "8 messages wait"
-    else if n == 32 then codes "a message of more than 65,535 octets"
+    else if n == 32 then codes "a message that is too long"
     else if n == 33 then codes "an interrupt isn't confirmed yet"
     else if n == 34 then codes "a parameter is out of range"
     else if n == 40 then codes "a restart is under way"

@@ -21,7 +21,7 @@ pub(crate) fn refusal_text(number: u32) -> &'static [u8]
         17 => b"a station is held where one was to be made",
         30 => b"not in this state of the channel",
         31 => b"8 messages wait",
-        32 => b"a message of more than 65,535 octets",
+        32 => b"a message that is too long",
         33 => b"an interrupt isn't confirmed yet",
         34 => b"a parameter is out of range",
         40 => b"a restart is under way",

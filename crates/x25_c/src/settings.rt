@@ -1,6 +1,6 @@
 //! The settings of a station, as a C program hands them over.
 ghost use Rattle.std.specs.Prelude.{◌≡◌};
-ghost use Rattle.x25_c.specs.Settings.{cfg_in};
+ghost use Rattle.x25_c.specs.Settings.{cfg_in, message_in};
 
 use x25_station::{Cfg, Ranges};
 
@@ -18,10 +18,22 @@ pub struct Settings {
     pub later: u8,
     pub incoming: u16,
     pub outgoing: u16,
-    pub more: u32,
+    /// The most octets of a message, or 0 for 65,535.
+    pub message: u16,
+    pub more: u16,
 }
 
 impl Settings {
+    // 65,535 where none is given.
+    fn longest_message(self) -> u16
+        ensures { result ≡ message_in self }
+    {
+        match self.message {
+            0 => 65_535,
+            message => message,
+        }
+    }
+
     /// None where one is set that this version doesn't know.
     pub(crate) fn cfg(self) -> Option<Cfg>
         ensures { result ≡ cfg_in self }
@@ -36,6 +48,7 @@ impl Settings {
                 count: self.channels,
                 incoming: self.incoming,
                 outgoing: self.outgoing,
+                message: self.longest_message(),
             },
             long_data: self.long_data,
             say_sizes: self.say_sizes,

@@ -67,31 +67,31 @@ same_as_itself : (q : Bool) → same_q q q ≡ true
 same_as_itself true = refl
 same_as_itself false = refl
 
-sound_ground : (size : ℕ) (j : Partial) (n : ℕ) (q : Bool) → n ≤ size → length j.user + n ≤ 65535 → may_have_q j.begun q ≡ true → ground_of size j n q ≡ None
-sound_ground size j n q a b e = rw (le-leb _ _ a, le-leb _ _ b, e) refl
+sound_ground : (longest size : ℕ) (j : Partial) (n : ℕ) (q : Bool) → n ≤ size → length j.user + n ≤ longest → may_have_q j.begun q ≡ true → ground_of longest size j n q ≡ None
+sound_ground longest size j n q a b e = rw (le-leb _ _ a, le-leb _ _ b, e) refl
 
-sound_by : (b : Bool) (size : ℕ) (j : Partial) (marks : Marks) (user : List ℕ) (ps : List Piece) → nat_le (length user) size ≡ b
-    → length j.user + length user ≤ 65535 → may_have_q j.begun marks.q ≡ true
-    → (nat_le (length user) size ≡ false → AreSound size (joined j (More (with_q marks.q) (take size user))) ps)
-    → AreSound size j (if b then Last marks user ∷ [] else More (with_q marks.q) (take size user) ∷ ps)
-sound_by true size j marks user ps e short same rest = (sound_ground size j (length user) marks.q (leb-true _ _ e) short same, tt)
-sound_by false size j marks user ps e short same rest =
+sound_by : (b : Bool) (longest size : ℕ) (j : Partial) (marks : Marks) (user : List ℕ) (ps : List Piece) → nat_le (length user) size ≡ b
+    → length j.user + length user ≤ longest → may_have_q j.begun marks.q ≡ true
+    → (nat_le (length user) size ≡ false → AreSound longest size (joined j (More (with_q marks.q) (take size user))) ps)
+    → AreSound longest size j (if b then Last marks user ∷ [] else More (with_q marks.q) (take size user) ∷ ps)
+sound_by true longest size j marks user ps e short same rest = (sound_ground longest size j (length user) marks.q (leb-true _ _ e) short same, tt)
+sound_by false longest size j marks user ps e short same rest =
     let more = leb-false _ _ e in
     let taken = length-take-le size user (omega (arith, more)) in
-    (sound_ground size j (length (take size user)) marks.q (omega (arith, taken)) (omega (arith, taken, more, short)) same, rest e)
+    (sound_ground longest size j (length (take size user)) marks.q (omega (arith, taken)) (omega (arith, taken, more, short)) same, rest e)
 
-cut_sound : (n size : ℕ) (marks : Marks) (user : List ℕ) (j : Partial) → length user ≤ n → 1 ≤ size → length j.user + length user ≤ 65535 → may_have_q j.begun marks.q ≡ true
-    → AreSound size j (cut_from n size marks user)
-cut_sound zero size marks user j few some short same = (sound_ground size j (length user) marks.q (omega (arith, few, some)) short same, tt)
-cut_sound (suc n) size marks user j few some short same =
-    sound_by (nat_le (length user) size) size j marks user (cut_from n size marks (drop size user)) refl short same
+cut_sound : (n longest size : ℕ) (marks : Marks) (user : List ℕ) (j : Partial) → length user ≤ n → 1 ≤ size → length j.user + length user ≤ longest → may_have_q j.begun marks.q ≡ true
+    → AreSound longest size j (cut_from n size marks user)
+cut_sound zero longest size marks user j few some short same = (sound_ground longest size j (length user) marks.q (omega (arith, few, some)) short same, tt)
+cut_sound (suc n) longest size marks user j few some short same =
+    sound_by (nat_le (length user) size) longest size j marks user (cut_from n size marks (drop size user)) refl short same
     (λ e.
     let more = leb-false _ _ e in
     let taken = length-take-le size user (omega (arith, more)) in
     let dropped = length-drop size user in
     let joined_length = length-append j.user (take size user) in
-    cut_sound n size marks (drop size user) (joined j (More (with_q marks.q) (take size user))) (omega (arith, few, some, dropped)) some
+    cut_sound n longest size marks (drop size user) (joined j (More (with_q marks.q) (take size user))) (omega (arith, few, some, dropped)) some
     (omega (arith, short, taken, dropped, joined_length, more)) (same_as_itself marks.q))
 
 pub cut_is_sound : CutIsSound
-cut_is_sound size marks user some short = cut_sound (length user) size marks user no_part (omega (arith)) some (omega (arith, short)) refl
+cut_is_sound longest size marks user some short = cut_sound (length user) longest size marks user no_part (omega (arith)) some (omega (arith, short)) refl

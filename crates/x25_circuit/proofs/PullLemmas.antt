@@ -63,11 +63,11 @@ data_packet_of ps pr marks true user = refl
 data_packet_of ps pr marks false user = refl
 
 pub pulls_next : (c : Settings) (v : code.Circuit) (x : Circuit) (u : Transfer) (made : has_memory v.state ≡ true → u.partial.made ≡ true) (header : Header) → FitsCircuit c v x → x.state ≡ Open
-    → IsSent (outgoing x).window (outgoing x).size x.talk u header → FitsCircuit c (record v { transfer = u; made = made }) (pulled c x).next
-pulls_next c v x u made header fits is_open sent =
+    → IsSent (outgoing x).window (outgoing x).size x.talk u header → u.partial.longest ≡ v.transfer.partial.longest → FitsCircuit c (record v { transfer = u; made = made }) (pulled c x).next
+pulls_next c v x u made header fits is_open sent kept =
     let piece = piece_of header.marks header.m u.queue.cutter.lent in
     subst (λ (p : Pulled). FitsCircuit c (record v { transfer = u; made = made }) p.next) (sym (pulled_is c x piece sent.others is_open sent.first sent.allowed))
-    (with_transfer c v x u made _ fits sent.fits)
+    (with_transfer c v x u made _ fits sent.fits kept)
 
 pub pulls_packet : (c : Settings) (x : Circuit) (u : Transfer) (header : Header) → x.state ≡ Open
     → IsSent (outgoing x).window (outgoing x).size x.talk u header → packet_with (Some header) u.queue.cutter.lent ≡ (pulled c x).packet
@@ -77,9 +77,9 @@ pulls_packet c x u header is_open sent =
     rw (sent.ps, sent.pr) (ap Some (sym (data_packet_of _ _ header.marks header.m u.queue.cutter.lent)) ∙ ap (λ (p : Pulled). p.packet) (sym e))
 
 pub holds_next : (c : Settings) (v : code.Circuit) (x : Circuit) (u : Transfer) (made : has_memory v.state ≡ true → u.partial.made ≡ true) → FitsCircuit c v x → x.state ≡ Open
-    → IsHeld (outgoing x).window x.talk → FitsTalk (outgoing x).size u x.talk → FitsCircuit c (record v { transfer = u; made = made }) (pulled c x).next
-holds_next c v x u made fits is_open held talk =
-    subst (λ (p : Pulled). FitsCircuit c (record v { transfer = u; made = made }) p.next) (sym (nothing_is c x is_open held)) (with_transfer c v x u made x.talk fits talk)
+    → IsHeld (outgoing x).window x.talk → FitsTalk (outgoing x).size u x.talk → u.partial.longest ≡ v.transfer.partial.longest → FitsCircuit c (record v { transfer = u; made = made }) (pulled c x).next
+holds_next c v x u made fits is_open held talk kept =
+    subst (λ (p : Pulled). FitsCircuit c (record v { transfer = u; made = made }) p.next) (sym (nothing_is c x is_open held)) (with_transfer c v x u made x.talk fits talk kept)
 
 pub holds_packet : (c : Settings) (x : Circuit) → x.state ≡ Open → IsHeld (outgoing x).window x.talk → (pulled c x).packet ≡ None
 holds_packet c x is_open held = ap (λ (p : Pulled). p.packet) (nothing_is c x is_open held)
@@ -97,11 +97,11 @@ sent_by_terms x terms u h f g sent =
 
 pub advances_next : (c : Settings) (v : code.Circuit) (x : Circuit) (terms : Terms) (u : Transfer) (made : has_memory v.state ≡ true → u.partial.made ≡ true) (r : Option Header) → FitsCircuit c v x → v.state ≡ Open
     → terms.window ≡ (outgoing x).window → terms.size ≡ (outgoing x).size
-    → IfSome r (λ h. IsSent terms.window terms.size x.talk u h) → IfNone r (FitsTalk terms.size u x.talk) → IfNone r (IsHeld terms.window x.talk)
+    → IfSome r (λ h. IsSent terms.window terms.size x.talk u h) → IfNone r (FitsTalk terms.size u x.talk) → IfNone r (IsHeld terms.window x.talk) → u.partial.longest ≡ v.transfer.partial.longest
     → FitsCircuit c (record v { transfer = u; made = made }) (pulled c x).next
-advances_next c v x terms u made None fits e f g some none held =
-    holds_next c v x u made fits (sym fits.state ∙ e) (subst (λ (n : ℕ). IsHeld n x.talk) f held) (subst (λ (n : ℕ). FitsTalk n u x.talk) g none)
-advances_next c v x terms u made (Some h) fits e f g some none held = pulls_next c v x u made h fits (sym fits.state ∙ e) (sent_by_terms x terms u h f g some)
+advances_next c v x terms u made None fits e f g some none held kept =
+    holds_next c v x u made fits (sym fits.state ∙ e) (subst (λ (n : ℕ). IsHeld n x.talk) f held) (subst (λ (n : ℕ). FitsTalk n u x.talk) g none) kept
+advances_next c v x terms u made (Some h) fits e f g some none held kept = pulls_next c v x u made h fits (sym fits.state ∙ e) (sent_by_terms x terms u h f g some) kept
 
 pub advances_packet : (c : Settings) (v : code.Circuit) (x : Circuit) (terms : Terms) (u : Transfer) (r : Option Header) → FitsCircuit c v x → v.state ≡ Open
     → terms.window ≡ (outgoing x).window → terms.size ≡ (outgoing x).size

@@ -1,6 +1,6 @@
 -- The rows of the table for the states that a packet has in common.
 use Rattle.std.proofs.Common.{◌≡◌, ◌≢◌, ℕ, [], ◌∷◌, List, length, Option, Some, None, refl, sym, ap, ◌∙◌, Bool, true, false, ◌<◌, ◌≤◌, ◌++◌}
-use Rattle.std.proofs.lemmas.Bool.{le-leb, lt-ltb}
+use Rattle.std.proofs.lemmas.Bool.{le-leb, lt-leb, lt-ltb}
 use Rattle.x25_bits.specs.declared.role.Role.{Role}
 use Rattle.x25_bits.specs.declared.role.Role.TheVariants.{Dte, Dce}
 use Rattle.x25_packet.specs.declared.error.PacketError.{PacketError}
@@ -140,9 +140,12 @@ call_at c x s called calling user proposal e = ap (λ (r : State). call_in c x r
 pub accept_at : (x : Circuit) (s : State) (answer : Option Proposal) → s ≡ Arriving → accept_in x s answer ≡ accept_with x answer
 accept_at x s answer e = ap (λ (r : State). accept_in x r answer) e
 
-pub send_full : (c : Settings) (x : Circuit) (marks : Marks) (user : List ℕ) → length user ≤ 65535 → waits x ≡ 8 → send_open c x x.talk marks user ≡ Refused error.Full
+pub send_long : (c : Settings) (x : Circuit) (marks : Marks) (user : List ℕ) → c.longest < length user → send_open c x x.talk marks user ≡ Refused error.TooLong
+send_long c x marks user long = rw (lt-leb _ _ long) refl
+
+pub send_full : (c : Settings) (x : Circuit) (marks : Marks) (user : List ℕ) → length user ≤ c.longest → waits x ≡ 8 → send_open c x x.talk marks user ≡ Refused error.Full
 send_full c x marks user short e = rw (le-leb _ _ short, e) refl
 
-pub send_waits : (c : Settings) (x : Circuit) (marks : Marks) (user : List ℕ) → length user ≤ 65535 → waits x < 8
+pub send_waits : (c : Settings) (x : Circuit) (marks : Marks) (user : List ℕ) → length user ≤ c.longest → waits x < 8
     → send_open c x x.talk marks user ≡ keeps_on x (with_rest (x.talk.rest ++ cut (outgoing x).size marks user) x.talk) None
 send_waits c x marks user short e = rw (le-leb _ _ short, lt-ltb _ _ e) refl

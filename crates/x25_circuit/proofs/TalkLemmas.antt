@@ -23,10 +23,11 @@ use Rattle.x25_circuit.specs.code.Fits.{FitsTalk, first_ground}
 use Rattle.x25_circuit.specs.code.FitsCircuit.{FitsCircuit}
 
 pub with_transfer : (c : Settings) (v : code.Circuit) (x : Circuit) (u : Transfer) (made : has_memory v.state ≡ true → u.partial.made ≡ true) (t : Talk) → FitsCircuit c v x
-    → FitsTalk (outgoing x).size u t → FitsCircuit c (record v { transfer = u; made = made }) (record x { talk = t })
-with_transfer c v x u made t fits talk = record {
+    → FitsTalk (outgoing x).size u t → u.partial.longest ≡ v.transfer.partial.longest → FitsCircuit c (record v { transfer = u; made = made }) (record x { talk = t })
+with_transfer c v x u made t fits talk kept = record {
   role = fits.role;
   long_data = fits.long_data;
+  longest = kept ∙ fits.longest;
   state = fits.state;
   clears = fits.clears;
   resets = fits.resets;
@@ -35,10 +36,13 @@ with_transfer c v x u made t fits talk = record {
   talk = talk;
 }
 
+pub same_longest : (p q : ShownPartial) → p ≡ q → p.longest ≡ q.longest
+same_longest p q same = ap (λ (r : ShownPartial). r.longest) same
+
 -- a transfer that was left as it is
 pub same_transfer : (c : Settings) (v : code.Circuit) (x : Circuit) (u : Transfer) (made : has_memory v.state ≡ true → u.partial.made ≡ true) → FitsCircuit c v x → u ≡ v.transfer
     → FitsCircuit c (record v { transfer = u; made = made }) x
-same_transfer c v x u made fits same = with_transfer c v x u made x.talk fits (subst (λ (w : Transfer). FitsTalk (outgoing x).size w x.talk) (sym same) fits.talk)
+same_transfer c v x u made fits same = with_transfer c v x u made x.talk fits (subst (λ (w : Transfer). FitsTalk (outgoing x).size w x.talk) (sym same) fits.talk) (ap (λ (w : Transfer). w.partial.longest) same)
 
 -- a circuit of which the transfer was left as it is
 pub kept_circuit : (v : code.Circuit) (u : Transfer) (made : has_memory v.state ≡ true → u.partial.made ≡ true) → u ≡ v.transfer → ◌≡◌ {A = code.Circuit} (record v { transfer = u; made = made }) v
@@ -60,9 +64,9 @@ pub taken_more : (r : Receiver) (b : Bool) (n m : ℕ) → IsTrue b → FitsTake
 taken_more r true n m h fits e = rw e fits
 taken_more r false n m h fits e = absurd (cc)
 
-pub piece_ground_of : (size : ℕ) (j : Partial) (marks : Marks) (m : Bool) (user : List ℕ) → piece_ground size j (piece_of marks m user) ≡ ground_of size j (length user) marks.q
-piece_ground_of size j marks true user = refl
-piece_ground_of size j marks false user = refl
+pub piece_ground_of : (longest size : ℕ) (j : Partial) (marks : Marks) (m : Bool) (user : List ℕ) → piece_ground longest size j (piece_of marks m user) ≡ ground_of longest size j (length user) marks.q
+piece_ground_of longest size j marks true user = refl
+piece_ground_of longest size j marks false user = refl
 
 pub queue_fits : (size : ℕ) (v : Transfer) (t : Talk) (queue : Queue) (rest : List Piece) (unconfirmed : ℕ) → FitsTalk size v t → rest ≡ cut_all size (waiting queue)
     → unconfirmed ≡ asked_in (drop t.acked (t.sent ++ rest)) → FitsTalk size (record v { queue = queue; unconfirmed = unconfirmed }) (with_rest rest t)
@@ -73,32 +77,32 @@ pub acked_fits : (size : ℕ) (v : Transfer) (t : Talk) (sender : Held Bool) (n 
 acked_fits size v t sender n unconfirmed fits numbers asked = record { numbers = numbers; taken = fits.taken; rest = fits.rest; part = fits.part; short = fits.short; unconfirmed = asked; int_out = fits.int_out; peer_ready = fits.peer_ready; own_ready = fits.own_ready }
 
 -- whether memory is made is no part of what is stood for
-pub partial_fits : (size : ℕ) (v : Transfer) (t : Talk) (p : ShownPartial) → FitsTalk size v t → p.part ≡ v.partial.part → FitsTalk size (record v { partial = p }) t
-partial_fits size v t p fits same = record { numbers = fits.numbers; taken = fits.taken; rest = fits.rest; part = same ∙ fits.part; short = subst (λ (j : Partial). length j.user ≤ 65535) (sym same) fits.short; unconfirmed = fits.unconfirmed; int_out = fits.int_out; peer_ready = fits.peer_ready; own_ready = fits.own_ready }
+pub partial_fits : (size : ℕ) (v : Transfer) (t : Talk) (p : ShownPartial) → FitsTalk size v t → p.part ≡ v.partial.part → p.longest ≡ v.partial.longest → FitsTalk size (record v { partial = p }) t
+partial_fits size v t p fits same longest = record { numbers = fits.numbers; taken = fits.taken; rest = fits.rest; part = same ∙ fits.part; short = subst (λ (j : Partial). length j.user ≤ p.longest) (sym same) (subst (λ (n : ℕ). length v.partial.part.user ≤ n) (sym longest) fits.short); unconfirmed = fits.unconfirmed; int_out = fits.int_out; peer_ready = fits.peer_ready; own_ready = fits.own_ready }
 
 pub waits_are : (size : ℕ) (v : Transfer) (t : Talk) → FitsTalk size v t → wholes t.rest ≡ length (waiting v.queue)
 waits_are size v t fits = ap wholes fits.rest ∙ wholes_all size (waiting v.queue)
 
 -- ---- the grounds of a data packet
 
-pub same_ground : (size least ps : ℕ) (t : Talk) (marks : Marks) (m : Bool) (user : List ℕ) → least ≡ size
-    → (if ps == length t.taken % 8 then ground_of least (joining no_part t.taken) (length user) marks.q else Some 1)
-    ≡ (if ps == length t.taken % 8 then piece_ground size (joining no_part t.taken) (piece_of marks m user) else Some 1)
-same_ground size least ps t marks m user e = rw (e, sym (piece_ground_of size (joining no_part t.taken) marks m user)) refl
+pub same_ground : (longest size most least ps : ℕ) (t : Talk) (marks : Marks) (m : Bool) (user : List ℕ) → most ≡ longest → least ≡ size
+    → (if ps == length t.taken % 8 then ground_of most least (joining no_part t.taken) (length user) marks.q else Some 1)
+    ≡ (if ps == length t.taken % 8 then piece_ground longest size (joining no_part t.taken) (piece_of marks m user) else Some 1)
+same_ground longest size most least ps t marks m user f e = rw (f, e, sym (piece_ground_of longest size (joining no_part t.taken) marks m user)) refl
 
 first_of_two : (b : Bool) (ground : Option ℕ) (n : ℕ) → ground ≡ Some n → (if b then ground else Some 2) ≡ Some (if b then n else 2)
 first_of_two true ground n e = e
 first_of_two false ground n e = refl
 
-pub ground_refused : (size : ℕ) (t : Talk) (ps pr : ℕ) (piece : Piece) (n : ℕ)
-    → (if ps == length t.taken % 8 then piece_ground size (joining no_part t.taken) piece else Some 1) ≡ Some n
-    → data_ground size t ps pr piece ≡ Some (first_ground t pr n)
-ground_refused size t ps pr piece n e = first_of_two (nat_le (resolved t.acked pr) (length t.sent)) _ n e
+pub ground_refused : (longest size : ℕ) (t : Talk) (ps pr : ℕ) (piece : Piece) (n : ℕ)
+    → (if ps == length t.taken % 8 then piece_ground longest size (joining no_part t.taken) piece else Some 1) ≡ Some n
+    → data_ground longest size t ps pr piece ≡ Some (first_ground t pr n)
+ground_refused longest size t ps pr piece n e = first_of_two (nat_le (resolved t.acked pr) (length t.sent)) _ n e
 
-pub ground_passed : (size : ℕ) (t : Talk) (ps pr : ℕ) (piece : Piece)
-    → (if ps == length t.taken % 8 then piece_ground size (joining no_part t.taken) piece else Some 1) ≡ None
-    → data_ground size t ps pr piece ≡ number_ground t pr
-ground_passed size t ps pr piece e = ap (λ (g : Option ℕ). if nat_le (resolved t.acked pr) (length t.sent) then g else Some 2) e
+pub ground_passed : (longest size : ℕ) (t : Talk) (ps pr : ℕ) (piece : Piece)
+    → (if ps == length t.taken % 8 then piece_ground longest size (joining no_part t.taken) piece else Some 1) ≡ None
+    → data_ground longest size t ps pr piece ≡ number_ground t pr
+ground_passed longest size t ps pr piece e = ap (λ (g : Option ℕ). if nat_le (resolved t.acked pr) (length t.sent) then g else Some 2) e
 
 -- no facilities are a facility field
 pub no_field : IsFacilityField []

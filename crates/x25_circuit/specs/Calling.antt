@@ -98,10 +98,10 @@ clear_in c x state cause diagnostic = clear_with c x cause diagnostic
 
 -- ---- in p4 with d1
 
--- a message of at most 65,535 octets waits behind at most seven others
+-- a message that isn't too long waits behind at most seven others
 abbrev pub send_open : Settings → Circuit → Talk → Marks → List ℕ → Outcome
 send_open c x t marks user =
-    if nat_le (length user) 65535
+    if nat_le (length user) c.longest
     then (if nat_lt (waits x) 8
     then keeps_on x (record {
       sent = t.sent;

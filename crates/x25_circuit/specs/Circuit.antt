@@ -7,10 +7,12 @@ use Rattle.x25_circuit.specs.declared.params.Params.{Params}
 use Rattle.x25_circuit.specs.Params.{Terms, default_params, called_terms, calling_terms}
 use Rattle.x25_circuit.specs.Message.{Piece, wholes, asked_in}
 
--- which end this is, and whether the user data of a CALL may be long (profile)
+-- which end this is, whether the user data of a CALL may be long, and the most octets of a message, which are 65,535 at
+-- most (profile)
 pub record Settings : Type 0 where
   pub role : Role
   pub long_data : Bool
+  pub longest : ℕ
 
 -- What belongs to the present stretch, from a call or a reset on: the data packets sent, of which P(S) of the next is
 -- the number; those taken, of which P(R) is the number; how many of those sent the other end acknowledged; the packets

@@ -176,10 +176,10 @@ number_ground t pr = if nat_le (resolved t.acked pr) (length t.sent) then None e
 
 -- the first ground of a data packet: its P(R); its P(S), which is the number of packets taken modulo 8 (section
 -- 4.4.1.1), else 1; then its size and its qualifier
-abbrev pub data_ground : ℕ → Talk → ℕ → ℕ → Piece → Option ℕ
-data_ground size t ps pr piece =
+abbrev pub data_ground : ℕ → ℕ → Talk → ℕ → ℕ → Piece → Option ℕ
+data_ground longest size t ps pr piece =
     if nat_le (resolved t.acked pr) (length t.sent)
-    then (if ps == length t.taken % 8 then piece_ground size (joining no_part t.taken) piece else Some 1)
+    then (if ps == length t.taken % 8 then piece_ground longest size (joining no_part t.taken) piece else Some 1)
     else Some 2
 
 -- RR or RNR with P(R) of this number
@@ -232,7 +232,8 @@ confirms c x t false = resets_for c x 43
 
 abbrev pub row_open : Settings → Circuit → Talk → PlainPacket → Answer
 row_open c x t (user_data channel marks m ps pr user) =
-    unless c x (data_ground (terms_in x).size t ps pr (piece_of marks m user)) (takes x t pr (piece_of marks m user))
+    unless c x (data_ground c.longest (terms_in x).size t ps pr (piece_of marks m user))
+    (takes x t pr (piece_of marks m user))
 row_open c x t (rr channel pr) = unless c x (number_ground t pr) (hears_status x t true pr)
 row_open c x t (rnr channel pr) = unless c x (number_ground t pr) (hears_status x t false pr)
 row_open c x t (interrupt channel user) = talks x t (Some (interrupt_conf 1)) (interrupted user ∷ [])

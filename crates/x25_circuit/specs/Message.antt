@@ -67,21 +67,22 @@ may_have_q None q = true
 may_have_q (Some r) q = same_q r q
 
 -- The first ground on which so many octets with this qualifier are refused behind what has begun: 39 where they are
--- more than a packet holds, or the message gets more than 65,535; 83 where the qualifier isn't that of the packets
+-- more than a packet holds, or the message gets more than the longest; 83 where the qualifier isn't that of the packets
 -- before. The diagnostics are of the profile.
-abbrev pub ground_of : ℕ → Partial → ℕ → Bool → Option ℕ
-ground_of size j n q =
+abbrev pub ground_of : ℕ → ℕ → Partial → ℕ → Bool → Option ℕ
+ground_of longest size j n q =
     if nat_le n size
-    then (if nat_le (length j.user + n) 65535 then (if may_have_q j.begun q then None else Some 83) else Some 39)
+    then (if nat_le (length j.user + n) longest then (if may_have_q j.begun q then None else Some 83) else Some 39)
     else Some 39
 
-abbrev pub piece_ground : ℕ → Partial → Piece → Option ℕ
-piece_ground size j p = ground_of size j (length (user_of p)) (q_of p)
+abbrev pub piece_ground : ℕ → ℕ → Partial → Piece → Option ℕ
+piece_ground longest size j p = ground_of longest size j (length (user_of p)) (q_of p)
 
--- none of these is refused: one qualifier in a message, at most 65,535 octets, and each packet of at most the size
-abbrev pub AreSound : ℕ → Partial → List Piece → Type 0
-AreSound size j [] = Unit {0}
-AreSound size j (p ∷ ps) = (piece_ground size j p ≡ None) × AreSound size (joined j p) ps
+-- none of these is refused: one qualifier in a message, no more octets than the longest has, and each packet of at most
+-- the size
+abbrev pub AreSound : ℕ → ℕ → Partial → List Piece → Type 0
+AreSound longest size j [] = Unit {0}
+AreSound longest size j (p ∷ ps) = (piece_ground longest size j p ≡ None) × AreSound longest size (joined j p) ps
 
 -- ---- how a message is cut: all packets but the last are full, have M = 1, and D = 0, so that a network may join them
 -- (section 4.3.4); an empty message is one empty packet

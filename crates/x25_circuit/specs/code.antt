@@ -2,6 +2,7 @@
 pub mod Cutter
 pub mod CutterFields
 pub mod PartialMessage
+pub mod PartialFields
 pub mod CallMemory
 pub mod Changes
 pub mod FitsNumbers

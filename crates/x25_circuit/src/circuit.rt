@@ -42,15 +42,22 @@ impl Circuit {
     ghost use Rattle.x25_circuit.specs.code.FitsCircuit.{made_of, clears_of, resets_of, waits_of};
 
     /// A channel that was never used: p1. With `long_data` a call has at most 128 octets of user data (profile), else
-    /// at most 16.
+    /// at most 16. A message has at most `longest` octets, sent or taken, and that much memory is made for the first
+    /// call.
     ///
     /// 70 alone.
-    pub fn with(alloc: Global, role: Role, long_data: bool) -> Result<Circuit, CircuitError>
-        ensures fits { IfOk result (λ v. FitsCircuit (record { role = role; long_data = long_data }) v begun) }
+    pub fn with(
+        alloc: Global,
+        role: Role,
+        long_data: bool,
+        longest: u16,
+    ) -> Result<Circuit, CircuitError>
+        ensures fits { IfOk result (λ v. FitsCircuit
+            (record { role = role; long_data = long_data; longest = longest }) v begun) }
         ensures made { IfOk result (λ v. made_of v ≡ false) }
         ensures err { IfErr result (λ e. e ≡ CircuitError.NoMemory) }
     {
-        let transfer = Transfer::new(alloc)?;
+        let transfer = Transfer::new(alloc, usize::from(longest))?;
         Ok(Circuit {
             role,
             long_data,
@@ -146,7 +153,7 @@ impl Circuit {
         }
     }
 
-    /// How many messages wait, at most 8. Each has at most 65,535 octets.
+    /// How many messages wait, at most 8. None has more octets than the longest.
     pub fn waits(&self) -> usize
         ensures value { (c : Settings) (x : Channel) → FitsCircuit c self.now x → result ≡ waits x }
         ensures none { (c : Settings) (x : Channel) → FitsCircuit c self.now x → result ≡ 0

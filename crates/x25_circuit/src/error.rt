@@ -15,7 +15,7 @@ pub enum CircuitError {
     /// 31: eight messages wait.
     #[error("eight messages wait")]
     Full,
-    /// 32: the message has more than 65,535 octets.
+    /// 32: the message has more octets than the longest.
     #[error("the message is too long")]
     TooLong,
     /// 33: an interrupt isn't confirmed yet.

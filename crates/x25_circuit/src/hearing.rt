@@ -100,7 +100,8 @@ impl Circuit {
         requires made { made_of self.old ≡ true }
         requires wanted { ps.number ≡ self.old.transfer.receiver.number }
         requires spare { spares spare.old ≡ 1 }
-        requires short { length self.old.transfer.partial.part.user + length user.now ≤ 65535 }
+        requires short { length self.old.transfer.partial.part.user + length user.now
+            ≤ self.old.transfer.partial.longest }
         ensures { RepliesWith self.old self.new result (spares spare.new)
             (λ c x. unless c x (number_ground x.talk pr.number)
             (takes x x.talk pr.number (piece_of marks m user.now))) }
@@ -184,8 +185,7 @@ impl Circuit {
     /// Takes a packet that came for this channel, and answers the packet to send and what is reported to the user, by
     /// the table of the circuit. The channel that the packet names isn't looked at.
     ///
-    /// It takes no memory: a message is handed over with the memory that it came in, and what comes next comes in the
-    /// spare memory, which is left where none is handed over.
+    /// It takes no memory: a message is handed over in the spare memory, which is left where none is handed over.
     pub fn packet<'a>(&mut self, packet: &Packet<'a>, spare: &mut Option<Octets>) -> Reply<'a>
         requires kind { HasChannel (plain packet.now) }
         requires clears { clears_of self.old < 2 ^ 64 - 1 }

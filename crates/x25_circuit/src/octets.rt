@@ -1,4 +1,4 @@
-ghost use Rattle.std.specs.Prelude.{◌≡◌, ◌+◌, ◌≤◌, ◌++◌, [], length, IfOk};
+ghost use Rattle.std.specs.Prelude.{◌≡◌, ◌≤◌, [], length, IfOk};
 
 use std::alloc::{AllocError, Global};
 use std::marker::Model;
@@ -7,7 +7,8 @@ use x25_bits::append_octets;
 /// The most octets of a message (profile).
 pub const LONGEST_MESSAGE: usize = 65_535;
 
-/// The octets of a message, in memory for 65,535, those of the longest one. Contracts see the list of them.
+/// The octets of a message that is told, in memory for 65,535, whatever its circuit takes. Contracts see the list of
+/// them.
 #[derive(Debug, Drop)]
 pub struct Octets {
     octets: Vec<u8>,
@@ -32,14 +33,6 @@ impl Octets {
         Ok(Octets { octets })
     }
 
-    /// How many octets there are.
-    pub(crate) fn len(&self) -> usize
-        ensures value { result ≡ length self.now }
-        ensures short { result ≤ 65535 }
-    {
-        self.octets.len()
-    }
-
     /// Lends the octets.
     pub fn as_slice(&self) -> &[u8]
         ensures items { result.now ≡ self.now }
@@ -53,22 +46,7 @@ impl Octets {
         requires { length octets.now ≤ 65535 }
         ensures { self.new ≡ octets.now }
     {
-        self.clear();
-        self.append(octets);
-    }
-
-    /// These octets, behind those that there are. It takes no memory.
-    pub(crate) fn append(&mut self, more: &[u8])
-        requires { length self.old + length more.now ≤ 65535 }
-        ensures { self.new ≡ self.old ++ more.now }
-    {
-        append_octets(&mut self.octets, more);
-    }
-
-    /// Drops the octets, and keeps their memory.
-    pub(crate) fn clear(&mut self)
-        ensures { self.new ≡ [] }
-    {
         self.octets.clear();
+        append_octets(&mut self.octets, octets);
     }
 }

@@ -1,34 +1,33 @@
-ghost use Rattle.std.specs.Prelude.{◌≡◌, ◌+◌, ◌≤◌, ◌++◌, length, true, false, IfNone, OnOk, OnErr, option_to_list};
+ghost use Rattle.std.specs.Prelude.{◌≡◌, ◌+◌, ◌≤◌, ◌++◌, [], length, true, false, IfNone, OnOk, OnErr, option_to_list};
 
 use crate::codes::{MIXED_QUALIFIERS, PACKET_TOO_LONG};
 use crate::message::Message;
-use crate::octets::{LONGEST_MESSAGE, Octets};
+use crate::octets::Octets;
 use std::alloc::{AllocError, Global};
 use std::marker::Model;
-use std::mem;
+use x25_bits::append_octets;
 use x25_packet::Marks;
 
 /// The message of which some packets were taken: its qualifier, where it has begun, and its octets so far, in memory
-/// that is made for the first call and kept from then on.
+/// for the longest message, which is made for the first call and kept from then on.
 #[derive(Drop)]
 pub struct PartialMessage {
     begun: Option<bool>,
-    octets: Option<Octets>,
+    octets: Option<Vec<u8>>,
+    longest: usize,
     alloc: Global,
 }
 
 impl Model for PartialMessage {
-    ghost use Rattle.std.specs.Prelude.{is_some};
-    ghost use Rattle.x25_circuit.specs.code.PartialMessage.{ShownPartial, octets_of};
+    ghost use Rattle.x25_circuit.specs.code.PartialMessage.{ShownPartial};
 
     ghost Value = { ShownPartial };
 
-    ghost view = { λ p. record {
-      part = record { begun = p.begun; user = octets_of p.octets };
-      made = is_some p.octets;
-    } };
+    ghost use Rattle.x25_circuit.specs.code.PartialFields.{shown, IsSound};
 
-    ghost invariant = { λ p. Unit {0} };
+    ghost view = { shown };
+
+    ghost invariant = { IsSound };
 }
 
 impl PartialMessage {
@@ -36,47 +35,60 @@ impl PartialMessage {
     ghost use Rattle.x25_circuit.specs.code.PartialMessage.{spares};
 
     /// No message has begun, and no memory is made.
-    pub fn new(alloc: Global) -> PartialMessage
+    pub fn new(alloc: Global, longest: usize) -> PartialMessage
+        requires { longest ≤ 65535 }
         ensures part { result.part ≡ no_part }
         ensures made { result.made ≡ false }
+        ensures longest { result.longest ≡ longest }
     {
         PartialMessage {
             begun: None,
             octets: None,
+            longest,
             alloc,
         }
+    }
+
+    /// The most octets of a message.
+    pub fn longest(&self) -> usize
+        ensures value { result ≡ self.now.longest }
+        ensures few { result ≤ 65535 }
+    {
+        self.longest
     }
 
     /// Makes the memory, where there is none. Err: no memory; all is as it was then.
     pub fn make(&mut self) -> Result<(), AllocError>
         ensures part { self.new.part ≡ self.old.part }
+        ensures longest { self.new.longest ≡ self.old.longest }
         ensures made { OnOk result (self.new.made ≡ true) }
         ensures missing { OnErr result (self.old.made ≡ false) }
         ensures unchanged { OnErr result (self.new ≡ self.old) }
     {
         if self.octets.is_none() {
-            self.octets = Some(Octets::new(self.alloc)?);
+            self.octets = Some(Vec::with_capacity(self.alloc, self.longest)?);
         }
         Ok(())
     }
 
-    // How many octets have come.
-    fn len(&self) -> usize
-        ensures value { result ≡ length self.now.part.user }
-        ensures short { result ≤ 65535 }
+    // The octets that have come.
+    fn as_slice(&self) -> &[u8]
+        ensures items { result.now ≡ self.now.part.user }
+        ensures short { length result.now ≤ self.now.longest }
+        ensures few { length result.now ≤ 65535 }
     {
         match &self.octets {
-            Some(octets) => octets.len(),
-            None => 0,
+            Some(octets) => octets.as_slice(),
+            None => &[],
         }
     }
 
     /// The diagnostic for which so many octets with this qualifier are refused behind what has begun, if any: 39 or 83.
     pub fn ground(&self, size: usize, count: usize, q: bool) -> Option<u8>
-        ensures value { result ≡ ground_of size self.now.part count q }
+        ensures value { result ≡ ground_of self.now.longest size self.now.part count q }
         ensures fits { IfNone result (count ≤ size) }
     {
-        if count > size || count > LONGEST_MESSAGE - self.len() {
+        if count > size || count > self.longest - self.as_slice().len() {
             return Some(PACKET_TOO_LONG);
         }
         match self.begun {
@@ -85,8 +97,7 @@ impl PartialMessage {
         }
     }
 
-    /// Joins a packet, and gives the message that ends with it, if one does, in the memory that it came in. What comes
-    /// next comes in the spare memory then.
+    /// Joins a packet, and gives the message that ends with it, if one does, in the spare memory.
     pub fn join(
         &mut self,
         marks: Marks,
@@ -95,12 +106,13 @@ impl PartialMessage {
         spare: &mut Option<Octets>,
     ) -> Option<Message>
         requires made { self.old.made ≡ true }
-        requires short { length self.old.part.user + length user.now ≤ 65535 }
+        requires short { length self.old.part.user + length user.now ≤ self.old.longest }
         requires spare { spares spare.old ≡ 1 }
         ensures part { self.new.part ≡ joined self.old.part (piece_of marks m user.now) }
         ensures made { self.new.made ≡ true }
         ensures message { option_to_list result ≡ completed self.old.part (piece_of marks m user.now) }
-        ensures short { length self.new.part.user ≤ 65535 }
+        ensures longest { self.new.longest ≡ self.old.longest }
+        ensures short { length self.new.part.user ≤ self.new.longest }
         ensures spare { spares spare.new + length (option_to_list result) ≡ 1 }
     {
         self.append(user);
@@ -114,33 +126,31 @@ impl PartialMessage {
     // The octets that have come, and these behind them.
     fn append(&mut self, user: &[u8])
         requires made { self.old.made ≡ true }
-        requires short { length self.old.part.user + length user.now ≤ 65535 }
+        requires short { length self.old.part.user + length user.now ≤ self.old.longest }
         ensures part { self.new.part ≡ record { begun = self.old.part.begun; user = self.old.part.user ++ user.now } }
         ensures made { self.new.made ≡ true }
+        ensures longest { self.new.longest ≡ self.old.longest }
     {
         let Some(octets) = &mut self.octets else {
             unreachable!();
         };
-        octets.append(user);
+        append_octets(octets, user);
     }
 
-    // The message of all octets that have come. The next one comes in the spare memory.
+    // The message of all octets that have come, in the spare memory.
     fn finish(&mut self, marks: Marks, spare: &mut Option<Octets>) -> Message
-        requires made { self.old.made ≡ true }
-        requires spare { spares spare.old ≡ 1 }
+        requires { spares spare.old ≡ 1 }
         ensures message { result ≡ record { marks = marks; user = self.old.part.user } }
         ensures part { self.new.part ≡ no_part }
-        ensures made { self.new.made ≡ true }
+        ensures made { self.new.made ≡ self.old.made }
+        ensures longest { self.new.longest ≡ self.old.longest }
         ensures spare { spares spare.new ≡ 0 }
     {
-        let Some(mut next) = spare.take() else {
+        let Some(mut user) = spare.take() else {
             unreachable!();
         };
-        next.clear();
-        let Some(user) = mem::replace(&mut self.octets, Some(next)) else {
-            unreachable!();
-        };
-        self.begun = None;
+        user.set(self.as_slice());
+        self.clear();
         Message { marks, user }
     }
 
@@ -148,6 +158,7 @@ impl PartialMessage {
     pub fn clear(&mut self)
         ensures part { self.new.part ≡ no_part }
         ensures made { self.new.made ≡ self.old.made }
+        ensures longest { self.new.longest ≡ self.old.longest }
     {
         self.begun = None;
         if let Some(octets) = &mut self.octets {

@@ -20,7 +20,6 @@ ghost use Rattle.x25_circuit.specs.code.Replies.{IsControl, IsSendable, plain_se
 use crate::cause::{may_clear_for, may_reset_for};
 use crate::circuit::Circuit;
 use crate::error::CircuitError;
-use crate::octets::LONGEST_MESSAGE;
 use crate::proposal::Proposal;
 use crate::queue::PLACES;
 use crate::state::State;
@@ -73,13 +72,13 @@ impl Circuit {
     ///
     /// 30 WrongState where the state doesn't allow it: a call outside of p1, an acceptance where no call came, a clear
     /// in p1 and where this end's CLEAR isn't confirmed yet, and all others outside of p4 with d1. Then of a message 32
-    /// TooLong where it has more than 65,535 octets and 31 Full where 8 wait, of an interrupt 34 BadParameter where it
-    /// hasn't 1 to 32 octets and 33 InterruptOutstanding, of a call 34 BadParameter where an address isn't 0 to 15
-    /// digits, the user data is more than 16 octets (128 where it may be long), a packet size isn't 4 to 12 or a window
-    /// isn't 1 to 7, of an acceptance 34 where a value isn't from the proposed one to the default, and of a clear or a
-    /// reset 34 where the cause is none that the user of this end may give. Else 70 alone, and that for a message,
-    /// which is copied, and for a call and an acceptance, where the circuit had no call yet for which the memory of
-    /// messages that come was made. The circuit is as before then. No request changes a count.
+    /// TooLong where it has more octets than the longest and 31 Full where 8 wait, of an interrupt 34 BadParameter
+    /// where it hasn't 1 to 32 octets and 33 InterruptOutstanding, of a call 34 BadParameter where an address isn't 0
+    /// to 15 digits, the user data is more than 16 octets (128 where it may be long), a packet size isn't 4 to 12 or a
+    /// window isn't 1 to 7, of an acceptance 34 where a value isn't from the proposed one to the default, and of a
+    /// clear or a reset 34 where the cause is none that the user of this end may give. Else 70 alone, and that for a
+    /// message, which is copied, and for a call and an acceptance, where the circuit had no call yet for which the
+    /// memory of messages that come was made. The circuit is as before then. No request changes a count.
     #[inline(always)]
     pub fn ask<'a>(&mut self, request: Request<'a>) -> Result<Option<Packet<'a>>, CircuitError>
         ensures outcome { (c : Settings) (x : Channel) → FitsCircuit c self.old x
@@ -176,12 +175,14 @@ impl Circuit {
         ensures refused { (c : Settings) (x : Channel) (marks : Marks) (user : List ℕ) → length user ≡ count
             → FitsCircuit c self.now x → IfSome result (λ e. send_in c x x.state marks user ≡ Refused e) }
         ensures open { IfNone result (self.now.state ≡ State.Open) }
+        ensures longest { IfNone result (count ≤ self.now.transfer.partial.longest) }
         ensures short { IfNone result (count ≤ 65535) }
         ensures few { IfNone result (length (waiting self.now.transfer.queue) < 8) }
         ensures kinds { IfSome result (λ e. e ≢ CircuitError.NoMemory) }
     {
+        let longest = self.transfer.partial.longest();
         match self.state {
-            State::Open if count > LONGEST_MESSAGE => Some(CircuitError::TooLong),
+            State::Open if count > longest => Some(CircuitError::TooLong),
             State::Open if self.transfer.queue.len() == PLACES => Some(CircuitError::Full),
             State::Open => None,
             _ => Some(CircuitError::WrongState),

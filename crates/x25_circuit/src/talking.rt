@@ -16,7 +16,7 @@ use x25_packet::{Marks, Packet};
 pub(crate) const INTERRUPT_OCTETS: usize = 32;
 
 impl Circuit {
-    /// Lets a copy of a message of at most 65,535 octets wait, with this qualifier.
+    /// Lets a copy of a message wait that isn't longer than the longest, with these marks.
     ///
     /// 30 WrongState outside of p4 with d1, then 32 TooLong, then 31 Full exactly where 8 messages wait, and else 70
     /// alone.

@@ -86,9 +86,11 @@ impl Transfer {
     ghost use Rattle.x25_circuit.specs.code.Fits.{FitsTalk, IsSent, IsHeld};
 
     /// Nothing was sent or taken, nothing waits, and both ends are ready. 70 alone.
-    pub fn new(alloc: Global) -> Result<Transfer, CircuitError>
+    pub fn new(alloc: Global, longest: usize) -> Result<Transfer, CircuitError>
+        requires { longest ≤ 65535 }
         ensures fits { (size : ℕ) → IfOk result (λ t. FitsTalk size t silent) }
         ensures made { IfOk result (λ t. t.partial.made ≡ false) }
+        ensures longest { IfOk result (λ t. t.partial.longest ≡ longest) }
         ensures err { IfErr result (λ e. e ≡ CircuitError.NoMemory) }
     {
         let Some(sender) = Sender::new(alloc, PACKETS)? else {
@@ -99,7 +101,7 @@ impl Transfer {
             sender,
             receiver: Receiver::new(),
             queue,
-            partial: PartialMessage::new(alloc),
+            partial: PartialMessage::new(alloc, longest),
             unconfirmed: 0,
             interrupt_out: false,
             peer_ready: true,
@@ -110,6 +112,7 @@ impl Transfer {
     /// Makes the memory of the message in part, where there is none. Err: no memory; all is as it was then.
     pub fn make(&mut self) -> Result<(), AllocError>
         ensures fits { (size : ℕ) (t : Talk) → FitsTalk size self.old t → FitsTalk size self.new t }
+        ensures longest { self.new.partial.longest ≡ self.old.partial.longest }
         ensures made { OnOk result (self.new.partial.made ≡ true) }
         ensures missing { OnErr result (self.old.partial.made ≡ false) }
         ensures unchanged { OnErr result (self.new ≡ self.old) }
@@ -121,6 +124,7 @@ impl Transfer {
     pub fn clear(&mut self)
         ensures fits { (size other : ℕ) (t : Talk) → FitsTalk size self.old t → FitsTalk other self.new silent }
         ensures made { self.new.partial.made ≡ self.old.partial.made }
+        ensures longest { self.new.partial.longest ≡ self.old.partial.longest }
     {
         self.sender.clear();
         self.receiver.clear();
@@ -157,10 +161,10 @@ impl Transfer {
     /// The diagnostic for which a data packet is refused, whatever its P(R), if any: 1, 39 or 83.
     pub fn ground(&self, size: usize, ps: Seq, q: bool, count: usize) -> Option<u8>
         ensures value { (out : ℕ) (t : Talk) → FitsTalk out self.now t
-            → result ≡ (if ps.number == length t.taken % 8 then ground_of size (joining no_part t.taken) count q
-            else Some 1) }
+            → result ≡ (if ps.number == length t.taken % 8
+            then ground_of self.now.partial.longest size (joining no_part t.taken) count q else Some 1) }
         ensures wanted { IfNone result (ps.number ≡ self.now.receiver.number) }
-        ensures short { IfNone result (length self.now.partial.part.user + count ≤ 65535) }
+        ensures short { IfNone result (length self.now.partial.part.user + count ≤ self.now.partial.longest) }
         ensures fits { IfNone result (count ≤ size) }
     {
         if ps != self.receiver.wanted() {
@@ -169,8 +173,8 @@ impl Transfer {
         self.partial.ground(size, count, q)
     }
 
-    /// Takes a data packet that isn't refused, and gives the message that ends with it, if one does: the next comes in
-    /// the spare memory then.
+    /// Takes a data packet that isn't refused, and gives the message that ends with it, if one does, in the spare
+    /// memory.
     pub fn take(
         &mut self,
         ps: Seq,
@@ -182,12 +186,13 @@ impl Transfer {
         requires wanted { ps.number ≡ self.old.receiver.number }
         requires made { self.old.partial.made ≡ true }
         requires spare { spares spare.old ≡ 1 }
-        requires short { length self.old.partial.part.user + length user.now ≤ 65535 }
+        requires short { length self.old.partial.part.user + length user.now ≤ self.old.partial.longest }
         ensures fits { (size : ℕ) (t : Talk) → FitsTalk size self.old t
             → FitsTalk size self.new (with_taken (piece_of marks m user.now) t) }
         ensures message { (size : ℕ) (t : Talk) → FitsTalk size self.old t
             → option_to_list result ≡ completed (joining no_part t.taken) (piece_of marks m user.now) }
         ensures queue { self.new.queue ≡ self.old.queue }
+        ensures longest { self.new.partial.longest ≡ self.old.partial.longest }
         ensures made { self.new.partial.made ≡ true }
         ensures spare { spares spare.new + length (option_to_list result) ≡ 1 }
     {

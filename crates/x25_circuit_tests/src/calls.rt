@@ -14,9 +14,14 @@ fn boxed<T: Drop>(alloc: Global, value: T) -> Option<Box<T>> {
     Box::new(alloc, value).ok()
 }
 
+/// A circuit in p1, with messages of so many octets at most.
+pub fn circuit_with(alloc: Global, role: Role, longest: u16) -> Result<Box<Circuit>, CircuitError> {
+    boxed(alloc, Circuit::with(alloc, role, false, longest)?).ok_or(CircuitError::NoMemory)
+}
+
 /// A circuit in p1.
 pub fn circuit(alloc: Global, role: Role) -> Result<Box<Circuit>, CircuitError> {
-    boxed(alloc, Circuit::with(alloc, role, false)?).ok_or(CircuitError::NoMemory)
+    circuit_with(alloc, role, 65_535)
 }
 
 pub fn ask<'a>(

@@ -26,7 +26,7 @@ impl Proposals {
         }
     }
 
-    /// The request of an index up to 16.
+    /// The request of an index up to 18.
     pub fn request(&self, index: usize) -> Request<'_> {
         match index {
             0 => self.call("2", &self.usual),
@@ -50,9 +50,17 @@ impl Proposals {
             13 => clear(9),
             14 => reset(128),
             15 => reset(255),
-            _ => Request::Send {
+            16 => Request::Send {
                 marks: Marks { q: false, d: true },
                 user: &[],
+            },
+            17 => Request::Send {
+                marks: Marks::with_q(false),
+                user: b"1",
+            },
+            _ => Request::Send {
+                marks: Marks::with_q(false),
+                user: b"12",
             },
         }
     }

@@ -1,6 +1,6 @@
 //! What a circuit answers, and what it says of itself then; `tests/golden` has the packets of whole calls.
 
-use crate::calls::{ask, circuit, hear, hear_too_few, spare};
+use crate::calls::{ask, circuit, circuit_with, hear, hear_too_few, spare};
 use crate::requests::{Proposals, acceptance};
 use std::alloc::Global;
 use x25_circuit::{Circuit, CircuitError, Message, Notice, Octets, Owed, Params, Reply, Role};
@@ -76,6 +76,39 @@ const RESETS: usize = 9;
 const NOT_READY: usize = 11;
 
 const ASKS: usize = 16;
+
+const SENDS_ONE: usize = 17;
+
+const SENDS_TWO: usize = 18;
+
+// A message has one octet at most.
+static OF_AN_OCTET: [Row; 9] = [
+    (Act::Ask(CALLS), CALL, BETWEEN),
+    (Act::CallAccepted, NOTHING, OPEN),
+    (Act::Ask(SENDS_TWO), (32, None, None), OPEN),
+    (Act::Ask(SENDS_ONE), NOTHING, ONE_WAITS),
+    (
+        Act::Data(0, 0, true, PLAIN, 1),
+        (0, None, Some((0x21, 0))),
+        ONE_WAITS,
+    ),
+    (
+        Act::Data(1, 0, false, PLAIN, 0),
+        (0, Some((PLAIN, 1)), Some((0x41, 0))),
+        ONE_WAITS,
+    ),
+    (
+        Act::Data(2, 0, true, PLAIN, 1),
+        (0, None, Some((0x61, 0))),
+        ONE_WAITS,
+    ),
+    (
+        Act::Data(3, 0, false, PLAIN, 1),
+        (39, None, Some((0x1B, 0))),
+        BETWEEN,
+    ),
+    (Act::Ask(SENDS_ONE), (30, None, None), BETWEEN),
+];
 
 static IN_A_CALL: [Row; 15] = [
     (Act::Ask(CALLS), CALL, BETWEEN),
@@ -396,6 +429,21 @@ fn packets_of_data_transfer_are_answered(rt: HostRuntime) {
     assert_eq!(rt; odd_row_of(rt.alloc(), IN_A_CALL.as_slice()), Ok(None));
     assert_eq!(rt; odd_row_of(rt.alloc(), REPEATED.as_slice()), Ok(None));
     assert_eq!(rt; odd_row_of(rt.alloc(), CONFIRMED.as_slice()), Ok(None));
+}
+
+fn odd_row_of_an_octet(alloc: Global) -> Result<Option<usize>, CircuitError> {
+    let mut circuit = circuit_with(alloc, Role::Dte, 1)?;
+    Ok(odd_row(
+        &mut circuit,
+        &mut spare(alloc)?,
+        alloc,
+        OF_AN_OCTET.as_slice(),
+    ))
+}
+
+#[test]
+fn a_message_is_as_long_as_the_longest(rt: HostRuntime) {
+    assert_eq!(rt; odd_row_of_an_octet(rt.alloc()), Ok(None));
 }
 
 #[test]

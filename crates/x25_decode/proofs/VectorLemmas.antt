@@ -8,8 +8,8 @@ use Rattle.x25_bits.specs.FrameCheck.Sealed.{is_sealed}
 use Rattle.x25_frame.specs.Reading.{frame_of}
 use Rattle.x25_packet.specs.Digits.{halves_of}
 use Rattle.x25_packet.specs.Facilities.{facilities_of}
-use Rattle.x25_packet.specs.WideFacilities.{own_in}
-use Rattle.x25_packet.specs.WideReading.{read_of}
+use Rattle.x25_packet.specs.Classes.{own_in}
+use Rattle.x25_packet.specs.Grammar.{read_of}
 use Rattle.x25_decode.specs.Decoding.{answer_to}
 use Rattle.x25_decode.specs.TestVectors.{is_check_right, is_right, stored}
 

@@ -22,6 +22,7 @@ const SETTINGS: Cfg = Cfg {
         count: 1,
         incoming: 0,
         outgoing: 0,
+        message: 65_535,
     },
     long_data: false,
     say_sizes: false,

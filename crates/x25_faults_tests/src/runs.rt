@@ -69,6 +69,7 @@ const USUAL: Cfg = Cfg {
         count: 1,
         incoming: 0,
         outgoing: 0,
+        message: 65_535,
     },
     long_data: false,
     say_sizes: false,

@@ -2,7 +2,7 @@
 use Rattle.std.proofs.Common.{◌≤◌, ◌≡◌, true, length, refl, Option, Some, None}
 use Rattle.std.specs.Prelude.{not, is_some}
 use Rattle.std.proofs.lemmas.Bool.{and_parts, leb-true}
-use Rattle.x25_packet.specs.WideFacilities.{none_own, own_in, IsFacilityField}
+use Rattle.x25_packet.specs.Classes.{none_own, own_in, IsFacilityField}
 use Rattle.x25_packet.proofs.FacilityLemmas.{field_found}
 use Rattle.x25_given.specs.Given.{PlainGiven, may_give}
 

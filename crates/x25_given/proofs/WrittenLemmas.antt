@@ -10,14 +10,14 @@ use Rattle.x25_packet.specs.Packet as strict
 use Rattle.x25_packet.specs.Spelling as strict_spelling
 use Rattle.x25_packet.specs.declared.error.PacketError.{PacketError}
 use Rattle.x25_packet.specs.declared.facilities.Directions.{Directions}
-use Rattle.x25_packet.specs.WideFacilities.{class_b, none_own, own_in, with_facility, more_of, IsFacilityField}
-use Rattle.x25_packet.specs.declared.wide_facilities.Own.{Own}
+use Rattle.x25_packet.specs.Classes.{class_b, none_own, own_in, with_facility, more_of, IsFacilityField}
+use Rattle.x25_packet.specs.declared.classes.Own.{Own}
 use Rattle.x25_packet.specs.Narrowing.{field_said, narrow_of, narrowed, taken_of}
-use Rattle.x25_packet.specs.WidePacket.{PlainWide, call, accept, extended_clear}
-use Rattle.x25_packet.specs.WidePacket.Spelling.{spelling_of, may_have, IsPacket}
-use Rattle.x25_packet.specs.WideReading.{wide_of}
+use Rattle.x25_packet.specs.Form.{PlainForm, call, accept, extended_clear}
+use Rattle.x25_packet.specs.Form.Spelling.{spelling_of, may_have, IsPacket}
+use Rattle.x25_packet.specs.Grammar.{form_in}
 use Rattle.x25_packet.specs.laws.TakingLaw.{TakesWhatIsSpelled}
-use Rattle.x25_packet.specs.declared.wide_packet.Forms.TheVariants.{Any}
+use Rattle.x25_packet.specs.declared.form.Forms.TheVariants.{Any}
 use Rattle.x25_packet.proofs.AgainLaws.{only_found}
 use Rattle.x25_packet.proofs.FacilityLemmas.{own_stepped}
 use Rattle.x25_given.specs.Given.{PlainGiven}
@@ -181,12 +181,12 @@ says_still field b (f, allowed, e) is = subst (λ (xs : List ℕ). SaysStill xs 
 
 -- the octets spell a packet, which is taken for v
 record Taken (most : ℕ) (b : PlainGiven) (v : strict.PlainPacket) : Type 0 where
-  pub wide : PlainWide
+  pub wide : PlainForm
   pub packet : IsPacket Any most wide
   pub spelling : written b v ≡ spelling_of wide
   pub taken : narrow_of wide ≡ Ok v
 
-taken_as : (most : ℕ) (b : PlainGiven) (v : strict.PlainPacket) → Taken most b v → taken_of (wide_of most (written b v)) ≡ Ok v
+taken_as : (most : ℕ) (b : PlainGiven) (v : strict.PlainPacket) → Taken most b v → taken_of (form_in most (written b v)) ≡ Ok v
 taken_as most b v t = ap taken_of (only_found Any most (written b v) t.wide (record { packet = t.packet; spelling = t.spelling })) ∙ t.taken
 
 no_digits : hold_digits 0 [] ≡ true
@@ -288,8 +288,8 @@ written_is_read spelled b most strict.restart_conf within allowed h may small = 
 
 -- ---- and read in the form in which it was written
 
-found_as : (most : ℕ) (b : PlainGiven) (v : strict.PlainPacket) (w : PlainWide) → (t : Taken most b v) → Some t.wide ≡ Some w → wide_of most (written b v) ≡ Ok w
-found_as most b v w t is = only_found Any most (written b v) t.wide (record { packet = t.packet; spelling = t.spelling }) ∙ ap (λ (x : PlainWide). Ok x) (same_Some t.wide w is)
+found_as : (most : ℕ) (b : PlainGiven) (v : strict.PlainPacket) (w : PlainForm) → (t : Taken most b v) → Some t.wide ≡ Some w → form_in most (written b v) ≡ Ok w
+found_as most b v w t is = only_found Any most (written b v) t.wide (record { packet = t.packet; spelling = t.spelling }) ∙ ap (λ (x : PlainForm). Ok x) (same_Some t.wide w is)
 
 none_some : {A : Type 0} (x : A) → None ≡ Some x → ⊥
 none_some x e = cc

@@ -1,6 +1,6 @@
 -- What a user gives beside a packet of his own. ITU-T X.25 (10/96), sections 6.16, 7.1 and 7.2.2.
 use Rattle.std.specs.Prelude.{ℕ, Bool, not, ◌&&◌, nat_le, List, length, is_some}
-use Rattle.x25_packet.specs.WideFacilities.{are_facilities, none_own, own_in}
+use Rattle.x25_packet.specs.Classes.{are_facilities, none_own, own_in}
 use Rattle.x25_given.specs.declared.given.Given.{Given}
 
 -- facilities behind those that the station writes itself, user data (that of a CALL stands in it anyhow), and the D bit

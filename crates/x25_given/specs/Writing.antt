@@ -8,9 +8,9 @@ use Rattle.x25_packet.specs.Reading.{packet_of}
 use Rattle.x25_packet.specs.Spelling as plain
 use Rattle.x25_packet.specs.declared.error.PacketError.{PacketError}
 use Rattle.x25_packet.specs.Block.{PlainBlock, PlainFields}
-use Rattle.x25_packet.specs.WidePacket.{PlainKind, PlainWide}
-use Rattle.x25_packet.specs.WidePacket as wide
-use Rattle.x25_packet.specs.WidePacket.Spelling.{spelling_of}
+use Rattle.x25_packet.specs.Form.{PlainKind, PlainForm}
+use Rattle.x25_packet.specs.Form as wide
+use Rattle.x25_packet.specs.Form.Spelling.{spelling_of}
 use Rattle.x25_given.specs.Given.{PlainGiven}
 
 abbrev pub fields : List ℕ → List ℕ → PlainFields
@@ -28,7 +28,7 @@ call_block called calling f = record {
   fields = Some f;
 }
 
-abbrev pub headed : ℕ → Bool → PlainKind → PlainWide
+abbrev pub headed : ℕ → Bool → PlainKind → PlainForm
 headed channel d kind = record { channel = channel; bit_8 = false; d = d; kind = kind }
 
 -- the first three octets of such a packet: bits 5 and 6 are 01, bit 7 is D, bit 8 is 0 (section 5.1.1)
@@ -36,7 +36,7 @@ abbrev pub head_of : Bool → ℕ → ℕ → List ℕ
 head_of d channel kind = (128 * bit false + 64 * bit d + 16 + channel / 256) ∷ channel % 256 ∷ kind ∷ []
 
 -- the packet in the form in which what is given has a place: that of CALL, ACCEPT and CLEAR, of which CLEAR has no D
-abbrev pub form_of : PlainGiven → PlainPacket → Option PlainWide
+abbrev pub form_of : PlainGiven → PlainPacket → Option PlainForm
 form_of g (call channel called calling field user) =
     Some (headed channel g.d (wide.call (call_block called calling (fields (field ++ g.facilities) user))))
 form_of g (accept channel field) =
@@ -45,7 +45,7 @@ form_of g (clear channel cause diagnostic) =
     Some (headed channel false (wide.extended_clear cause diagnostic (bare_block (fields g.facilities g.user))))
 form_of g v = None
 
-abbrev pub spelled_as : List ℕ → Option PlainWide → List ℕ
+abbrev pub spelled_as : List ℕ → Option PlainForm → List ℕ
 spelled_as octets None = octets
 spelled_as octets (Some w) = spelling_of w
 

@@ -2,7 +2,7 @@
 use Rattle.std.proofs.Common.{◌≡◌, ◌⊎◌, inl, inr, ℕ, ◌≤◌, List, [], ◌∷◌, ◌++◌, length, take, drop, Some, refl, sym, ap, subst, ◌∙◌, arith}
 use Rattle.std.proofs.{lemmas.Bool.{true≢false}, lemmas.List.{take-append-drop, take-append-le}}
 use Rattle.x25_bits.specs.{declared.role.Role.{Role}, declared.role.Role.TheVariants.{Dte, Dce}}
-use Rattle.x25_circuit.specs.{declared.message.Message.{Message}, Message.{no_part, joining, carried_from, carried}, Params.{Terms}, Notice.{CallRequest}}
+use Rattle.x25_circuit.specs.{declared.message.Message.{Message}, Message.{no_part, joining, carried_from, carried}, Notice.{CallRequest}}
 use Rattle.x25_handshakes.specs.{laws.Handshake.{Side, Live, At, state_of, live}, laws.Stretch.{Packet, Stretch, fresh}, laws.Transfer.{fresh_transfer}}
 use Rattle.x25_handshakes.specs.{laws.Calls.{Phase, Talking, Connection, fresh_call}, laws.Layers.{Channels, all_fresh, Pair, turned}, laws.Names.{Name}}
 use Rattle.x25_handshakes.specs.laws.Histories.{Lists, messages, resets_in, held_in, circuit_at, name_at, held_at, Histories, histories_run, histories_start, IsPrefix}
@@ -14,6 +14,7 @@ use Rattle.x25_handshakes.proofs.{HandshakeLemmas.{both_fresh}, TextLemmas.{carr
 use Rattle.x25_handshakes.proofs.{StretchLemmas.{StretchesRelated-fresh}, CallLemmas.{TalksRelated-flip}, JointLemmas.{joint_order}, NameLemmas.{name_eq}}
 use Rattle.x25_handshakes.proofs.{TurnLemmas.{Ends-meet}, StretchKindLemmas.{messages_handled}, LayerLemmas.{Stands, Stands-turned}}
 use Rattle.x25_handshakes.proofs.{LawLemmas.{Holds, always_holds}, ArrivalLemmas.{Opened, opened, name_opened}, PeerOrder.{in_epochs}}
+use Rattle.x25_handshakes.specs.laws.Terms.{Terms}
 
 -- ---- level by level
 
@@ -46,7 +47,7 @@ in_talk t b x u v t₂ b₂ y h = in_epochs (stretch_level t b) Acked (in_stretc
 -- before p4: any terms do
 both_new : Transfers fresh_transfer fresh_transfer
 both_new =
-    let t : Terms = record { window = 0; size = 0 } in
+    let t : Terms = record { window = 0; size = 0; longest = 0 } in
     in_epochs (stretch_level t t) Acked (in_stretch t t) fresh_transfer [] [] fresh_transfer (both_fresh (stretch_level t t) (StretchesRelated-fresh t t) 0)
 
 abbrev Calls : Connection → Connection → Type 0

@@ -1,12 +1,13 @@
 -- An open stretch of both ends, with nothing on the way from one: all of it has arrived.
 use Rattle.std.proofs.{Common.{◌≡◌, ℕ, List, [], ◌∷◌, ◌++◌, Some, Bool, refl, sym, ap, subst, ◌∙◌, arith}, lemmas.Option.{same_Some, none-some}}
-use Rattle.x25_circuit.specs.{Message.{Piece, More, Last, Partial, no_part, joined, joining, wholes}, Params.{Terms}, Notice.{CallRequest}}
+use Rattle.x25_circuit.specs.{Message.{Piece, More, Last, Partial, no_part, joined, joining, wholes}, Notice.{CallRequest}}
 use Rattle.x25_bits.specs.{declared.role.Role.{Role}, declared.role.Role.TheVariants.{Dte, Dce}}
 use Rattle.x25_handshakes.specs.{laws.Handshake.{Side, Live, Left, At, state_of, live}, laws.Stretch.{Stretch}, laws.Calls.{Phase, Talking, Connection}}
 use Rattle.x25_handshakes.specs.{laws.Layers.{LayerPacket, Channels, Pair, turned, pair_run, pair_start}, laws.Names.{Name}, laws.Histories.{messages, name_at}}
 use Rattle.x25_handshakes.specs.{laws.Arrivals.{open_in, open_phase, open_call, open_channel, open_at, HasArrived, AllArrives}, laws.LawsBelow.{Laws}}
 use Rattle.x25_handshakes.proofs.{LayersRelation.{EndsRelated}, StretchRelation.{FollowsFrom}, LayerLemmas.{Stands, Stands-turned, Stands-run, Stands-start}}
 use Rattle.x25_handshakes.proofs.{StretchLemmas.{FollowsFrom-from_Dir}, ClaimLemmas.{open_stretch}, TextLemmas.{joining-append}}
+use Rattle.x25_handshakes.specs.laws.Terms.{Terms}
 
 -- an end of which the stretch x is open on channel k
 pub record Opened (s : Side (At Channels)) (k : ℕ) (x : Stretch) : Type 0 where

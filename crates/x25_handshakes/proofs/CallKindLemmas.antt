@@ -16,18 +16,18 @@ indicated_begins : (r : Role) (c : Connection) (u : List Packet) (p : Packet) (v
 indicated_begins r c u p v y h = seen_begins r (call_takes r c p).next (u ++ (call_takes r c p).out) v y (Seen-takes r c u p v y h).1
 
 -- a packet makes no call
-answered_made : (a : Phase) (mine : Params) (m i : List CallRequest) (q : Params) → (is_answered a mine m i q).next.made ≡ m
-answered_made a mine m i q = cond_both (may_answer mine q) (goes (calling_talk q) m i []) (unexpected a m i) (λ (s : Step Connection Packet). s.next.made ≡ m) (λ _. refl) (λ _. refl)
+answered_made : (a : Phase) (mine : Params) (m i : List CallRequest) (most : ℕ) (q : Params) → (is_answered a mine m i most q).next.made ≡ m
+answered_made a mine m i most q = cond_both (may_answer mine q) (goes (calling_talk most q) m i []) (unexpected a m i) (λ (s : Step Connection Packet). s.next.made ≡ m) (λ _. refl) (λ _. refl)
 
 takes_made : (r : Role) (a : Phase) (m i : List CallRequest) (p : Packet) → (phase_takes r a m i p).next.made ≡ m
 takes_made r Unused m i (Call n) = refl
 takes_made r Unused m i other = refl
 takes_made Dte (Waiting mine) m i (Call n) = refl
 takes_made Dce (Waiting mine) m i (Call n) = refl
-takes_made r (Waiting mine) m i (Accept field) = answered_made (Waiting mine) mine m i (said_in mine field)
+takes_made r (Waiting mine) m i (Accept field most) = answered_made (Waiting mine) mine m i most (said_in mine field)
 takes_made r (Waiting mine) m i other = refl
 takes_made r (Offered theirs) m i p = refl
-takes_made r (Crossed mine) m i (Accept field) = answered_made (Crossed mine) mine m i (said_in mine field)
+takes_made r (Crossed mine) m i (Accept field most) = answered_made (Crossed mine) mine m i most (said_in mine field)
 takes_made r (Crossed mine) m i other = refl
 takes_made r (Talking t b x) m i p = refl
 
@@ -39,10 +39,10 @@ call_taken r e c u p v y inner h =
 abbrev Acted : List CallRequest → List CallRequest → Step Connection Packet → Type 0
 Acted m i s = IsPrefix m s.next.made × (s.next.indicated ≡ i)
 
-accepted : (theirs : Params) (m i : List CallRequest) (answer : Option Proposal) → Acted m i (accepts theirs m i answer)
-accepted theirs m i None = (alike m, refl)
-accepted theirs m i (Some q) =
-    cond_both (may_answer theirs q.params) (goes (called_talk q.params) m i (Accept (field_for theirs q) ∷ [])) (goes (Offered theirs) m i []) (λ (s : Step Connection Packet). Acted m i s) (λ _. (alike m, refl)) (λ _. (alike m, refl))
+accepted : (theirs : Params) (m i : List CallRequest) (answer : Option Proposal) (most : ℕ) → Acted m i (accepts theirs m i answer most)
+accepted theirs m i None most = (alike m, refl)
+accepted theirs m i (Some q) most =
+    cond_both (may_answer theirs q.params) (goes (called_talk most q.params) m i (Accept (field_for theirs q) most ∷ [])) (goes (Offered theirs) m i []) (λ (s : Step Connection Packet). Acted m i s) (λ _. (alike m, refl)) (λ _. (alike m, refl))
 
 acted : (a : Phase) (m i : List CallRequest) (act : CallAct) → Acted m i (phase_acts a m i act)
 acted Unused m i (PlacesCall n) =
@@ -50,7 +50,7 @@ acted Unused m i (PlacesCall n) =
     (λ _. ((n ∷ [], refl), refl)) (λ _. (alike m, refl))
 acted Unused m i other = (alike m, refl)
 acted (Waiting mine) m i act = (alike m, refl)
-acted (Offered theirs) m i (AcceptsCall answer) = accepted theirs m i answer
+acted (Offered theirs) m i (AcceptsCall answer most) = accepted theirs m i answer most
 acted (Offered theirs) m i other = (alike m, refl)
 acted (Crossed mine) m i act = (alike m, refl)
 acted (Talking t b x) m i (Talks a) = (alike m, refl)

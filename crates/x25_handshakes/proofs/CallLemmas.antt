@@ -2,13 +2,14 @@
 use Rattle.std.proofs.Common.{List, [], ◌≡◌, ◌∷◌, ◌++◌, refl, sym, subst}
 use Rattle.x25_handshakes.specs.{laws.Handshake.{At}, laws.Stretch.{Packet, Stretch, fresh}, laws.Transfer.{fresh_transfer, transfer_takes, transfer_acts}}
 use Rattle.x25_handshakes.specs.{laws.Calls.{Phase, Unused, Waiting, Connection, call_takes, CallAct, call_acts, fresh_call}, laws.LawsBelow.{Laws}}
-use Rattle.x25_circuit.specs.{Params.{Terms}, Notice.{CallRequest}}
+use Rattle.x25_circuit.specs.{Notice.{CallRequest}}
 use Rattle.x25_handshakes.proofs.{TermsLemmas.{IsSound}, HandshakeLemmas.{hand_flip, hand_map}, StretchRelation.{StretchesRelated}}
 use Rattle.x25_handshakes.proofs.TransferRelation.{reset_mark, stretch_level, TransfersRelated}
 use Rattle.x25_handshakes.proofs.StretchLemmas.{StretchesRelated-flip, StretchesRelated-fresh, GoodStretch-acts, GoodStretch-takes}
 use Rattle.x25_handshakes.proofs.{OwnTransferLemmas.{OwnStretches}, CallsRelation.{TalksRelated, Joint, GoodCall, IsCalled}, ChannelRelation.{Seen}}
 use Rattle.x25_handshakes.proofs.OwnCallLemmas.{own_dte_talks, DteTalks, DceTalks, dte_takes, dte_acts, dce_takes, dce_acts}
 use Rattle.x25_bits.specs.{declared.role.Role.TheVariants.{Dte, Dce}, declared.role.Role.{Role}}
+use Rattle.x25_handshakes.specs.laws.Terms.{Terms}
 
 pub TransfersRelated-flip : (t b : Terms) (x : At Stretch) (L K : List Packet) (y : At Stretch) → TransfersRelated t b x L K y → TransfersRelated b t y K L x
 TransfersRelated-flip t b x L K y h = record {
@@ -18,7 +19,7 @@ TransfersRelated-flip t b x L K y h = record {
   back = h.there;
 }
 
-pub own_stretches : (t b : Terms) → IsSound t → IsSound b → OwnStretches (StretchesRelated t b) fresh t b.size
+pub own_stretches : (t b : Terms) → IsSound t → IsSound b → OwnStretches (StretchesRelated t b) fresh t b.longest b.size
 own_stretches t b st sb = record {
   empty = StretchesRelated-fresh t b;
   kinds = λ x u v y h. h.there.line.kinds;
@@ -48,7 +49,7 @@ dce_talks = record {
   fresh = λ t b st sb. dte_talks.fresh t b st sb;
   takes = λ t b x u p v t₂ b₂ y h.
       (let good = dte_talks.takes t₂ b₂ y v p u t b x (TalksRelated-flip t b x (p ∷ u) v t₂ b₂ y h) in
-      record { quiet = good.quiet; kept = TalksRelated-flip t₂ b₂ (transfer_takes b₂.size y p).next (v ++ (transfer_takes b₂.size y p).out) u t b x good.kept });
+      record { quiet = good.quiet; kept = TalksRelated-flip t₂ b₂ (transfer_takes b₂.longest b₂.size y p).next (v ++ (transfer_takes b₂.longest b₂.size y p).out) u t b x good.kept });
   acts = λ t b x u v t₂ b₂ y act h.
       (let good = dte_talks.acts t₂ b₂ y v u t b x act (TalksRelated-flip t b x u v t₂ b₂ y h) in
       record { quiet = good.quiet; kept = TalksRelated-flip t₂ b₂ (transfer_acts t₂ y act).next (v ++ (transfer_acts t₂ y act).out) u t b x good.kept });

@@ -1,10 +1,11 @@
 -- What is kept of two circuits between two clears. The first of the two ends is the DTE, the second the DCE.
 use Rattle.std.proofs.Common.{◌≡◌, ◌⊎◌, ℕ, List, [], ◌∷◌, ◌++◌, None, true}
-use Rattle.x25_circuit.specs.{declared.params.Params.{Params}, Params.{Terms, may_propose, may_answer, said_in, called_terms, calling_terms}}
+use Rattle.x25_circuit.specs.{declared.params.Params.{Params}, Params.{may_propose, may_answer, said_in}}
 use Rattle.x25_circuit.specs.Notice.{CallRequest}
 use Rattle.x25_handshakes.specs.{laws.Handshake.{At, Step}, laws.Stretch.{Packet, Call, Accept, Stretch, fresh}, laws.Transfer.{fresh_transfer}}
 use Rattle.x25_handshakes.specs.laws.Calls.{Phase, Unused, Waiting, Offered, Crossed, Talking, Connection, Stage}
 use Rattle.x25_handshakes.proofs.{TermsLemmas.{IsSound}, TransferRelation.{OwnTransfer}, StretchRelation.{StretchesRelated}}
+use Rattle.x25_handshakes.specs.laws.Terms.{Terms, called_terms, calling_terms}
 
 -- our own end and the other one in p4, of whatever kind: what the one sends by, the other takes by; R is kept in a stretch, and y₀ is the other end as one begins
 pub record TalkOf {T : Type 0} (R : Terms → Terms → Stretch → List Packet → List Packet → T → Type 0) (y₀ : T) (t b : Terms) (x : At Stretch) (u v : List Packet) (t₂ b₂ : Terms) (y : At T) : Type 0 where
@@ -47,13 +48,13 @@ pub record IsProposal (mine theirs : Params) : Type 0 where
   pub allowed : may_propose mine ≡ true
 
 -- what an ACCEPT with this field makes of a proposal: the terms of what the called end sends, and of what it takes
-pub record IsAnswer (mine : Params) (field : List ℕ) (t b : Terms) : Type 0 where
+pub record IsAnswer (mine : Params) (field : List ℕ) (most : ℕ) (t b : Terms) : Type 0 where
   pub allowed : may_answer mine (said_in mine field) ≡ true
-  pub called : t ≡ called_terms (said_in mine field)
-  pub calling : b ≡ calling_terms (said_in mine field)
+  pub called : t ≡ called_terms most (said_in mine field)
+  pub calling : b ≡ calling_terms most (said_in mine field)
 
 abbrev pub accept_at : Params → Terms → Terms → Packet → Type 0 → Type 0
-accept_at mine t b (Accept field) later = IsAnswer mine field t b × later
+accept_at mine t b (Accept field most) later = IsAnswer mine field most t b × later
 accept_at mine t b other later = ⊥
 
 -- ACCEPT, and behind it what R says
@@ -63,7 +64,7 @@ Accepted mine t b R (p ∷ u) = accept_at mine t b p (R u)
 
 abbrev pub call_or_accept_at : List CallRequest → Params → Terms → Terms → Packet → Type 0 → Type 0 → Type 0
 call_or_accept_at m mine t b (Call n) called accepted = (m ≡ n ∷ []) × called
-call_or_accept_at m mine t b (Accept field) called accepted = (m ≡ []) × IsAnswer mine field t b × accepted
+call_or_accept_at m mine t b (Accept field most) called accepted = (m ≡ []) × IsAnswer mine field most t b × accepted
 call_or_accept_at m mine t b other called accepted = ⊥
 
 -- the same, but where a call was made its CALL is before it

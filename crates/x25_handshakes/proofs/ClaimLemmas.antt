@@ -3,11 +3,12 @@ use Rattle.std.proofs.Common.{◌≡◌, ℕ, List, [], ◌∷◌, refl, subst}
 use Rattle.x25_handshakes.specs.{laws.Handshake.{Live, At, live}, laws.Stretch.{Packet, Stretch}, laws.Calls.{Phase, Waiting, Crossed, Talking, Connection}}
 use Rattle.x25_handshakes.specs.laws.Layers.{LayerPacket, Channels}
 use Rattle.x25_bits.specs.{declared.role.Role.{Role}, declared.role.Role.TheVariants.{Dte, Dce}}
-use Rattle.x25_circuit.specs.{Params.{Terms}, Notice.{CallRequest}}
+use Rattle.x25_circuit.specs.{Notice.{CallRequest}}
 use Rattle.x25_handshakes.proofs.{HandshakeRelation.{before}, HandshakeLemmas.{both_live}, StretchRelation.{StretchesRelated}}
 use Rattle.x25_handshakes.proofs.{TransferRelation.{reset_mark, stretch_level, TransfersRelated}, CallsRelation.{TalksRelated, Joint}}
 use Rattle.x25_handshakes.proofs.ChannelRelation.{clear_mark, Seen, connection_level, ChannelRelated}
 use Rattle.x25_handshakes.proofs.{LayersRelation.{on, restart_mark, channels_level, EndsRelated}, CallLemmas.{TalksRelated-flip}}
+use Rattle.x25_handshakes.specs.laws.Terms.{Terms}
 
 -- both ends live at all levels, in one stretch, and nothing on the way from the first
 

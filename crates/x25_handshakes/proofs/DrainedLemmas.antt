@@ -1,7 +1,7 @@
 -- Where nothing is on the way, a stretch that is open at one end is open at the other, and all that either told is known.
 use Rattle.std.proofs.Common.{◌≡◌, ◌⊎◌, inl, inr, ℕ, ◌+◌, ◌%◌, ◌≤◌, List, [], ◌∷◌, ◌++◌, length, Some, Bool, true, false, nat_lt, if◌then◌else◌, refl, sym, ap, subst, ◌∙◌, arith}
 use Rattle.std.proofs.lemmas.Bool.{true≢false, lt-ltb}
-use Rattle.x25_circuit.specs.{Message.{Piece}, Params.{Terms}, Notice.{CallRequest}}
+use Rattle.x25_circuit.specs.{Message.{Piece}, Notice.{CallRequest}}
 use Rattle.x25_bits.specs.{declared.role.Role.{Role}, declared.role.Role.TheVariants.{Dte, Dce}}
 use Rattle.x25_handshakes.specs.{laws.Handshake.{Side, Live, Left, At, state_of, Step, live}, laws.Stretch.{Data, Stretch, Pull, stretch_does, pulls, Packet}}
 use Rattle.x25_handshakes.specs.{laws.Transfer.{Inside, lifted}, laws.Calls.{Phase, Waiting, Crossed, Talking, Connection, Talks, in_transfer}}
@@ -14,6 +14,7 @@ use Rattle.x25_handshakes.proofs.{TransferRelation.{stretch_level}, CallsRelatio
 use Rattle.x25_handshakes.proofs.{LayersRelation.{channels_level, EndsRelated}, PartLemmas.{Line-le}, CallLemmas.{TalksRelated-flip}}
 use Rattle.x25_handshakes.proofs.{LayerLemmas.{Stands, Stands-turned, Stands-run, Stands-start}, ClaimLemmas.{BothTalk}}
 use Rattle.x25_handshakes.proofs.ArrivalLemmas.{Opened, opened, name_opened}
+use Rattle.x25_handshakes.specs.laws.Terms.{Terms}
 
 -- a live end of a handshake with nothing on the way: the other is live too, in the same epoch
 record AtRest {S T P : Type 0} (l : Level S T P) (ex ey : ℕ) (x : S) (y : Side T) : Type 0 where

@@ -2,10 +2,11 @@
 use Rattle.std.proofs.{Common.{◌≡◌, inl, inr, List, [], ◌∷◌, ◌++◌, refl, ap, ◌∙◌}, lemmas.List.{append-nil}}
 use Rattle.x25_handshakes.specs.{laws.Handshake.{Inner}, laws.Stretch.{Packet, Call, Accept, Clear, ClearConf}, laws.Histories.{IsPrefix}}
 use Rattle.x25_handshakes.specs.{laws.Calls.{Stage, Unused, Waiting, Offered, Crossed, Talking}, laws.PeerClaims.{in_stage}}
-use Rattle.x25_circuit.specs.{declared.params.Params.{Params}, Params.{Terms}, Notice.{CallRequest}}
+use Rattle.x25_circuit.specs.{declared.params.Params.{Params}, Notice.{CallRequest}}
 use Rattle.x25_handshakes.proofs.{HandshakeRelation.{AllInner}, TransferRelation.{InTransfer, AllInTransfer}}
 use Rattle.x25_handshakes.proofs.{CallsRelation.{Nil, OneCall, MaybeCall, Accepted, CallAccepted, TalksOf, JointOf}, ChannelRelation.{clear_mark}}
 use Rattle.x25_handshakes.proofs.{OwnCallLemmas.{Accepted-some, CallAccepted-some}, HandshakeLemmas.{each_map}}
+use Rattle.x25_handshakes.specs.laws.Terms.{Terms}
 
 -- ---- no CLEAR and no confirmation of it is on the way between two clears
 
@@ -34,12 +35,12 @@ quiet_one m [] h = absurd h
 quiet_one m (p ∷ u) h = quiet_maybe m (p ∷ u) h
 
 quiet_accepted : (mine : Params) (t b : Terms) (R : List Packet → Type 0) → ((w : List Packet) → R w → Quiet w) → (u : List Packet) → Accepted mine t b R u → Quiet u
-quiet_accepted mine t b R quiet (Accept field ∷ u) h = (refl, quiet u h.1)
+quiet_accepted mine t b R quiet (Accept field most ∷ u) h = (refl, quiet u h.1)
 quiet_accepted mine t b R quiet u h = absurd h
 
 quiet_call_accepted : (m : List CallRequest) (mine : Params) (t b : Terms) (R : List Packet → Type 0) → ((w : List Packet) → R w → Quiet w) → (u : List Packet) → CallAccepted m mine t b R u → Quiet u
 quiet_call_accepted m mine t b R quiet (Call n ∷ u) h = (refl, quiet_accepted mine t b R quiet u h.1)
-quiet_call_accepted m mine t b R quiet (Accept field ∷ u) h = (refl, quiet u h.2)
+quiet_call_accepted m mine t b R quiet (Accept field most ∷ u) h = (refl, quiet u h.2)
 quiet_call_accepted m mine t b R quiet u h = absurd h
 
 pub quiet_joint : {A B : Type 0} (R : TalksOf A B) (a : A) (b : B) → ((t k : Terms) (x : A) (u v : List Packet) (t₂ k₂ : Terms) (y : B) → R t k x u v t₂ k₂ y → Quiet u × Quiet v)

@@ -29,7 +29,7 @@ CallHeard s y₂ o = Heard call_deeds s.next s.out y₂ o
 -- what is known of a call: it may be proposed, and what waits in p4 fits
 abbrev pub IsKnown : Phase → Type 0
 IsKnown (Offered theirs) = may_propose theirs ≡ true
-IsKnown (Talking t b at) = (t.window ≤ 7) × IsFit t.size at.side
+IsKnown (Talking t b at) = (t.window ≤ 7) × IsFit t.longest t.size at.side
 IsKnown other = Unit {0}
 
 abbrev Did_to : Phase → List CallRequest → List CallRequest → Step Connection Packet → Type 0
@@ -41,32 +41,32 @@ places_did m i n =
     (λ may. Something (peer.PlacesCall n) may refl refl)
     (λ _. Nothing refl refl)
 
-accepts_did : Laws → (theirs : Params) → may_propose theirs ≡ true → (m i : List CallRequest) (answer : Option Proposal) → Did_to (Offered theirs) m i (accepts theirs m i answer)
-accepts_did laws theirs proposed m i None =
+accepts_did : Laws → (theirs : Params) → may_propose theirs ≡ true → (m i : List CallRequest) (answer : Option Proposal) (most : ℕ) → Did_to (Offered theirs) m i (accepts theirs m i answer most)
+accepts_did laws theirs proposed m i None most =
     let same : said_in theirs [] ≡ theirs = laws.no_field theirs in
-    Something (peer.AcceptsCall []) (subst (λ (q : Params). may_answer theirs q ≡ true) (sym same) (laws.proposal theirs)) (ap (λ (q : Params). stands (called_in_data q) m i) same) refl
-accepts_did laws theirs proposed m i (Some q) =
-    cond_both (may_answer theirs q.params) (goes (called_talk q.params) m i (Accept (field_for theirs q) ∷ [])) (goes (Offered theirs) m i []) (λ (s : Step Connection Packet). Did_to (Offered theirs) m i s)
+    Something (peer.AcceptsCall [] most) (subst (λ (q : Params). may_answer theirs q ≡ true) (sym same) (laws.proposal theirs)) (ap (λ (q : Params). stands (called_in_data most q) m i) same) refl
+accepts_did laws theirs proposed m i (Some q) most =
+    cond_both (may_answer theirs q.params) (goes (called_talk most q.params) m i (Accept (field_for theirs q) most ∷ [])) (goes (Offered theirs) m i []) (λ (s : Step Connection Packet). Did_to (Offered theirs) m i s)
     (λ may. let same : said_in theirs (field_for theirs q) ≡ q.params = answer_read laws theirs q proposed may in
-    Something (peer.AcceptsCall (field_for theirs q)) (subst (λ (q : Params). may_answer theirs q ≡ true) (sym same) may) (ap (λ (q : Params). stands (called_in_data q) m i) same) refl)
+    Something (peer.AcceptsCall (field_for theirs q) most) (subst (λ (q : Params). may_answer theirs q ≡ true) (sym same) may) (ap (λ (q : Params). stands (called_in_data most q) m i) same) refl)
     (λ _. Nothing refl refl)
 
 pub call_did : Laws → (a : Phase) → IsKnown a → (m i : List CallRequest) (act : CallAct) → (phase_acts a m i act).error ≡ None → Did_to a m i (phase_acts a m i act)
 call_did laws Unused known m i (PlacesCall n) quiet = places_did m i n
-call_did laws (Offered theirs) known m i (AcceptsCall answer) quiet = accepts_did laws theirs known m i answer
+call_did laws (Offered theirs) known m i (AcceptsCall answer most) quiet = accepts_did laws theirs known m i answer most
 call_did laws (Talking t b at) known m i (Talks act) quiet =
-    did_above (transfer_deeds t.size) call_deeds (λ y. stands (Talking t b y) m i) (λ d. InTransfer d)
+    did_above (transfer_deeds t.longest t.size) call_deeds (λ y. stands (Talking t b y) m i) (λ d. InTransfer d)
     (as_at as_peer_stretch at) (as_at as_peer_stretch (transfer_side_acts t at.epoch at.side act).next) (transfer_side_acts t at.epoch at.side act).out (λ d may. may) (λ d. refl) (λ d. refl)
     (transfer_did t known.0 at.epoch at.side known.1 act quiet)
 call_did laws a known m i act_2 quiet = Nothing refl refl
 
 -- an answer that is allowed
-answered_heard : (a : Phase) (mine q : Params) (m i : List CallRequest) → (is_answered a mine m i q).error ≡ None
-    → CallHeard (record { next = stands (calling_in_data q) m i; out = [] }) (as_peer_call (is_answered a mine m i q).next) (is_answered a mine m i q).out
-answered_heard a mine q m i quiet = by (may_answer mine q) quiet
+answered_heard : (a : Phase) (mine : Params) (most : ℕ) (q : Params) (m i : List CallRequest) → (is_answered a mine m i most q).error ≡ None
+    → CallHeard (record { next = stands (calling_in_data most q) m i; out = [] }) (as_peer_call (is_answered a mine m i most q).next) (is_answered a mine m i most q).out
+answered_heard a mine most q m i quiet = by (may_answer mine q) quiet
   where
-    by : (c : Bool) → (if c then goes (calling_talk q) m i [] else unexpected a m i).error ≡ None
-        → CallHeard (record { next = stands (calling_in_data q) m i; out = [] }) (as_peer_call (if c then goes (calling_talk q) m i [] else unexpected a m i).next) (if c then goes (calling_talk q) m i [] else unexpected a m i).out
+    by : (c : Bool) → (if c then goes (calling_talk most q) m i [] else unexpected a m i).error ≡ None
+        → CallHeard (record { next = stands (calling_in_data most q) m i; out = [] }) (as_peer_call (if c then goes (calling_talk most q) m i [] else unexpected a m i).next) (if c then goes (calling_talk most q) m i [] else unexpected a m i).out
     by true q = at_once call_deeds _ _ _ _ refl refl
     by false q = absurd (cc)
 
@@ -75,16 +75,16 @@ pub call_heard : (r : Role) (a : Phase) (m i : List CallRequest) (p : Packet) �
 call_heard r Unused m i (Call n) quiet = at_once call_deeds _ _ _ _ refl refl
 call_heard Dte (Waiting mine) m i (Call n) quiet = at_once call_deeds _ _ _ _ refl refl
 call_heard Dce (Waiting mine) m i (Call n) quiet = at_once call_deeds _ _ _ _ refl refl
-call_heard r (Waiting mine) m i (Accept field) quiet = answered_heard (Waiting mine) mine (said_in mine field) m i quiet
-call_heard r (Crossed mine) m i (Accept field) quiet = answered_heard (Crossed mine) mine (said_in mine field) m i quiet
+call_heard r (Waiting mine) m i (Accept field most) quiet = answered_heard (Waiting mine) mine most (said_in mine field) m i quiet
+call_heard r (Crossed mine) m i (Accept field most) quiet = answered_heard (Crossed mine) mine most (said_in mine field) m i quiet
 call_heard r (Talking t b at) m i p quiet =
-    let h : TransferHeard t.size (transfer_taking at.epoch (as_side as_peer_stretch at.side) p) (as_at as_peer_stretch (transfer_side_takes b.size at.epoch at.side p).next) (transfer_side_takes b.size at.epoch at.side p).out =
-    transfer_heard t.size b.size at.epoch at.side p quiet in
+    let h : TransferHeard t.longest t.size (transfer_taking at.epoch (as_side as_peer_stretch at.side) p) (as_at as_peer_stretch (transfer_side_takes b.longest b.size at.epoch at.side p).next) (transfer_side_takes b.longest b.size at.epoch at.side p).out =
+    transfer_heard t.longest t.size b.longest b.size at.epoch at.side p quiet in
     record {
       rest = h.rest;
       split = h.split;
-      did = did_above (transfer_deeds t.size) call_deeds (λ y. stands (Talking t b y) m i) (λ d. InTransfer d)
-          (transfer_taking at.epoch (as_side as_peer_stretch at.side) p).next (as_at as_peer_stretch (transfer_side_takes b.size at.epoch at.side p).next) h.rest (λ d may. may) (λ d. refl) (λ d. refl) h.did;
+      did = did_above (transfer_deeds t.longest t.size) call_deeds (λ y. stands (Talking t b y) m i) (λ d. InTransfer d)
+          (transfer_taking at.epoch (as_side as_peer_stretch at.side) p).next (as_at as_peer_stretch (transfer_side_takes b.longest b.size at.epoch at.side p).next) h.rest (λ d may. may) (λ d. refl) (λ d. refl) h.did;
     }
 call_heard r a m i p_2 quiet = absurd (cc)
 

@@ -2,7 +2,7 @@
 use Rattle.std.proofs.Common.{◌≡◌, ℕ, ◌≤◌, List, [], ◌∷◌, ◌++◌, Option, None, Bool, true, false, ◌==◌, if◌then◌else◌, refl, sym, ap, subst, ◌∙◌, eq-eqb, append_assoc}
 use Rattle.std.proofs.{lemmas.List.{append-nil}, lemmas.Bool.{eqb-true}, Math.Path.{fun_ext}}
 use Rattle.x25_bits.specs.{declared.role.Role.{Role}, declared.role.Role.TheVariants.{Dte, Dce}}
-use Rattle.x25_circuit.specs.{Params.{Terms, may_propose}, Notice.{CallRequest}}
+use Rattle.x25_circuit.specs.{Params.{may_propose}, Notice.{CallRequest}}
 use Rattle.x25_handshakes.specs.{laws.Handshake.{Side, Live, Left, At, Step, PeerStep, live, left}, laws.Stretch.{Packet, Stretch, Clear}}
 use Rattle.x25_handshakes.specs.{laws.Transfer.{fresh_transfer}, laws.Calls.{Phase, Waiting, Offered, Crossed, Talking, Connection}}
 use Rattle.x25_handshakes.specs.laws.Channel.{channel_takes, channel_acts}
@@ -18,14 +18,15 @@ use Rattle.x25_handshakes.proofs.LayerLemmas.{GoodLayer-takes, GoodLayer-acts, S
 use Rattle.x25_handshakes.proofs.LayerPeers.{Deeds, Did, Nothing, Something, Heard, at_once, IsFit}
 use Rattle.x25_handshakes.proofs.LayerPeerCalls.{IsKnown, IsKnownSide, ChannelDid, ChannelHeard, channel_did, channel_heard}
 use Rattle.x25_handshakes.specs.laws.PeerLayers as joined
+use Rattle.x25_handshakes.specs.laws.Terms.{Terms}
 
 -- ---- what is known of our own end beside another
 
-fit : (t b : Terms) (e f : ℕ) (x y : Side Stretch) (L K : List Packet) → Handshake (stretch_level t b) e f x y L K → IsFit t.size x
+fit : (t b : Terms) (e f : ℕ) (x y : Side Stretch) (L K : List Packet) → Handshake (stretch_level t b) e f x y L K → IsFit t.longest t.size x
 fit t b e f (Live x) y L K h = (inner_live (stretch_level t b) e f x y L K h).3.there.text.fits
 fit t b e f (Left x) y L K h = tt
 
-talk_known : (t b : Terms) (x : At Stretch) (u v : List Packet) (t₂ b₂ : Terms) (y : At Stretch) → TalksRelated t b x u v t₂ b₂ y → (t.window ≤ 7) × IsFit t.size x.side
+talk_known : (t b : Terms) (x : At Stretch) (u v : List Packet) (t₂ b₂ : Terms) (y : At Stretch) → TalksRelated t b x u v t₂ b₂ y → (t.window ≤ 7) × IsFit t.longest t.size x.side
 talk_known t b x u v t₂ b₂ y h = (h.sound.window, fit t b x.epoch y.epoch x.side y.side u v h.related.hand)
 
 dte_known : (a b : Phase) (ma ia mb ib : List CallRequest) (u v : List Packet) → Joint a b ma ia mb ib u v → IsKnown a

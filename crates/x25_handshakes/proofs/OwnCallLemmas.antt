@@ -3,7 +3,7 @@ use Rattle.std.proofs.Common.{◌≡◌, inl, inr, ℕ, List, [], ◌∷◌, ◌
 use Rattle.std.proofs.{lemmas.List.{append-nil}, lemmas.Bool.{cond_both}}
 use Rattle.x25_bits.specs.{declared.role.Role.{Role}, declared.role.Role.TheVariants.{Dte, Dce}}
 use Rattle.x25_circuit.specs.declared.params.Params.{Params}
-use Rattle.x25_circuit.specs.{Params.{Proposal, Terms, may_propose, may_answer, field_for, said_in, called_terms, calling_terms}, Notice.{CallRequest}}
+use Rattle.x25_circuit.specs.{Params.{Proposal, may_propose, may_answer, field_for, said_in}, Notice.{CallRequest}}
 use Rattle.x25_handshakes.specs.{laws.Handshake.{Live, At, Step}, laws.Stretch.{Packet, Call, Accept, Stretch}}
 use Rattle.x25_handshakes.specs.laws.Transfer.{fresh_transfer, transfer_takes, TransferAct, transfer_acts}
 use Rattle.x25_handshakes.specs.laws.Calls.{Phase, Unused, Waiting, Offered, Crossed, Talking, Connection, goes, unexpected, called_talk, calling_talk, is_answered, phase_takes, call_takes, CallAct, PlacesCall, AcceptsCall, Talks, phase_acts, call_acts, Stage}
@@ -11,6 +11,7 @@ use Rattle.x25_handshakes.specs.laws.LawsBelow.{Laws}
 use Rattle.x25_handshakes.proofs.{TermsLemmas.{IsSound, AreSound, answer_sound, answer_read}, HandshakeLemmas.{both_fresh}, TransferRelation.{own_level}}
 use Rattle.x25_handshakes.proofs.OwnTransferLemmas.{OwnStretches, own_takes, own_acts}
 use Rattle.x25_handshakes.proofs.CallsRelation.{TalkOf, Nil, OneCall, MaybeCall, Proposes, IsProposal, IsAnswer, Accepted, CallAccepted, TalksOf, JointOf}
+use Rattle.x25_handshakes.specs.laws.Terms.{Terms, called_terms, calling_terms}
 
 -- proposals and answers
 
@@ -24,24 +25,24 @@ pub proposes : (m : List CallRequest) (n : CallRequest) → m ≡ [] → may_pro
 proposes m n none allowed = subst (λ (l : List CallRequest). Proposes (l ++ n ∷ []) n.params) (sym none) (refl, allowed)
 
 -- an answer that is allowed is read as it was meant, and the terms of both ends are sound
-pub record Agreed (mine answer : Params) (field : List ℕ) : Type 0 where
-  pub fits : IsAnswer mine field (called_terms answer) (calling_terms answer)
-  pub terms : AreSound answer
+pub record Agreed (mine answer : Params) (field : List ℕ) (most : ℕ) : Type 0 where
+  pub fits : IsAnswer mine field most (called_terms most answer) (calling_terms most answer)
+  pub terms : AreSound most answer
 
-pub agreed : Laws → (mine answer : Params) (field : List ℕ) → may_propose mine ≡ true → may_answer mine answer ≡ true → said_in mine field ≡ answer → Agreed mine answer field
-agreed laws mine answer field proposed allowed is = record {
-  fits = record { allowed = subst (λ (q : Params). may_answer mine q ≡ true) (sym is) allowed; called = ap called_terms (sym is); calling = ap calling_terms (sym is) };
-  terms = answer_sound laws mine answer proposed allowed;
+pub agreed : Laws → (mine answer : Params) (field : List ℕ) (most : ℕ) → may_propose mine ≡ true → may_answer mine answer ≡ true → said_in mine field ≡ answer → Agreed mine answer field most
+agreed laws mine answer field most proposed allowed is = record {
+  fits = record { allowed = subst (λ (q : Params). may_answer mine q ≡ true) (sym is) allowed; called = ap (called_terms most) (sym is); calling = ap (calling_terms most) (sym is) };
+  terms = answer_sound laws most mine answer proposed allowed;
 }
 
-as_proposed : Laws → (mine theirs : Params) → IsProposal mine theirs → Agreed mine theirs []
-as_proposed laws mine theirs h =
-    subst (λ (p : Params). Agreed mine p []) (sym h.same) (agreed laws mine mine [] h.allowed (laws.proposal mine) (laws.no_field mine))
+as_proposed : Laws → (mine theirs : Params) (most : ℕ) → IsProposal mine theirs → Agreed mine theirs [] most
+as_proposed laws mine theirs most h =
+    subst (λ (p : Params). Agreed mine p [] most) (sym h.same) (agreed laws mine mine [] most h.allowed (laws.proposal mine) (laws.no_field mine))
 
-as_answered : Laws → (mine theirs : Params) (answer : Proposal) → IsProposal mine theirs → may_answer theirs answer.params ≡ true → Agreed mine answer.params (field_for theirs answer)
-as_answered laws mine theirs answer h =
-    subst (λ (p : Params). may_answer p answer.params ≡ true → Agreed mine answer.params (field_for p answer)) (sym h.same)
-    (λ may. agreed laws mine answer.params (field_for mine answer) h.allowed may (answer_read laws mine answer h.allowed may))
+as_answered : Laws → (mine theirs : Params) (answer : Proposal) (most : ℕ) → IsProposal mine theirs → may_answer theirs answer.params ≡ true → Agreed mine answer.params (field_for theirs answer) most
+as_answered laws mine theirs answer most h =
+    subst (λ (p : Params). may_answer p answer.params ≡ true → Agreed mine answer.params (field_for p answer) most) (sym h.same)
+    (λ may. agreed laws mine answer.params (field_for mine answer) most h.allowed may (answer_read laws mine answer h.allowed may))
 
 pub nil_is : (u : List Packet) → Nil u → u ≡ []
 nil_is [] h = refl
@@ -56,34 +57,34 @@ pub call_first : (m : List CallRequest) (n : CallRequest) (u : List Packet) → 
 call_first m n [] h none = (ap (λ k. k ++ n ∷ []) none, tt)
 call_first m n (p ∷ u) h none = absurd h
 
-pub accept_first : (mine : Params) (t b : Terms) (R : List Packet → Type 0) (field : List ℕ) (u : List Packet) → Nil u → IsAnswer mine field t b → R [] → Accepted mine t b R (u ++ Accept field ∷ [])
-accept_first mine t b R field [] h answer r = (answer, r)
-accept_first mine t b R field (p ∷ u) h answer r = absurd h
+pub accept_first : (mine : Params) (t b : Terms) (R : List Packet → Type 0) (field : List ℕ) (most : ℕ) (u : List Packet) → Nil u → IsAnswer mine field most t b → R [] → Accepted mine t b R (u ++ Accept field most ∷ [])
+accept_first mine t b R field most [] h answer r = (answer, r)
+accept_first mine t b R field most (p ∷ u) h answer r = absurd h
 
-pub accept_behind : (m : List CallRequest) (mine : Params) (t b : Terms) (R : List Packet → Type 0) (field : List ℕ) (v : List Packet) → MaybeCall m v → IsAnswer mine field t b → R []
-    → CallAccepted m mine t b R (v ++ Accept field ∷ [])
-accept_behind m mine t b R field [] h answer r = (h, answer, r)
-accept_behind m mine t b R field (Call n ∷ v) h answer r = (h.0, accept_first mine t b R field v h.1 answer r)
-accept_behind m mine t b R field (other ∷ v) h answer r = absurd h
+pub accept_behind : (m : List CallRequest) (mine : Params) (t b : Terms) (R : List Packet → Type 0) (field : List ℕ) (most : ℕ) (v : List Packet) → MaybeCall m v → IsAnswer mine field most t b → R []
+    → CallAccepted m mine t b R (v ++ Accept field most ∷ [])
+accept_behind m mine t b R field most [] h answer r = (h, answer, r)
+accept_behind m mine t b R field most (Call n ∷ v) h answer r = (h.0, accept_first mine t b R field most v h.1 answer r)
+accept_behind m mine t b R field most (other ∷ v) h answer r = absurd h
 
 pub Accepted-map : (mine : Params) (t b : Terms) (R Q : List Packet → Type 0) (o : List Packet) → ((w : List Packet) → R w → Q (w ++ o)) → (u : List Packet) → Accepted mine t b R u → Accepted mine t b Q (u ++ o)
-Accepted-map mine t b R Q o f (Accept field ∷ u) h = (h.0, f u h.1)
+Accepted-map mine t b R Q o f (Accept field most ∷ u) h = (h.0, f u h.1)
 Accepted-map mine t b R Q o f u h = absurd h
 
 pub CallAccepted-map : (mine : Params) (t b : Terms) (R Q : List Packet → Type 0) (o : List Packet) → ((w : List Packet) → R w → Q (w ++ o)) → (m : List CallRequest) (u : List Packet)
     → CallAccepted m mine t b R u → CallAccepted m mine t b Q (u ++ o)
 CallAccepted-map mine t b R Q o f m (Call n ∷ u) h = (h.0, Accepted-map mine t b R Q o f u h.1)
-CallAccepted-map mine t b R Q o f m (Accept field ∷ u) h = (h.0, h.1, f u h.2)
+CallAccepted-map mine t b R Q o f m (Accept field most ∷ u) h = (h.0, h.1, f u h.2)
 CallAccepted-map mine t b R Q o f m u h = absurd h
 
 -- what R says holds of some line
 pub Accepted-some : (mine : Params) (t b : Terms) (R : List Packet → Type 0) (u : List Packet) → Accepted mine t b R u → (w : List Packet) × R w
-Accepted-some mine t b R (Accept field ∷ u) h = (u, h.1)
+Accepted-some mine t b R (Accept field most ∷ u) h = (u, h.1)
 Accepted-some mine t b R u h = absurd h
 
 pub CallAccepted-some : (mine : Params) (t b : Terms) (R : List Packet → Type 0) (m : List CallRequest) (u : List Packet) → CallAccepted m mine t b R u → (w : List Packet) × R w
 CallAccepted-some mine t b R m (Call n ∷ u) h = Accepted-some mine t b R u h.1
-CallAccepted-some mine t b R m (Accept field ∷ u) h = (u, h.2)
+CallAccepted-some mine t b R m (Accept field most ∷ u) h = (u, h.2)
 CallAccepted-some mine t b R m u h = absurd h
 
 maybe_call : (m : List CallRequest) (v : List Packet) → OneCall m v → MaybeCall m v
@@ -103,15 +104,15 @@ abbrev pub crossed : {S : Type 0} → Role → Params → List CallRequest → L
 crossed Dte mine m i n = record { stage = Crossed mine; made = m; indicated = i; out = [] }
 crossed Dce mine m i n = record { stage = Offered n.params; made = m; indicated = i ++ n ∷ []; out = [] }
 
-abbrev pub begun : {S : Type 0} → S → Params → List CallRequest → List CallRequest → Taken S
-begun s₀ q m i = record { stage = Talking (calling_terms q) (called_terms q) s₀; made = m; indicated = i; out = [] }
+abbrev pub begun : {S : Type 0} → S → ℕ → Params → List CallRequest → List CallRequest → Taken S
+begun s₀ most q m i = record { stage = Talking (calling_terms most q) (called_terms most q) s₀; made = m; indicated = i; out = [] }
 
 -- by what it is in p4 after a packet, and what it puts then
 abbrev pub taken : {S : Type 0} → S → (Terms → Terms → S → Packet → S) → (Terms → Terms → S → Packet → List Packet) → Role → Stage S → List CallRequest → List CallRequest → Packet → Taken S
 taken s₀ next out r Unused m i (Call n) = record { stage = Offered n.params; made = m; indicated = i ++ n ∷ []; out = [] }
 taken s₀ next out r (Waiting mine) m i (Call n) = crossed r mine m i n
-taken s₀ next out r (Waiting mine) m i (Accept field) = begun s₀ (said_in mine field) m i
-taken s₀ next out r (Crossed mine) m i (Accept field) = begun s₀ (said_in mine field) m i
+taken s₀ next out r (Waiting mine) m i (Accept field most) = begun s₀ most (said_in mine field) m i
+taken s₀ next out r (Crossed mine) m i (Accept field most) = begun s₀ most (said_in mine field) m i
 taken s₀ next out r (Talking t b s) m i p = record { stage = Talking t b (next t b s p); made = m; indicated = i; out = out t b s p }
 taken s₀ next out r stage m i p = record { stage = stage; made = m; indicated = i; out = [] }
 
@@ -119,8 +120,8 @@ taken s₀ next out r stage m i p = record { stage = stage; made = m; indicated 
 abbrev pub MayCome : {S : Type 0} → (Terms → Terms → S → Packet → Type 0) → Stage S → Packet → Type 0
 MayCome Fine Unused (Call n) = Unit {0}
 MayCome Fine (Waiting mine) (Call n) = Unit {0}
-MayCome Fine (Waiting mine) (Accept field) = may_answer mine (said_in mine field) ≡ true
-MayCome Fine (Crossed mine) (Accept field) = may_answer mine (said_in mine field) ≡ true
+MayCome Fine (Waiting mine) (Accept field most) = may_answer mine (said_in mine field) ≡ true
+MayCome Fine (Crossed mine) (Accept field most) = may_answer mine (said_in mine field) ≡ true
 MayCome Fine (Talking t b s) p = Fine t b s p
 MayCome Fine stage p = ⊥
 
@@ -133,12 +134,12 @@ module _ {S B : Type 0} (R : TalksOf S B) (s₀ : S) (y₀ : B) where
   pub dte_still : (a : Stage S) (b : Stage B) (ma ia mb ib : List CallRequest) (u v : List Packet) → DteIs a b ma ia mb ib u v → DteIs a b ma ia mb ib (u ++ []) v
   dte_still a b ma ia mb ib u v h = subst (λ (w : List Packet). DteIs a b ma ia mb ib w v) (sym (append-nil u)) h
 
-  dte_answered : (p : Params) (field : List ℕ) (ma ia mb ib : List CallRequest) (u v : List Packet) (t b : Terms) (y : B) → IsAnswer p field t b → Nil u
-      → R b t s₀ [] v t b y → ia ≡ [] → ib ≡ ma → (let q = said_in p field in DteIs (Talking (calling_terms q) (called_terms q) s₀) (Talking t b y) ma ia mb ib (u ++ []) v)
-  dte_answered p field ma ia mb ib u v t b y answer none talk indicated there =
+  dte_answered : (p : Params) (field : List ℕ) (most : ℕ) (ma ia mb ib : List CallRequest) (u v : List Packet) (t b : Terms) (y : B) → IsAnswer p field most t b → Nil u
+      → R b t s₀ [] v t b y → ia ≡ [] → ib ≡ ma → (let q = said_in p field in DteIs (Talking (calling_terms most q) (called_terms most q) s₀) (Talking t b y) ma ia mb ib (u ++ []) v)
+  dte_answered p field most ma ia mb ib u v t b y answer none talk indicated there =
       let q : Params = said_in p field in
-      dte_still (Talking (calling_terms q) (called_terms q) s₀) (Talking t b y) ma ia mb ib u v (
-        subst (λ (s : Terms). R s (called_terms q) s₀ u v t b y) answer.calling (subst (λ (s : Terms). R b s s₀ u v t b y) answer.called
+      dte_still (Talking (calling_terms most q) (called_terms most q) s₀) (Talking t b y) ma ia mb ib u v (
+        subst (λ (s : Terms). R s (called_terms most q) s₀ u v t b y) answer.calling (subst (λ (s : Terms). R b s s₀ u v t b y) answer.called
             (subst (λ (w : List Packet). R b t s₀ w v t b y) (sym (nil_is u none)) talk)),
         inl (indicated, there),
       )
@@ -159,7 +160,7 @@ module _ {S B : Type 0} (R : TalksOf S B) (s₀ : S) (y₀ : B) where
     dte_taken (Waiting mine) (Offered q) ma ia mb ib u other v h = absurd h.1
     dte_taken (Waiting mine) (Crossed q) ma ia mb ib u p v h = absurd h
     dte_taken (Waiting mine) (Talking t b y) ma ia mb ib u (Call n) v h = (tt, dte_still (Crossed mine) (Talking t b y) ma ia mb ib u v (h.0, h.1.1, h.2, h.3))
-    dte_taken (Waiting mine) (Talking t b y) ma ia mb ib u (Accept field) v h = (h.1.1.allowed, dte_answered mine field ma ia mb ib u v t b y h.1.1 h.0 h.1.2 h.2 h.3)
+    dte_taken (Waiting mine) (Talking t b y) ma ia mb ib u (Accept field most) v h = (h.1.1.allowed, dte_answered mine field most ma ia mb ib u v t b y h.1.1 h.0 h.1.2 h.2 h.3)
     dte_taken (Waiting mine) (Talking t b y) ma ia mb ib u other v h = absurd h.1
     dte_taken (Offered theirs) (Waiting q) ma ia mb ib u p v h = absurd h.1
     dte_taken (Offered theirs) other ma ia mb ib u p v h = absurd h
@@ -167,7 +168,7 @@ module _ {S B : Type 0} (R : TalksOf S B) (s₀ : S) (y₀ : B) where
     dte_taken (Crossed mine) (Waiting q) ma ia mb ib u p v h = absurd h.1
     dte_taken (Crossed mine) (Offered q) ma ia mb ib u p v h = absurd h.1
     dte_taken (Crossed mine) (Crossed q) ma ia mb ib u p v h = absurd h
-    dte_taken (Crossed mine) (Talking t b y) ma ia mb ib u (Accept field) v h = (h.1.0.allowed, dte_answered mine field ma ia mb ib u v t b y h.1.0 h.0 h.1.1 h.2 h.3)
+    dte_taken (Crossed mine) (Talking t b y) ma ia mb ib u (Accept field most) v h = (h.1.0.allowed, dte_answered mine field most ma ia mb ib u v t b y h.1.0 h.0 h.1.1 h.2 h.3)
     dte_taken (Crossed mine) (Talking t b y) ma ia mb ib u other v h = absurd h.1
     dte_taken (Talking t b x) (Waiting q) ma ia mb ib u p v h = absurd h.1
     dte_taken (Talking t b x) (Talking t₂ b₂ y) ma ia mb ib u p v h = (let k = takes t b x u p v t₂ b₂ y h.0 in (k.0, (k.1, h.1)))
@@ -180,17 +181,17 @@ module _ {S B : Type 0} (R : TalksOf S B) (s₀ : S) (y₀ : B) where
   dte_calls other n ma ia mb ib u v may h = absurd h
 
   -- it accepts, with an answer to what is proposed
-  pub dte_answers : (b : Stage B) (theirs q : Params) (field : List ℕ) (ma ia mb ib : List CallRequest) (u v : List Packet) → ((mine : Params) → IsProposal mine theirs → Agreed mine q field)
-      → ((t k : Terms) → IsSound t → IsSound k → R t k s₀ [] [] k t y₀) → DteIs (Offered theirs) b ma ia mb ib u v → DteIs (Talking (called_terms q) (calling_terms q) s₀) b ma ia mb ib (u ++ Accept field ∷ []) v
-  dte_answers (Waiting mine) theirs q field ma ia mb ib u v agrees fresh h =
+  pub dte_answers : (b : Stage B) (theirs q : Params) (field : List ℕ) (most : ℕ) (ma ia mb ib : List CallRequest) (u v : List Packet) → ((mine : Params) → IsProposal mine theirs → Agreed mine q field most)
+      → ((t k : Terms) → IsSound t → IsSound k → R t k s₀ [] [] k t y₀) → DteIs (Offered theirs) b ma ia mb ib u v → DteIs (Talking (called_terms most q) (calling_terms most q) s₀) b ma ia mb ib (u ++ Accept field most ∷ []) v
+  dte_answers (Waiting mine) theirs q field most ma ia mb ib u v agrees fresh h =
       let may = agrees mine h.4 in (
-        accept_first mine (called_terms q) (calling_terms q) (λ w. R (called_terms q) (calling_terms q) s₀ w [] (calling_terms q) (called_terms q) y₀) field u h.0 may.fits
-            (fresh (called_terms q) (calling_terms q) may.terms.called may.terms.calling),
+        accept_first mine (called_terms most q) (calling_terms most q) (λ w. R (called_terms most q) (calling_terms most q) s₀ w [] (calling_terms most q) (called_terms most q) y₀) field most u h.0 may.fits
+            (fresh (called_terms most q) (calling_terms most q) may.terms.called may.terms.calling),
         h.1,
         h.2,
         h.3,
       )
-  dte_answers other theirs q field ma ia mb ib u v agrees fresh h = absurd h
+  dte_answers other theirs q field most ma ia mb ib u v agrees fresh h = absurd h
 
   -- it goes on in p4, and puts these packets
   module _ (t k : Terms) (x : S) where
@@ -216,12 +217,12 @@ module _ {A S : Type 0} (R : TalksOf A S) (x₀ : A) (s₀ : S) where
   pub dce_still : (a : Stage A) (b : Stage S) (ma ia mb ib : List CallRequest) (u v : List Packet) → DceIs a b ma ia mb ib u v → DceIs a b ma ia mb ib u (v ++ [])
   dce_still a b ma ia mb ib u v h = subst (λ (w : List Packet). DceIs a b ma ia mb ib u w) (sym (append-nil v)) h
 
-  dce_answered : (q : Params) (field : List ℕ) (ma ia mb ib : List CallRequest) (u v : List Packet) (t b : Terms) (x : A) → IsAnswer q field t b → Nil v
-      → R t b x u [] b t s₀ → ia ≡ mb → ib ≡ [] → (let p = said_in q field in DceIs (Talking t b x) (Talking (calling_terms p) (called_terms p) s₀) ma ia mb ib u (v ++ []))
-  dce_answered q field ma ia mb ib u v t b x answer none talk there indicated =
+  dce_answered : (q : Params) (field : List ℕ) (most : ℕ) (ma ia mb ib : List CallRequest) (u v : List Packet) (t b : Terms) (x : A) → IsAnswer q field most t b → Nil v
+      → R t b x u [] b t s₀ → ia ≡ mb → ib ≡ [] → (let p = said_in q field in DceIs (Talking t b x) (Talking (calling_terms most p) (called_terms most p) s₀) ma ia mb ib u (v ++ []))
+  dce_answered q field most ma ia mb ib u v t b x answer none talk there indicated =
       let p : Params = said_in q field in
-      dce_still (Talking t b x) (Talking (calling_terms p) (called_terms p) s₀) ma ia mb ib u v (
-        subst (λ (s : Terms). R t b x u v s (called_terms p) s₀) answer.calling (subst (λ (s : Terms). R t b x u v b s s₀) answer.called
+      dce_still (Talking t b x) (Talking (calling_terms most p) (called_terms most p) s₀) ma ia mb ib u v (
+        subst (λ (s : Terms). R t b x u v s (called_terms most p) s₀) answer.calling (subst (λ (s : Terms). R t b x u v b s s₀) answer.called
             (subst (λ (w : List Packet). R t b x u w b t s₀) (sym (nil_is v none)) talk)),
         inr (there, indicated),
       )
@@ -242,7 +243,7 @@ module _ {A S : Type 0} (R : TalksOf A S) (x₀ : A) (s₀ : S) where
     dce_taken (Crossed mine) (Waiting q) ma ia mb ib u (Call n) v h =
         (tt, dce_still (Crossed mine) (Offered n.params) ma ia mb (ib ++ n ∷ []) u v (h.0.1, h.1, h.2, push_first ib n ma h.3 h.0.0, said ma n mine h.0.0 h.4))
     dce_taken (Crossed mine) (Waiting q) ma ia mb ib u other v h = absurd h.0
-    dce_taken (Talking t b x) (Waiting q) ma ia mb ib u (Accept field) v h = (h.0.0.allowed, dce_answered q field ma ia mb ib u v t b x h.0.0 h.1 h.0.1 h.2 h.3)
+    dce_taken (Talking t b x) (Waiting q) ma ia mb ib u (Accept field most) v h = (h.0.0.allowed, dce_answered q field most ma ia mb ib u v t b x h.0.0 h.1 h.0.1 h.2 h.3)
     dce_taken (Talking t b x) (Waiting q) ma ia mb ib u other v h = absurd h.0
     dce_taken (Talking t b x) (Talking t₂ b₂ y) ma ia mb ib u p v h = (let k = takes t b x u p v t₂ b₂ y h.0 in (k.0, (k.1, h.1)))
     dce_taken Unused Unused ma ia mb ib u p v h = absurd h.0
@@ -266,25 +267,25 @@ module _ {A S : Type 0} (R : TalksOf A S) (x₀ : A) (s₀ : S) where
   dce_calls other n ma ia mb ib u v may h = absurd h
 
   -- it accepts, with an answer to what is proposed
-  pub dce_answers : (a : Stage A) (theirs q : Params) (field : List ℕ) (ma ia mb ib : List CallRequest) (u v : List Packet) → ((mine : Params) → IsProposal mine theirs → Agreed mine q field)
-      → ((t k : Terms) → IsSound t → IsSound k → R t k x₀ [] [] k t s₀) → DceIs a (Offered theirs) ma ia mb ib u v → DceIs a (Talking (called_terms q) (calling_terms q) s₀) ma ia mb ib u (v ++ Accept field ∷ [])
-  dce_answers (Waiting mine) theirs q field ma ia mb ib u v agrees fresh h =
+  pub dce_answers : (a : Stage A) (theirs q : Params) (field : List ℕ) (most : ℕ) (ma ia mb ib : List CallRequest) (u v : List Packet) → ((mine : Params) → IsProposal mine theirs → Agreed mine q field most)
+      → ((t k : Terms) → IsSound t → IsSound k → R t k x₀ [] [] k t s₀) → DceIs a (Offered theirs) ma ia mb ib u v → DceIs a (Talking (called_terms most q) (calling_terms most q) s₀) ma ia mb ib u (v ++ Accept field most ∷ [])
+  dce_answers (Waiting mine) theirs q field most ma ia mb ib u v agrees fresh h =
       let may = agrees mine h.4 in (
         h.0,
-        accept_behind mb mine (called_terms q) (calling_terms q) (λ w. R (calling_terms q) (called_terms q) x₀ [] w (called_terms q) (calling_terms q) s₀) field v h.1 may.fits
-            (fresh (calling_terms q) (called_terms q) may.terms.calling may.terms.called),
+        accept_behind mb mine (called_terms most q) (calling_terms most q) (λ w. R (calling_terms most q) (called_terms most q) x₀ [] w (called_terms most q) (calling_terms most q) s₀) field most v h.1 may.fits
+            (fresh (calling_terms most q) (called_terms most q) may.terms.calling may.terms.called),
         h.2,
         h.3,
       )
-  dce_answers (Crossed mine) theirs q field ma ia mb ib u v agrees fresh h =
+  dce_answers (Crossed mine) theirs q field most ma ia mb ib u v agrees fresh h =
       let may = agrees mine h.4 in (
         h.0,
-        accept_first mine (called_terms q) (calling_terms q) (λ w. R (calling_terms q) (called_terms q) x₀ [] w (called_terms q) (calling_terms q) s₀) field v h.1 may.fits
-            (fresh (calling_terms q) (called_terms q) may.terms.calling may.terms.called),
+        accept_first mine (called_terms most q) (calling_terms most q) (λ w. R (calling_terms most q) (called_terms most q) x₀ [] w (called_terms most q) (calling_terms most q) s₀) field most v h.1 may.fits
+            (fresh (calling_terms most q) (called_terms most q) may.terms.calling may.terms.called),
         h.2,
         h.3,
       )
-  dce_answers other theirs q field ma ia mb ib u v agrees fresh h = absurd h
+  dce_answers other theirs q field most ma ia mb ib u v agrees fresh h = absurd h
 
   -- it goes on in p4, and puts these packets
   module _ (t k : Terms) (y : S) where
@@ -307,47 +308,47 @@ module _ {A S : Type 0} (R : TalksOf A S) (x₀ : A) (s₀ : S) where
 -- ---- our own end, of either role
 
 abbrev own_next : Terms → Terms → At Stretch → Packet → At Stretch
-own_next t b x p = (transfer_takes b.size x p).next
+own_next t b x p = (transfer_takes b.longest b.size x p).next
 
 abbrev own_out : Terms → Terms → At Stretch → Packet → List Packet
-own_out t b x p = (transfer_takes b.size x p).out
+own_out t b x p = (transfer_takes b.longest b.size x p).out
 
 abbrev OwnFine : Terms → Terms → At Stretch → Packet → Type 0
-OwnFine t b x p = (transfer_takes b.size x p).error ≡ None
+OwnFine t b x p = (transfer_takes b.longest b.size x p).error ≡ None
 
 -- a step that is no error, and leads to this
 abbrev IsGood : (Stage (At Stretch) → List CallRequest → List CallRequest → List Packet → Type 0) → Step Connection Packet → Type 0
 IsGood K s = (s.error ≡ None) × K s.next.phase s.next.made s.next.indicated s.out
 
 module _ (K : Stage (At Stretch) → List CallRequest → List CallRequest → List Packet → Type 0) (m i : List CallRequest) where
-  own_answered : (a : Phase) (mine : Params) (field : List ℕ) → may_answer mine (said_in mine field) ≡ true → (let q = said_in mine field in K (Talking (calling_terms q) (called_terms q) fresh_transfer) m i [])
-      → IsGood K (is_answered a mine m i (said_in mine field))
-  own_answered a mine field may k = (let q = said_in mine field in subst (λ (c : Bool). IsGood K (if c then goes (calling_talk q) m i [] else unexpected a m i)) (sym may) (refl, k))
+  own_answered : (a : Phase) (mine : Params) (field : List ℕ) (most : ℕ) → may_answer mine (said_in mine field) ≡ true → (let q = said_in mine field in K (Talking (calling_terms most q) (called_terms most q) fresh_transfer) m i [])
+      → IsGood K (is_answered a mine m i most (said_in mine field))
+  own_answered a mine field most may k = (let q = said_in mine field in subst (λ (c : Bool). IsGood K (if c then goes (calling_talk most q) m i [] else unexpected a m i)) (sym may) (refl, k))
 
   own_taken : (r : Role) (a : Phase) (p : Packet) → MayCome OwnFine a p → (let s = taken fresh_transfer own_next own_out r a m i p in K s.stage s.made s.indicated s.out) → IsGood K (phase_takes r a m i p)
   own_taken r Unused (Call n) may k = (refl, k)
   own_taken r Unused other may k = absurd may
   own_taken Dte (Waiting mine) (Call n) may k = (refl, k)
   own_taken Dce (Waiting mine) (Call n) may k = (refl, k)
-  own_taken r (Waiting mine) (Accept field) may k = own_answered (Waiting mine) mine field may k
+  own_taken r (Waiting mine) (Accept field most) may k = own_answered (Waiting mine) mine field most may k
   own_taken r (Waiting mine) other may k = absurd may
   own_taken r (Offered theirs) p may k = absurd may
-  own_taken r (Crossed mine) (Accept field) may k = own_answered (Crossed mine) mine field may k
+  own_taken r (Crossed mine) (Accept field most) may k = own_answered (Crossed mine) mine field most may k
   own_taken r (Crossed mine) other may k = absurd may
   own_taken r (Talking t b x) p may k = (may, k)
 
   -- where it may stay, call, accept and go on so
   own_done : Laws → (a : Phase) (act : CallAct) → K a m i [] → (a ≡ Unused → (n : CallRequest) → may_propose n.params ≡ true → K (Waiting n.params) (m ++ n ∷ []) i (Call n ∷ []))
-      → ((theirs : Params) → a ≡ Offered theirs → (q : Params) (field : List ℕ) → ((mine : Params) → IsProposal mine theirs → Agreed mine q field) → K (Talking (called_terms q) (calling_terms q) fresh_transfer) m i (Accept field ∷ []))
+      → ((theirs : Params) → a ≡ Offered theirs → (q : Params) (field : List ℕ) (most : ℕ) → ((mine : Params) → IsProposal mine theirs → Agreed mine q field most) → K (Talking (called_terms most q) (calling_terms most q) fresh_transfer) m i (Accept field most ∷ []))
       → ((t b : Terms) (x : At Stretch) → a ≡ Talking t b x → (act : TransferAct) → (let s = transfer_acts t x act in (s.error ≡ None) × K (Talking t b s.next) m i s.out)) → IsGood K (phase_acts a m i act)
   own_done laws Unused (PlacesCall n) stays calls answers moves =
       cond_both (may_propose n.params) (goes (Waiting n.params) (m ++ n ∷ []) i (Call n ∷ [])) (goes Unused m i []) (IsGood K) (λ may. (refl, calls refl n may)) (λ _. (refl, stays))
   own_done laws Unused act stays calls answers moves = (refl, stays)
   own_done laws (Waiting mine) act stays calls answers moves = (refl, stays)
-  own_done laws (Offered theirs) (AcceptsCall None) stays calls answers moves = (refl, answers theirs refl theirs [] (λ mine is. as_proposed laws mine theirs is))
-  own_done laws (Offered theirs) (AcceptsCall (Some answer)) stays calls answers moves =
-      cond_both (may_answer theirs answer.params) (goes (called_talk answer.params) m i (Accept (field_for theirs answer) ∷ [])) (goes (Offered theirs) m i []) (IsGood K)
-      (λ may. (refl, answers theirs refl answer.params (field_for theirs answer) (λ mine is. as_answered laws mine theirs answer is may))) (λ _. (refl, stays))
+  own_done laws (Offered theirs) (AcceptsCall None most) stays calls answers moves = (refl, answers theirs refl theirs [] most (λ mine is. as_proposed laws mine theirs most is))
+  own_done laws (Offered theirs) (AcceptsCall (Some answer) most) stays calls answers moves =
+      cond_both (may_answer theirs answer.params) (goes (called_talk most answer.params) m i (Accept (field_for theirs answer) most ∷ [])) (goes (Offered theirs) m i []) (IsGood K)
+      (λ may. (refl, answers theirs refl answer.params (field_for theirs answer) most (λ mine is. as_answered laws mine theirs answer most is may))) (λ _. (refl, stays))
   own_done laws (Offered theirs) act stays calls answers moves = (refl, stays)
   own_done laws (Crossed mine) act stays calls answers moves = (refl, stays)
   own_done laws (Talking t b x) (Talks act) stays calls answers moves = moves t b x refl act
@@ -362,7 +363,7 @@ pub record OwnTalk {B : Type 0} (R : TalksOf (At Stretch) B) (t b : Terms) (s : 
 pub record DteTalks {B : Type 0} (R : TalksOf (At Stretch) B) (y₀ : B) : Type 0 where
   pub fresh : (t b : Terms) → IsSound t → IsSound b → R t b fresh_transfer [] [] b t y₀
   pub takes : (t b : Terms) (x : At Stretch) (u : List Packet) (p : Packet) (v : List Packet) (t₂ b₂ : Terms) (y : B) → R t b x u (p ∷ v) t₂ b₂ y
-      → OwnTalk R t b (transfer_takes b.size x p) u v t₂ b₂ y
+      → OwnTalk R t b (transfer_takes b.longest b.size x p) u v t₂ b₂ y
   pub acts : (t b : Terms) (x : At Stretch) (u v : List Packet) (t₂ b₂ : Terms) (y : B) (act : TransferAct) → R t b x u v t₂ b₂ y
       → OwnTalk R t b (transfer_acts t x act) u v t₂ b₂ y
 
@@ -382,7 +383,7 @@ module _ {B : Type 0} (R : TalksOf (At Stretch) B) (y₀ : B) (talks : DteTalks 
   dte_acts laws v act h =
       own_done (OwnDte v) x.made x.indicated laws x.phase act (dte_still R fresh_transfer y₀ x.phase b x.made x.indicated mb ib u v h)
       (λ is n may. dte_calls R fresh_transfer y₀ b n x.made x.indicated mb ib u v may (subst (OwnDteNow v) is h))
-      (λ theirs is q field agrees. dte_answers R fresh_transfer y₀ b theirs q field x.made x.indicated mb ib u v agrees talks.fresh (subst (OwnDteNow v) is h))
+      (λ theirs is q field most agrees. dte_answers R fresh_transfer y₀ b theirs q field most x.made x.indicated mb ib u v agrees talks.fresh (subst (OwnDteNow v) is h))
       (λ t k s is act. (
       let now : OwnDteNow v (Talking t k s) = subst (OwnDteNow v) is h in
       let does = transfer_acts t s act in (
@@ -397,7 +398,7 @@ pub record OwnTalkBack {A : Type 0} (R : TalksOf A (At Stretch)) (t b : Terms) (
 pub record DceTalks {A : Type 0} (R : TalksOf A (At Stretch)) (x₀ : A) : Type 0 where
   pub fresh : (t b : Terms) → IsSound t → IsSound b → R t b x₀ [] [] b t fresh_transfer
   pub takes : (t b : Terms) (x : A) (u : List Packet) (p : Packet) (v : List Packet) (t₂ b₂ : Terms) (y : At Stretch) → R t b x (p ∷ u) v t₂ b₂ y
-      → OwnTalkBack R t b x u v t₂ b₂ (transfer_takes b₂.size y p)
+      → OwnTalkBack R t b x u v t₂ b₂ (transfer_takes b₂.longest b₂.size y p)
   pub acts : (t b : Terms) (x : A) (u v : List Packet) (t₂ b₂ : Terms) (y : At Stretch) (act : TransferAct) → R t b x u v t₂ b₂ y
       → OwnTalkBack R t b x u v t₂ b₂ (transfer_acts t₂ y act)
 
@@ -417,7 +418,7 @@ module _ {A : Type 0} (R : TalksOf A (At Stretch)) (x₀ : A) (talks : DceTalks 
   dce_acts laws u act h =
       own_done (OwnDce u) y.made y.indicated laws y.phase act (dce_still R x₀ fresh_transfer a y.phase ma ia y.made y.indicated u v h)
       (λ is n may. dce_calls R x₀ fresh_transfer a n ma ia y.made y.indicated u v may (subst (OwnDceNow u) is h))
-      (λ theirs is q field agrees. dce_answers R x₀ fresh_transfer a theirs q field ma ia y.made y.indicated u v agrees talks.fresh (subst (OwnDceNow u) is h))
+      (λ theirs is q field most agrees. dce_answers R x₀ fresh_transfer a theirs q field most ma ia y.made y.indicated u v agrees talks.fresh (subst (OwnDceNow u) is h))
       (λ t k s is act. (
       let now : OwnDceNow u (Talking t k s) = subst (OwnDceNow u) is h in
       let does = transfer_acts t s act in (
@@ -427,21 +428,21 @@ module _ {A : Type 0} (R : TalksOf A (At Stretch)) (x₀ : A) (talks : DceTalks 
 
 -- ---- what has to be known of p4, from what is known of a stretch
 
-module _ {T : Type 0} (R : Terms → Terms → Stretch → List Packet → List Packet → T → Type 0) (y₀ : T) (own : (t b : Terms) → IsSound t → IsSound b → OwnStretches (R t b) y₀ t b.size) where
+module _ {T : Type 0} (R : Terms → Terms → Stretch → List Packet → List Packet → T → Type 0) (y₀ : T) (own : (t b : Terms) → IsSound t → IsSound b → OwnStretches (R t b) y₀ t b.longest b.size) where
   abbrev Talk : TalksOf (At Stretch) (At T)
   Talk t b x u v t₂ b₂ y = TalkOf R y₀ t b x u v t₂ b₂ y
 
   talk_fresh : (t b : Terms) → IsSound t → IsSound b → Talk t b fresh_transfer [] [] b t (record { epoch = 0; side = Live y₀ })
   talk_fresh t b st sb = record { there = refl; back = refl; sound = st; sound_back = sb; related = record { hand = both_fresh (own_level (R t b) y₀) (own t b st sb).empty 0; there = tt; back = tt } }
 
-  talk_takes : (t b : Terms) (x : At Stretch) (u : List Packet) (p : Packet) (v : List Packet) (t₂ b₂ : Terms) (y : At T) → Talk t b x u (p ∷ v) t₂ b₂ y → OwnTalk Talk t b (transfer_takes b.size x p) u v t₂ b₂ y
+  talk_takes : (t b : Terms) (x : At Stretch) (u : List Packet) (p : Packet) (v : List Packet) (t₂ b₂ : Terms) (y : At T) → Talk t b x u (p ∷ v) t₂ b₂ y → OwnTalk Talk t b (transfer_takes b.longest b.size x p) u v t₂ b₂ y
   talk_takes t b x u p v t₂ b₂ y h =
-      let good = own_takes (R t b) y₀ t b.size (own t b h.sound h.sound_back) x u p v y h.related in
+      let good = own_takes (R t b) y₀ t b.longest b.size (own t b h.sound h.sound_back) x u p v y h.related in
       record { quiet = good.quiet; kept = record { there = h.there; back = h.back; sound = h.sound; sound_back = h.sound_back; related = good.kept } }
 
   talk_acts : (t b : Terms) (x : At Stretch) (u v : List Packet) (t₂ b₂ : Terms) (y : At T) (act : TransferAct) → Talk t b x u v t₂ b₂ y → OwnTalk Talk t b (transfer_acts t x act) u v t₂ b₂ y
   talk_acts t b x u v t₂ b₂ y act h =
-      let good = own_acts (R t b) y₀ t b.size (own t b h.sound h.sound_back) x u v y act h.related in
+      let good = own_acts (R t b) y₀ t b.longest b.size (own t b h.sound h.sound_back) x u v y act h.related in
       record { quiet = good.quiet; kept = record { there = h.there; back = h.back; sound = h.sound; sound_back = h.sound_back; related = good.kept } }
 
   pub own_dte_talks : DteTalks Talk (record { epoch = 0; side = Live y₀ })

@@ -3,12 +3,12 @@ use Rattle.std.proofs.Common.{◌≡◌, ℕ, List, [], ◌∷◌, ◌++◌, Opt
 use Rattle.x25_handshakes.specs.laws.Handshake.{Inner, Side, Live, Left, At, Step, left}
 use Rattle.x25_handshakes.specs.laws.Stretch.{Packet, Data, Rr, Rnr, Int, IntConf, Reset, ResetConf, Call, Accept, Clear, ClearConf, Stretch, fresh, StretchAct, stretch_acts, stretch_takes}
 use Rattle.x25_handshakes.specs.laws.Transfer.{lifted, transfer_side_takes, transfer_takes, TransferAct, Inside, SendsReset, transfer_side_acts, transfer_acts}
-use Rattle.x25_circuit.specs.Params.{Terms}
 use Rattle.x25_handshakes.proofs.{HandshakeRelation.{Level, Handshaken, GoodStep}, HandshakeSteps.{Goes, Answers, acts_inside, leaves, stays, answered}}
 use Rattle.x25_handshakes.proofs.StretchRelation.{InFlowControl, AllInFlowControl, GoodStretch}
 use Rattle.x25_handshakes.proofs.TransferRelation.{reset_mark, InTransfer, AllInTransfer, own_level, OwnTransfer, GoodOwnTransfer}
 use Rattle.x25_handshakes.proofs.HandshakeLemmas.{each_append, each_back, each_map}
 use Rattle.x25_handshakes.proofs.HandshakeSteps as hand
+use Rattle.x25_handshakes.specs.laws.Terms.{Terms}
 
 pub inner_mark : (p : Packet) → InFlowControl p → reset_mark p ≡ Inner
 inner_mark (Data s r p) is = refl
@@ -27,13 +27,13 @@ in_transfer IntConf is = tt
 in_transfer p is = absurd is
 
 -- what has to be known of a stretch
-pub record OwnStretches {T : Type 0} (R : Stretch → List Packet → List Packet → T → Type 0) (y₀ : T) (t : Terms) (size : ℕ) : Type 0 where
+pub record OwnStretches {T : Type 0} (R : Stretch → List Packet → List Packet → T → Type 0) (y₀ : T) (t : Terms) (longest size : ℕ) : Type 0 where
   pub empty : R fresh [] [] y₀
   pub kinds : (x : Stretch) (u v : List Packet) (y : T) → R x u v y → AllInFlowControl u
   pub acts : (x : Stretch) (u v : List Packet) (y : T) (a : StretchAct) → R x u v y → GoodStretch R (stretch_acts t x a) u v y
-  pub takes : (x : Stretch) (u : List Packet) (p : Packet) (v : List Packet) (y : T) → R x u (p ∷ v) y → GoodStretch R (stretch_takes size x p) u v y
+  pub takes : (x : Stretch) (u : List Packet) (p : Packet) (v : List Packet) (y : T) → R x u (p ∷ v) y → GoodStretch R (stretch_takes longest size x p) u v y
 
-module _ {T : Type 0} (R : Stretch → List Packet → List Packet → T → Type 0) (y₀ : T) (t : Terms) (size : ℕ) (own : OwnStretches R y₀ t size) where
+module _ {T : Type 0} (R : Stretch → List Packet → List Packet → T → Type 0) (y₀ : T) (t : Terms) (longest size : ℕ) (own : OwnStretches R y₀ t longest size) where
   abbrev level : Level Stretch T Packet
   level = own_level R y₀
 
@@ -48,23 +48,23 @@ module _ {T : Type 0} (R : Stretch → List Packet → List Packet → T → Typ
           subst (λ (n : Option ℕ). let k = lifted e s n in Goes level AllInTransfer e s.next k.next k.out k.error u v y) (sym g.quiet)
           (record { quiet = refl; at = refl; inner = each_map InFlowControl (λ p. reset_mark p ≡ Inner) inner_mark s.out open_out; passes = each_map InFlowControl InTransfer in_transfer s.out open_out; kept = g.kept })
 
-  answers : (e : ℕ) (x : Side Stretch) (p : Packet) → InTransfer p → (let s = transfer_side_takes size e x p in Answers level AllInTransfer e x p (reset_mark p) s.next s.out s.error)
+  answers : (e : ℕ) (x : Side Stretch) (p : Packet) → InTransfer p → (let s = transfer_side_takes longest size e x p in Answers level AllInTransfer e x p (reset_mark p) s.next s.out s.error)
   answers e x (Call i) is = absurd is
-  answers e x (Accept field) is = absurd is
+  answers e x (Accept field most) is = absurd is
   answers e x Clear is = absurd is
   answers e x ClearConf is = absurd is
   answers e (Live x) Reset is = record { confirm = ResetConf; is = refl; at = refl; sent = refl; passes = (tt, tt); quiet = λ w z gone h. refl }
   answers e (Live x) ResetConf is = tt
-  answers e (Live x) p is = inside e x (stretch_takes size x p) (p ∷ []) (λ u v y h. own.takes x u p v y h)
+  answers e (Live x) p is = inside e x (stretch_takes longest size x p) (p ∷ []) (λ u v y h. own.takes x u p v y h)
   answers e (Left x) p is = (refl, refl, refl)
 
   -- with the kinds of packets on both lines
   kinds : (x : At Stretch) (L K K₂ : List Packet) (y : At T) (s : Step (At Stretch) Packet) → OwnTransfer R y₀ x L K y → AllInTransfer K₂ → GoodStep level s.error s.next s.out L K₂ y × AllInTransfer s.out → GoodOwnTransfer R y₀ s L K₂ y
   kinds x L K K₂ y s h back g = record { quiet = g.0.quiet; kept = record { hand = g.0.kept.hand; there = each_append InTransfer L s.out h.there g.1; back = back } }
 
-  pub own_takes : (x : At Stretch) (L : List Packet) (p : Packet) (K : List Packet) (y : At T) → OwnTransfer R y₀ x L (p ∷ K) y → GoodOwnTransfer R y₀ (transfer_takes size x p) L K y
+  pub own_takes : (x : At Stretch) (L : List Packet) (p : Packet) (K : List Packet) (y : At T) → OwnTransfer R y₀ x L (p ∷ K) y → GoodOwnTransfer R y₀ (transfer_takes longest size x p) L K y
   own_takes x L p K y h =
-      let s : Step (At Stretch) Packet = transfer_takes size x p in
+      let s : Step (At Stretch) Packet = transfer_takes longest size x p in
       kinds x L (p ∷ K) K y s h h.back.1
       (answered level AllInTransfer tt own.empty x.epoch x.side p s.next s.out s.error (answers x.epoch x.side p h.back.0) L K y (record { hand = h.hand }))
 

@@ -117,15 +117,15 @@ Ints-conf down up u v owed h = let count = h.count in record { count = omega (ar
 
 -- messages
 
-pub Text-send : (size : ℕ) (sent rest : List Piece) (down : List Message) (q : Marks) (xs : List ℕ) → 1 ≤ size → length xs ≤ 65535 → Text size sent rest down
-    → Text size sent (rest ++ cut size q xs) (down ++ record { marks = q; user = xs } ∷ [])
-Text-send size sent rest down q xs one small h =
+pub Text-send : (longest size : ℕ) (sent rest : List Piece) (down : List Message) (q : Marks) (xs : List ℕ) → 1 ≤ size → length xs ≤ longest → Text longest size sent rest down
+    → Text longest size sent (rest ++ cut size q xs) (down ++ record { marks = q; user = xs } ∷ [])
+Text-send longest size sent rest down q xs one small h =
     let e : (sent ++ rest) ++ cut size q xs ≡ sent ++ (rest ++ cut size q xs) = append_assoc sent rest (cut size q xs) in
     let far : length xs ≤ size + length xs = omega arith in
     record {
-      fits = subst (λ (l : List Piece). AreSound size no_part l) e
-          (AreSound-append size no_part (sent ++ rest) (cut size q xs) h.fits
-          (subst (λ j. AreSound size j (cut size q xs)) (sym h.whole) (AreSound-cut (length xs) size q xs no_part one far (omega arith) refl)));
+      fits = subst (λ (l : List Piece). AreSound longest size no_part l) e
+          (AreSound-append longest size no_part (sent ++ rest) (cut size q xs) h.fits
+          (subst (λ j. AreSound longest size j (cut size q xs)) (sym h.whole) (AreSound-cut (length xs) longest size q xs no_part one far (omega arith) refl)));
       whole = ap (joining no_part) (sym e) ∙ joining-append no_part (sent ++ rest) (cut size q xs) ∙ joining-cut (length xs) size q xs (joining no_part (sent ++ rest));
       messages = ap (λ l. l ++ record { marks = q; user = xs } ∷ []) h.messages
           ∙ sym (ap carried (sym e) ∙ carried-append no_part (sent ++ rest) (cut size q xs)
@@ -133,11 +133,11 @@ Text-send size sent rest down q xs one small h =
           ∙ ap (λ l. carried (sent ++ rest) ++ l) (carried-cut (length xs) size q xs no_part));
     }
 
-pub Text-pull : (size : ℕ) (sent : List Piece) (p : Piece) (rest : List Piece) (down : List Message) → Text size sent (p ∷ rest) down → Text size (sent ++ p ∷ []) rest down
-Text-pull size sent p rest down h =
+pub Text-pull : (longest size : ℕ) (sent : List Piece) (p : Piece) (rest : List Piece) (down : List Message) → Text longest size sent (p ∷ rest) down → Text longest size (sent ++ p ∷ []) rest down
+Text-pull longest size sent p rest down h =
     let e : sent ++ (p ∷ rest) ≡ (sent ++ p ∷ []) ++ rest = sym (append_assoc sent (p ∷ []) rest) in
     record {
-      fits = subst (λ (l : List Piece). AreSound size no_part l) e h.fits;
+      fits = subst (λ (l : List Piece). AreSound longest size no_part l) e h.fits;
       whole = ap (joining no_part) (sym e) ∙ h.whole;
       messages = h.messages ∙ ap carried e;
     }

@@ -1,7 +1,7 @@
 -- What our circuit and a peer do between two clears keeps what is kept of them, and our circuit finds no procedure error.
 use Rattle.std.proofs.Common.{List, ◌≡◌, ℕ, [], ◌∷◌, ◌++◌, true, refl, sym, subst}
 use Rattle.x25_bits.specs.{declared.role.Role.{Role}, declared.role.Role.TheVariants.{Dte, Dce}}
-use Rattle.x25_circuit.specs.{Params.{Terms, may_propose, may_answer, said_in, called_terms, calling_terms}, declared.params.Params.{Params}}
+use Rattle.x25_circuit.specs.{Params.{may_propose, may_answer, said_in}, declared.params.Params.{Params}}
 use Rattle.x25_circuit.specs.Notice.{CallRequest}
 use Rattle.x25_handshakes.specs.{laws.Handshake.{At}, laws.Stretch.{Packet, Stretch, Call, Accept}, laws.Transfer.{fresh_transfer}}
 use Rattle.x25_handshakes.specs.laws.Calls.{Connection, call_takes, CallAct, call_acts, fresh_call, Stage, Unused, Waiting, Offered, Crossed, Talking}
@@ -12,10 +12,11 @@ use Rattle.x25_handshakes.specs.{laws.LawsBelow.{Laws}, laws.PeerLayers.{other_r
 use Rattle.x25_handshakes.proofs.{CallsRelation.{TalkOf, TalksOf, JointOf, IsProposal, GoodCall}, PeerRelation.{Kept}}
 use Rattle.x25_handshakes.proofs.OwnCallLemmas.{own_dte_talks, own_dce_talks, Agreed, agreed, taken, dte_taken, dte_calls, dte_answers, dte_moves, dce_taken, dce_calls, dce_answers, dce_moves, DteTalks, dte_takes, dte_acts, DceTalks, dce_takes, dce_acts}
 use Rattle.x25_handshakes.proofs.PeerTransferLemmas.{KeptTransfer, own_stretches, done_kept, takes_kept}
+use Rattle.x25_handshakes.specs.laws.Terms.{Terms, called_terms, calling_terms}
 
 -- in p4
 abbrev pub PeerTalks : Terms → Terms → At Stretch → List Packet → List Packet → Terms → Terms → At PeerStretch → Type 0
-PeerTalks t b x u v t₂ b₂ y = TalkOf (λ t b. Kept t b.size) fresh_peer t b x u v t₂ b₂ y
+PeerTalks t b x u v t₂ b₂ y = TalkOf (λ t b. Kept t b.longest b.size) fresh_peer t b x u v t₂ b₂ y
 
 -- the peer is the DTE
 abbrev pub TalksPeer : TalksOf (At PeerStretch) (At Stretch)
@@ -28,31 +29,31 @@ PeerSeen Dce x u v y = JointOf TalksPeer fresh_peer_transfer fresh_transfer y.st
 
 -- ---- in p4
 
-PeerTalks-next : (t b : Terms) (x x₂ : At Stretch) (u v u₂ v₂ : List Packet) (t₂ b₂ : Terms) (y y₂ : At PeerStretch) → PeerTalks t b x u v t₂ b₂ y → KeptTransfer t b.size x₂ u₂ v₂ y₂
+PeerTalks-next : (t b : Terms) (x x₂ : At Stretch) (u v u₂ v₂ : List Packet) (t₂ b₂ : Terms) (y y₂ : At PeerStretch) → PeerTalks t b x u v t₂ b₂ y → KeptTransfer t b.longest b.size x₂ u₂ v₂ y₂
     → PeerTalks t b x₂ u₂ v₂ t₂ b₂ y₂
 PeerTalks-next t b x x₂ u v u₂ v₂ t₂ b₂ y y₂ h k = record { there = h.there; back = h.back; sound = h.sound; sound_back = h.sound_back; related = k }
 
 dte_talks : DteTalks PeerTalks fresh_peer_transfer
-dte_talks = own_dte_talks (λ t b. Kept t b.size) fresh_peer (λ t b st sb. own_stretches t b.size st.size)
+dte_talks = own_dte_talks (λ t b. Kept t b.longest b.size) fresh_peer (λ t b st sb. own_stretches t b.longest b.size st.size)
 
 dce_talks : DceTalks TalksPeer fresh_peer_transfer
-dce_talks = own_dce_talks (λ t b. Kept t b.size) fresh_peer (λ t b st sb. own_stretches t b.size st.size)
+dce_talks = own_dce_talks (λ t b. Kept t b.longest b.size) fresh_peer (λ t b st sb. own_stretches t b.longest b.size st.size)
 
 -- the peer sends, and takes
-talks_does : (t b : Terms) (x : At Stretch) (u v : List Packet) (t₂ b₂ : Terms) (y : At PeerStretch) (d : TransferDeed) → MayDoTransfer t₂.size y.side d → PeerTalks t b x u v t₂ b₂ y
+talks_does : (t b : Terms) (x : At Stretch) (u v : List Packet) (t₂ b₂ : Terms) (y : At PeerStretch) (d : TransferDeed) → MayDoTransfer t₂.longest t₂.size y.side d → PeerTalks t b x u v t₂ b₂ y
     → PeerTalks t b x u (v ++ transfer_packet_of y.side d ∷ []) t₂ b₂ (does_transfer y.epoch y.side d)
 talks_does t b x u v t₂ b₂ y d may h =
     PeerTalks-next t b x x u v u _ t₂ b₂ y _ h
-    (done_kept t b.size h.sound.window x u v y.epoch y.side d (subst (λ (s : Terms). MayDoTransfer s.size y.side d) h.back may) h.related)
+    (done_kept t b.longest b.size h.sound.window x u v y.epoch y.side d (subst (λ (s : Terms). MayDoTransfer s.longest s.size y.side d) h.back may) h.related)
 
 talks_takes : (t b : Terms) (x : At Stretch) (u : List Packet) (p : Packet) (v : List Packet) (t₂ b₂ : Terms) (y : At PeerStretch) → PeerTalks t b x (p ∷ u) v t₂ b₂ y
     → PeerTalks t b x u (v ++ (transfer_taking y.epoch y.side p).out) t₂ b₂ (transfer_taking y.epoch y.side p).next
-talks_takes t b x u p v t₂ b₂ y h = PeerTalks-next t b x x _ v u _ t₂ b₂ y _ h (takes_kept t b.size x p u v y.epoch y.side h.related)
+talks_takes t b x u p v t₂ b₂ y h = PeerTalks-next t b x x _ v u _ t₂ b₂ y _ h (takes_kept t b.longest b.size x p u v y.epoch y.side h.related)
 
 -- what the peer answers is read as it was meant
-as_said : Laws → (mine theirs : Params) (field : List ℕ) → IsProposal mine theirs → may_answer theirs (said_in theirs field) ≡ true → Agreed mine (said_in theirs field) field
-as_said laws mine theirs field h =
-    subst (λ (p : Params). may_answer p (said_in p field) ≡ true → Agreed mine (said_in p field) field) (sym h.same) (λ may. agreed laws mine (said_in mine field) field h.allowed may refl)
+as_said : Laws → (mine theirs : Params) (field : List ℕ) (most : ℕ) → IsProposal mine theirs → may_answer theirs (said_in theirs field) ≡ true → Agreed mine (said_in theirs field) field most
+as_said laws mine theirs field most h =
+    subst (λ (p : Params). may_answer p (said_in p field) ≡ true → Agreed mine (said_in p field) field most) (sym h.same) (λ may. agreed laws mine (said_in mine field) field most h.allowed may refl)
 
 -- ---- what the peer makes of a packet, and what it does by itself
 
@@ -72,22 +73,22 @@ module _ (K : Stage (At PeerStretch) → List CallRequest → List CallRequest �
   peer_taken r Unused other k = k
   peer_taken Dte (Waiting mine) (Call n) k = k
   peer_taken Dce (Waiting mine) (Call n) k = k
-  peer_taken r (Waiting mine) (Accept field) k = k
+  peer_taken r (Waiting mine) (Accept field most) k = k
   peer_taken r (Waiting mine) other k = k
   peer_taken r (Offered theirs) p k = k
-  peer_taken r (Crossed mine) (Accept field) k = k
+  peer_taken r (Crossed mine) (Accept field most) k = k
   peer_taken r (Crossed mine) other k = k
   peer_taken r (Talking t b y) p k = k
 
   -- where it may call, accept and go on so
   peer_done : Laws → (b : Stage (At PeerStretch)) (d : CallDeed) → MayDoCall b d → (b ≡ Unused → (n : CallRequest) → may_propose n.params ≡ true → K (Waiting n.params) (m ++ n ∷ []) i (Call n ∷ []))
-      → ((theirs : Params) → b ≡ Offered theirs → (q : Params) (field : List ℕ) → ((mine : Params) → IsProposal mine theirs → Agreed mine q field) → K (Talking (called_terms q) (calling_terms q) fresh_peer_transfer) m i (Accept field ∷ []))
-      → ((t k : Terms) (y : At PeerStretch) → b ≡ Talking t k y → (d : TransferDeed) → MayDoTransfer t.size y.side d → K (Talking t k (does_transfer y.epoch y.side d)) m i (transfer_packet_of y.side d ∷ []))
+      → ((theirs : Params) → b ≡ Offered theirs → (q : Params) (field : List ℕ) (most : ℕ) → ((mine : Params) → IsProposal mine theirs → Agreed mine q field most) → K (Talking (called_terms most q) (calling_terms most q) fresh_peer_transfer) m i (Accept field most ∷ []))
+      → ((t k : Terms) (y : At PeerStretch) → b ≡ Talking t k y → (d : TransferDeed) → MayDoTransfer t.longest t.size y.side d → K (Talking t k (does_transfer y.epoch y.side d)) m i (transfer_packet_of y.side d ∷ []))
       → (let c = does_call b m i d in K c.stage c.made c.indicated (call_packet_of b d ∷ []))
   peer_done laws Unused (PlacesCall n) may calls answers moves = calls refl n may
   peer_done laws Unused d may calls answers moves = absurd may
   peer_done laws (Waiting mine) d may calls answers moves = absurd may
-  peer_done laws (Offered theirs) (AcceptsCall field) may calls answers moves = answers theirs refl (said_in theirs field) field (λ mine is. as_said laws mine theirs field is may)
+  peer_done laws (Offered theirs) (AcceptsCall field most) may calls answers moves = answers theirs refl (said_in theirs field) field most (λ mine is. as_said laws mine theirs field most is may)
   peer_done laws (Offered theirs) d may calls answers moves = absurd may
   peer_done laws (Crossed mine) d may calls answers moves = absurd may
   peer_done laws (Talking t k y) (InTransfer d) may calls answers moves = moves t k y refl d may
@@ -123,13 +124,13 @@ PeerSeen-does laws Dte x u v y d may h =
     let now : Stage (At PeerStretch) → Type 0 = λ b. JointOf PeerTalks fresh_transfer fresh_peer_transfer x.phase b x.made x.indicated y.made y.indicated u v in
     peer_done (Beside Dte x u v) y.made y.indicated laws y.stage d may
     (λ is n may. dce_calls PeerTalks fresh_transfer fresh_peer_transfer x.phase n x.made x.indicated y.made y.indicated u v may (subst now is h))
-    (λ theirs is q field agrees. dce_answers PeerTalks fresh_transfer fresh_peer_transfer x.phase theirs q field x.made x.indicated y.made y.indicated u v agrees dte_talks.fresh (subst now is h))
+    (λ theirs is q field most agrees. dce_answers PeerTalks fresh_transfer fresh_peer_transfer x.phase theirs q field most x.made x.indicated y.made y.indicated u v agrees dte_talks.fresh (subst now is h))
     (λ t k s is d may. dce_moves PeerTalks fresh_transfer fresh_peer_transfer t k s x.phase (does_transfer s.epoch s.side d) (transfer_packet_of s.side d ∷ []) x.made x.indicated y.made y.indicated u v (λ w z t₁ k₁ e r. talks_does t₁ k₁ e w z t k s d may r) (subst now is h))
 PeerSeen-does laws Dce x u v y d may h =
     let now : Stage (At PeerStretch) → Type 0 = λ b. JointOf TalksPeer fresh_peer_transfer fresh_transfer b x.phase y.made y.indicated x.made x.indicated v u in
     peer_done (Beside Dce x u v) y.made y.indicated laws y.stage d may
     (λ is n may. dte_calls TalksPeer fresh_peer_transfer fresh_transfer x.phase n y.made y.indicated x.made x.indicated v u may (subst now is h))
-    (λ theirs is q field agrees. dte_answers TalksPeer fresh_peer_transfer fresh_transfer x.phase theirs q field y.made y.indicated x.made x.indicated v u agrees dce_talks.fresh (subst now is h))
+    (λ theirs is q field most agrees. dte_answers TalksPeer fresh_peer_transfer fresh_transfer x.phase theirs q field most y.made y.indicated x.made x.indicated v u agrees dce_talks.fresh (subst now is h))
     (λ t k s is d may. dte_moves TalksPeer fresh_peer_transfer fresh_transfer t k s x.phase (does_transfer s.epoch s.side d) (transfer_packet_of s.side d ∷ []) y.made y.indicated x.made x.indicated v u (λ w z t₂ k₂ e r. talks_does t₂ k₂ e z w t k s d may r) (subst now is h))
 
 pub PeerSeen-fresh : (r : Role) → PeerSeen r fresh_call [] [] fresh_peer_call

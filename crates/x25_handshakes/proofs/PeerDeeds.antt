@@ -1,13 +1,14 @@
 -- What the peer does keeps what is kept of our circuit and it.
 use Rattle.std.proofs.Common.{◌≡◌, ℕ, ◌+◌, ◌%◌, ◌≤◌, List, [], ◌∷◌, ◌++◌, length, Option, Some, None, Bool, true, false, refl, subst, arith}
 use Rattle.std.proofs.lemmas.List.{length_push}
-use Rattle.x25_circuit.specs.{Message.{Piece, no_part}, Params.{Terms}}
+use Rattle.x25_circuit.specs.{Message.{Piece, no_part}}
 use Rattle.x25_window.specs.code.Modulo.{resolved}
 use Rattle.x25_handshakes.specs.laws.Stretch.{Packet, Data, Rr, Rnr, Int, IntConf, Stretch}
 use Rattle.x25_handshakes.specs.laws.PeerStretch.{PeerStretch, Deed, Sends, Says, Interrupts, Confirms, MayAcknowledge, MayDo, does, packet_of, taking}
 use Rattle.x25_handshakes.proofs.{StretchRelation.{numbering, ack_in, int_in, conf_in, InFlowControl, pieces, hears, heard, Ints}, TextLemmas.{AreSound-append}}
 use Rattle.x25_handshakes.proofs.PartLemmas.{Line-le, Line-send, Line-push, Line-take, Line-skip, Acks-pass, Acks-more, Acks-told, Acks-hear, Ints-there, Ints-back, Ints-send, Ints-take, Ints-confirm, Ints-past, Ints-skip, Ints-out, Ints-conf}
 use Rattle.x25_handshakes.proofs.PeerRelation.{Ours, Kept}
+use Rattle.x25_handshakes.specs.laws.Terms.{Terms}
 
 -- it acknowledges so many, whatever it has sent
 Ours-told : (t : Terms) → t.window ≤ 7 → (x : Stretch) (u v : List Packet) (y : PeerStretch) (sent : List Piece) (n : ℕ) (q : Packet) → conf_in q ≡ 0 → ack_in q ≡ Some (n % 8) → MayAcknowledge y n → Ours t x u v y
@@ -23,15 +24,15 @@ Ours-told t small x u v y sent n q no_conf ack may h =
     }
 
 -- by a packet that is none of the others
-says_kept : (t : Terms) (size : ℕ) → t.window ≤ 7 → (x : Stretch) (u v : List Packet) (y : PeerStretch) (n : ℕ) (q : Packet) → numbering q ≡ None → int_in q ≡ [] → conf_in q ≡ 0 → InFlowControl q → ack_in q ≡ Some (n % 8)
-    → MayAcknowledge y n → Kept t size x u v y → Kept t size x u (v ++ q ∷ []) (record y { told = n })
-says_kept t size small x u v y n q none no_int no_conf is ack may h = record {
+says_kept : (t : Terms) (longest size : ℕ) → t.window ≤ 7 → (x : Stretch) (u v : List Packet) (y : PeerStretch) (n : ℕ) (q : Packet) → numbering q ≡ None → int_in q ≡ [] → conf_in q ≡ 0 → InFlowControl q → ack_in q ≡ Some (n % 8)
+    → MayAcknowledge y n → Kept t longest size x u v y → Kept t longest size x u (v ++ q ∷ []) (record y { told = n })
+says_kept t longest size small x u v y n q none no_int no_conf is ack may h = record {
   there = Ours-told t small x u v y y.sent n q no_conf ack may h.there;
   back = record { line = Line-push y.sent x.taken v q none is h.back.line; acks = h.back.acks; ints = Ints-there y.int_out y.int_down x.int_up v u 0 q no_int h.back.ints; text = h.back.text };
 }
 
-pub does_kept : (t : Terms) (size : ℕ) → t.window ≤ 7 → (x : Stretch) (u v : List Packet) (y : PeerStretch) (d : Deed) → MayDo size y d → Kept t size x u v y → Kept t size x u (v ++ packet_of y d ∷ []) (does y d)
-does_kept t size small x u v y (Sends p n) may h =
+pub does_kept : (t : Terms) (longest size : ℕ) → t.window ≤ 7 → (x : Stretch) (u v : List Packet) (y : PeerStretch) (d : Deed) → MayDo longest size y d → Kept t longest size x u v y → Kept t longest size x u (v ++ packet_of y d ∷ []) (does y d)
+does_kept t longest size small x u v y (Sends p n) may h =
     let longer : length (y.sent ++ p ∷ []) ≡ length y.sent + 1 = length_push y.sent p in
     let room = may.1.window in
     let d : Packet = Data (length y.sent % 8) (n % 8) p in
@@ -41,12 +42,12 @@ does_kept t size small x u v y (Sends p n) may h =
         line = Line-send y.sent x.taken v (n % 8) p h.back.line;
         acks = Acks-more 7 y.acked (length y.sent) (length (y.sent ++ p ∷ [])) u (length x.taken) (omega arith) h.back.acks;
         ints = Ints-there y.int_out y.int_down x.int_up v u 0 d refl h.back.ints;
-        text = record { sound = AreSound-append size no_part y.sent (p ∷ []) h.back.text.sound (may.1.fits, tt); up = h.back.text.up };
+        text = record { sound = AreSound-append longest size no_part y.sent (p ∷ []) h.back.text.sound (may.1.fits, tt); up = h.back.text.up };
       };
     }
-does_kept t size small x u v y (Says true n) may h = says_kept t size small x u v y n (Rr (n % 8)) refl refl refl tt refl may h
-does_kept t size small x u v y (Says false n) may h = says_kept t size small x u v y n (Rnr (n % 8)) refl refl refl tt refl may h
-does_kept t size small x u v y (Interrupts xs) may h = record {
+does_kept t longest size small x u v y (Says true n) may h = says_kept t longest size small x u v y n (Rr (n % 8)) refl refl refl tt refl may h
+does_kept t longest size small x u v y (Says false n) may h = says_kept t longest size small x u v y n (Rnr (n % 8)) refl refl refl tt refl may h
+does_kept t longest size small x u v y (Interrupts xs) may h = record {
   there = record {
     line = h.there.line;
     acks = record { acks = Acks-pass t.window x.acked (length x.sent) v y.told (Int xs) refl h.there.acks.acks; late = h.there.acks.late };
@@ -60,7 +61,7 @@ does_kept t size small x u v y (Interrupts xs) may h = record {
     text = h.back.text;
   };
 }
-does_kept t size small x u v y Confirms may h = record {
+does_kept t longest size small x u v y Confirms may h = record {
   there = record {
     line = h.there.line;
     acks = record { acks = Acks-pass t.window x.acked (length x.sent) v y.told IntConf refl h.there.acks.acks; late = h.there.acks.late };
@@ -76,9 +77,9 @@ does_kept t size small x u v y Confirms may h = record {
 Ours-past : (t : Terms) (x : Stretch) (u v : List Packet) (y : PeerStretch) (acked : ℕ) (out : Bool) (q : Packet) → numbering q ≡ None → int_in q ≡ [] → Ours t x (q ∷ u) v y → Ours t x u v (record y { acked = acked; int_out = out })
 Ours-past t x u v y acked out q none no_int h = record { line = Line-skip x.sent y.taken u q none h.line; acks = h.acks; ints = Ints-past x.int_out x.int_down y.int_up u v y.owed q no_int h.ints; text = h.text }
 
-status_heard : (t : Terms) (size : ℕ) (x : Stretch) (u v : List Packet) (y : PeerStretch) (r : ℕ) (q : Packet) → numbering q ≡ None → int_in q ≡ [] → conf_in q ≡ 0 → ack_in q ≡ Some r → Kept t size x (q ∷ u) v y
-    → Kept t size x u v (record y { acked = resolved y.acked r })
-status_heard t size x u v y r q none no_int no_conf ack h = record {
+status_heard : (t : Terms) (longest size : ℕ) (x : Stretch) (u v : List Packet) (y : PeerStretch) (r : ℕ) (q : Packet) → numbering q ≡ None → int_in q ≡ [] → conf_in q ≡ 0 → ack_in q ≡ Some r → Kept t longest size x (q ∷ u) v y
+    → Kept t longest size x u v (record y { acked = resolved y.acked r })
+status_heard t longest size x u v y r q none no_int no_conf ack h = record {
   there = Ours-past t x u v y (resolved y.acked r) y.int_out q none no_int h.there;
   back = record {
     line = h.back.line;
@@ -88,8 +89,8 @@ status_heard t size x u v y r q none no_int no_conf ack h = record {
   };
 }
 
-pub taking_kept : (t : Terms) (size : ℕ) (x : Stretch) (p : Packet) (u v : List Packet) (y : PeerStretch) → Kept t size x (p ∷ u) v y → Kept t size x u v (taking y p)
-taking_kept t size x (Data s r p) u v y h =
+pub taking_kept : (t : Terms) (longest size : ℕ) (x : Stretch) (p : Packet) (u v : List Packet) (y : PeerStretch) → Kept t longest size x (p ∷ u) v y → Kept t longest size x u v (taking y p)
+taking_kept t longest size x (Data s r p) u v y h =
     let longer : length (y.taken ++ p ∷ []) ≡ length y.taken + 1 = length_push y.taken p in
     let late = h.there.acks.late in
     record {
@@ -106,9 +107,9 @@ taking_kept t size x (Data s r p) u v y h =
         text = h.back.text;
       };
     }
-taking_kept t size x (Rr r) u v y h = status_heard t size x u v y r (Rr r) refl refl refl refl h
-taking_kept t size x (Rnr r) u v y h = status_heard t size x u v y r (Rnr r) refl refl refl refl h
-taking_kept t size x (Int xs) u v y h = record {
+taking_kept t longest size x (Rr r) u v y h = status_heard t longest size x u v y r (Rr r) refl refl refl refl h
+taking_kept t longest size x (Rnr r) u v y h = status_heard t longest size x u v y r (Rnr r) refl refl refl refl h
+taking_kept t longest size x (Int xs) u v y h = record {
   there = record { line = Line-skip x.sent y.taken u (Int xs) refl h.there.line; acks = h.there.acks; ints = Ints-take x.int_out x.int_down y.int_up u v y.owed xs h.there.ints; text = h.there.text };
   back = record {
     line = h.back.line;
@@ -117,7 +118,7 @@ taking_kept t size x (Int xs) u v y h = record {
     text = h.back.text;
   };
 }
-taking_kept t size x IntConf u v y h =
+taking_kept t longest size x IntConf u v y h =
     let is : y.int_out ≡ true = Ints-out y.int_out y.int_down x.int_up v u 0 h.back.ints in
     record {
       there = Ours-past t x u v y y.acked false IntConf refl refl h.there;
@@ -128,4 +129,4 @@ taking_kept t size x IntConf u v y h =
         text = h.back.text;
       };
     }
-taking_kept t size x other u v y h = absurd h.there.line.kinds.0
+taking_kept t longest size x other u v y h = absurd h.there.line.kinds.0

@@ -2,7 +2,7 @@
 use Rattle.std.proofs.Common.{◌≡◌, inl, inr, ℕ, suc, ◌+◌, ◌≤◌, List, [], ◌∷◌, ◌++◌, length, Some, Bool, true, false, refl, sym, ap, subst, ◌∙◌, arith, append_assoc, length-append}
 use Rattle.std.proofs.{lemmas.Bool.{true≢false}, lemmas.List.{append-nil}, lemmas.Option.{same_Some, none-some}}
 use Rattle.x25_bits.specs.{declared.role.Role.{Role}, declared.role.Role.TheVariants.{Dte, Dce}}
-use Rattle.x25_circuit.specs.{Message.{no_part, joining, carried, carried_from}, Params.{Terms}, Notice.{CallRequest}}
+use Rattle.x25_circuit.specs.{Message.{no_part, joining, carried, carried_from}, Notice.{CallRequest}}
 use Rattle.x25_handshakes.specs.{laws.Handshake.{Side, Live, Left, At, state_of}, laws.Stretch.{Packet, Stretch}, laws.Transfer.{fresh_transfer}}
 use Rattle.x25_handshakes.specs.{laws.Calls.{Phase, Talking, Connection, Stage}, laws.PeerStretch.{PeerStretch}, laws.PeerTransfer.{fresh_peer_transfer}}
 use Rattle.x25_handshakes.specs.{laws.PeerCalls.{PeerCall}, laws.Arrivals.{open_in, open_phase, open_call}}
@@ -12,6 +12,7 @@ use Rattle.x25_handshakes.proofs.{HandshakeRelation.{before, past, Extended, Lev
 use Rattle.x25_handshakes.proofs.{ArrivalLemmas.{nothing_waits}, PeerRelation.{Kept, Kept-start}, PeerTransferLemmas.{peer_level}}
 use Rattle.x25_handshakes.proofs.{PeerCallLemmas.{PeerTalks, TalksPeer, PeerSeen}, JointLemmas.{joint_order}}
 use Rattle.x25_handshakes.proofs.PeerChannelLemmas.{peer_call_level, PeerChannelRelated}
+use Rattle.x25_handshakes.specs.laws.Terms.{Terms}
 
 -- ---- a handshake
 
@@ -60,8 +61,8 @@ all_taken sent taken rest flow le =
     let n : length sent ≡ length taken + length rest = ap length flow ∙ length-append taken rest in
     flow ∙ ap (λ l. taken ++ l) (none_left rest (omega (arith, n, le))) ∙ append-nil taken
 
-in_order : (t : Terms) (size : ℕ) (x : Stretch) (u v : List Packet) (y : PeerStretch) → Kept t size x u v y → AreInOrder x y
-in_order t size x u v y h =
+in_order : (t : Terms) (longest size : ℕ) (x : Stretch) (u v : List Packet) (y : PeerStretch) → Kept t longest size x u v y → AreInOrder x y
+in_order t longest size x u v y h =
     let there = h.there in
     let back = h.back in
     let down : x.down ≡ carried y.taken ++ carried_from (joining no_part y.taken) (pieces u ++ x.rest) =
@@ -89,15 +90,15 @@ in_order t size x u v y h =
           sym (there.ints.flow ∙ ap (λ l. y.int_up ++ l) (none_left (ints u) (omega (arith, count))) ∙ append-nil y.int_up));
     }
 
-pub stretches_order : (t : Terms) (size : ℕ) (x : At Stretch) (L K : List Packet) (y : At PeerStretch) → Handshake (peer_level t size) x.epoch y.epoch x.side y.side L K → StretchesAreInOrder x y
-stretches_order t size x L K y h = in_epochs (peer_level t size) AreInOrder (in_order t size) x L K y h
+pub stretches_order : (t : Terms) (longest size : ℕ) (x : At Stretch) (L K : List Packet) (y : At PeerStretch) → Handshake (peer_level t longest size) x.epoch y.epoch x.side y.side L K → StretchesAreInOrder x y
+stretches_order t longest size x L K y h = in_epochs (peer_level t longest size) AreInOrder (in_order t longest size) x L K y h
 
 -- before p4: any terms do
 fresh_order : StretchesAreInOrder fresh_transfer fresh_peer_transfer
-fresh_order = stretches_order (record { window = 0; size = 0 }) 0 fresh_transfer [] [] fresh_peer_transfer (both_fresh (peer_level (record { window = 0; size = 0 }) 0) (Kept-start (record { window = 0; size = 0 }) 0) 0)
+fresh_order = stretches_order (record { window = 0; size = 0; longest = 0 }) 0 0 fresh_transfer [] [] fresh_peer_transfer (both_fresh (peer_level (record { window = 0; size = 0; longest = 0 }) 0 0) (Kept-start (record { window = 0; size = 0; longest = 0 }) 0 0) 0)
 
 talks_order : (t b : Terms) (x : At Stretch) (u v : List Packet) (t₂ b₂ : Terms) (y : At PeerStretch) → PeerTalks t b x u v t₂ b₂ y → StretchesAreInOrder x y
-talks_order t b x u v t₂ b₂ y h = stretches_order t b.size x u v y h.related.hand
+talks_order t b x u v t₂ b₂ y h = stretches_order t b.longest b.size x u v y h.related.hand
 
 -- ---- calls
 
@@ -125,8 +126,8 @@ meet l ex ey x y K (inl same) = record { epochs = same.epochs; back = before l.m
 meet l ex ey x y K (inr (inl ahead)) = absurd ahead.there
 meet l ex ey x y K (inr (inr later)) = absurd (true≢false (sym later.waits))
 
-took_all : (t : Terms) (size : ℕ) (x : Stretch) (v : List Packet) (y : PeerStretch) → Kept t size x [] v y → TookAll x y
-took_all t size x v y h =
+took_all : (t : Terms) (longest size : ℕ) (x : Stretch) (v : List Packet) (y : PeerStretch) → Kept t longest size x [] v y → TookAll x y
+took_all t longest size x v y h =
     let there = h.there in
     let all : x.sent ≡ y.taken = there.line.flow ∙ append-nil y.taken in
     record {
@@ -138,18 +139,18 @@ record TookStretch (ex ey : ℕ) (y : Side PeerStretch) (a : Stretch) : Type 0 w
   epochs : ex ≡ ey
   all : TookAll a (state_of y)
 
-took_stretch : (t : Terms) (size : ℕ) (ex ey : ℕ) (x : Side Stretch) (y : Side PeerStretch) (K : List Packet) (a : Stretch) → Handshake (peer_level t size) ex ey x y [] K
+took_stretch : (t : Terms) (longest size : ℕ) (ex ey : ℕ) (x : Side Stretch) (y : Side PeerStretch) (K : List Packet) (a : Stretch) → Handshake (peer_level t longest size) ex ey x y [] K
     → open_in x ≡ Some a → is_open_stage (Talking t t (record { epoch = ey; side = y })) ≡ true → TookStretch ex ey y a
-took_stretch t size ex ey (Live x) (Live y) K a h is there =
-    let m = meet (peer_level t size) ex ey x y K h in
-    record { epochs = m.epochs; all = subst (λ (z : Stretch). TookAll z y) (same_Some x a is) (took_all t size x m.back y m.related) }
-took_stretch t size ex ey (Left x) y K a h is there = absurd (none-some a is)
-took_stretch t size ex ey (Live x) (Left y) K a h is there = absurd (true≢false (sym there))
+took_stretch t longest size ex ey (Live x) (Live y) K a h is there =
+    let m = meet (peer_level t longest size) ex ey x y K h in
+    record { epochs = m.epochs; all = subst (λ (z : Stretch). TookAll z y) (same_Some x a is) (took_all t longest size x m.back y m.related) }
+took_stretch t longest size ex ey (Left x) y K a h is there = absurd (none-some a is)
+took_stretch t longest size ex ey (Live x) (Left y) K a h is there = absurd (true≢false (sym there))
 
 took_talk : (t b : Terms) (x : At Stretch) (v : List Packet) (t₂ b₂ : Terms) (y : At PeerStretch) (m i : List CallRequest) (a : Stretch) → PeerTalks t b x [] v t₂ b₂ y → open_in x.side ≡ Some a
     → is_open_stage (Talking t₂ b₂ y) ≡ true → TookCall (Talking t b x) (record { stage = Talking t₂ b₂ y; made = m; indicated = i }) a
 took_talk t b x v t₂ b₂ y m i a h is there =
-    let s = took_stretch t b.size x.epoch y.epoch x.side y.side v a h.related.hand is there in
+    let s = took_stretch t b.longest b.size x.epoch y.epoch x.side y.side v a h.related.hand is there in
     record { resets = s.epochs; all = s.all }
 
 dte_took : (p : Phase) (c : Stage (At PeerStretch)) (ma ia mb ib : List CallRequest) (v : List Packet) (a : Stretch) → JointOf PeerTalks fresh_transfer fresh_peer_transfer p c ma ia mb ib [] v

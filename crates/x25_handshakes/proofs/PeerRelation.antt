@@ -1,8 +1,9 @@
 -- What is kept of our circuit and a peer in one stretch.
 use Rattle.std.proofs.Common.{◌≡◌, ℕ, ◌≤◌, List, [], length, refl, arith}
-use Rattle.x25_circuit.specs.{declared.message.Message.{Message}, Message.{Piece, no_part, carried, AreSound}, Params.{Terms}}
+use Rattle.x25_circuit.specs.{declared.message.Message.{Message}, Message.{Piece, no_part, carried, AreSound}}
 use Rattle.x25_handshakes.specs.{laws.Stretch.{Packet, Stretch, fresh}, laws.PeerStretch.{PeerStretch, fresh_peer}}
 use Rattle.x25_handshakes.proofs.StretchRelation.{Line, Acks, Ints, Text}
+use Rattle.x25_handshakes.specs.laws.Terms.{Terms}
 
 -- the numbers P(R) that the peer tells: none is more than it took
 pub record Tells (k acked sent : ℕ) (v : List Packet) (told taken : ℕ) : Type 0 where
@@ -10,8 +11,8 @@ pub record Tells (k acked sent : ℕ) (v : List Packet) (told taken : ℕ) : Typ
   pub late : told ≤ taken
 
 -- what it sends is read as messages, those handed up
-pub record Read (size : ℕ) (sent taken : List Piece) (handed : List Message) : Type 0 where
-  pub sound : AreSound size no_part sent
+pub record Read (longest size : ℕ) (sent taken : List Piece) (handed : List Message) : Type 0 where
+  pub sound : AreSound longest size no_part sent
   pub up : handed ≡ carried taken
 
 -- from our circuit to the peer; u is on the way there, v on the way back
@@ -19,21 +20,21 @@ pub record Ours (t : Terms) (x : Stretch) (u v : List Packet) (y : PeerStretch) 
   pub line : Line x.sent y.taken u
   pub acks : Tells t.window x.acked (length x.sent) v y.told (length y.taken)
   pub ints : Ints x.int_out x.int_down y.int_up u v y.owed
-  pub text : Text t.size x.sent x.rest x.down
+  pub text : Text t.longest t.size x.sent x.rest x.down
 
 -- from the peer to our circuit
-pub record Theirs (size : ℕ) (y : PeerStretch) (v u : List Packet) (x : Stretch) : Type 0 where
+pub record Theirs (longest size : ℕ) (y : PeerStretch) (v u : List Packet) (x : Stretch) : Type 0 where
   pub line : Line y.sent x.taken v
   pub acks : Acks 7 y.acked (length y.sent) u (length x.taken)
   pub ints : Ints y.int_out y.int_down x.int_up v u 0
-  pub text : Read size y.sent x.taken x.up
+  pub text : Read longest size y.sent x.taken x.up
 
-pub record Kept (t : Terms) (size : ℕ) (x : Stretch) (u v : List Packet) (y : PeerStretch) : Type 0 where
+pub record Kept (t : Terms) (longest size : ℕ) (x : Stretch) (u v : List Packet) (y : PeerStretch) : Type 0 where
   pub there : Ours t x u v y
-  pub back : Theirs size y v u x
+  pub back : Theirs longest size y v u x
 
-pub Kept-start : (t : Terms) (size : ℕ) → Kept t size fresh [] [] fresh_peer
-Kept-start t size = record {
+pub Kept-start : (t : Terms) (longest size : ℕ) → Kept t longest size fresh [] [] fresh_peer
+Kept-start t longest size = record {
   there = record {
     line = record { flow = refl; numbers = tt; kinds = tt };
     acks = record { acks = record { room = omega arith; acks = omega arith }; late = omega arith };

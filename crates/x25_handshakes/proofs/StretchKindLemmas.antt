@@ -1,7 +1,7 @@
 -- Messages and interrupts: what belongs to a stretch is handed up as the other end handed it down in that stretch.
 use Rattle.std.proofs.Common.{◌≡◌, inl, inr, ℕ, ◌+◌, List, [], ◌∷◌, ◌++◌, length, Option, Some, None, Bool, true, false, nat_lt, nat_le, if◌then◌else◌, refl, sym, ap, subst, ◌∙◌, arith}
 use Rattle.std.proofs.{lemmas.List.{append-nil}, lemmas.Bool.{cond_both}}
-use Rattle.x25_circuit.specs.{Message.{Piece, wholes}, declared.params.Params.{Params}, Params.{Proposal, Terms, may_propose, may_answer, field_for, said_in}}
+use Rattle.x25_circuit.specs.{Message.{Piece, wholes}, declared.params.Params.{Params}, Params.{Proposal, may_propose, may_answer, field_for, said_in}}
 use Rattle.x25_circuit.specs.Notice.{CallRequest}
 use Rattle.x25_bits.specs.{declared.role.Role.{Role}, declared.role.Role.TheVariants.{Dte, Dce}}
 use Rattle.x25_handshakes.proofs.{TermsLemmas.{IsSound}, HandshakeLemmas.{meets}, StretchRelation.{InFlowControl, StretchesRelated, FollowsFrom, GoodStretch}}
@@ -13,12 +13,13 @@ use Rattle.x25_handshakes.specs.laws.Stretch.{Packet, Data, Rr, Rnr, IntConf, Re
 use Rattle.x25_handshakes.specs.laws.Transfer.{fresh_transfer, lifted, transfer_side_takes, transfer_takes, TransferAct, Inside, SendsReset, transfer_side_acts}
 use Rattle.x25_handshakes.specs.laws.Calls.{Phase, Unused, Waiting, Offered, Crossed, Talking, Connection, goes, unexpected, calling_talk, called_talk, is_answered, accepts, phase_takes, call_takes, CallAct, PlacesCall, AcceptsCall, Talks, phase_acts}
 use Rattle.x25_handshakes.specs.laws.Histories.{Lists, none, resets_in, held_in, of_stretch, messages, interrupts, IsPrefix}
+use Rattle.x25_handshakes.specs.laws.Terms.{Terms}
 
 -- what has to be known of two lists of a stretch
 pub record IsKept {M : Type 0} (down up : Stretch → List M) : Type 0 where
   pub down_fresh : down fresh ≡ []
   pub up_fresh : up fresh ≡ []
-  pub takes : (size : ℕ) (x : Stretch) (p : Packet) → down (stretch_takes size x p).next ≡ down x
+  pub takes : (longest size : ℕ) (x : Stretch) (p : Packet) → down (stretch_takes longest size x p).next ≡ down x
   pub acts : (t : Terms) (x : Stretch) (a : StretchAct) → IsPrefix (down x) (down (stretch_acts t x a).next) × (up (stretch_acts t x a).next ≡ up x)
   pub begins : (giver : Stretch) (u : List Packet) (taker : Stretch) → FollowsFrom giver u taker → IsPrefix (up taker) (down giver)
 
@@ -43,22 +44,22 @@ lifted_taken : {M : Type 0} (down up : Stretch → List M) (A : List M → Type 
 lifted_taken down up A e s x st None same may = Stays refl refl ([], append-nil (down x) ∙ sym same) (inr may)
 lifted_taken down up A e s x st (Some n) same may = Stays refl refl ([], append-nil (down x) ∙ sym same) (inr may)
 
-transfer_taken : {M : Type 0} (down up : Stretch → List M) → IsKept down up → (A : List M → Type 0) (size e s : ℕ) (x : Side Stretch) (p : Packet)
-    → ((a : Stretch) → x ≡ Live a → InFlowControl p → A (up (stretch_takes size a p).next)) → TransferChange down up A e (record { epoch = s; side = x }) (transfer_side_takes size s x p).next
-transfer_taken down up k A size e s (Live x) Reset f = MoreResets refl (omega arith) (held_fresh down up k)
-transfer_taken down up k A size e s (Live x) ResetConf f = still down up A e (live s x)
-transfer_taken down up k A size e s (Live x) (Call i) f = still down up A e (live s x)
-transfer_taken down up k A size e s (Live x) (Accept field) f = still down up A e (live s x)
-transfer_taken down up k A size e s (Live x) Clear f = still down up A e (live s x)
-transfer_taken down up k A size e s (Live x) ClearConf f = still down up A e (live s x)
-transfer_taken down up k A size e s (Live x) other f = lifted_taken down up A e s x (stretch_takes size x other) (stretch_takes size x other).error (k.takes size x other) (f x refl tt)
-transfer_taken down up k A size e s (Left x) Reset f = MoreResets refl (omega arith) (held_fresh down up k)
-transfer_taken down up k A size e s (Left x) ResetConf f = MoreResets refl (omega arith) (held_fresh down up k)
-transfer_taken down up k A size e s (Left x) (Call i) f = still down up A e (left s x)
-transfer_taken down up k A size e s (Left x) (Accept field) f = still down up A e (left s x)
-transfer_taken down up k A size e s (Left x) Clear f = still down up A e (left s x)
-transfer_taken down up k A size e s (Left x) ClearConf f = still down up A e (left s x)
-transfer_taken down up k A size e s (Left x) other f = still down up A e (left s x)
+transfer_taken : {M : Type 0} (down up : Stretch → List M) → IsKept down up → (A : List M → Type 0) (longest size e s : ℕ) (x : Side Stretch) (p : Packet)
+    → ((a : Stretch) → x ≡ Live a → InFlowControl p → A (up (stretch_takes longest size a p).next)) → TransferChange down up A e (record { epoch = s; side = x }) (transfer_side_takes longest size s x p).next
+transfer_taken down up k A longest size e s (Live x) Reset f = MoreResets refl (omega arith) (held_fresh down up k)
+transfer_taken down up k A longest size e s (Live x) ResetConf f = still down up A e (live s x)
+transfer_taken down up k A longest size e s (Live x) (Call i) f = still down up A e (live s x)
+transfer_taken down up k A longest size e s (Live x) (Accept field most) f = still down up A e (live s x)
+transfer_taken down up k A longest size e s (Live x) Clear f = still down up A e (live s x)
+transfer_taken down up k A longest size e s (Live x) ClearConf f = still down up A e (live s x)
+transfer_taken down up k A longest size e s (Live x) other f = lifted_taken down up A e s x (stretch_takes longest size x other) (stretch_takes longest size x other).error (k.takes longest size x other) (f x refl tt)
+transfer_taken down up k A longest size e s (Left x) Reset f = MoreResets refl (omega arith) (held_fresh down up k)
+transfer_taken down up k A longest size e s (Left x) ResetConf f = MoreResets refl (omega arith) (held_fresh down up k)
+transfer_taken down up k A longest size e s (Left x) (Call i) f = still down up A e (left s x)
+transfer_taken down up k A longest size e s (Left x) (Accept field most) f = still down up A e (left s x)
+transfer_taken down up k A longest size e s (Left x) Clear f = still down up A e (left s x)
+transfer_taken down up k A longest size e s (Left x) ClearConf f = still down up A e (left s x)
+transfer_taken down up k A longest size e s (Left x) other f = still down up A e (left s x)
 
 reset_inner : (p : Packet) → InFlowControl p → reset_mark p ≡ Inner
 reset_inner Reset is = absurd is
@@ -67,16 +68,16 @@ reset_inner other is = refl
 
 -- in p4: the packet is taken in the stretch in which the other end is, or which it left
 in_its_stretch : {M : Type 0} (down up : Stretch → List M) → IsKept down up → (t b : Terms) → IsSound b → (e : ℕ) (x : At Stretch) (u : List Packet) (p : Packet) (v : List Packet) (z : At Stretch)
-    → TransfersRelated t b x u (p ∷ v) z → TransferChange down up (λ l. (z.epoch ≡ x.epoch) × IsPrefix l (down (state_of z.side))) e x (transfer_takes b.size x p).next
+    → TransfersRelated t b x u (p ∷ v) z → TransferChange down up (λ l. (z.epoch ≡ x.epoch) × IsPrefix l (down (state_of z.side))) e x (transfer_takes b.longest b.size x p).next
 in_its_stretch down up k t b sound e x u p v z h =
-    transfer_taken down up k (λ l. (z.epoch ≡ x.epoch) × IsPrefix l (down (state_of z.side))) b.size e x.epoch x.side p
+    transfer_taken down up k (λ l. (z.epoch ≡ x.epoch) × IsPrefix l (down (state_of z.side))) b.longest b.size e x.epoch x.side p
     (λ a is open_p.
     let hand = subst (λ (s : Side Stretch). TransfersRelated t b (record { epoch = x.epoch; side = s }) u (p ∷ v) z) is h in
     let inside = meets (stretch_level t b) p (reset_inner p open_p) x.epoch z.epoch a z.side u v hand.hand in
-    let good : GoodStretch (StretchesRelated t b) (stretch_takes b.size a p) inside.1 inside.2 (state_of z.side) = GoodStretch-takes t b sound a inside.1 p inside.2 (state_of z.side) inside.3 in (
+    let good : GoodStretch (StretchesRelated t b) (stretch_takes b.longest b.size a p) inside.1 inside.2 (state_of z.side) = GoodStretch-takes t b sound a inside.1 p inside.2 (state_of z.side) inside.3 in (
       sym inside.0,
-      k.begins (state_of z.side) inside.2 (stretch_takes b.size a p).next
-          (FollowsFrom-from_Dir b (state_of z.side) inside.2 (inside.1 ++ (stretch_takes b.size a p).out) (stretch_takes b.size a p).next good.kept.back),
+      k.begins (state_of z.side) inside.2 (stretch_takes b.longest b.size a p).next
+          (FollowsFrom-from_Dir b (state_of z.side) inside.2 (inside.1 ++ (stretch_takes b.longest b.size a p).out) (stretch_takes b.longest b.size a p).next good.kept.back),
     ))
 
 -- outside of p4 nothing is held
@@ -87,10 +88,10 @@ connects : {M : Type 0} (down up : Stretch → List M) → IsKept down up → (A
 connects down up k A e = Stays refl refl (down fresh, refl) (inl k.up_fresh)
 
 -- the start of p4, or none
-answered : {M : Type 0} (down up : Stretch → List M) → IsKept down up → (A : List M → Type 0) (e : ℕ) (a : Phase) (mine : Params) (m i : List CallRequest) (q : Params) → resets_in a ≡ 0 → held_in down up a ≡ none
-    → Change A e 0 none e (resets_in (is_answered a mine m i q).next.phase) (held_in down up (is_answered a mine m i q).next.phase)
-answered {M} down up k A e a mine m i q resets held =
-    cond_both (may_answer mine q) (goes (calling_talk q) m i []) (unexpected a m i) (λ (s : Step Connection Packet). Change A e 0 none e (resets_in s.next.phase) (held_in down up s.next.phase))
+answered : {M : Type 0} (down up : Stretch → List M) → IsKept down up → (A : List M → Type 0) (e : ℕ) (a : Phase) (mine : Params) (m i : List CallRequest) (most : ℕ) (q : Params) → resets_in a ≡ 0 → held_in down up a ≡ none
+    → Change A e 0 none e (resets_in (is_answered a mine m i most q).next.phase) (held_in down up (is_answered a mine m i most q).next.phase)
+answered {M} down up k A e a mine m i most q resets held =
+    cond_both (may_answer mine q) (goes (calling_talk most q) m i []) (unexpected a m i) (λ (s : Step Connection Packet). Change A e 0 none e (resets_in s.next.phase) (held_in down up s.next.phase))
     (λ _. connects down up k A e)
     (λ _. subst (λ (n : ℕ). Change A e 0 none e n (held_in down up a)) (sym resets) (subst (λ (l : Lists M). Change A e 0 none e 0 l) (sym held) (idle down up A e)))
 
@@ -102,15 +103,15 @@ phase_taken down up k r e Unused m i u (Call n) v y h = idle down up _ e
 phase_taken down up k r e Unused m i u other v y h = idle down up _ e
 phase_taken down up k Dte e (Waiting mine) m i u (Call n) v y h = idle down up _ e
 phase_taken down up k Dce e (Waiting mine) m i u (Call n) v y h = idle down up _ e
-phase_taken down up k r e (Waiting mine) m i u (Accept field) v y h = answered down up k _ e (Waiting mine) mine m i (said_in mine field) refl refl
+phase_taken down up k r e (Waiting mine) m i u (Accept field most) v y h = answered down up k _ e (Waiting mine) mine m i most (said_in mine field) refl refl
 phase_taken down up k r e (Waiting mine) m i u other v y h = idle down up _ e
 phase_taken down up k r e (Offered theirs) m i u p v y h = idle down up _ e
-phase_taken down up k r e (Crossed mine) m i u (Accept field) v y h = answered down up k _ e (Crossed mine) mine m i (said_in mine field) refl refl
+phase_taken down up k r e (Crossed mine) m i u (Accept field most) v y h = answered down up k _ e (Crossed mine) mine m i most (said_in mine field) refl refl
 phase_taken down up k r e (Crossed mine) m i u other v y h = idle down up _ e
 phase_taken {M} down up k r e (Talking t b x) m i u p v y h =
     let joint : BothTalk t b x u (p ∷ v) y.phase = Seen-joint r t b m i x y u p v h in
-    subst (λ (a : Phase). Change (λ (l : List M). (resets_in a ≡ x.epoch) × IsPrefix l (held_in down up a).down) e x.epoch (held_of down up x) e (transfer_takes b.size x p).next.epoch
-    (held_of down up (transfer_takes b.size x p).next)) (sym joint.phase)
+    subst (λ (a : Phase). Change (λ (l : List M). (resets_in a ≡ x.epoch) × IsPrefix l (held_in down up a).down) e x.epoch (held_of down up x) e (transfer_takes b.longest b.size x p).next.epoch
+    (held_of down up (transfer_takes b.longest b.size x p).next)) (sym joint.phase)
     (in_its_stretch down up k t b joint.talks.sound_back e x u p v joint.other joint.talks.related)
 
 call_taken : {M : Type 0} (down up : Stretch → List M) → IsKept down up → (r : Role) (e : ℕ) (c : Connection) (u : List Packet) (p : Packet) (v : List Packet) (y : Connection)
@@ -134,10 +135,10 @@ transfer_acted down up k t b s (Left x) a = (refl, alike (down x), refl)
 unmoved : {M : Type 0} (down up : Stretch → List M) (a : Phase) → Acted down up a a
 unmoved down up a = (refl, alike (held_in down up a).down, refl)
 
-accepted : {M : Type 0} (down up : Stretch → List M) → IsKept down up → (theirs : Params) (m i : List CallRequest) (answer : Option Proposal) → Acted down up (Offered theirs) (accepts theirs m i answer).next.phase
-accepted down up k theirs m i None = (refl, (down fresh, refl), k.up_fresh)
-accepted down up k theirs m i (Some q) =
-    cond_both (may_answer theirs q.params) (goes (called_talk q.params) m i (Accept (field_for theirs q) ∷ [])) (goes (Offered theirs) m i []) (λ (s : Step Connection Packet). Acted down up (Offered theirs) s.next.phase)
+accepted : {M : Type 0} (down up : Stretch → List M) → IsKept down up → (theirs : Params) (m i : List CallRequest) (answer : Option Proposal) (most : ℕ) → Acted down up (Offered theirs) (accepts theirs m i answer most).next.phase
+accepted down up k theirs m i None most = (refl, (down fresh, refl), k.up_fresh)
+accepted down up k theirs m i (Some q) most =
+    cond_both (may_answer theirs q.params) (goes (called_talk most q.params) m i (Accept (field_for theirs q) most ∷ [])) (goes (Offered theirs) m i []) (λ (s : Step Connection Packet). Acted down up (Offered theirs) s.next.phase)
     (λ _. (refl, (down fresh, refl), k.up_fresh))
     (λ _. unmoved down up (Offered theirs))
 
@@ -148,7 +149,7 @@ phase_acted down up k Unused m i (PlacesCall n) =
     (λ _. unmoved down up Unused)
 phase_acted down up k Unused m i other = unmoved down up Unused
 phase_acted down up k (Waiting mine) m i act = unmoved down up (Waiting mine)
-phase_acted down up k (Offered theirs) m i (AcceptsCall answer) = accepted down up k theirs m i answer
+phase_acted down up k (Offered theirs) m i (AcceptsCall answer most) = accepted down up k theirs m i answer most
 phase_acted down up k (Offered theirs) m i other = unmoved down up (Offered theirs)
 phase_acted down up k (Crossed mine) m i act = unmoved down up (Crossed mine)
 phase_acted down up k (Talking t b x) m i (Talks a) = transfer_acted down up k t b x.epoch x.side a
@@ -166,16 +167,16 @@ same_by : (x : Stretch) (g : Option ℕ) (good : Step Stretch Packet) → Same x
 same_by x None good is = is
 same_by x (Some n) good is = (refl, refl)
 
-taken : (size : ℕ) (x : Stretch) (p : Packet) → Same x (stretch_takes size x p)
-taken size x (Data s r p) = same_by x (data_ground size x s r p) (takes_data x r p) (refl, refl)
-taken size x (Rr r) = same_by x (ack_ground x r) (takes_status x true r) (refl, refl)
-taken size x (Rnr r) = same_by x (ack_ground x r) (takes_status x false r) (refl, refl)
-taken size x IntConf = test x.int_out
+taken : (longest size : ℕ) (x : Stretch) (p : Packet) → Same x (stretch_takes longest size x p)
+taken longest size x (Data s r p) = same_by x (data_ground longest size x s r p) (takes_data x r p) (refl, refl)
+taken longest size x (Rr r) = same_by x (ack_ground x r) (takes_status x true r) (refl, refl)
+taken longest size x (Rnr r) = same_by x (ack_ground x r) (takes_status x false r) (refl, refl)
+taken longest size x IntConf = test x.int_out
   where
     test : (b : Bool) → Same x (if b then stretch_does (record x { int_out = false }) [] else stretch_fails x 43)
     test true = (refl, refl)
     test false = (refl, refl)
-taken size x p = (refl, refl)
+taken longest size x p = (refl, refl)
 
 record Quiet (x : Stretch) (s : Step Stretch Packet) : Type 0 where
   messages : IsPrefix x.down s.next.down × (s.next.up ≡ x.up)
@@ -195,7 +196,7 @@ pulled t x (p ∷ ps) =
 
 acted : (t : Terms) (x : Stretch) (a : StretchAct) → Quiet x (stretch_acts t x a)
 acted t x (Send q xs) =
-    if_quiet x (nat_le (length xs) 65535) _ _
+    if_quiet x (nat_le (length xs) t.longest) _ _
     (if_quiet x (nat_lt (wholes x.rest) 8) _ _ (record { messages = ((record { marks = q; user = xs } ∷ [], refl), refl); interrupts = (alike x.int_down, refl) }) (none_done x)) (none_done x)
 acted t x Pull = pulled t x x.rest
 acted t x (Interrupt xs) =
@@ -204,8 +205,8 @@ acted t x (Interrupt xs) =
 acted t x a = record { messages = (alike x.down, refl); interrupts = (alike x.int_down, refl) }
 
 pub messages_handled : IsHandled messages
-messages_handled = handled (λ x. x.down) (λ x. x.up) (record { down_fresh = refl; up_fresh = refl; takes = λ size x p. (taken size x p).0; acts = λ t x a. (acted t x a).messages; begins = λ giver u taker h. h.begins })
+messages_handled = handled (λ x. x.down) (λ x. x.up) (record { down_fresh = refl; up_fresh = refl; takes = λ longest size x p. (taken longest size x p).0; acts = λ t x a. (acted t x a).messages; begins = λ giver u taker h. h.begins })
 
 pub interrupts_handled : IsHandled interrupts
 interrupts_handled =
-    handled (λ x. x.int_down) (λ x. x.int_up) (record { down_fresh = refl; up_fresh = refl; takes = λ size x p. (taken size x p).1; acts = λ t x a. (acted t x a).interrupts; begins = λ giver u taker h. h.int_begins })
+    handled (λ x. x.int_down) (λ x. x.int_up) (record { down_fresh = refl; up_fresh = refl; takes = λ longest size x p. (taken longest size x p).1; acts = λ t x a. (acted t x a).interrupts; begins = λ giver u taker h. h.int_begins })

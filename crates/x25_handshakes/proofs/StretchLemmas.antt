@@ -1,11 +1,12 @@
 -- Each step in d1 keeps the relation of the two stretches, and is no procedure error: each end is a peer of the other.
 use Rattle.std.proofs.{Common.{◌≡◌, List, [], ◌∷◌, ◌++◌, refl, sym, ap, ◌∙◌, arith, append_assoc}, lemmas.List.{append-nil}}
-use Rattle.x25_circuit.specs.{Message.{no_part, joining, carried_from, carried}, Params.{Terms}}
+use Rattle.x25_circuit.specs.{Message.{no_part, joining, carried_from, carried}}
 use Rattle.x25_handshakes.proofs.{TermsLemmas.{IsSound}, PeerRelation.{Kept}, PeerActs.{Good, Good-acts, Good-takes}}
 use Rattle.x25_handshakes.proofs.StretchRelation.{pieces, ints, Direction, Told, StretchesRelated, GoodStretch, FollowsFrom}
 use Rattle.x25_handshakes.proofs.{ToldLemmas.{tells_act, tells_take}, TextLemmas.{carried-append, AreSound-front}}
 use Rattle.x25_handshakes.specs.{laws.Stretch.{Packet, Stretch, fresh, StretchAct, stretch_acts, stretch_takes}, laws.LayerPeers.{as_peer_stretch}}
 use Rattle.x25_handshakes.specs.laws.Handshake.{Step}
+use Rattle.x25_handshakes.specs.laws.Terms.{Terms}
 
 pub StretchesRelated-flip : (t b : Terms) (x : Stretch) (u v : List Packet) (y : Stretch) → StretchesRelated t b x u v y → StretchesRelated b t y v u x
 StretchesRelated-flip t b x u v y h = record { there = h.back; back = h.there; told = h.told_back; told_back = h.told }
@@ -25,7 +26,7 @@ StretchesRelated-fresh t b = record { there = none t; back = none b; told = reco
 -- ---- what one end does beside the other, which is a peer of it
 
 -- the other end as a peer
-kept : (t b : Terms) (x : Stretch) (u v : List Packet) (y : Stretch) → IsSound b → StretchesRelated t b x u v y → Kept t b.size x u v (as_peer_stretch y)
+kept : (t b : Terms) (x : Stretch) (u v : List Packet) (y : Stretch) → IsSound b → StretchesRelated t b x u v y → Kept t b.longest b.size x u v (as_peer_stretch y)
 kept t b x u v y sound h =
     let room = h.back.acks.room in
     let most = sound.window in
@@ -35,12 +36,12 @@ kept t b x u v y sound h =
         line = h.back.line;
         acks = record { room = omega (arith, room, most); acks = h.back.acks.acks };
         ints = h.back.ints;
-        text = record { sound = AreSound-front b.size no_part y.sent y.rest h.back.text.fits; up = h.back.up };
+        text = record { sound = AreSound-front b.longest b.size no_part y.sent y.rest h.back.text.fits; up = h.back.up };
       };
     }
 
 -- it stays as it was
-goes_on : (t b : Terms) (x : Stretch) (u v : List Packet) (y : Stretch) (s : Step Stretch Packet) (w : List Packet) → StretchesRelated t b x u v y → Good t b.size s u w (as_peer_stretch y) → Told s.next w y → Told y (u ++ s.out) s.next
+goes_on : (t b : Terms) (x : Stretch) (u v : List Packet) (y : Stretch) (s : Step Stretch Packet) (w : List Packet) → StretchesRelated t b x u v y → Good t b.longest b.size s u w (as_peer_stretch y) → Told s.next w y → Told y (u ++ s.out) s.next
     → GoodStretch (StretchesRelated t b) s u w y
 goes_on t b x u v y s w h good told told_back =
     let there = good.kept.there in
@@ -58,13 +59,13 @@ goes_on t b x u v y s w h good told told_back =
 pub GoodStretch-acts : (t b : Terms) → IsSound t → IsSound b → (x : Stretch) (u v : List Packet) (y : Stretch) (a : StretchAct) → StretchesRelated t b x u v y → GoodStretch (StretchesRelated t b) (stretch_acts t x a) u v y
 GoodStretch-acts t b st sb x u v y a h =
     let told = tells_act t x u v y a h.told h.told_back in
-    goes_on t b x u v y (stretch_acts t x a) v h (Good-acts t b.size st.size x u v (as_peer_stretch y) a (kept t b x u v y sb h)) told.0 told.1
+    goes_on t b x u v y (stretch_acts t x a) v h (Good-acts t b.longest b.size st.size x u v (as_peer_stretch y) a (kept t b x u v y sb h)) told.0 told.1
 
-pub GoodStretch-takes : (t b : Terms) → IsSound b → (x : Stretch) (u : List Packet) (p : Packet) (v : List Packet) (y : Stretch) → StretchesRelated t b x u (p ∷ v) y → GoodStretch (StretchesRelated t b) (stretch_takes b.size x p) u v y
+pub GoodStretch-takes : (t b : Terms) → IsSound b → (x : Stretch) (u : List Packet) (p : Packet) (v : List Packet) (y : Stretch) → StretchesRelated t b x u (p ∷ v) y → GoodStretch (StretchesRelated t b) (stretch_takes b.longest b.size x p) u v y
 GoodStretch-takes t b sound x u p v y h =
-    let good = Good-takes t b.size x u p v (as_peer_stretch y) (kept t b x u (p ∷ v) y sound h) in
-    let told = tells_take b.size x u p v y good.quiet h.told h.told_back in
-    goes_on t b x u (p ∷ v) y (stretch_takes b.size x p) v h good told.0 told.1
+    let good = Good-takes t b.longest b.size x u p v (as_peer_stretch y) (kept t b x u (p ∷ v) y sound h) in
+    let told = tells_take b.longest b.size x u p v y good.quiet h.told h.told_back in
+    goes_on t b x u (p ∷ v) y (stretch_takes b.longest b.size x p) v h good told.0 told.1
 
 -- ---- what is claimed
 

@@ -1,9 +1,10 @@
 -- What is kept of two circuits in d1 of one stretch, and the lines between them.
 use Rattle.std.proofs.Common.{◌≡◌, ℕ, ◌+◌, ◌%◌, ◌≤◌, List, [], ◌∷◌, ◌++◌, length, Option, Some, None, Bool, true, false}
-use Rattle.x25_circuit.specs.{declared.message.Message.{Message}, Message.{Piece, no_part, joining, carried, AreSound}, Params.{Terms}}
+use Rattle.x25_circuit.specs.{declared.message.Message.{Message}, Message.{Piece, no_part, joining, carried, AreSound}}
 use Rattle.x25_window.specs.code.Modulo.{resolved}
 use Rattle.x25_handshakes.specs.{laws.Stretch.{Packet, Data, Rr, Rnr, Int, IntConf, Stretch}, laws.Histories.{IsPrefix}, laws.Handshake.{Step}}
 use Rattle.x25_handshakes.proofs.HandshakeRelation.{Each}
+use Rattle.x25_handshakes.specs.laws.Terms.{Terms}
 
 -- a data packet's number and what it carries
 pub record Numbering : Type 0 where
@@ -98,8 +99,8 @@ pub record Ints (out : Bool) (down up : List (List ℕ)) (u v : List Packet) (ow
   pub flow : down ≡ up ++ ints u
 
 -- what was sent, with what is still to be sent, is whole messages, those handed down
-pub record Text (size : ℕ) (sent rest : List Piece) (down : List Message) : Type 0 where
-  pub fits : AreSound size no_part (sent ++ rest)
+pub record Text (longest size : ℕ) (sent rest : List Piece) (down : List Message) : Type 0 where
+  pub fits : AreSound longest size no_part (sent ++ rest)
   pub whole : joining no_part (sent ++ rest) ≡ no_part
   pub messages : down ≡ carried (sent ++ rest)
 
@@ -108,7 +109,7 @@ pub record Direction (t : Terms) (x : Stretch) (u v : List Packet) (y : Stretch)
   pub line : Line x.sent y.taken u
   pub acks : Acks t.window x.acked (length x.sent) v (length y.taken)
   pub ints : Ints x.int_out x.int_down y.int_up u v 0
-  pub text : Text t.size x.sent x.rest x.down
+  pub text : Text t.longest t.size x.sent x.rest x.down
   pub up : y.up ≡ carried y.taken
 
 -- whether the other end is ready, once this packet has come

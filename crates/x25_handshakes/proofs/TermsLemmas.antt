@@ -1,8 +1,10 @@
 -- Proposals and answers give sound terms.
-use Rattle.std.proofs.Common.{◌≡◌, ◌≤◌, true, arith}
+use Rattle.std.proofs.Common.{◌≡◌, ℕ, ◌≤◌, true, arith}
 use Rattle.x25_circuit.specs.declared.params.Params.{Params}
-use Rattle.x25_circuit.specs.{Params.{Proposal, Terms, may_propose, may_answer, field_for, said_in, called_terms, calling_terms}, laws.ParamsLaws.{AreTerms}}
+use Rattle.x25_circuit.specs.Params as agreed
+use Rattle.x25_circuit.specs.{Params.{Proposal, may_propose, may_answer, field_for, said_in}, laws.ParamsLaws.{AreTerms}}
 use Rattle.x25_handshakes.specs.laws.LawsBelow.{Laws}
+use Rattle.x25_handshakes.specs.laws.Terms.{Terms, with_longest, called_terms, calling_terms}
 
 -- of one direction: one to seven packets unacknowledged, and at least one octet in a packet
 pub record IsSound (t : Terms) : Type 0 where
@@ -10,18 +12,18 @@ pub record IsSound (t : Terms) : Type 0 where
   pub window : t.window ≤ 7
   pub size : 1 ≤ t.size
 
-sound : (t : Terms) → AreTerms t → IsSound t
-sound t h = record { least = h.window_least; window = h.window_most; size = let least = h.size_least in omega arith }
+sound : (most : ℕ) (t : agreed.Terms) → AreTerms t → IsSound (with_longest most t)
+sound most t h = record { least = h.window_least; window = h.window_most; size = let least = h.size_least in omega arith }
 
 -- of what each end sends
-pub record AreSound (q : Params) : Type 0 where
-  pub called : IsSound (called_terms q)
-  pub calling : IsSound (calling_terms q)
+pub record AreSound (most : ℕ) (q : Params) : Type 0 where
+  pub called : IsSound (called_terms most q)
+  pub calling : IsSound (calling_terms most q)
 
-pub answer_sound : Laws → (p q : Params) → may_propose p ≡ true → may_answer p q ≡ true → AreSound q
-answer_sound laws p q proposed answered =
+pub answer_sound : Laws → (most : ℕ) (p q : Params) → may_propose p ≡ true → may_answer p q ≡ true → AreSound most q
+answer_sound laws most p q proposed answered =
     let terms = laws.terms q (laws.answer p q proposed answered) in
-    record { called = sound (called_terms q) terms.0; calling = sound (calling_terms q) terms.1 }
+    record { called = sound most (agreed.called_terms q) terms.0; calling = sound most (agreed.calling_terms q) terms.1 }
 
 pub answer_read : Laws → (p : Params) (q : Proposal) → may_propose p ≡ true → may_answer p q.params ≡ true → said_in p (field_for p q) ≡ q.params
 answer_read laws p q proposed answered = laws.said p q (laws.answer p q.params proposed answered)

@@ -14,38 +14,38 @@ carried-append j (p ∷ a) b =
     ap (λ l. completed j p ++ l) (carried-append (joined j p) a b)
     ∙ sym (append_assoc (completed j p) (carried_from (joined j p) a) (carried_from (joining (joined j p) a) b))
 
-pub AreSound-front : (size : ℕ) (j : Partial) (a b : List Piece) → AreSound size j (a ++ b) → AreSound size j a
-AreSound-front size j [] b h = tt
-AreSound-front size j (p ∷ a) b h = (h.0, AreSound-front size (joined j p) a b h.1)
+pub AreSound-front : (longest size : ℕ) (j : Partial) (a b : List Piece) → AreSound longest size j (a ++ b) → AreSound longest size j a
+AreSound-front longest size j [] b h = tt
+AreSound-front longest size j (p ∷ a) b h = (h.0, AreSound-front longest size (joined j p) a b h.1)
 
-pub AreSound-back : (size : ℕ) (j : Partial) (a b : List Piece) → AreSound size j (a ++ b) → AreSound size (joining j a) b
-AreSound-back size j [] b h = h
-AreSound-back size j (p ∷ a) b h = AreSound-back size (joined j p) a b h.1
+pub AreSound-back : (longest size : ℕ) (j : Partial) (a b : List Piece) → AreSound longest size j (a ++ b) → AreSound longest size (joining j a) b
+AreSound-back longest size j [] b h = h
+AreSound-back longest size j (p ∷ a) b h = AreSound-back longest size (joined j p) a b h.1
 
-pub AreSound-append : (size : ℕ) (j : Partial) (a b : List Piece) → AreSound size j a → AreSound size (joining j a) b → AreSound size j (a ++ b)
-AreSound-append size j [] b h g = g
-AreSound-append size j (p ∷ a) b h g = (h.0, AreSound-append size (joined j p) a b h.1 g)
+pub AreSound-append : (longest size : ℕ) (j : Partial) (a b : List Piece) → AreSound longest size j a → AreSound longest size (joining j a) b → AreSound longest size j (a ++ b)
+AreSound-append longest size j [] b h g = g
+AreSound-append longest size j (p ∷ a) b h g = (h.0, AreSound-append longest size (joined j p) a b h.1 g)
 
-ground_none : (size : ℕ) (j : Partial) (n : ℕ) (q : Bool) → n ≤ size → length j.user + n ≤ 65535 → may_have_q j.begun q ≡ true → ground_of size j n q ≡ None
-ground_none size j n q small room same = rw (le-leb n size small) (rw (le-leb (length j.user + n) 65535 room) (rw same refl))
+ground_none : (longest size : ℕ) (j : Partial) (n : ℕ) (q : Bool) → n ≤ size → length j.user + n ≤ longest → may_have_q j.begun q ≡ true → ground_of longest size j n q ≡ None
+ground_none longest size j n q small room same = rw (le-leb n size small) (rw (le-leb (length j.user + n) longest room) (rw same refl))
 
 same_q-refl : (q : Bool) → same_q q q ≡ true
 same_q-refl true = refl
 same_q-refl false = refl
 
-pub AreSound-cut : (n size : ℕ) (q : Marks) (xs : List ℕ) (j : Partial) → 1 ≤ size → length xs ≤ size + n → length j.user + length xs ≤ 65535 → may_have_q j.begun q.q ≡ true
-    → AreSound size j (cut_from n size q xs)
-AreSound-cut zero size q xs j one far room same = (ground_none size j (length xs) q.q (omega arith) room same, tt)
-AreSound-cut (suc n) size q xs j one far room same =
-    cond_both (nat_le (length xs) size) (Last q xs ∷ []) (More (with_q q.q) (take size xs) ∷ cut_from n size q (drop size xs)) (λ ps. AreSound size j ps)
-    (λ small. (ground_none size j (length xs) q.q (grind (arith, nat_tests)) room same, tt))
+pub AreSound-cut : (n longest size : ℕ) (q : Marks) (xs : List ℕ) (j : Partial) → 1 ≤ size → length xs ≤ size + n → length j.user + length xs ≤ longest → may_have_q j.begun q.q ≡ true
+    → AreSound longest size j (cut_from n size q xs)
+AreSound-cut zero longest size q xs j one far room same = (ground_none longest size j (length xs) q.q (omega arith) room same, tt)
+AreSound-cut (suc n) longest size q xs j one far room same =
+    cond_both (nat_le (length xs) size) (Last q xs ∷ []) (More (with_q q.q) (take size xs) ∷ cut_from n size q (drop size xs)) (λ ps. AreSound longest size j ps)
+    (λ small. (ground_none longest size j (length xs) q.q (grind (arith, nat_tests)) room same, tt))
     (λ large.
     let over : size < length xs = grind (arith, nat_tests) in
     let t : length (take size xs) ≡ size = grind (arith, common_steps) in
     let d : length (drop size xs) + size ≡ length xs = grind (arith, common_steps) in
     let a : length (j.user ++ take size xs) ≡ length j.user + length (take size xs) = length-append j.user (take size xs) in (
-      ground_none size j (length (take size xs)) q.q (omega arith) (omega arith) same,
-      AreSound-cut n size q (drop size xs) (record { begun = Some q.q; user = j.user ++ take size xs }) one (omega arith) (omega arith) (same_q-refl q.q),
+      ground_none longest size j (length (take size xs)) q.q (omega arith) (omega arith) same,
+      AreSound-cut n longest size q (drop size xs) (record { begun = Some q.q; user = j.user ++ take size xs }) one (omega arith) (omega arith) (same_q-refl q.q),
     ))
 
 pub joining-cut : (n size : ℕ) (q : Marks) (xs : List ℕ) (j : Partial) → joining j (cut_from n size q xs) ≡ no_part

@@ -2,10 +2,11 @@
 use Rattle.std.proofs.Common.{◌≡◌, ℕ, ◌+◌, ◌%◌, ◌<◌, List, [], ◌∷◌, ◌++◌, length, Option, Some, None, Bool, true, false, nat_lt, nat_le, if◌then◌else◌, refl, sym, ap, subst, ◌∙◌, arith}
 use Rattle.std.proofs.{lemmas.List.{length_push, append-nil}, lemmas.Bool.{cond_both}, lemmas.Option.{none-some}}
 use Rattle.x25_packet.specs.declared.marks.Marks.{Marks}
-use Rattle.x25_circuit.specs.{Message.{Piece, cut, wholes}, Params.{Terms}}
+use Rattle.x25_circuit.specs.{Message.{Piece, cut, wholes}}
 use Rattle.x25_handshakes.specs.laws.Stretch.{Packet, Data, Rr, Rnr, Int, IntConf, Stretch, stretch_does, stretch_fails, StretchAct, Send, Pull, Ready, NotReady, Interrupt, status, sends, pulls, interrupts, stretch_acts, ack_ground, data_ground, by_ground, takes_data, takes_status, stretch_takes}
 use Rattle.x25_handshakes.specs.laws.Handshake.{Step}
 use Rattle.x25_handshakes.proofs.{StretchRelation.{ack_in, hears, heard, readied, all_readied, Told}, LineLemmas.{resolved_is, heard_push}}
+use Rattle.x25_handshakes.specs.laws.Terms.{Terms}
 
 readied_push : (b : Bool) (u : List Packet) (p : Packet) → all_readied b (u ++ p ∷ []) ≡ readied (all_readied b u) p
 readied_push b [] p = refl
@@ -45,7 +46,7 @@ told_status x₂ u y false m taken n before is few same ready = told_number x₂
 told_sends : (t : Terms) (x : Stretch) (u v : List Packet) (y : Stretch) (q : Marks) (xs : List ℕ) → Told x v y → Told y u x → BothTold (sends t x q xs) u v y
 told_sends t x u v y q xs told told_back =
     let sent : Stretch = record x { rest = x.rest ++ cut t.size q xs; down = x.down ++ record { marks = q; user = xs } ∷ [] } in
-    cond_both (nat_le (length xs) 65535) (if nat_lt (wholes x.rest) 8 then stretch_does sent [] else stretch_does x []) (stretch_does x []) (λ s. BothTold s u v y)
+    cond_both (nat_le (length xs) t.longest) (if nat_lt (wholes x.rest) 8 then stretch_does sent [] else stretch_does x []) (stretch_does x []) (λ s. BothTold s u v y)
     (λ _. cond_both (nat_lt (wholes x.rest) 8) (stretch_does sent []) (stretch_does x []) (λ s. BothTold s u v y)
     (λ _. told_still sent u v y (record { acks = told.acks; ready = told.ready }) (record { acks = told_back.acks; ready = told_back.ready }))
     (λ _. told_still x u v y told told_back))
@@ -104,22 +105,22 @@ told_take_conf : (x : Stretch) (u v : List Packet) (y : Stretch) (b : Bool) → 
 told_take_conf x u v y true quiet told told_back = told_still (record x { int_out = false }) u v y (record { acks = told.acks; ready = told.ready }) (record { acks = told_back.acks; ready = told_back.ready })
 told_take_conf x u v y false quiet told told_back = absurd (none-some 43 (sym quiet))
 
-pub tells_take : (size : ℕ) (x : Stretch) (u : List Packet) (p : Packet) (v : List Packet) (y : Stretch) → (stretch_takes size x p).error ≡ None → Told x (p ∷ v) y → Told y u x
-    → BothTold (stretch_takes size x p) u v y
-tells_take size x u (Data s r p) v y quiet told told_back =
-    no_ground (data_ground size x s r p) x (takes_data x r p) (λ g. BothTold g u v y) quiet (
+pub tells_take : (longest size : ℕ) (x : Stretch) (u : List Packet) (p : Packet) (v : List Packet) (y : Stretch) → (stretch_takes longest size x p).error ≡ None → Told x (p ∷ v) y → Told y u x
+    → BothTold (stretch_takes longest size x p) u v y
+tells_take longest size x u (Data s r p) v y quiet told told_back =
+    no_ground (data_ground longest size x s r p) x (takes_data x r p) (λ g. BothTold g u v y) quiet (
       record { acks = told.acks; ready = told.ready },
       told_status (takes_data x r p).next u y x.own_ready (length x.taken + 1) (length x.taken) 1 told_back.acks (length_push x.taken p) (omega arith) (sym (length_push x.taken p)) refl,
     )
-tells_take size x u (Rr r) v y quiet told told_back =
+tells_take longest size x u (Rr r) v y quiet told told_back =
     no_ground (ack_ground x r) x (takes_status x true r) (λ g. BothTold g u v y) quiet
     (told_still (takes_status x true r).next u v y (record { acks = told.acks; ready = told.ready }) (record { acks = told_back.acks; ready = told_back.ready }))
-tells_take size x u (Rnr r) v y quiet told told_back =
+tells_take longest size x u (Rnr r) v y quiet told told_back =
     no_ground (ack_ground x r) x (takes_status x false r) (λ g. BothTold g u v y) quiet
     (told_still (takes_status x false r).next u v y (record { acks = told.acks; ready = told.ready }) (record { acks = told_back.acks; ready = told_back.ready }))
-tells_take size x u (Int xs) v y quiet told told_back = (
+tells_take longest size x u (Int xs) v y quiet told told_back = (
   record { acks = told.acks; ready = told.ready },
   told_pass (record x { int_up = x.int_up ++ xs ∷ [] }) u y IntConf refl (λ b. refl) (record { acks = told_back.acks; ready = told_back.ready }),
 )
-tells_take size x u IntConf v y quiet told told_back = told_take_conf x u v y x.int_out quiet (record { acks = told.acks; ready = told.ready }) told_back
-tells_take size x u p v y quiet told told_back = absurd (none-some 0 (sym quiet))
+tells_take longest size x u IntConf v y quiet told told_back = told_take_conf x u v y x.int_out quiet (record { acks = told.acks; ready = told.ready }) told_back
+tells_take longest size x u p v y quiet told told_back = absurd (none-some 0 (sym quiet))

@@ -2,8 +2,8 @@
 use Rattle.std.proofs.Common.{◌≡◌, List, ◌++◌, None}
 use Rattle.x25_handshakes.specs.laws.Handshake.{Mark, Inner, Request, Confirm, At, Step}
 use Rattle.x25_handshakes.specs.laws.Stretch.{Packet, Reset, ResetConf, Call, Accept, Clear, ClearConf, Stretch, fresh}
-use Rattle.x25_circuit.specs.Params.{Terms}
 use Rattle.x25_handshakes.proofs.{HandshakeRelation.{Level, Handshake, Each}, StretchRelation.{StretchesRelated}}
+use Rattle.x25_handshakes.specs.laws.Terms.{Terms}
 
 abbrev pub reset_mark : Packet → Mark
 reset_mark Reset = Request
@@ -20,7 +20,7 @@ stretch_level t b = own_level (StretchesRelated t b) fresh
 -- what kinds pass in p4, also in what will be dropped
 abbrev pub InTransfer : Packet → Type 0
 InTransfer (Call i) = ⊥
-InTransfer (Accept field) = ⊥
+InTransfer (Accept field most) = ⊥
 InTransfer Clear = ⊥
 InTransfer ClearConf = ⊥
 InTransfer other = Unit {0}

@@ -19,4 +19,5 @@ pub mod PeerLayers
 pub mod PeerStretch
 pub mod PeerTransfer
 pub mod Stretch
+pub mod Terms
 pub mod Transfer

@@ -46,6 +46,11 @@ module _ (loose : Bool) (j : Judge) where
   long_reply line long none gap =
       rw (long_asked loose line long, long_carried loose line long) (ap (sent_of j (gap_in line)) none ∙ ap (gap_of j) gap)
 
+-- with nothing beside what a line asks
+pub plain_reply : (loose : Bool) (j : Judge) (line : List ℕ) → loose ≡ false → reply loose j line ≡ answer_to j line
+unfolding reply carried asked
+plain_reply loose j line e = subst (λ b. reply b j line ≡ answer_to j line) (sym e) refl
+
 -- the second part behind the first
 pub told_behind : {T E : Type 0} (r : Result T E) (old next : Option (List ℕ)) (waits told head more all : List ℕ) → all ≡ head ++ more
     → MatchResult r (λ _. Tells old next waits ((told ++ head) ++ more)) (λ _. AppendsPrefix old next ((told ++ head) ++ more))

@@ -139,10 +139,13 @@ end_of Dce = codes "dce: "
 abbrev pub broken_text : Role → Bool → Rule → List ℕ
 broken_text from in_doubt rule = sign_of in_doubt rule ++ end_of from ++ rule_text rule ++ doubt_text in_doubt
 
+abbrev pub noted_text : Option Note → List ℕ
+noted_text None = []
+noted_text (Some note) = codes " ~ note: " ++ note_text note
+
 -- what is noted is told where no rule is broken
 abbrev pub remark_text : Role → Bool → Option Rule → Option Note → List ℕ
-remark_text from in_doubt None None = []
-remark_text from in_doubt None (Some note) = codes " ~ note: " ++ note_text note
+remark_text from in_doubt None note = noted_text note
 remark_text from in_doubt (Some rule) _ = broken_text from in_doubt rule
 
 -- octets that aren't damaged and spell no frame count against their sender
@@ -159,7 +162,7 @@ abbrev pub is_open : Strictness → Remark → Bool
 is_open s r = s.unjudged && not r.is_judged
 
 abbrev pub breaks_by : Strictness → Option Rule → Bool
-breaks_by s rule = breaks_order rule || (s.manners && breaks_manners rule)
+breaks_by s rule = breaks_order rule || (breaks_manners rule && s.manners)
 
 -- what is in doubt counts where what isn't judged does
 abbrev pub counts_by : Strictness → Bool → Remark → Bool

@@ -255,6 +255,9 @@ is_blind own other = not (steps.is_known own.set) || not (steps.is_known other.s
 abbrev pub blind_note : Bool → Bool → Option Note
 blind_note was is = if is && not was then Some NumbersUnjudged else None
 
+abbrev pub note_of : End → End → End → End → Option Note
+note_of was_own was_other own other = blind_note (is_blind was_own was_other) (is_blind own other)
+
 -- the end behind it, but for manners
 abbrev pub end_sent : PlainFrame → Frame → End → End
 end_sent frame x e = record e {

@@ -47,14 +47,14 @@ impl At {
 }
 
 impl Lack {
-    /// Whether they would explain that a rule is told, where one is.
-    pub(crate) fn explains_told(self, rule: Option<Rule>) -> bool
-        ensures { result ≡ definition.explains_told self rule }
+    /// Whether they would explain that a rule is told.
+    pub(crate) fn explains(self, rule: Rule) -> bool
+        ensures { result ≡ definition.explains self rule }
     {
         match (self, rule) {
-            (_, None) | (Lack::Nothing, Some(_)) | (Lack::Any, Some(Rule::NoFrame)) => false,
-            (Lack::Any, Some(_)) | (Lack::Lost, Some(Rule::Differs)) => true,
-            (Lack::Lost, Some(rule)) => rule.is_of_manners(),
+            (Lack::Nothing, _) | (Lack::Any, Rule::NoFrame) => false,
+            (Lack::Any, _) | (Lack::Lost, Rule::Differs) => true,
+            (Lack::Lost, rule) => rule.is_of_manners(),
         }
     }
 }

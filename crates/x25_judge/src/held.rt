@@ -54,32 +54,21 @@ impl Held {
         })
     }
 
-    /// Whether an I frame has the octets of the last one of its number.
-    #[tactic(auto, unfolding(crate::specs::Held::is_same))]
-    pub(crate) fn has(&self, frame: &Frame) -> bool
-        ensures { result ≡ is_same self.now (plain frame.now) }
+    /// Whether an I frame has the octets of the last one of its number, and whether it is known to have others.
+    #[tactic(auto, unfolding(crate::specs::Held::is_same, crate::specs::Held::differs))]
+    pub(crate) fn compare(&self, frame: &Frame) -> (bool, bool)
+        ensures same { result.0 ≡ is_same self.now (plain frame.now) }
+        ensures differs { result.1 ≡ differs self.now (plain frame.now) }
     {
-        match frame {
-            Frame::I { ns, info, .. } => {
-                let at = usize::from(ns.get()) % NUMBERS;
-                self.known[at] && self.slots[at].as_slice() == *info
-            }
-            _ => false,
+        let Frame::I { ns, info, .. } = frame else {
+            return (false, false);
+        };
+        let at = usize::from(ns.get()) % NUMBERS;
+        if !self.known[at] {
+            return (false, false);
         }
-    }
-
-    /// Whether it is known to have others.
-    #[tactic(auto, unfolding(crate::specs::Held::differs))]
-    pub(crate) fn differs(&self, frame: &Frame) -> bool
-        ensures { result ≡ differs self.now (plain frame.now) }
-    {
-        match frame {
-            Frame::I { ns, info, .. } => {
-                let at = usize::from(ns.get()) % NUMBERS;
-                self.known[at] && !(self.slots[at].as_slice() == *info)
-            }
-            _ => false,
-        }
+        let is_same = self.slots[at].as_slice() == *info;
+        (is_same, !is_same)
     }
 
     /// The octets of a number are known no longer.

@@ -9,19 +9,20 @@ ghost use Rattle.x25_frame.specs.Reading.{frame_of};
 ghost use Rattle.x25_text.specs.FrameText.{frame_text, reading_text};
 ghost use Rattle.x25_text.specs.WideFrameText.{wide_frame_text, wide_reading_text};
 ghost use Rattle.x25_frame.specs.Frame.{plain};
+ghost use Rattle.x25_judge.specs.Doubt.{explains_told};
 ghost use Rattle.x25_judge.specs.Judge.{all_told, answer_to, begins_at, behind, broken_text};
 ghost use Rattle.x25_judge.specs.Judge.{counts_carried, doubt_text, is_settled, lack_of};
 ghost use Rattle.x25_judge.specs.Judge.{counts_frame, end_of, forgotten, gap_of};
 ghost use Rattle.x25_judge.specs.Judge.{book_by, counts_by, counts_packet, counts_text, covers, missed_by, next_by};
 ghost use Rattle.x25_judge.specs.Judge.{next_missed, no_frame, read_of, remark_missed, remark_of};
-ghost use Rattle.x25_judge.specs.Judge.{remark_text, seen_by, sign_of, tallies};
+ghost use Rattle.x25_judge.specs.Judge.{noted_text, remark_text, seen_by, sign_of, tallies};
 
 use crate::counts::{Count, Counts, Line, Tally, tell_end, tell_line};
 use crate::doubt::{At, Lack};
 use crate::links::{End, Seen, misses, sees};
 use crate::manners::Manners;
 use crate::note::{MOST_NOTE, Note, first_note, push_note, unjudged_note};
-use crate::rule::{Rule, breaks_manners, breaks_order, first};
+use crate::rule::{Rule, breaks_order, first};
 use crate::rule_text::{MOST_RULE, push_rule};
 use std::alloc::{AllocError, Global};
 use x25_decode::{Reading, push_gap, read_gap, read_sent};
@@ -139,18 +140,6 @@ fn push_missed(reading: Reading, from: Role, octets: &[u8], error: FrameError, t
     }
 }
 
-/// Appends the rule that was broken, where one was, or what is noted, and a line feed; whether that counts is answered.
-fn tell(from: Role, strictness: Strictness, in_doubt: bool, remark: Remark, text: &mut Text) -> bool
-    requires { length text.old + (MOST_REMARK + 1) ≤ ROOM }
-    ensures text { text.new ≡ text.old ++ (remark_text from in_doubt remark.rule remark.note ++ codes "\n") }
-    ensures counts { result ≡ counts_by strictness in_doubt remark }
-{
-    push_remark(from, in_doubt, remark, text);
-    text.push(b"\n");
-    let breaks = breaks_order(remark.rule) || (strictness.manners && breaks_manners(remark.rule));
-    ((!in_doubt || strictness.unjudged) && breaks) || (strictness.unjudged && !remark.is_judged)
-}
-
 /// Appends what stands before the end that broke a rule.
 fn push_sign(in_doubt: bool, rule: Rule, text: &mut Text)
     requires { length text.old + 13 ≤ ROOM }
@@ -200,19 +189,15 @@ fn push_broken(from: Role, in_doubt: bool, rule: Rule, text: &mut Text)
     push_doubt(in_doubt, text);
 }
 
-/// Appends the end and the rule that it broke, or else what is noted.
-fn push_remark(from: Role, in_doubt: bool, remark: Remark, text: &mut Text)
+/// Appends what is noted of a frame that breaks no rule.
+fn push_noted(note: Option<Note>, text: &mut Text)
     requires { length text.old + MOST_REMARK ≤ ROOM }
-    ensures text { text.new ≡ text.old ++ remark_text from in_doubt remark.rule remark.note }
+    ensures text { text.new ≡ text.old ++ noted_text note }
     ensures size { length text.new ≤ length text.old + MOST_REMARK }
 {
-    match (remark.rule, remark.note) {
-        (Some(rule), _) => push_broken(from, in_doubt, rule, text),
-        (None, Some(note)) => {
-            text.push(b" ~ note: ");
-            push_note(note, text);
-        }
-        (None, None) => {}
+    if let Some(note) = note {
+        text.push(b" ~ note: ");
+        push_note(note, text);
     }
 }
 
@@ -303,13 +288,42 @@ impl Judge {
         self.count_packet(from, channel(info).unwrap_or(0), is_judged);
     }
 
-    /// Counts what is told.
-    fn tally(&mut self, in_doubt: bool, rule: Option<Rule>)
-        ensures { self.new ≡ tallies in_doubt rule self.old }
+    /// Counts a rule that is told.
+    fn tally(&mut self, in_doubt: bool, rule: Rule)
+        ensures { self.new ≡ tallies in_doubt (Some rule) self.old }
     {
-        self.told = self
-            .told
-            .more(in_doubt, breaks_order(rule), breaks_manners(rule));
+        let is_manners = rule.is_of_manners();
+        self.told = self.told.more(in_doubt, !is_manners, is_manners);
+    }
+
+    /// Appends the rule that was broken, which is counted, or what is noted, and a line feed; whether that counts for
+    /// the status is answered.
+    fn tell(
+        &mut self,
+        from: Role,
+        strictness: Strictness,
+        lack: Lack,
+        remark: Remark,
+        text: &mut Text,
+    ) -> bool
+        requires { length text.old + (MOST_REMARK + 1) ≤ ROOM }
+        ensures next { self.new ≡ tallies (explains_told lack remark.rule) remark.rule self.old }
+        ensures text { text.new ≡ text.old
+            ++ (remark_text from (explains_told lack remark.rule) remark.rule remark.note ++ codes "\n") }
+        ensures counts { result ≡ counts_by strictness (explains_told lack remark.rule) remark }
+    {
+        let is_open = strictness.unjudged && !remark.is_judged;
+        let Some(rule) = remark.rule else {
+            push_noted(remark.note, text);
+            text.push(b"\n");
+            return is_open;
+        };
+        let in_doubt = lack.explains(rule);
+        self.tally(in_doubt, rule);
+        push_broken(from, in_doubt, rule, text);
+        text.push(b"\n");
+        let breaks = !rule.is_of_manners() || (rule.is_of_manners() && strictness.manners);
+        ((!in_doubt || strictness.unjudged) && breaks) || is_open
     }
 
     /// Which frames may be missing that would explain what is told of an end.
@@ -408,9 +422,7 @@ impl Judge {
                 self.misses(from, error)
             }
         };
-        let in_doubt = lack.explains_told(remark.rule);
-        self.tally(in_doubt, remark.rule);
-        tell(from, strictness, in_doubt, remark, text)
+        self.tell(from, strictness, lack, remark, text)
     }
 
     /// Appends the line that answers one without octets, a gap or none of a trace; whether it counts is answered.

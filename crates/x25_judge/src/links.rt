@@ -1,7 +1,7 @@
 //! Both ends of a link: the places in which each may be, the octets of its last numbers, and its manners.
 ghost use Rattle.std.specs.Prelude.{◌≡◌, IfOk};
 ghost use Rattle.x25_frame.specs.Frame.{plain};
-ghost use Rattle.x25_judge.specs.Held.{keeps};
+ghost use Rattle.x25_judge.specs.Held.{keeps, is_same as same_octets};
 ghost use Rattle.x25_judge.specs.Links as definition;
 
 use crate::held::Held;
@@ -278,11 +278,12 @@ impl End {
     }
 
     /// It sends a frame.
-    fn sends(&mut self, shown: Shown, frame: &Frame) -> Sent
+    #[inline(never)]
+    fn sends(&mut self, is_same: bool, shown: Shown, frame: &Frame) -> Sent
+        requires { is_same ≡ same_octets self.old.held (plain frame.now) }
         ensures own { self.new ≡ definition.end_sent (plain frame.now) shown self.old }
         ensures sent { result ≡ definition.sent_by (plain frame.now) shown self.old }
     {
-        let is_same = self.held.has(frame);
         let facts = self.facts();
         let unread = self.set.unread();
         let told = self.set.sends(shown);
@@ -537,19 +538,60 @@ fn is_blind(own: &End, other: &End) -> bool
     !own.set.is_known() || !other.set.is_known()
 }
 
+/// A frame goes from an end to the other one: what is known before it and told of it, and what is noted. Most go
+/// between two ends in a session, with nothing on the way.
+#[inline(always)]
+fn goes(
+    own: &mut End,
+    other: &mut End,
+    is_same: bool,
+    shown: Shown,
+    frame: &Frame,
+) -> (Sent, Option<Note>)
+    requires { is_same ≡ same_octets own.old.held (plain frame.now) }
+    ensures own { own.new ≡ definition.end_sent (plain frame.now) shown own.old }
+    ensures other { other.new ≡ definition.end_shown shown other.old }
+    ensures sent { result.0 ≡ definition.sent_by (plain frame.now) shown own.old }
+    ensures note { result.1 ≡ definition.note_of own.old other.old own.new other.new }
+{
+    if let (Some((before, next)), Some(taken)) = (own.set.steps(shown), other.set.takes(shown)) {
+        own.set.stands(next);
+        own.held.keep(frame);
+        other.set.stands(taken);
+        let facts = Facts {
+            stand: Stand::Up(before),
+            is_sure: true,
+            is_counted: true,
+            is_known: true,
+            is_shown: true,
+            is_answering: true,
+        };
+        let sent = Sent {
+            facts,
+            told: Told::Nothing,
+            is_same,
+            takes_unread: false,
+        };
+        return (sent, None);
+    }
+    let was_blind = is_blind(own, other);
+    let sent = own.sends(is_same, shown, frame);
+    other.set.shows(shown);
+    (sent, blind_note(was_blind, is_blind(own, other)))
+}
+
 /// An end sends a frame; at most `window` I frames may be unacknowledged.
 pub(crate) fn sees(own: &mut End, other: &mut End, window: u8, frame: &Frame) -> Seen
     ensures own { own.new ≡ (definition.sees window (plain frame.now) own.old other.old).own }
     ensures other { other.new ≡ (definition.sees window (plain frame.now) own.old other.old).other }
     ensures seen { result ≡ (definition.sees window (plain frame.now) own.old other.old).seen }
 {
-    let was_blind = is_blind(own, other);
-    let shown = shown(frame, own.held.differs(frame));
-    let sent = own.sends(shown, frame);
-    other.set.shows(shown);
+    let (is_same, differs) = own.held.compare(frame);
+    let shown = shown(frame, differs);
+    let (sent, note) = goes(own, other, is_same, shown, frame);
     let seen = Seen {
         rule: rule_of(sent.told, shown),
-        note: blind_note(was_blind, is_blind(own, other)),
+        note,
         is_again: false,
         is_judged: sent.facts.judges(other.manners.polls, frame),
     };

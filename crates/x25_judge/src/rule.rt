@@ -50,16 +50,6 @@ pub(crate) fn first(rule: Option<Rule>, next: Option<Rule>) -> Option<Rule>
     }
 }
 
-/// Whether a rule of manners is broken.
-pub(crate) fn breaks_manners(rule: Option<Rule>) -> bool
-    ensures { result ≡ definition.breaks_manners rule }
-{
-    match rule {
-        Some(rule) => rule.is_of_manners(),
-        None => false,
-    }
-}
-
 /// Whether a rule is broken that isn't.
 pub(crate) fn breaks_order(rule: Option<Rule>) -> bool
     ensures { result ≡ definition.breaks_order rule }

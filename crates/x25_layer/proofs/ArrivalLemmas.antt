@@ -3,7 +3,7 @@ use Rattle.std.proofs.Common.{◌≡◌, ℕ, ◌+◌, ◌≤◌, List, [], ◌�
 use Rattle.x25_packet.specs.Packet.{PlainPacket}
 use Rattle.x25_circuit.specs.declared.message.Message.{Message}
 use Rattle.x25_circuit.specs.Message.{wholes}
-use Rattle.x25_circuit.specs.Params.{Terms}
+use Rattle.x25_handshakes.specs.laws.Terms.{Terms}
 use Rattle.x25_circuit.specs.Circuit.{Circuit, is_open, waits}
 use Rattle.x25_handshakes.specs.laws.Handshake.{Side, Live, Left, At, state_of}
 use Rattle.x25_handshakes.specs.laws.Stretch.{Stretch}
@@ -72,11 +72,11 @@ pub record OpenEnd (e : End) (s : Side (At Channels)) (k : ℕ) : Type 0 where
   pub messages_held : held_at messages (state_of s) k ≡ record { down = stretch.down; up = stretch.up }
   pub interrupts_held : held_at interrupts (state_of s) k ≡ record { down = stretch.int_down; up = stretch.int_up }
 
-pub open_end : (e : End) (s : Side (At Channels)) (k : ℕ) → SeesEnd e s → is_open (e.layer.circuits k) ≡ true → OpenEnd e s k
-open_end e (Left z) k sees opened = absurd (false_true (sym (ap (λ (l : Layer). is_open (l.circuits k)) sees.1) ∙ opened))
-open_end e (Live z) k sees opened = ready z.epoch z.side sees.1.restarts sees.1.circuits
+pub open_end : (most : ℕ) (e : End) (s : Side (At Channels)) (k : ℕ) → SeesEnd most e s → is_open (e.layer.circuits k) ≡ true → OpenEnd e s k
+open_end most e (Left z) k sees opened = absurd (false_true (sym (ap (λ (l : Layer). is_open (l.circuits k)) sees.1) ∙ opened))
+open_end most e (Live z) k sees opened = ready z.epoch z.side sees.1.restarts sees.1.circuits
   where
-    ready : (epoch : ℕ) (y : Side Channels) → e.layer.restarts ≡ epoch → ((j : ℕ) → ShowsAt y j (e.layer.circuits j)) → OpenEnd e (Live (record { epoch = epoch; side = y })) k
+    ready : (epoch : ℕ) (y : Side Channels) → e.layer.restarts ≡ epoch → ((j : ℕ) → ShowsAt most y j (e.layer.circuits j)) → OpenEnd e (Live (record { epoch = epoch; side = y })) k
     ready epoch (Left x) same each = absurd (false_true (sym (ap is_open (each k)) ∙ opened))
     ready epoch (Live x) same each =
         let o : OpenCircuit (each k).agreed (x k) = open_circuit (each k).agreed (x k) (sym (ap is_open (each k).is) ∙ opened) in
@@ -95,12 +95,12 @@ pub record AtPresent (e : End) (s : Side (At Channels)) (k : ℕ) : Type 0 where
   pub of_messages : messages_in (under k (name_at messages (state_of s) k) e.entries) ≡ held_at messages (state_of s) k
   pub of_interrupts : interrupts_in (under k (name_at messages (state_of s) k) e.entries) ≡ held_at interrupts (state_of s) k
 
-pub has_all : (e f : End) (s u : Side (At Channels)) (k acked : ℕ) → SeesEnd e s → SeesEnd f u → AtPresent e s k → AtPresent f u k → IsIdleTo k e f acked
+pub has_all : (most : ℕ) (e f : End) (s u : Side (At Channels)) (k acked : ℕ) → SeesEnd most e s → SeesEnd most f u → AtPresent e s k → AtPresent f u k → IsIdleTo k e f acked
     → ((x y : Stretch) → open_at s k ≡ Some x → open_at u k ≡ Some y → name_at messages (state_of s) k ≡ name_at messages (state_of u) k → HasArrived x y)
     → HasAllOf k (name_of e.layer k) e.entries f.entries
-has_all e f s u k acked sees there at at_there idle arrives =
-    let o : OpenEnd e s k = open_end e s k sees idle.opened in
-    let p : OpenEnd f u k = open_end f u k there idle.opened_there in
+has_all most e f s u k acked sees there at at_there idle arrives =
+    let o : OpenEnd e s k = open_end most e s k sees idle.opened in
+    let p : OpenEnd f u k = open_end most f u k there idle.opened_there in
     let same : name_at messages (state_of s) k ≡ name_at messages (state_of u) k = sym o.named ∙ idle.same_name ∙ p.named in
     let all : HasArrived o.stretch p.stretch = arrives o.stretch p.stretch o.opened p.opened same in
     let here : name_of e.layer k ≡ name_at messages (state_of u) k = idle.same_name ∙ p.named in

@@ -55,6 +55,7 @@ pub layer_same : (c : LayerSettings) (v v₂ : code.Layer) (l : Layer) → IsLik
 layer_same c v v₂ l like items fits = record {
   role = like.role ∙ fits.role;
   long_data = like.long_data ∙ fits.long_data;
+  message = fits.message;
   ranges = like.ranges ∙ fits.ranges;
   channels = ap (λ (vs : List circuit_code.Circuit). length vs) items ∙ fits.channels;
   restarting = like.restarting ∙ fits.restarting;
@@ -67,6 +68,7 @@ pub layer_put : (c : LayerSettings) (v v₂ : code.Layer) (l : Layer) (h : ℕ) 
 layer_put c v v₂ l h i y next fits at like items fit = record {
   role = like.role ∙ fits.role;
   long_data = like.long_data ∙ fits.long_data;
+  message = fits.message;
   ranges = like.ranges ∙ fits.ranges;
   channels = ap (λ (vs : List circuit_code.Circuit). length vs) items ∙ length-set v.circuits.items i y ∙ fits.channels;
   restarting = like.restarting ∙ fits.restarting;
@@ -80,6 +82,7 @@ pub layer_kept : (c : LayerSettings) (v v₂ : code.Layer) (l : Layer) (h i : �
 layer_kept c v v₂ l h i y fits at like items fit = record {
   role = like.role ∙ fits.role;
   long_data = like.long_data ∙ fits.long_data;
+  message = fits.message;
   ranges = like.ranges ∙ fits.ranges;
   channels = ap (λ (vs : List circuit_code.Circuit). length vs) items ∙ length-set v.circuits.items i y ∙ fits.channels;
   restarting = like.restarting ∙ fits.restarting;

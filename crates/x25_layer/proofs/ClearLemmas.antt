@@ -39,14 +39,14 @@ not_free_at r e (Left x) clean = refl
 not_free : (r : Role) (a : Agreed) (y : At Connection) → (channel_takes r y Clear).error ≡ None → is_free (view a y) ≡ false
 not_free r a y clean = not_free_at r y.epoch y.side clean
 
-in_ready : (r : Role) (g h : ℕ) (b : Bool) (circuits : ℕ → Circuit) (side : Side Channels) → b ≡ has_left side → ((k : ℕ) → ShowsAt side k (circuits k))
+in_ready : (most : ℕ) (r : Role) (g h : ℕ) (b : Bool) (circuits : ℕ → Circuit) (side : Side Channels) → b ≡ has_left side → ((k : ℕ) → ShowsAt most side k (circuits k))
     → (layer_side_takes r g side (On h Clear)).error ≡ None → b ≡ false → is_free (circuits h) ≡ false
-in_ready r g h b circuits (Live x) is each clean ready = ap (λ (y : Circuit). is_free y) (each h).is ∙ not_free r (each h).agreed (x h) clean
-in_ready r g h b circuits (Left x) is each clean ready = absurd (true≢false (sym is ∙ ready))
+in_ready most r g h b circuits (Live x) is each clean ready = ap (λ (y : Circuit). is_free y) (each h).is ∙ not_free r (each h).agreed (x h) clean
+in_ready most r g h b circuits (Left x) is each clean ready = absurd (true≢false (sym is ∙ ready))
 
-at_end : (r : Role) (e : End) (z : At Channels) (p : PlainPacket) → SeesLayer e.layer z → (layer_takes r z (bare_layer p)).error ≡ None → IsNoClearInP1 e p
-at_end r e z (clear h cause diagnostic) s clean = λ up ready. in_ready r z.epoch h e.layer.restarting e.layer.circuits z.side s.restarting s.circuits clean ready
-at_end r e z other s clean = tt
+at_end : (most : ℕ) (r : Role) (e : End) (z : At Channels) (p : PlainPacket) → SeesLayer most e.layer z → (layer_takes r z (bare_layer most p)).error ≡ None → IsNoClearInP1 e p
+at_end most r e z (clear h cause diagnostic) s clean = λ up ready. in_ready most r z.epoch h e.layer.restarting e.layer.circuits z.side s.restarting s.circuits clean ready
+at_end most r e z other s clean = tt
 
 -- an end that is out takes nothing
 out_takes_none : (e : End) (p : PlainPacket) → e.is_out ≡ true → IsNoClearInP1 e p
@@ -59,9 +59,9 @@ front_is : (r : Role) (channels : Ranges) (w : TwoLayers) (near far : Side (At C
 front_is r channels w near far out back error sees quiet [] front = tt
 front_is r channels w (Left z) far out back error sees quiet (p ∷ K) front = out_takes_none w.near p sees.near.0
 front_is r channels w (Live z) far out back error sees quiet (p ∷ K) front =
-    let same : bare_layer p ∷ bare_layers K ≡ back = ap bare_layers (sym front) ∙ sees.back in
-    let s : Step (At Channels) LayerPacket = layer_takes r z (bare_layer p) in
-    at_end r w.near z p sees.near.1
+    let same : bare_layer channels.message p ∷ bare_layers channels.message K ≡ back = ap (bare_layers channels.message) (sym front) ∙ sees.back in
+    let s : Step (At Channels) LayerPacket = layer_takes r z (bare_layer channels.message p) in
+    at_end channels.message r w.near z p sees.near.1
     (second error s.error (subst (λ (l : List LayerPacket). (pair_moves r (record { near = Live z; far = far; out = out; back = l; error = error }) (Live z) Takes).error ≡ None) (sym same) quiet))
 
 pub never_in_p1 : Premises → (long_data : Bool) (channels : Ranges) → Always NoClearComesInP1 long_data channels

@@ -6,7 +6,7 @@ use Rattle.x25_packet.specs.declared.error.PacketError.{PacketError}
 use Rattle.x25_packet.specs.Packet.{PlainPacket, plain, call, accept, clear, clear_conf, user_data, rr, rnr, interrupt, interrupt_conf, reset, reset_conf, restart, restart_conf}
 use Rattle.x25_packet.specs.Reading.{channel_in}
 use Rattle.x25_packet.specs.Spelling.{HasChannel, channel_of}
-use Rattle.x25_packet.specs.WideReading.{Gives, read_of}
+use Rattle.x25_packet.specs.Grammar.{Gives, read_of}
 use Rattle.x25_packet.specs.Taking.{read_in}
 use Rattle.x25_packet.specs.laws.TakingLaw.{TakesOnItsChannel, TakesWithoutMemory}
 use Rattle.x25_layer.specs.Ranges.{is_number}

@@ -84,12 +84,12 @@ always_arrives p long_data channels es =
       of_interrupts = far_present interrupts interrupts_in w j (histories_run interrupts h.events histories_start) h.interrupts (histories_pair interrupts h.events histories_start) k (p.interrupts h.events k).held_there;
     } in
     record {
-      near = λ k acked idle. has_all w.near w.far j.near j.far k acked h.sees.near h.sees.far (near k) (far k) idle
+      near = λ k acked idle. has_all channels.message w.near w.far j.near j.far k acked h.sees.near h.sees.far (near k) (far k) idle
           (λ x y open_x open_y same.
           (p.arrived h.events k x y open_x open_y same).0
-          (sym h.sees.out ∙ ap bare_layers (none_in_flight w.near.given w.far.taken w.out acked h.sees.order.near idle.all_acked idle.acked_taken)));
-      far = λ k acked idle. has_all w.far w.near j.far j.near k acked h.sees.far h.sees.near (far k) (near k) idle
+          (sym h.sees.out ∙ ap (bare_layers channels.message) (none_in_flight w.near.given w.far.taken w.out acked h.sees.order.near idle.all_acked idle.acked_taken)));
+      far = λ k acked idle. has_all channels.message w.far w.near j.far j.near k acked h.sees.far h.sees.near (far k) (near k) idle
           (λ x y open_x open_y same.
           (p.arrived h.events k y x open_y open_x (sym same)).1
-          (sym h.sees.back ∙ ap bare_layers (none_in_flight w.far.given w.near.taken w.back acked h.sees.order.far idle.all_acked idle.acked_taken)));
+          (sym h.sees.back ∙ ap (bare_layers channels.message) (none_in_flight w.far.given w.near.taken w.back acked h.sees.order.far idle.all_acked idle.acked_taken)));
     }

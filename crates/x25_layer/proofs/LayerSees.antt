@@ -3,8 +3,10 @@ use Rattle.std.proofs.Common.{◌≡◌, ℕ, ◌<◌, List, Option, None, Some,
 use Rattle.x25_packet.specs.Packet.{PlainPacket}
 use Rattle.x25_circuit.specs.Params.{Proposal}
 use Rattle.x25_circuit.specs.Circuit.{Circuit, forgotten}
-use Rattle.x25_circuit.specs.Calling.{Calls}
+use Rattle.x25_circuit.specs.Calling.{request_of}
 use Rattle.x25_handshakes.specs.laws.Handshake.{Side, Live, Left, has_left, At, Step}
+use Rattle.x25_handshakes.specs.laws.Calls.{PlacesCall}
+use Rattle.x25_handshakes.specs.laws.Channel.{Within}
 use Rattle.x25_handshakes.specs.laws.Layers.{Channels, LayerAct, OnChannel, SendsRestart, LayerPacket}
 use Rattle.x25_handshakes.specs.laws.Names.{Name, same_name}
 use Rattle.x25_handshakes.specs.laws.Histories.{circuit_at}
@@ -18,14 +20,14 @@ use Rattle.x25_layer.specs.laws.TwoLayers.{entries_told, entries_asked}
 use Rattle.x25_layer.proofs.Sees.{unagreed, view, Shows, held_of, resets_of, Notes, act_of}
 
 -- of a channel in a layer that restarts nothing but its counts is kept
-abbrev pub ShowsAt : Side Channels → ℕ → Circuit → Type 0
-ShowsAt (Live x) k c = Shows c (x k)
-ShowsAt (Left x) k c = c ≡ forgotten (view unagreed (x k))
+abbrev pub ShowsAt : ℕ → Side Channels → ℕ → Circuit → Type 0
+ShowsAt most (Live x) k c = Shows most c (x k)
+ShowsAt most (Left x) k c = c ≡ forgotten (view unagreed (x k))
 
-pub record SeesLayer (l : Layer) (z : At Channels) : Type 0 where
+pub record SeesLayer (most : ℕ) (l : Layer) (z : At Channels) : Type 0 where
   pub restarting : l.restarting ≡ has_left z.side
   pub restarts : l.restarts ≡ z.epoch
-  pub circuits : (k : ℕ) → ShowsAt z.side k (l.circuits k)
+  pub circuits : (k : ℕ) → ShowsAt most z.side k (l.circuits k)
 
 -- the name of the stretch that stands on a channel
 abbrev pub present : At Channels → ℕ → Name
@@ -41,27 +43,27 @@ abbrev pub StepOf : At Channels → At Channels → List Entry → Type 0
 StepOf x y es = (k : ℕ) → (h : Handed) × TurnOf k x y h × ((m : Name) → under k m es ≡ (if same_name m (present y k) then h else nothing_handed))
 
 -- an answer of the layer is the step of the nested one, tells of no error, and says what that gains
-pub record FollowsLayer (channels : Ranges) (a : LayerAnswer) (z : At Channels) (s : Step (At Channels) LayerPacket) : Type 0 where
-  pub next : SeesLayer a.next s.next
-  pub owed : bare_layers (option_to_list a.owed) ≡ s.out
+pub record FollowsLayer (most : ℕ) (channels : Ranges) (a : LayerAnswer) (z : At Channels) (s : Step (At Channels) LayerPacket) : Type 0 where
+  pub next : SeesLayer most a.next s.next
+  pub owed : bare_layers most (option_to_list a.owed) ≡ s.out
   pub quiet : AreQuiet channels (option_to_list a.owed)
   pub no_fault : AreNoFaults a.notices
   pub step : StepOf z s.next (entries_told a.next a.notices)
 
 -- the same of a call or a pull, with the entries that it makes
-pub record DoesLayer (channels : Ranges) (l : Layer) (packet : Option PlainPacket) (es : List Entry) (z : At Channels) (s : Step (At Channels) LayerPacket) : Type 0 where
-  pub next : SeesLayer l s.next
-  pub put : bare_layers (option_to_list packet) ≡ s.out
+pub record DoesLayer (most : ℕ) (channels : Ranges) (l : Layer) (packet : Option PlainPacket) (es : List Entry) (z : At Channels) (s : Step (At Channels) LayerPacket) : Type 0 where
+  pub next : SeesLayer most l s.next
+  pub put : bare_layers most (option_to_list packet) ≡ s.out
   pub quiet : AreQuiet channels (option_to_list packet)
   pub step : StepOf z s.next es
 
 abbrev pub dial_act : Option ℕ → List ℕ → List ℕ → List ℕ → Proposal → LayerAct
 dial_act None called calling user proposal = SendsRestart
-dial_act (Some h) called calling user proposal = OnChannel h (act_of (Calls called calling user proposal))
+dial_act (Some h) called calling user proposal = OnChannel h (Within (PlacesCall (request_of called calling user proposal.params)))
 
 -- (of a dial that finds no free channel nothing is said, and neither of pulls, which change nothing themselves)
 abbrev pub layer_act : LayerSettings → (ℕ → Circuit) → LayerRequest → LayerAct
-layer_act c circuits (Asks h request) = OnChannel h (act_of request)
+layer_act c circuits (Asks h request) = OnChannel h (act_of c.circuit.longest request)
 layer_act c circuits (Dials called calling user proposal) = dial_act (free_channel c.circuit.role circuits c.channels) called calling user proposal
 layer_act c circuits (Restarts cause diagnostic) = SendsRestart
 layer_act c circuits PullsAll = SendsRestart
@@ -72,5 +74,5 @@ DoesItself PullsAll = ⊥
 DoesItself request = Unit {0}
 
 abbrev pub HeedsLayer : LayerSettings → Layer → LayerRequest → LayerOutcome → At Channels → Step (At Channels) LayerPacket → Type 0
-HeedsLayer c l request (Accepted next packet) z s = DoesLayer c.channels next packet (entries_asked c l next request) z s
+HeedsLayer c l request (Accepted next packet) z s = DoesLayer c.circuit.longest c.channels next packet (entries_asked c l next request) z s
 HeedsLayer c l request (Declined error) z s = Unit {0}

@@ -119,7 +119,7 @@ module _ (c : Settings) (e : ℕ) (x : Circuit) where
 
   open_count : (t : Talk) (p : PlainPacket) → Counts e x (row_open c x t p)
   open_count t (user_data channel q m ps pr user) =
-      unless_count (data_ground (terms_in x).size t ps pr (piece_of q m user)) (takes x t pr (piece_of q m user)) (deliveries_count (name_in e x) (completed (joining no_part t.taken) (piece_of q m user)))
+      unless_count (data_ground c.longest (terms_in x).size t ps pr (piece_of q m user)) (takes x t pr (piece_of q m user)) (deliveries_count (name_in e x) (completed (joining no_part t.taken) (piece_of q m user)))
   open_count t (rr channel pr) = unless_count (number_ground t pr) (hears_status x t true pr) refl
   open_count t (rnr channel pr) = unless_count (number_ground t pr) (hears_status x t false pr) refl
   open_count t (interrupt channel user) = refl
@@ -207,7 +207,7 @@ module _ (c : Settings) (x : Circuit) where
 
   send_keeps : (s : State) (q : Marks) (user : List ℕ) → KeepsName x (send_in c x s q user)
   send_keeps Open q user =
-      keeps_if x (nat_le (length user) 65535) (if nat_lt (waits x) 8 then sends x.talk q user else Refused Full) (Refused TooLong)
+      keeps_if x (nat_le (length user) c.longest) (if nat_lt (waits x) 8 then sends x.talk q user else Refused Full) (Refused TooLong)
       (keeps_if x (nat_lt (waits x) 8) (sends x.talk q user) (Refused Full) (λ e. refl) tt) tt
   send_keeps Free q user = tt
   send_keeps Calling q user = tt

@@ -11,7 +11,8 @@ use Rattle.x25_circuit.specs.Message.{Piece, piece_of, no_part, joining, complet
 use Rattle.x25_circuit.specs.declared.params.Params.{Params}
 use Rattle.x25_circuit.specs.declared.error.CircuitError.TheVariants.{BadParameter}
 use Rattle.x25_circuit.specs.declared.state.State.TheVariants.{Calling, Open}
-use Rattle.x25_circuit.specs.Params.{Proposal, Terms, may_answer, field_for, said_in}
+use Rattle.x25_handshakes.specs.laws.Terms.{Terms}
+use Rattle.x25_circuit.specs.Params.{Proposal, may_answer, field_for, said_in}
 use Rattle.x25_circuit.specs.Circuit.{Settings, Circuit}
 use Rattle.x25_circuit.specs.Notice.{CallRequest, connected, deliveries}
 use Rattle.x25_circuit.specs.Hearing.{answers, unless, takes, hears_status, confirms, request_in, goes, clears_for, collides}
@@ -64,8 +65,8 @@ told_deliveries : (ms : List Message) → told_by_all (deliveries ms) ≡ record
 told_deliveries [] = refl
 told_deliveries (m ∷ ms) = ap (λ (s : Handed). added (record { made = []; indicated = []; down = []; up = m ∷ []; int_down = []; int_up = [] }) s) (told_deliveries ms)
 
-data_notes : (c : Settings) (g : Agreed) (e : ℕ) (m i : List CallRequest) (s : ℕ) (x : Stretch) (pr : ℕ) (p : Piece) (ground : Option ℕ) → (channel_step g e m i s (by_ground ground x (takes_data x pr p))).error ≡ None
-    → Notes (in_open g e m i s x) (channel_step g e m i s (by_ground ground x (takes_data x pr p))).next (told_by_all (unless c (view g (in_open g e m i s x)) ground (takes (view g (in_open g e m i s x)) (talk_of x) pr p)).notices)
+data_notes : (c : Settings) (g : Agreed) (e : ℕ) (m i : List CallRequest) (s : ℕ) (x : Stretch) (pr : ℕ) (p : Piece) (ground : Option ℕ) → (channel_step c.longest g e m i s (by_ground ground x (takes_data x pr p))).error ≡ None
+    → Notes (in_open c.longest g e m i s x) (channel_step c.longest g e m i s (by_ground ground x (takes_data x pr p))).next (told_by_all (unless c (view g (in_open c.longest g e m i s x)) ground (takes (view g (in_open c.longest g e m i s x)) (talk_of x) pr p)).notices)
 data_notes c g e m i s x pr p None q =
     Adds refl refl
     (handed_is m _ (none m) i _ (none i) x.down _ (none x.down) (x.up ++ completed (joining no_part x.taken) p) _ refl x.int_down _ (none x.int_down) x.int_up _ (none x.int_up)
@@ -73,27 +74,27 @@ data_notes c g e m i s x pr p None q =
     (inl (ap (λ (t : Handed). t.made) (told_deliveries (completed (joining no_part x.taken) p)), ap (λ (t : Handed). t.indicated) (told_deliveries (completed (joining no_part x.taken) p))))
 data_notes c g e m i s x pr p (Some n) q = absurd (some_none n q)
 
-status_notes : (c : Settings) (g : Agreed) (e : ℕ) (m i : List CallRequest) (s : ℕ) (x : Stretch) (b : Bool) (pr : ℕ) (ground : Option ℕ) → (channel_step g e m i s (by_ground ground x (takes_status x b pr))).error ≡ None
-    → Notes (in_open g e m i s x) (channel_step g e m i s (by_ground ground x (takes_status x b pr))).next (told_by_all (unless c (view g (in_open g e m i s x)) ground (hears_status (view g (in_open g e m i s x)) (talk_of x) b pr)).notices)
-status_notes c g e m i s x b pr None q = silent (in_open g e m i s x) (channel_step g e m i s (takes_status x b pr)).next (refl, refl, refl)
+status_notes : (c : Settings) (g : Agreed) (e : ℕ) (m i : List CallRequest) (s : ℕ) (x : Stretch) (b : Bool) (pr : ℕ) (ground : Option ℕ) → (channel_step c.longest g e m i s (by_ground ground x (takes_status x b pr))).error ≡ None
+    → Notes (in_open c.longest g e m i s x) (channel_step c.longest g e m i s (by_ground ground x (takes_status x b pr))).next (told_by_all (unless c (view g (in_open c.longest g e m i s x)) ground (hears_status (view g (in_open c.longest g e m i s x)) (talk_of x) b pr)).notices)
+status_notes c g e m i s x b pr None q = silent (in_open c.longest g e m i s x) (channel_step c.longest g e m i s (takes_status x b pr)).next (refl, refl, refl)
 status_notes c g e m i s x b pr (Some n) q = absurd (some_none n q)
 
 confirmed_notes : (c : Settings) (g : Agreed) (e : ℕ) (m i : List CallRequest) (s : ℕ) (x : Stretch) (b : Bool)
-    → (channel_step g e m i s (if b then stretch_does (record x { int_out = false }) [] else stretch_fails x 43)).error ≡ None
-    → Notes (in_open g e m i s x) (channel_step g e m i s (if b then stretch_does (record x { int_out = false }) [] else stretch_fails x 43)).next (told_by_all (confirms c (view g (in_open g e m i s x)) (talk_of x) b).notices)
-confirmed_notes c g e m i s x true q = silent (in_open g e m i s x) (channel_step g e m i s (stretch_does (record x { int_out = false }) [])).next (refl, refl, refl)
+    → (channel_step c.longest g e m i s (if b then stretch_does (record x { int_out = false }) [] else stretch_fails x 43)).error ≡ None
+    → Notes (in_open c.longest g e m i s x) (channel_step c.longest g e m i s (if b then stretch_does (record x { int_out = false }) [] else stretch_fails x 43)).next (told_by_all (confirms c (view g (in_open c.longest g e m i s x)) (talk_of x) b).notices)
+confirmed_notes c g e m i s x true q = silent (in_open c.longest g e m i s x) (channel_step c.longest g e m i s (stretch_does (record x { int_out = false }) [])).next (refl, refl, refl)
 confirmed_notes c g e m i s x false q = absurd (some_none 43 q)
 
 -- the claim of a row
 abbrev Row : Settings → Agreed → At Connection → PlainPacket → Type 0
-Row c g n p = HasChannel p → found (bare p) (channel_takes c.role n (bare p)).error ≡ None → Notes n (channel_takes c.role n (bare p)).next (told_by_all (answers c (view g n) p).notices)
+Row c g n p = HasChannel p → found (bare c.longest p) (channel_takes c.role n (bare c.longest p)).error ≡ None → Notes n (channel_takes c.role n (bare c.longest p)).next (told_by_all (answers c (view g n) p).notices)
 
-row_open : (c : Settings) (g : Agreed) (e : ℕ) (m i : List CallRequest) (s : ℕ) (x : Stretch) (p : PlainPacket) → Row c g (in_open g e m i s x) p
+row_open : (c : Settings) (g : Agreed) (e : ℕ) (m i : List CallRequest) (s : ℕ) (x : Stretch) (p : PlainPacket) → Row c g (in_open c.longest g e m i s x) p
 row_open c g e m i s x (call h called calling fac user) has q = absurd (some_none 0 q)
 row_open c g e m i s x (accept h fac) has q = absurd (some_none 0 q)
 row_open c g e m i s x (clear h cause n) has q = AfterClear (omega arith) refl refl
 row_open c g e m i s x (clear_conf h) has q = absurd (some_none 0 q)
-row_open c g e m i s x (user_data h qualifier more ps pr user) has q = data_notes c g e m i s x pr (piece_of qualifier more user) (data_ground (taken_on g).size x ps pr (piece_of qualifier more user)) q
+row_open c g e m i s x (user_data h qualifier more ps pr user) has q = data_notes c g e m i s x pr (piece_of qualifier more user) (data_ground c.longest (taken_on c.longest g).size x ps pr (piece_of qualifier more user)) q
 row_open c g e m i s x (rr h pr) has q = status_notes c g e m i s x true pr (ack_ground x pr) q
 row_open c g e m i s x (rnr h pr) has q = status_notes c g e m i s x false pr (ack_ground x pr) q
 row_open c g e m i s x (interrupt h user) has q =
@@ -104,7 +105,7 @@ row_open c g e m i s x (reset_conf h) has q = absurd (some_none 27 q)
 row_open c g e m i s x (restart cause n) has q = absurd has
 row_open c g e m i s x restart_conf has q = absurd has
 
-row_resetting : (c : Settings) (g : Agreed) (e : ℕ) (m i : List CallRequest) (s : ℕ) (x : Stretch) (p : PlainPacket) → Row c g (in_resetting g e m i s x) p
+row_resetting : (c : Settings) (g : Agreed) (e : ℕ) (m i : List CallRequest) (s : ℕ) (x : Stretch) (p : PlainPacket) → Row c g (in_resetting c.longest g e m i s x) p
 row_resetting c g e m i s x (call h called calling fac user) has q = absurd (some_none 0 q)
 row_resetting c g e m i s x (accept h fac) has q = absurd (some_none 0 q)
 row_resetting c g e m i s x (clear h cause n) has q = AfterClear (omega arith) refl refl
@@ -113,7 +114,7 @@ row_resetting c g e m i s x (reset h cause n) has q = AfterReset refl (omega ari
 row_resetting c g e m i s x (reset_conf h) has q = AfterReset refl (omega arith) refl refl
 row_resetting c g e m i s x (restart cause n) has q = absurd has
 row_resetting c g e m i s x restart_conf has q = absurd has
-row_resetting c g e m i s x other has q = still (in_resetting g e m i s x)
+row_resetting c g e m i s x other has q = still (in_resetting c.longest g e m i s x)
 
 row_free : (c : Settings) (g : Agreed) (e : ℕ) (m i : List CallRequest) (p : PlainPacket) → Row c g (in_call e m i Unused) p
 row_free c g e m i (call h called calling fac user) has q =
@@ -133,11 +134,11 @@ abbrev IsBefore : Phase → Type 0
 IsBefore a = (e : ℕ) (m i : List CallRequest) → (held_of (in_call e m i a) ≡ held_of (in_call e m i Unused)) × (resets_of (in_call e m i a) ≡ 0)
 
 answered_notes : (c : Settings) (x : Circuit) (e : ℕ) (m i : List CallRequest) (a : Phase) (answer : Params) → IsBefore a → (b : Bool)
-    → let s : Step Connection Packet = if b then nested_calls.goes (calling_talk answer) m i [] else nested_calls.unexpected a m i in
+    → let s : Step Connection Packet = if b then nested_calls.goes (calling_talk c.longest answer) m i [] else nested_calls.unexpected a m i in
     (lifted_call e s s.error).error ≡ None
     → Notes (in_call e m i a) (lifted_call e s s.error).next (told_by_all (if b then goes x Open answer true None (connected answer ∷ []) else clears_for c x 3 66).notices)
 answered_notes c x e m i a answer before true q =
-    silent (in_call e m i a) (in_call e m i (calling_talk answer)) (refl, sym (before e m i).1, sym (before e m i).0)
+    silent (in_call e m i a) (in_call e m i (calling_talk c.longest answer)) (refl, sym (before e m i).1, sym (before e m i).0)
 answered_notes c x e m i a answer before false q = absurd (some_none 0 q)
 
 row_calling : (c : Settings) (g : Agreed) (e : ℕ) (m i : List CallRequest) (mine : Params) (p : PlainPacket) → Row c g (in_call e m i (Waiting mine)) p
@@ -163,16 +164,16 @@ row_arriving c g e m i theirs (restart cause n) has q = absurd has
 row_arriving c g e m i theirs restart_conf has q = absurd has
 row_arriving c g e m i theirs other has q = absurd (some_none 0 q)
 
-row_in_transfer : (c : Settings) (g : Agreed) (e : ℕ) (m i : List CallRequest) (s : ℕ) (x : Side Stretch) (p : PlainPacket) → Row c g (in_talk g e m i (record { epoch = s; side = x })) p
+row_in_transfer : (c : Settings) (g : Agreed) (e : ℕ) (m i : List CallRequest) (s : ℕ) (x : Side Stretch) (p : PlainPacket) → Row c g (in_talk c.longest g e m i (record { epoch = s; side = x })) p
 row_in_transfer c g e m i s (Live x) p has q = row_open c g e m i s x p has q
 row_in_transfer c g e m i s (Left x) p has q = row_resetting c g e m i s x p has q
 
-row_in_call : (c : Settings) (g : Agreed) (e : ℕ) (m i : List CallRequest) (a : Phase) (p : PlainPacket) → AreAgreedIn g a → Row c g (in_call e m i a) p
+row_in_call : (c : Settings) (g : Agreed) (e : ℕ) (m i : List CallRequest) (a : Phase) (p : PlainPacket) → AreAgreedIn c.longest g a → Row c g (in_call e m i a) p
 row_in_call c g e m i Unused p fits = row_free c g e m i p
 row_in_call c g e m i (Waiting mine) p fits = row_calling c g e m i mine p
 row_in_call c g e m i (Offered theirs) p fits = row_arriving c g e m i theirs p
 row_in_call c g e m i (Crossed mine) p fits = row_collision c g e m i mine p
-row_in_call c g e m i (Talking t b at) p fits = on_terms (λ a. Row c g (in_call e m i a) p) g t b at fits (row_in_transfer c g e m i at.epoch at.side p)
+row_in_call c g e m i (Talking t b at) p fits = on_terms c.longest (λ a. Row c g (in_call e m i a) p) g t b at fits (row_in_transfer c g e m i at.epoch at.side p)
 
 row_clearing : (c : Settings) (g : Agreed) (e : ℕ) (x : Connection) (p : PlainPacket) → Row c g (left e x) p
 row_clearing c g e x (clear h cause n) has q = AfterClear (omega arith) refl refl
@@ -181,13 +182,13 @@ row_clearing c g e x (restart cause n) has q = absurd has
 row_clearing c g e x restart_conf has q = absurd has
 row_clearing c g e x other has q = still (left e x)
 
-row_side : (c : Settings) (g : Agreed) (e : ℕ) (x : Side Connection) (p : PlainPacket) → AreAgreed g x → Row c g (record { epoch = e; side = x }) p
+row_side : (c : Settings) (g : Agreed) (e : ℕ) (x : Side Connection) (p : PlainPacket) → AreAgreed c.longest g x → Row c g (record { epoch = e; side = x }) p
 row_side c g e (Live x) p fits = row_in_call c g e x.made x.indicated x.phase p fits
 row_side c g e (Left x) p fits = row_clearing c g e x p
 
 -- A packet taken.
-pub notes_taken : (c : Settings) (g : Agreed) (n : At Connection) (p : PlainPacket) → AreAgreed g n.side → HasChannel p → found (bare p) (channel_takes c.role n (bare p)).error ≡ None
-    → Notes n (channel_takes c.role n (bare p)).next (told_by_all (answers c (view g n) p).notices)
+pub notes_taken : (c : Settings) (g : Agreed) (n : At Connection) (p : PlainPacket) → AreAgreed c.longest g n.side → HasChannel p → found (bare c.longest p) (channel_takes c.role n (bare c.longest p)).error ≡ None
+    → Notes n (channel_takes c.role n (bare c.longest p)).next (told_by_all (answers c (view g n) p).notices)
 notes_taken c g n p fits has q = row_side c g n.epoch n.side p fits has q
 
 -- ---- calls of the user
@@ -208,38 +209,38 @@ given_notes true u n m h p = p
 given_notes false u n m h p = tt
 
 abbrev Asked : Settings → Agreed → At Connection → Request → Type 0
-Asked c g n request = NotesOutcome (outcome c (view g n) request) n (channel_acts n (act_of request)).next (asked_by request)
+Asked c g n request = NotesOutcome (outcome c (view g n) request) n (channel_acts n (act_of c.longest request)).next (asked_by request)
 
-asked_send : (c : Settings) (g : Agreed) (e : ℕ) (m i : List CallRequest) (s : ℕ) (x : Stretch) (q : Marks) (user : List ℕ) → Asked c g (in_open g e m i s x) (Sends q user)
+asked_send : (c : Settings) (g : Agreed) (e : ℕ) (m i : List CallRequest) (s : ℕ) (x : Stretch) (q : Marks) (user : List ℕ) → Asked c g (in_open c.longest g e m i s x) (Sends q user)
 asked_send c g e m i s x q user =
-    if_notes (nat_le (length user) 65535) _ _ (in_open g e m i s x) (λ st. (channel_step g e m i s st).next) _ _ _
-    (if_notes (nat_lt (wholes x.rest) 8) _ _ (in_open g e m i s x) (λ st. (channel_step g e m i s st).next) _ _ _
+    if_notes (nat_le (length user) c.longest) _ _ (in_open c.longest g e m i s x) (λ st. (channel_step c.longest g e m i s st).next) _ _ _
+    (if_notes (nat_lt (wholes x.rest) 8) _ _ (in_open c.longest g e m i s x) (λ st. (channel_step c.longest g e m i s st).next) _ _ _
     (Adds refl refl
     (handed_is m _ (none m) i _ (none i) (x.down ++ record { marks = q; user = user } ∷ []) _ refl x.up _ (none x.up) x.int_down _ (none x.int_down) x.int_up _ (none x.int_up)) (inl (refl, refl)))
     tt)
     tt
 
-asked_interrupt : (c : Settings) (g : Agreed) (e : ℕ) (m i : List CallRequest) (s : ℕ) (x : Stretch) (user : List ℕ) → Asked c g (in_open g e m i s x) (Interrupts user)
+asked_interrupt : (c : Settings) (g : Agreed) (e : ℕ) (m i : List CallRequest) (s : ℕ) (x : Stretch) (user : List ℕ) → Asked c g (in_open c.longest g e m i s x) (Interrupts user)
 asked_interrupt c g e m i s x user =
-    if_both (nat_le 1 (length user)) (nat_le (length user) 32) _ _ (in_open g e m i s x) (λ st. (channel_step g e m i s st).next) _ _ _
-    (if_notes x.int_out _ _ (in_open g e m i s x) (λ st. (channel_step g e m i s st).next) _ _ _ tt
+    if_both (nat_le 1 (length user)) (nat_le (length user) 32) _ _ (in_open c.longest g e m i s x) (λ st. (channel_step c.longest g e m i s st).next) _ _ _
+    (if_notes x.int_out _ _ (in_open c.longest g e m i s x) (λ st. (channel_step c.longest g e m i s st).next) _ _ _ tt
     (Adds refl refl (handed_is m _ (none m) i _ (none i) x.down _ (none x.down) x.up _ (none x.up) (x.int_down ++ user ∷ []) _ refl x.int_up _ (none x.int_up)) (inl (refl, refl))))
     tt
 
-asked_open : (c : Settings) (g : Agreed) (e : ℕ) (m i : List CallRequest) (s : ℕ) (x : Stretch) (request : Request) → Asked c g (in_open g e m i s x) request
+asked_open : (c : Settings) (g : Agreed) (e : ℕ) (m i : List CallRequest) (s : ℕ) (x : Stretch) (request : Request) → Asked c g (in_open c.longest g e m i s x) request
 asked_open c g e m i s x (Calls called calling user params) = tt
 asked_open c g e m i s x (Accepts answer) = tt
 asked_open c g e m i s x (Sends q user) = asked_send c g e m i s x q user
 asked_open c g e m i s x (Interrupts user) = asked_interrupt c g e m i s x user
-asked_open c g e m i s x (Clears cause diagnostic) = given_notes (may_clear_for c.role cause) _ (in_open g e m i s x) _ _ (Adds refl refl (added_nothing (held_stretch m i x)) (inl (refl, refl)))
-asked_open c g e m i s x (Resets cause diagnostic) = given_notes (may_reset_for c.role cause) _ (in_open g e m i s x) _ _ (Adds refl refl (added_nothing (held_stretch m i x)) (inl (refl, refl)))
+asked_open c g e m i s x (Clears cause diagnostic) = given_notes (may_clear_for c.role cause) _ (in_open c.longest g e m i s x) _ _ (Adds refl refl (added_nothing (held_stretch m i x)) (inl (refl, refl)))
+asked_open c g e m i s x (Resets cause diagnostic) = given_notes (may_reset_for c.role cause) _ (in_open c.longest g e m i s x) _ _ (Adds refl refl (added_nothing (held_stretch m i x)) (inl (refl, refl)))
 asked_open c g e m i s x other = Adds refl refl (added_nothing (held_stretch m i x)) (inl (refl, refl))
 
-asked_resetting : (c : Settings) (g : Agreed) (e : ℕ) (m i : List CallRequest) (s : ℕ) (x : Stretch) (request : Request) → Asked c g (in_resetting g e m i s x) request
-asked_resetting c g e m i s x (Clears cause diagnostic) = given_notes (may_clear_for c.role cause) _ (in_resetting g e m i s x) _ _ (Adds refl refl (added_nothing (held_stretch m i x)) (inl (refl, refl)))
+asked_resetting : (c : Settings) (g : Agreed) (e : ℕ) (m i : List CallRequest) (s : ℕ) (x : Stretch) (request : Request) → Asked c g (in_resetting c.longest g e m i s x) request
+asked_resetting c g e m i s x (Clears cause diagnostic) = given_notes (may_clear_for c.role cause) _ (in_resetting c.longest g e m i s x) _ _ (Adds refl refl (added_nothing (held_stretch m i x)) (inl (refl, refl)))
 asked_resetting c g e m i s x other = tt
 
-asked_in_transfer : (c : Settings) (g : Agreed) (e : ℕ) (m i : List CallRequest) (s : ℕ) (x : Side Stretch) (request : Request) → Asked c g (in_talk g e m i (record { epoch = s; side = x })) request
+asked_in_transfer : (c : Settings) (g : Agreed) (e : ℕ) (m i : List CallRequest) (s : ℕ) (x : Side Stretch) (request : Request) → Asked c g (in_talk c.longest g e m i (record { epoch = s; side = x })) request
 asked_in_transfer c g e m i s (Live x) request = asked_open c g e m i s x request
 asked_in_transfer c g e m i s (Left x) request = asked_resetting c g e m i s x request
 
@@ -254,7 +255,7 @@ asked_call c g e m i called calling user proposal = test (may_call c.long_data c
 
     test : (b : Bool) → may_call c.long_data called calling user params ≡ b
         → NotesOutcome (if b then does (view g (in_call e m i Unused)) Calling params true (call_sent called calling user proposal) else Refused BadParameter) (in_call e m i Unused)
-        (channel_acts (in_call e m i Unused) (act_of (Calls called calling user proposal))).next (asked_by (Calls called calling user proposal))
+        (channel_acts (in_call e m i Unused) (act_of c.longest (Calls called calling user proposal))).next (asked_by (Calls called calling user proposal))
     test true is =
         subst (λ (b : Bool). Notes (in_call e m i Unused) (lifted_call e (placed b) (placed b).error).next (asked_by (Calls called calling user proposal))) (sym (call_proposes c.long_data called calling user params is))
         (Adds refl refl (handed_is (m ++ request_of called calling user params ∷ []) _ refl i _ (none i) [] _ refl [] _ refl [] _ refl [] _ refl) (inr refl))
@@ -264,7 +265,7 @@ asked_answer : (c : Settings) (g : Agreed) (e : ℕ) (m i : List CallRequest) (t
 asked_answer c g e m i theirs answer = test (may_answer theirs answer.params)
   where
     answered : Bool → Step Connection Packet
-    answered b = if b then nested_calls.goes (called_talk answer.params) m i (Accept (field_for theirs answer) ∷ []) else nested_calls.goes (Offered theirs) m i []
+    answered b = if b then nested_calls.goes (called_talk c.longest answer.params) m i (Accept (field_for theirs answer) c.longest ∷ []) else nested_calls.goes (Offered theirs) m i []
 
     test : (b : Bool)
         → NotesOutcome (if b then does (view g (in_call e m i (Offered theirs))) Open answer.params false (accept 1 (field_for theirs answer)) else Refused BadParameter) (in_call e m i (Offered theirs))
@@ -272,7 +273,7 @@ asked_answer c g e m i theirs answer = test (may_answer theirs answer.params)
     test true = Adds refl refl (added_nothing (held_of (in_call e m i (Offered theirs)))) (inl (refl, refl))
     test false = tt
 
-asked_in_call : (c : Settings) (g : Agreed) (e : ℕ) (m i : List CallRequest) (a : Phase) (request : Request) → AreAgreedIn g a → Asked c g (in_call e m i a) request
+asked_in_call : (c : Settings) (g : Agreed) (e : ℕ) (m i : List CallRequest) (a : Phase) (request : Request) → AreAgreedIn c.longest g a → Asked c g (in_call e m i a) request
 asked_in_call c g e m i Unused (Calls called calling user params) fits = asked_call c g e m i called calling user params
 asked_in_call c g e m i Unused other fits = tt
 asked_in_call c g e m i (Waiting mine) (Clears cause diagnostic) fits = given_notes (may_clear_for c.role cause) _ (in_call e m i (Waiting mine)) _ _ (Adds refl refl (added_nothing (held_of (in_call e m i (Waiting mine)))) (inl (refl, refl)))
@@ -283,14 +284,14 @@ asked_in_call c g e m i (Offered theirs) (Clears cause diagnostic) fits = given_
 asked_in_call c g e m i (Offered theirs) other fits = tt
 asked_in_call c g e m i (Crossed mine) (Clears cause diagnostic) fits = given_notes (may_clear_for c.role cause) _ (in_call e m i (Crossed mine)) _ _ (Adds refl refl (added_nothing (held_of (in_call e m i (Crossed mine)))) (inl (refl, refl)))
 asked_in_call c g e m i (Crossed mine) other fits = tt
-asked_in_call c g e m i (Talking t b at) request fits = on_terms (λ a. Asked c g (in_call e m i a) request) g t b at fits (asked_in_transfer c g e m i at.epoch at.side request)
+asked_in_call c g e m i (Talking t b at) request fits = on_terms c.longest (λ a. Asked c g (in_call e m i a) request) g t b at fits (asked_in_transfer c g e m i at.epoch at.side request)
 
-asked_side : (c : Settings) (g : Agreed) (e : ℕ) (x : Side Connection) (request : Request) → AreAgreed g x → Asked c g (record { epoch = e; side = x }) request
+asked_side : (c : Settings) (g : Agreed) (e : ℕ) (x : Side Connection) (request : Request) → AreAgreed c.longest g x → Asked c g (record { epoch = e; side = x }) request
 asked_side c g e (Live x) request fits = asked_in_call c g e x.made x.indicated x.phase request fits
 asked_side c g e (Left x) (Accepts answer) fits = tt
 asked_side c g e (Left x) other fits = tt
 
-pub notes_asked : (c : Settings) (g : Agreed) (n : At Connection) (request : Request) → AreAgreed g n.side → NotesOutcome (outcome c (view g n) request) n (channel_acts n (act_of request)).next (asked_by request)
+pub notes_asked : (c : Settings) (g : Agreed) (n : At Connection) (request : Request) → AreAgreed c.longest g n.side → NotesOutcome (outcome c (view g n) request) n (channel_acts n (act_of c.longest request)).next (asked_by request)
 notes_asked c g n request fits = asked_side c g n.epoch n.side request fits
 
 -- ---- a pull says nothing

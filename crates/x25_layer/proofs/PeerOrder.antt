@@ -73,10 +73,10 @@ written_on {M} kind lists listed x y entries es step h = record {
 
 -- ---- names
 
-pub name_shown : (l : Layer) (z : At Channels) (k : ℕ) → SeesLayer l z → name_of l k ≡ present z k
-name_shown l z k s = by z.side (s.circuits k)
+pub name_shown : (most : ℕ) (l : Layer) (z : At Channels) (k : ℕ) → SeesLayer most l z → name_of l k ≡ present z k
+name_shown most l z k s = by z.side (s.circuits k)
   where
-    by : (side : Side Channels) → ShowsAt side k (l.circuits k) → name_of l k ≡ present (record { epoch = z.epoch; side = side }) k
+    by : (side : Side Channels) → ShowsAt most side k (l.circuits k) → name_of l k ≡ present (record { epoch = z.epoch; side = side }) k
     by (Live x) shows = name_eq (name_of l k) (present (record { epoch = z.epoch; side = Live x }) k) s.restarts (ap (λ (c : Circuit). c.clears) shows.is) (ap (λ (c : Circuit). c.resets) shows.is)
     by (Left x) shows = name_eq (name_of l k) (present (record { epoch = z.epoch; side = Left x }) k) s.restarts (ap (λ (c : Circuit). c.clears) shows) (ap (λ (c : Circuit). c.resets) shows)
 
@@ -99,13 +99,13 @@ record IsThere (c : Circuit) (x : Stretch) (o : Option Stretch) : Type 0 where
   acked : c.talk.acked ≡ x.acked
   sent : c.talk.sent ≡ x.sent
 
-open_there : (side : Side Channels) (k : ℕ) (c : Circuit) → ShowsAt side k c → is_open c ≡ true
+open_there : (most : ℕ) (side : Side Channels) (k : ℕ) (c : Circuit) → ShowsAt most side k c → is_open c ≡ true
     → IsThere c (state_of (nested.transfer_of (state_of (state_of side k).side).phase).side) (open_channel side k)
-open_there (Left x) k c shows is = absurd (closed c shows is)
+open_there most (Left x) k c shows is = absurd (closed c shows is)
   where
     closed : (c : Circuit) → c ≡ forgotten (view unagreed (x k)) → is_open c ≡ true → ⊥
     closed c e is = let no : is_open (forgotten (view unagreed (x k))) ≡ true = ap is_open (sym e) ∙ is in cc
-open_there (Live x) k c shows is = subst (λ (d : Circuit). IsThere d (state_of (nested.transfer_of (state_of (x k).side).phase).side) (open_call (x k).side)) (sym shows.is) (at shows.agreed (x k).epoch (x k).side (ap is_open (sym shows.is) ∙ is))
+open_there most (Live x) k c shows is = subst (λ (d : Circuit). IsThere d (state_of (nested.transfer_of (state_of (x k).side).phase).side) (open_call (x k).side)) (sym shows.is) (at shows.agreed (x k).epoch (x k).side (ap is_open (sym shows.is) ∙ is))
   where
     at : (g : Agreed) (e : ℕ) (side : Side Connection) → is_open (view g (record { epoch = e; side = side })) ≡ true → IsThere (view g (record { epoch = e; side = side })) (state_of (nested.transfer_of (state_of side).phase).side) (open_call side)
     at g e (Left n) is = absurd (cc)
@@ -126,10 +126,10 @@ open_there (Live x) k c shows is = subst (λ (d : Circuit). IsThere d (state_of 
 
 -- ---- the order of the transcript
 
-module _ (l : Layer) (z : At Channels) (y : At PeerChannels) (entries : List Entry) (sees : SeesLayer l z) (order : nested.LayersAreInOrder z y)
+module _ (most : ℕ) (l : Layer) (z : At Channels) (y : At PeerChannels) (entries : List Entry) (sees : SeesLayer most l z) (order : nested.LayersAreInOrder z y)
     (m : Written messages messages_in entries z) (i : Written interrupts interrupts_in entries z) (c : Written calls calls_in entries z) (k : ℕ) where
   here : name_of l k ≡ present z k
-  here = name_shown l z k sees
+  here = name_shown most l z k sees
 
   call_there : of_call (name_of l k) ≡ of_call (peer_name y k) → nested.CallIsInOrder (state_of (circuit_at z k).side) (peer_call y k)
   call_there same =
@@ -164,7 +164,7 @@ module _ (l : Layer) (z : At Channels) (y : At PeerChannels) (entries : List Ent
         there = subst (λ (h : List _). IsPrefix (carried (peer_stretch y k).taken) h) down_m o.there;
         all = λ e. sym up_m ∙ o.all e;
         all_there = λ is none acked. (
-            let there : IsThere (l.circuits k) x (open_channel z.side k) = open_there z.side k (l.circuits k) (sees.circuits k) is in
+            let there : IsThere (l.circuits k) x (open_channel z.side k) = open_there most z.side k (l.circuits k) (sees.circuits k) is in
             o.all_there (sym there.rest ∙ none) (sym there.acked ∙ acked ∙ ap length there.sent) ∙ down_m);
         int_up = subst (λ (h : List _). IsPrefix h (peer_stretch y k).int_down) up_i o.int_up;
         int_there = subst (λ (h : List _). IsPrefix (peer_stretch y k).int_up h) down_i o.int_there;
@@ -172,13 +172,13 @@ module _ (l : Layer) (z : At Channels) (y : At PeerChannels) (entries : List Ent
 
 -- ---- with nothing on the way to the peer
 
-module _ (l : Layer) (z : At Channels) (y : At PeerChannels) (entries : List Entry) (sees : SeesLayer l z) (m : Written messages messages_in entries z) (i : Written interrupts interrupts_in entries z) (k : ℕ) where
+module _ (most : ℕ) (l : Layer) (z : At Channels) (y : At PeerChannels) (entries : List Entry) (sees : SeesLayer most l z) (m : Written messages messages_in entries z) (i : Written interrupts interrupts_in entries z) (k : ℕ) where
   pub has_arrived : ((x : Stretch) → open_channel z.side k ≡ Some x → nested.TookLayer k z y x) → is_open (l.circuits k) ≡ true → HasArrived k l entries y
   has_arrived took is =
-      let here : name_of l k ≡ present z k = name_shown l z k sees in
+      let here : name_of l k ≡ present z k = name_shown most l z k sees in
       let phase : Phase = (state_of (circuit_at z k).side).phase in
       let x : Stretch = state_of (nested.transfer_of phase).side in
-      let there : IsThere (l.circuits k) x (open_channel z.side k) = open_there z.side k (l.circuits k) (sees.circuits k) is in
+      let there : IsThere (l.circuits k) x (open_channel z.side k) = open_there most z.side k (l.circuits k) (sees.circuits k) is in
       let all : nested.TookLayer k z y x = took x there.opened in
       let of_m = held_there (λ x. x.down) (λ x. x.up) phase refl refl in
       let of_i = held_there (λ x. x.int_down) (λ x. x.int_up) phase refl refl in

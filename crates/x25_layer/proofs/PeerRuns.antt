@@ -37,9 +37,9 @@ pub record PeerPremises : Type 0 where
 record Stands (r : Role) (channels : Ranges) (w : Joined) : Type 0 where
   nested_end : At Channels
   error : Option ℕ
-  reached : nested.IsReached r (record { near = nested_end; peer = w.peer; out = bare_layers w.out; back = bare_layers w.back; error = error })
+  reached : nested.IsReached r (record { near = nested_end; peer = w.peer; out = bare_layers channels.message w.out; back = bare_layers channels.message w.back; error = error })
   up : w.near.is_out ≡ false
-  sees : SeesLayer w.near.layer nested_end
+  sees : SeesLayer channels.message w.near.layer nested_end
   configured : AreConfigured channels w.back
   quiet : IsQuietEnd channels w.near
   of_messages : Written messages messages_in w.near.entries nested_end
@@ -58,14 +58,14 @@ configured_more channels (x ∷ L) o p q = (p.0, configured_more channels L o p.
 
 -- our layer has gone to this, and put these packets
 put_stands : (r : Role) (channels : Ranges) (w : Joined) (l : Layer) (o : List PlainPacket) (es : List Entry) (h : Stands r channels w) (act : LayerAct)
-    → SeesLayer l (layer_acts h.nested_end act).next → bare_layers o ≡ (layer_acts h.nested_end act).out → IsQuietEnd channels (puts (our_end w) l o es).near → StepOf h.nested_end (layer_acts h.nested_end act).next es
+    → SeesLayer channels.message l (layer_acts h.nested_end act).next → bare_layers channels.message o ≡ (layer_acts h.nested_end act).out → IsQuietEnd channels (puts (our_end w) l o es).near → StepOf h.nested_end (layer_acts h.nested_end act).next es
     → Stands r channels (with_peer w.peer (puts (our_end w) l o es))
 put_stands r channels w l o es h act sees put quiet step =
     let s : Step (At Channels) LayerPacket = layer_acts h.nested_end act in
     record {
       nested_end = s.next;
       error = _;
-      reached = reached_at r s.next w.peer (bare_layers w.out ++ s.out) (bare_layers (w.out ++ o)) (bare_layers w.back) (bare_layers w.back) _ (sym (bare_more w.out o (bare_layers w.out) s.out refl put)) refl
+      reached = reached_at r s.next w.peer (bare_layers channels.message w.out ++ s.out) (bare_layers channels.message (w.out ++ o)) (bare_layers channels.message w.back) (bare_layers channels.message w.back) _ (sym (bare_more channels.message w.out o (bare_layers channels.message w.out) s.out refl put)) refl
           (nested.goes_on _ _ h.reached (nested.Acts act));
       up = refl;
       sees = sees;
@@ -80,7 +80,7 @@ module _ (p : PeerPremises) (r : Role) (long_data : Bool) (channels : Ranges) wh
   abbrev c : LayerSettings
   c = settings_of r long_data channels
 
-  does_stands : (w : Joined) (h : Stands r channels w) (l : Layer) (packet : Option PlainPacket) (es : List Entry) (act : LayerAct) → DoesLayer channels l packet es h.nested_end (layer_acts h.nested_end act)
+  does_stands : (w : Joined) (h : Stands r channels w) (l : Layer) (packet : Option PlainPacket) (es : List Entry) (act : LayerAct) → DoesLayer channels.message channels l packet es h.nested_end (layer_acts h.nested_end act)
       → Stands r channels (with_peer w.peer (puts (our_end w) l (option_to_list packet) es))
   does_stands w h l packet es act g =
       put_stands r channels w l (option_to_list packet) es h act g.next g.put
@@ -105,21 +105,21 @@ module _ (p : PeerPremises) (r : Role) (long_data : Bool) (channels : Ranges) wh
   hands_up : (w : Joined) (h : Stands r channels w) (K : List PlainPacket) → w.back ≡ K → Stands r channels (with_peer w.peer (handed_up c (our_end w) K))
   hands_up w h [] front = h
   hands_up w h (packet ∷ K) front =
-      let s : Step (At Channels) LayerPacket = layer_takes r h.nested_end (bare_layer packet) in
-      let back : bare_layers w.back ≡ bare_layer packet ∷ bare_layers K = ap bare_layers front in
-      let j : JoinedLayers = record { near = h.nested_end; peer = w.peer; out = bare_layers w.out; back = bare_layers w.back; error = h.error } in
-      let found : Option ℕ = layer_found (bare_layer packet) s.error in
-      let next : nested.IsReached r (near_stepped j (bare_layers K) s found) = nested.goes_on j _ h.reached (nested.Takes (bare_layer packet) (bare_layers K) back) in
-      let clean : found ≡ None = second h.error found (p.quiet r (near_stepped j (bare_layers K) s found) next) in
+      let s : Step (At Channels) LayerPacket = layer_takes r h.nested_end (bare_layer channels.message packet) in
+      let back : bare_layers channels.message w.back ≡ bare_layer channels.message packet ∷ bare_layers channels.message K = ap (bare_layers channels.message) front in
+      let j : JoinedLayers = record { near = h.nested_end; peer = w.peer; out = bare_layers channels.message w.out; back = bare_layers channels.message w.back; error = h.error } in
+      let found : Option ℕ = layer_found (bare_layer channels.message packet) s.error in
+      let next : nested.IsReached r (near_stepped j (bare_layers channels.message K) s found) = nested.goes_on j _ h.reached (nested.Takes (bare_layer channels.message packet) (bare_layers channels.message K) back) in
+      let clean : found ≡ None = second h.error found (p.quiet r (near_stepped j (bare_layers channels.message K) s found) next) in
       let ok = subst (λ (l : List PlainPacket). AreConfigured channels l) front h.configured in
       let a : LayerAnswer = layer_answers c w.near.layer packet in
-      let g : FollowsLayer channels a h.nested_end s = layer_follows p.params c w.near.layer h.nested_end packet h.sees ok.0 clean in
+      let g : FollowsLayer channels.message channels a h.nested_end s = layer_follows p.params c w.near.layer h.nested_end packet h.sees ok.0 clean in
       let es : List Entry = entries_told a.next a.notices in
       record {
         nested_end = s.next;
         error = _;
-        reached = reached_at r s.next w.peer (bare_layers w.out ++ s.out) (bare_layers (w.out ++ option_to_list a.owed)) (bare_layers K) (bare_layers K) _
-            (sym (bare_more w.out (option_to_list a.owed) (bare_layers w.out) s.out refl g.owed)) refl next;
+        reached = reached_at r s.next w.peer (bare_layers channels.message w.out ++ s.out) (bare_layers channels.message (w.out ++ option_to_list a.owed)) (bare_layers channels.message K) (bare_layers channels.message K) _
+            (sym (bare_more channels.message w.out (option_to_list a.owed) (bare_layers channels.message w.out) s.out refl g.owed)) refl next;
         up = refl;
         sees = g.next;
         configured = ok.1;
@@ -136,13 +136,13 @@ module _ (p : PeerPremises) (r : Role) (long_data : Bool) (channels : Ranges) wh
   ours w h GoesDown stays = absurd stays
 
   -- the peer has gone to this, and put these packets
-  peer_stands : (w : Joined) (h : Stands r channels w) (y : At PeerChannels) (out packets : List PlainPacket) (o : List LayerPacket) → bare_layers packets ≡ o → AreConfigured channels packets
-      → nested.IsReached r (record { near = h.nested_end; peer = y; out = bare_layers out; back = bare_layers w.back ++ o; error = h.error })
+  peer_stands : (w : Joined) (h : Stands r channels w) (y : At PeerChannels) (out packets : List PlainPacket) (o : List LayerPacket) → bare_layers channels.message packets ≡ o → AreConfigured channels packets
+      → nested.IsReached r (record { near = h.nested_end; peer = y; out = bare_layers channels.message out; back = bare_layers channels.message w.back ++ o; error = h.error })
       → Stands r channels (record { near = w.near; peer = y; out = out; back = w.back ++ packets })
   peer_stands w h y out packets o put is reached = record {
     nested_end = h.nested_end;
     error = h.error;
-    reached = reached_at r h.nested_end y (bare_layers out) (bare_layers out) (bare_layers w.back ++ o) (bare_layers (w.back ++ packets)) h.error refl (sym (bare_more w.back packets (bare_layers w.back) o refl put)) reached;
+    reached = reached_at r h.nested_end y (bare_layers channels.message out) (bare_layers channels.message out) (bare_layers channels.message w.back ++ o) (bare_layers channels.message (w.back ++ packets)) h.error refl (sym (bare_more channels.message w.back packets (bare_layers channels.message w.back) o refl put)) reached;
     up = h.up;
     sees = h.sees;
     configured = configured_more channels w.back packets h.configured is;
@@ -152,7 +152,7 @@ module _ (p : PeerPremises) (r : Role) (long_data : Bool) (channels : Ranges) wh
     of_calls = h.of_calls;
   }
 
-  bare_on : (q : PlainPacket) → HasChannel q → bare_layer q ≡ On (channel_of q) (bare q)
+  bare_on : (q : PlainPacket) → HasChannel q → bare_layer channels.message q ≡ On (channel_of q) (bare channels.message q)
   bare_on (restart cause diagnostic) has = absurd has
   bare_on restart_conf has = absurd has
   bare_on other has = refl
@@ -162,14 +162,14 @@ module _ (p : PeerPremises) (r : Role) (long_data : Bool) (channels : Ranges) wh
   happens_stands w v (Does deed packet may is at) h =
       peer_stands w h _ w.out (packet ∷ []) _ (ap (λ q. q ∷ []) is) (at, tt) (nested.goes_on _ _ h.reached (nested.Does deed may))
   happens_stands w v (Hears packet rest packets front answers) h =
-      peer_stands w h _ rest packets _ answers.are answers.configured (nested.goes_on _ _ h.reached (nested.Hears (bare_layer packet) (bare_layers rest) (ap bare_layers front)))
+      peer_stands w h _ rest packets _ answers.are answers.configured (nested.goes_on _ _ h.reached (nested.Hears (bare_layer channels.message packet) (bare_layers channels.message rest) (ap (bare_layers channels.message) front)))
   happens_stands w v (HearsChannel y passed packet rest packets live has apart front answers) h =
       let k : ℕ = channel_of packet in
-      let line : bare_layers w.out ≡ bare_layers passed ++ On k (bare packet) ∷ bare_layers rest =
-      ap bare_layers front ∙ bare_more passed (packet ∷ rest) (bare_layers passed) (On k (bare packet) ∷ bare_layers rest) refl (ap (λ q. q ∷ bare_layers rest) (bare_on packet has)) in
+      let line : bare_layers channels.message w.out ≡ bare_layers channels.message passed ++ On k (bare channels.message packet) ∷ bare_layers channels.message rest =
+      ap (bare_layers channels.message) front ∙ bare_more channels.message passed (packet ∷ rest) (bare_layers channels.message passed) (On k (bare channels.message packet) ∷ bare_layers channels.message rest) refl (ap (λ q. q ∷ bare_layers channels.message rest) (bare_on packet has)) in
       peer_stands w h _ (passed ++ rest) packets _ answers.are answers.configured
-      (reached_at r h.nested_end _ (bare_layers passed ++ bare_layers rest) (bare_layers (passed ++ rest)) _ _ h.error (sym (bare_more passed rest (bare_layers passed) (bare_layers rest) refl refl)) refl
-      (nested.goes_on _ _ h.reached (nested.HearsChannel y k (bare_layers passed) (bare packet) (bare_layers rest) live apart line)))
+      (reached_at r h.nested_end _ (bare_layers channels.message passed ++ bare_layers channels.message rest) (bare_layers channels.message (passed ++ rest)) _ _ h.error (sym (bare_more channels.message passed rest (bare_layers channels.message passed) (bare_layers channels.message rest) refl refl)) refl
+      (nested.goes_on _ _ h.reached (nested.HearsChannel y k (bare_layers channels.message passed) (bare channels.message packet) (bare_layers channels.message rest) live apart line)))
 
   start_stands : Stands r channels (start r long_data channels)
   start_stands = record {
@@ -194,8 +194,8 @@ all_in_order p r long_data channels w reached k =
     let h = reached_stands p r long_data channels w reached in
     let order = p.order r _ h.reached in
     record {
-      calls = calls_order w.near.layer h.nested_end w.peer w.near.entries h.sees order h.of_messages h.of_interrupts h.of_calls k;
-      stretch = stretch_order w.near.layer h.nested_end w.peer w.near.entries h.sees order h.of_messages h.of_interrupts h.of_calls k;
+      calls = calls_order channels.message w.near.layer h.nested_end w.peer w.near.entries h.sees order h.of_messages h.of_interrupts h.of_calls k;
+      stretch = stretch_order channels.message w.near.layer h.nested_end w.peer w.near.entries h.sees order h.of_messages h.of_interrupts h.of_calls k;
     }
 
 pub finds_no_error : PeerPremises → WithAnyPeer FindsNoError
@@ -204,4 +204,4 @@ finds_no_error p r long_data channels w reached = (reached_stands p r long_data 
 pub all_have_arrived : PeerPremises → WithAnyPeer AllHaveArrived
 all_have_arrived p r long_data channels w reached none k is there =
     let h = reached_stands p r long_data channels w reached in
-    has_arrived w.near.layer h.nested_end w.peer w.near.entries h.sees h.of_messages h.of_interrupts k (λ x opened. p.arrived r _ h.reached (ap bare_layers none) k x opened there) is
+    has_arrived channels.message w.near.layer h.nested_end w.peer w.near.entries h.sees h.of_messages h.of_interrupts k (λ x opened. p.arrived r _ h.reached (ap (bare_layers channels.message) none) k x opened there) is

@@ -6,7 +6,7 @@ use Rattle.x25_packet.specs.Spelling.{HasChannel}
 use Rattle.x25_circuit.specs.declared.state.State.{State}
 use Rattle.x25_circuit.specs.declared.state.State.TheVariants.{Free, Calling, Arriving, Collision, Open, Resetting, Clearing}
 use Rattle.x25_circuit.specs.declared.params.Params.{Params}
-use Rattle.x25_circuit.specs.Params.{Terms, default_params, may_propose, called_terms, calling_terms}
+use Rattle.x25_circuit.specs.Params.{default_params, may_propose, called_terms, calling_terms}
 use Rattle.x25_circuit.specs.laws.ParamsLaws.{FieldIsSaid, FieldIsAllowed, SaidIsAllowed, AnswerIsAllowed}
 use Rattle.x25_circuit.specs.Circuit.{Talk, silent, Circuit}
 use Rattle.x25_circuit.specs.Notice.{CallRequest, PlainNotice}
@@ -14,6 +14,7 @@ use Rattle.x25_circuit.specs.Hearing.{Answer}
 use Rattle.x25_circuit.specs.Calling.{Outcome, Done, Refused, Request, Calls, Accepts, Clears, Sends, Interrupts, Resets, SaysReady, SaysNotReady, request_of}
 use Rattle.x25_handshakes.specs.laws.Handshake.{Side, Live, Left, At, state_of, Step}
 use Rattle.x25_handshakes.specs.laws.Stretch.{Packet, Stretch, Send, Pull, Ready, NotReady, Interrupt}
+use Rattle.x25_handshakes.specs.laws.Terms.{Terms, with_longest}
 use Rattle.x25_handshakes.specs.laws.Transfer.{Inside, SendsReset}
 use Rattle.x25_handshakes.specs.laws.Calls.{Phase, Unused, Waiting, Offered, Crossed, Talking, Connection, PlacesCall, AcceptsCall, Talks}
 use Rattle.x25_handshakes.specs.laws.Channel.{ChannelAct, Within, SendsClear}
@@ -62,11 +63,11 @@ abbrev pub unagreed : Agreed
 unagreed = record { params = default_params; calls = false }
 
 -- the terms of what an end sends, and of what it takes
-abbrev pub sent_on : Agreed → Terms
-sent_on g = if g.calls then calling_terms g.params else called_terms g.params
+abbrev pub sent_on : ℕ → Agreed → Terms
+sent_on most g = with_longest most (if g.calls then calling_terms g.params else called_terms g.params)
 
-abbrev pub taken_on : Agreed → Terms
-taken_on g = if g.calls then called_terms g.params else calling_terms g.params
+abbrev pub taken_on : ℕ → Agreed → Terms
+taken_on most g = with_longest most (if g.calls then called_terms g.params else calling_terms g.params)
 
 -- those in force are told; others stand in the phase
 abbrev pub agreed_in : Agreed → Phase → Agreed
@@ -80,15 +81,15 @@ abbrev pub agreed_at : Agreed → Side Connection → Agreed
 agreed_at g (Live x) = agreed_in g x.phase
 agreed_at g (Left x) = unagreed
 
--- the terms in force are these, and what the other end proposes may be proposed
-abbrev pub AreAgreedIn : Agreed → Phase → Type 0
-AreAgreedIn g (Talking t b at) = (t ≡ sent_on g) × (b ≡ taken_on g)
-AreAgreedIn g (Offered theirs) = may_propose theirs ≡ true
-AreAgreedIn g other = Unit {0}
+-- the terms in force are these, with the most octets of a message, and what the other end proposes may be proposed
+abbrev pub AreAgreedIn : ℕ → Agreed → Phase → Type 0
+AreAgreedIn most g (Talking t b at) = (t ≡ sent_on most g) × (b ≡ taken_on most g)
+AreAgreedIn most g (Offered theirs) = may_propose theirs ≡ true
+AreAgreedIn most g other = Unit {0}
 
-abbrev pub AreAgreed : Agreed → Side Connection → Type 0
-AreAgreed g (Live x) = AreAgreedIn g x.phase
-AreAgreed g (Left x) = Unit {0}
+abbrev pub AreAgreed : ℕ → Agreed → Side Connection → Type 0
+AreAgreed most g (Live x) = AreAgreedIn most g x.phase
+AreAgreed most g (Left x) = Unit {0}
 
 abbrev pub view : Agreed → At Connection → Circuit
 view g n = record {
@@ -100,10 +101,10 @@ view g n = record {
   talk = talk_at n.side;
 }
 
-pub record Shows (x : Circuit) (n : At Connection) : Type 0 where
+pub record Shows (most : ℕ) (x : Circuit) (n : At Connection) : Type 0 where
   pub agreed : Agreed
   pub is : x ≡ view agreed n
-  pub fits : AreAgreed agreed n.side
+  pub fits : AreAgreed most agreed n.side
 
 -- what is known of packet sizes and windows
 pub record ParamsLaws : Type 0 where
@@ -112,9 +113,9 @@ pub record ParamsLaws : Type 0 where
   pub allowed : SaidIsAllowed
   pub answered : AnswerIsAllowed
 
-abbrev pub bare_if : Option PlainPacket → List Packet
-bare_if None = []
-bare_if (Some packet) = bare packet ∷ []
+abbrev pub bare_if : ℕ → Option PlainPacket → List Packet
+bare_if most None = []
+bare_if most (Some packet) = bare most packet ∷ []
 
 abbrev pub IsQuietIf : Option PlainPacket → Type 0
 IsQuietIf None = Unit {0}
@@ -125,31 +126,31 @@ TellNoFault [] = Unit {0}
 TellNoFault (notice ∷ notices) = IsNoFault notice × TellNoFault notices
 
 -- the answer of the table is the step of the channel, and tells of no error of procedure
-pub record Follows (a : Answer) (s : Step (At Connection) Packet) : Type 0 where
-  pub next : Shows a.next s.next
-  pub owed : bare_if a.owed ≡ s.out
+pub record Follows (most : ℕ) (a : Answer) (s : Step (At Connection) Packet) : Type 0 where
+  pub next : Shows most a.next s.next
+  pub owed : bare_if most a.owed ≡ s.out
   pub quiet : IsQuietIf a.owed
   pub no_fault : TellNoFault a.notices
 
 -- the same of a call of the user that isn't refused, and of a pull
-pub record Does (x : Circuit) (owed : Option PlainPacket) (s : Step (At Connection) Packet) : Type 0 where
-  pub next : Shows x s.next
-  pub packet : bare_if owed ≡ s.out
+pub record Does (most : ℕ) (x : Circuit) (owed : Option PlainPacket) (s : Step (At Connection) Packet) : Type 0 where
+  pub next : Shows most x s.next
+  pub packet : bare_if most owed ≡ s.out
   pub quiet : IsQuietIf owed
 
-abbrev pub Heeds : Outcome → Step (At Connection) Packet → Type 0
-Heeds (Done next packet) s = Does next packet s
-Heeds (Refused e) s = Unit {0}
+abbrev pub Heeds : ℕ → Outcome → Step (At Connection) Packet → Type 0
+Heeds most (Done next packet) s = Does most next packet s
+Heeds most (Refused e) s = Unit {0}
 
-abbrev pub act_of : Request → ChannelAct
-act_of (Calls called calling user proposal) = Within (PlacesCall (request_of called calling user proposal.params))
-act_of (Accepts answer) = Within (AcceptsCall answer)
-act_of (Clears cause diagnostic) = SendsClear
-act_of (Sends q user) = Within (Talks (Inside (Send q user)))
-act_of (Interrupts user) = Within (Talks (Inside (Interrupt user)))
-act_of (Resets cause diagnostic) = Within (Talks SendsReset)
-act_of SaysReady = Within (Talks (Inside Ready))
-act_of SaysNotReady = Within (Talks (Inside NotReady))
+abbrev pub act_of : ℕ → Request → ChannelAct
+act_of most (Calls called calling user proposal) = Within (PlacesCall (request_of called calling user proposal.params))
+act_of most (Accepts answer) = Within (AcceptsCall answer most)
+act_of most (Clears cause diagnostic) = SendsClear
+act_of most (Sends q user) = Within (Talks (Inside (Send q user)))
+act_of most (Interrupts user) = Within (Talks (Inside (Interrupt user)))
+act_of most (Resets cause diagnostic) = Within (Talks SendsReset)
+act_of most SaysReady = Within (Talks (Inside Ready))
+act_of most SaysNotReady = Within (Talks (Inside NotReady))
 
 abbrev pub pull_act : ChannelAct
 pull_act = Within (Talks (Inside Pull))

@@ -40,17 +40,17 @@ fix : (b c d : Bool) (s : Handed) → (b ≡ true → c ≡ d) → (if both b c 
 fix true c d s f = ap (λ (e : Bool). if e then s else nothing_handed) (f refl)
 fix false c d s f = nothing_if d
 
-name_seen : (l : Layer) (e : ℕ) (y : Channels) (h : ℕ) → SeesLayer l (live e y) → name_of l h ≡ present (live e y) h
-name_seen l e y h s = name_eq (name_of l h) (present (live e y) h) s.restarts (ap (λ (c : Circuit). c.clears) (s.circuits h).is) (ap (λ (c : Circuit). c.resets) (s.circuits h).is)
+name_seen : (most : ℕ) (l : Layer) (e : ℕ) (y : Channels) (h : ℕ) → SeesLayer most l (live e y) → name_of l h ≡ present (live e y) h
+name_seen most l e y h s = name_eq (name_of l h) (present (live e y) h) s.restarts (ap (λ (c : Circuit). c.clears) (s.circuits h).is) (ap (λ (c : Circuit). c.resets) (s.circuits h).is)
 
 -- a step on channel h
-pub step_on : (e : ℕ) (x : Channels) (h : ℕ) (c : At Connection) (l : Layer) (s : Handed) (es : List Entry) → SeesLayer l (live e (put x h c)) → Notes (x h) c s
+pub step_on : (most : ℕ) (e : ℕ) (x : Channels) (h : ℕ) (c : At Connection) (l : Layer) (s : Handed) (es : List Entry) → SeesLayer most l (live e (put x h c)) → Notes (x h) c s
     → ((k : ℕ) (m : Name) → under k m es ≡ (if both (k == h) (same_name m (name_of l h)) then s else nothing_handed)) → StepOf (live e x) (live e (put x h c)) es
-step_on e x h c l s es sees notes is k = (
+step_on most e x h c l s es sees notes is k = (
   if k == h then s else nothing_handed,
   Here refl (chosen (k == h) (x k) c s (λ at. subst (λ (j : ℕ). Notes (x j) c s) (sym (eqb-true k h at)) notes)),
   λ m. is k m ∙ fix (k == h) (same_name m (name_of l h)) (same_name m (present (live e (put x h c)) k)) s
-      (λ at. ap (λ (j : Name). same_name m j) (name_seen l e (put x h c) h sees ∙ ap (λ (j : ℕ). present (live e (put x h c)) j) (sym (eqb-true k h at)))),
+      (λ at. ap (λ (j : Name). same_name m j) (name_seen most l e (put x h c) h sees ∙ ap (λ (j : ℕ). present (live e (put x h c)) j) (sym (eqb-true k h at)))),
 )
 
 handed_append : (s : Handed) → added s nothing_handed ≡ s

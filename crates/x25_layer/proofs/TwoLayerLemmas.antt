@@ -23,15 +23,15 @@ use Rattle.x25_layer.proofs.StepLemmas.{quiet_step}
 use Rattle.x25_layer.proofs.LayerLemmas.{true≢false, layer_follows, layer_heeds, layer_pulls}
 
 -- what an end is of one of the nested handshakes; an end that is out has stopped there
-abbrev pub SeesEnd : End → Side (At Channels) → Type 0
-SeesEnd e (Live z) = (e.is_out ≡ false) × SeesLayer e.layer z
-SeesEnd e (Left z) = (e.is_out ≡ true) × (e.layer ≡ rested e.layer)
+abbrev pub SeesEnd : ℕ → End → Side (At Channels) → Type 0
+SeesEnd most e (Live z) = (e.is_out ≡ false) × SeesLayer most e.layer z
+SeesEnd most e (Left z) = (e.is_out ≡ true) × (e.layer ≡ rested e.layer)
 
 pub record Sees (channels : Ranges) (w : TwoLayers) (j : Pair) : Type 0 where
-  pub near : SeesEnd w.near j.near
-  pub far : SeesEnd w.far j.far
-  pub out : bare_layers w.out ≡ j.out
-  pub back : bare_layers w.back ≡ j.back
+  pub near : SeesEnd channels.message w.near j.near
+  pub far : SeesEnd channels.message w.far j.far
+  pub out : bare_layers channels.message w.out ≡ j.out
+  pub back : bare_layers channels.message w.back ≡ j.back
   pub out_quiet : AreQuiet channels w.out
   pub back_quiet : AreQuiet channels w.back
   pub near_quiet : IsQuietEnd channels w.near
@@ -47,9 +47,9 @@ pub record Stepped (r : Role) (channels : Ranges) (w : TwoLayers) (j : Pair) (w�
   pub far_entries : w₂.far.entries ≡ w.far.entries
   pub step : StepOf (state_of j.near) (state_of (pair_moves r j j.near move).near) entries
 
-pub bare_more : (L o : List PlainPacket) (u v : List LayerPacket) → bare_layers L ≡ u → bare_layers o ≡ v → bare_layers (L ++ o) ≡ u ++ v
-bare_more [] o u v p q = q ∙ ap (λ l. l ++ v) p
-bare_more (x ∷ L) o u v p q = ap (λ l. bare_layer x ∷ l) (bare_more L o (bare_layers L) v refl q) ∙ ap (λ l. l ++ v) p
+pub bare_more : (most : ℕ) (L o : List PlainPacket) (u v : List LayerPacket) → bare_layers most L ≡ u → bare_layers most o ≡ v → bare_layers most (L ++ o) ≡ u ++ v
+bare_more most [] o u v p q = q ∙ ap (λ l. l ++ v) p
+bare_more most (x ∷ L) o u v p q = ap (λ l. bare_layer most x ∷ l) (bare_more most L o (bare_layers most L) v refl q) ∙ ap (λ l. l ++ v) p
 
 pub quiet_more : (channels : Ranges) (L o : List PlainPacket) → AreQuiet channels L → AreQuiet channels o → AreQuiet channels (L ++ o)
 quiet_more channels [] o p q = q
@@ -68,12 +68,12 @@ second (Some n) f q = absurd (some_none n q)
 
 -- the near end has put these packets, and stands as the nested one does
 put_sees : (channels : Ranges) (w : TwoLayers) (j : Pair) (l : Layer) (o : List PlainPacket) (es : List Entry) (s : Step (At Channels) LayerPacket) (error : Option ℕ) → Sees channels w j
-    → SeesLayer l s.next → bare_layers o ≡ s.out → AreQuiet channels o
+    → SeesLayer channels.message l s.next → bare_layers channels.message o ≡ s.out → AreQuiet channels o
     → Sees channels (puts w l o es) (record { near = Live s.next; far = j.far; out = j.out ++ s.out; back = j.back; error = error })
 put_sees channels w j l o es s error sees next owed quiet = record {
   near = (refl, next);
   far = sees.far;
-  out = bare_more w.out o j.out s.out sees.out owed;
+  out = bare_more channels.message w.out o j.out s.out sees.out owed;
   back = sees.back;
   out_quiet = quiet_more channels w.out o sees.out_quiet quiet;
   back_quiet = sees.back_quiet;
@@ -84,12 +84,12 @@ put_sees channels w j l o es s error sees next owed quiet = record {
 
 -- after a packet was handed up
 answered_sees : (channels : Ranges) (w : TwoLayers) (j : Pair) (p : PlainPacket) (K : List PlainPacket) (a : LayerAnswer) (s : Step (At Channels) LayerPacket) (error : Option ℕ) → Sees channels w j → w.back ≡ p ∷ K
-    → (z : At Channels) → FollowsLayer channels a z s
-    → Sees channels (answered w p K a) (record { near = Live s.next; far = j.far; out = j.out ++ s.out; back = bare_layers K; error = error })
+    → (z : At Channels) → FollowsLayer channels.message channels a z s
+    → Sees channels (answered w p K a) (record { near = Live s.next; far = j.far; out = j.out ++ s.out; back = bare_layers channels.message K; error = error })
 answered_sees channels w j p K a s error sees front z g = record {
   near = (refl, g.next);
   far = sees.far;
-  out = bare_more w.out (option_to_list a.owed) j.out s.out sees.out g.owed;
+  out = bare_more channels.message w.out (option_to_list a.owed) j.out s.out sees.out g.owed;
   back = refl;
   out_quiet = quiet_more channels w.out (option_to_list a.owed) sees.out_quiet g.quiet;
   back_quiet = (subst (λ (l : List PlainPacket). AreQuiet channels l) front sees.back_quiet).1;
@@ -185,7 +185,7 @@ world_moves laws r long_data channels w (Live z) far out back error (Pulls h) se
     test false other = inl refl
     test true there =
         let p : LayerPulled = layer_pulled (settings_of r long_data channels) w.near.layer h in
-        let g : DoesLayer channels p.next p.packet [] z (layer_acts z (OnChannel h pull_act)) = layer_pulls (settings_of r long_data channels) w.near.layer z h there sees.near.1 in
+        let g : DoesLayer channels.message channels p.next p.packet [] z (layer_acts z (OnChannel h pull_act)) = layer_pulls (settings_of r long_data channels) w.near.layer z h there sees.near.1 in
         inr (record {
           move = Acts (OnChannel h pull_act);
           sees = put_sees channels w (record { near = Live z; far = far; out = out; back = back; error = error }) p.next (option_to_list p.packet) [] (layer_acts z (OnChannel h pull_act)) _ sees g.next g.put g.quiet;
@@ -202,12 +202,12 @@ world_moves laws r long_data channels w (Live z) far out back error HandsUp sees
     handed [] front = inl refl
     handed (p ∷ K) front =
         let c : LayerSettings = settings_of r long_data channels in
-        let same : bare_layer p ∷ bare_layers K ≡ back = ap bare_layers (sym front) ∙ sees.back in
-        let s : Step (At Channels) LayerPacket = layer_takes r z (bare_layer p) in
+        let same : bare_layer channels.message p ∷ bare_layers channels.message K ≡ back = ap (bare_layers channels.message) (sym front) ∙ sees.back in
+        let s : Step (At Channels) LayerPacket = layer_takes r z (bare_layer channels.message p) in
         let clean : s.error ≡ None =
         second error s.error (subst (λ (l : List LayerPacket). (pair_moves r (record { near = Live z; far = far; out = out; back = l; error = error }) (Live z) Takes).error ≡ None) (sym same) (quiet Takes)) in
         let ok = subst (λ (l : List PlainPacket). AreQuiet channels l) front sees.back_quiet in
-        let g : FollowsLayer channels (layer_answers c w.near.layer p) z s = layer_follows laws c w.near.layer z p sees.near.1 ok.0.1 (found_none (bare_layer p) s.error clean) in
+        let g : FollowsLayer channels.message channels (layer_answers c w.near.layer p) z s = layer_follows laws c w.near.layer z p sees.near.1 ok.0.1 (found_none (bare_layer channels.message p) s.error clean) in
         inr (subst (λ (l : List LayerPacket). Stepped r channels w (record { near = Live z; far = far; out = out; back = l; error = error }) (answered w p K (layer_answers c w.near.layer p))) same
         (record {
           move = Takes;

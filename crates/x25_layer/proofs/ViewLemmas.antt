@@ -11,7 +11,8 @@ use Rattle.x25_circuit.specs.Message.{Piece, More, Last, piece_of, no_part, join
 use Rattle.x25_circuit.specs.declared.params.Params.{Params}
 use Rattle.x25_circuit.specs.declared.error.CircuitError.TheVariants.{BadParameter}
 use Rattle.x25_circuit.specs.declared.state.State.TheVariants.{Calling, Open}
-use Rattle.x25_circuit.specs.Params.{Proposal, Terms, default_params, may_propose, may_answer, field_for, said_in}
+use Rattle.x25_handshakes.specs.laws.Terms.{Terms}
+use Rattle.x25_circuit.specs.Params.{Proposal, default_params, may_propose, may_answer, field_for, said_in}
 use Rattle.x25_circuit.specs.Circuit.{Settings, silent, Circuit, entered}
 use Rattle.x25_circuit.specs.Notice.{CallRequest, connected, deliveries}
 use Rattle.x25_circuit.specs.Hearing.{answers, unless, takes, hears_status, confirms, status, request_in, goes, clears_for, collides}
@@ -34,31 +35,31 @@ some_none n e = cc
 
 -- a step in d1, seen from the channel
 
-abbrev pub call_step : Agreed → List CallRequest → List CallRequest → ℕ → Step Stretch Packet → Step Connection Packet
-call_step g m i s st = in_transfer (sent_on g) (taken_on g) m i (lifted s st st.error)
+abbrev pub call_step : ℕ → Agreed → List CallRequest → List CallRequest → ℕ → Step Stretch Packet → Step Connection Packet
+call_step most g m i s st = in_transfer (sent_on most g) (taken_on most g) m i (lifted s st st.error)
 
-abbrev pub channel_step : Agreed → ℕ → List CallRequest → List CallRequest → ℕ → Step Stretch Packet → Step (At Connection) Packet
-channel_step g e m i s st = lifted_call e (call_step g m i s st) (call_step g m i s st).error
+abbrev pub channel_step : ℕ → Agreed → ℕ → List CallRequest → List CallRequest → ℕ → Step Stretch Packet → Step (At Connection) Packet
+channel_step most g e m i s st = lifted_call e (call_step most g m i s st) (call_step most g m i s st).error
 
 abbrev pub in_call : ℕ → List CallRequest → List CallRequest → Phase → At Connection
 in_call e m i a = live e (record { phase = a; made = m; indicated = i })
 
 -- p4, on the terms agreed
-abbrev pub in_talk : Agreed → ℕ → List CallRequest → List CallRequest → At Stretch → At Connection
-in_talk g e m i at = in_call e m i (Talking (sent_on g) (taken_on g) at)
+abbrev pub in_talk : ℕ → Agreed → ℕ → List CallRequest → List CallRequest → At Stretch → At Connection
+in_talk most g e m i at = in_call e m i (Talking (sent_on most g) (taken_on most g) at)
 
-abbrev pub in_open : Agreed → ℕ → List CallRequest → List CallRequest → ℕ → Stretch → At Connection
-in_open g e m i s x = in_talk g e m i (live s x)
+abbrev pub in_open : ℕ → Agreed → ℕ → List CallRequest → List CallRequest → ℕ → Stretch → At Connection
+in_open most g e m i s x = in_talk most g e m i (live s x)
 
-abbrev pub in_resetting : Agreed → ℕ → List CallRequest → List CallRequest → ℕ → Stretch → At Connection
-in_resetting g e m i s x = in_talk g e m i (left s x)
+abbrev pub in_resetting : ℕ → Agreed → ℕ → List CallRequest → List CallRequest → ℕ → Stretch → At Connection
+in_resetting most g e m i s x = in_talk most g e m i (left s x)
 
-no_failure : (g : Agreed) (e : ℕ) (m i : List CallRequest) (s : ℕ) (x : Stretch) (n : ℕ) → (channel_step g e m i s (stretch_fails x n)).error ≡ None → ⊥
-no_failure g e m i s x n q = some_none n q
+no_failure : (most : ℕ) (g : Agreed) (e : ℕ) (m i : List CallRequest) (s : ℕ) (x : Stretch) (n : ℕ) → (channel_step most g e m i s (stretch_fails x n)).error ≡ None → ⊥
+no_failure most g e m i s x n q = some_none n q
 
-bare_status : (b : Bool) (n : ℕ) → bare_if (Some (status b n)) ≡ nested.status b n ∷ []
-bare_status true n = refl
-bare_status false n = refl
+bare_status : (most : ℕ) (b : Bool) (n : ℕ) → bare_if most (Some (status b n)) ≡ nested.status b n ∷ []
+bare_status most true n = refl
+bare_status most false n = refl
 
 quiet_status : (b : Bool) (n : ℕ) → IsQuietIf (Some (status b n))
 quiet_status true n = (tt, tt)
@@ -69,38 +70,38 @@ deliveries_quiet [] = tt
 deliveries_quiet (m ∷ ms) = (tt, deliveries_quiet ms)
 
 data_row : (c : Settings) (g : Agreed) (e : ℕ) (m i : List CallRequest) (s : ℕ) (x : Stretch) (pr : ℕ) (p : Piece) (ground : Option ℕ)
-    → (channel_step g e m i s (by_ground ground x (takes_data x pr p))).error ≡ None
-    → Follows (unless c (view g (in_open g e m i s x)) ground (takes (view g (in_open g e m i s x)) (talk_of x) pr p)) (channel_step g e m i s (by_ground ground x (takes_data x pr p)))
+    → (channel_step c.longest g e m i s (by_ground ground x (takes_data x pr p))).error ≡ None
+    → Follows c.longest (unless c (view g (in_open c.longest g e m i s x)) ground (takes (view g (in_open c.longest g e m i s x)) (talk_of x) pr p)) (channel_step c.longest g e m i s (by_ground ground x (takes_data x pr p)))
 data_row c g e m i s x pr p None q = record {
   next = record { agreed = g; is = refl; fits = (refl, refl) };
-  owed = bare_status x.own_ready (length x.taken + 1);
+  owed = bare_status c.longest x.own_ready (length x.taken + 1);
   quiet = quiet_status x.own_ready (length x.taken + 1);
   no_fault = deliveries_quiet (completed (joining no_part x.taken) p);
 }
-data_row c g e m i s x pr p (Some n) q = absurd (no_failure g e m i s x n q)
+data_row c g e m i s x pr p (Some n) q = absurd (no_failure c.longest g e m i s x n q)
 
 status_row : (c : Settings) (g : Agreed) (e : ℕ) (m i : List CallRequest) (s : ℕ) (x : Stretch) (b : Bool) (pr : ℕ) (ground : Option ℕ)
-    → (channel_step g e m i s (by_ground ground x (takes_status x b pr))).error ≡ None
-    → Follows (unless c (view g (in_open g e m i s x)) ground (hears_status (view g (in_open g e m i s x)) (talk_of x) b pr)) (channel_step g e m i s (by_ground ground x (takes_status x b pr)))
+    → (channel_step c.longest g e m i s (by_ground ground x (takes_status x b pr))).error ≡ None
+    → Follows c.longest (unless c (view g (in_open c.longest g e m i s x)) ground (hears_status (view g (in_open c.longest g e m i s x)) (talk_of x) b pr)) (channel_step c.longest g e m i s (by_ground ground x (takes_status x b pr)))
 status_row c g e m i s x b pr None q = record { next = record { agreed = g; is = refl; fits = (refl, refl) }; owed = refl; quiet = tt; no_fault = tt }
-status_row c g e m i s x b pr (Some n) q = absurd (no_failure g e m i s x n q)
+status_row c g e m i s x b pr (Some n) q = absurd (no_failure c.longest g e m i s x n q)
 
 confirmed_row : (c : Settings) (g : Agreed) (e : ℕ) (m i : List CallRequest) (s : ℕ) (x : Stretch) (b : Bool)
-    → (channel_step g e m i s (if b then stretch_does (record x { int_out = false }) [] else stretch_fails x 43)).error ≡ None
-    → Follows (confirms c (view g (in_open g e m i s x)) (talk_of x) b) (channel_step g e m i s (if b then stretch_does (record x { int_out = false }) [] else stretch_fails x 43))
+    → (channel_step c.longest g e m i s (if b then stretch_does (record x { int_out = false }) [] else stretch_fails x 43)).error ≡ None
+    → Follows c.longest (confirms c (view g (in_open c.longest g e m i s x)) (talk_of x) b) (channel_step c.longest g e m i s (if b then stretch_does (record x { int_out = false }) [] else stretch_fails x 43))
 confirmed_row c g e m i s x true q = record { next = record { agreed = g; is = refl; fits = (refl, refl) }; owed = refl; quiet = tt; no_fault = (tt, tt) }
-confirmed_row c g e m i s x false q = absurd (no_failure g e m i s x 43 q)
+confirmed_row c g e m i s x false q = absurd (no_failure c.longest g e m i s x 43 q)
 
 -- the claim of a row
 abbrev Row : Settings → Agreed → At Connection → PlainPacket → Type 0
-Row c g n p = HasChannel p → found (bare p) (channel_takes c.role n (bare p)).error ≡ None → Follows (answers c (view g n) p) (channel_takes c.role n (bare p))
+Row c g n p = HasChannel p → found (bare c.longest p) (channel_takes c.role n (bare c.longest p)).error ≡ None → Follows c.longest (answers c (view g n) p) (channel_takes c.role n (bare c.longest p))
 
-row_open : (c : Settings) (g : Agreed) (e : ℕ) (m i : List CallRequest) (s : ℕ) (x : Stretch) (p : PlainPacket) → Row c g (in_open g e m i s x) p
+row_open : (c : Settings) (g : Agreed) (e : ℕ) (m i : List CallRequest) (s : ℕ) (x : Stretch) (p : PlainPacket) → Row c g (in_open c.longest g e m i s x) p
 row_open c g e m i s x (call h called calling fac user) has q = absurd (some_none 0 q)
 row_open c g e m i s x (accept h fac) has q = absurd (some_none 0 q)
 row_open c g e m i s x (clear h cause n) has q = record { next = record { agreed = g; is = refl; fits = tt }; owed = refl; quiet = (tt, tt); no_fault = (tt, tt) }
 row_open c g e m i s x (clear_conf h) has q = absurd (some_none 0 q)
-row_open c g e m i s x (user_data h qualifier more ps pr user) has q = data_row c g e m i s x pr (piece_of qualifier more user) (data_ground (taken_on g).size x ps pr (piece_of qualifier more user)) q
+row_open c g e m i s x (user_data h qualifier more ps pr user) has q = data_row c g e m i s x pr (piece_of qualifier more user) (data_ground c.longest (taken_on c.longest g).size x ps pr (piece_of qualifier more user)) q
 row_open c g e m i s x (rr h pr) has q = status_row c g e m i s x true pr (ack_ground x pr) q
 row_open c g e m i s x (rnr h pr) has q = status_row c g e m i s x false pr (ack_ground x pr) q
 row_open c g e m i s x (interrupt h user) has q = record { next = record { agreed = g; is = refl; fits = (refl, refl) }; owed = refl; quiet = (tt, tt); no_fault = (tt, tt) }
@@ -110,7 +111,7 @@ row_open c g e m i s x (reset_conf h) has q = absurd (some_none 27 q)
 row_open c g e m i s x (restart cause n) has q = absurd has
 row_open c g e m i s x restart_conf has q = absurd has
 
-row_resetting : (c : Settings) (g : Agreed) (e : ℕ) (m i : List CallRequest) (s : ℕ) (x : Stretch) (p : PlainPacket) → Row c g (in_resetting g e m i s x) p
+row_resetting : (c : Settings) (g : Agreed) (e : ℕ) (m i : List CallRequest) (s : ℕ) (x : Stretch) (p : PlainPacket) → Row c g (in_resetting c.longest g e m i s x) p
 row_resetting c g e m i s x (call h called calling fac user) has q = absurd (some_none 0 q)
 row_resetting c g e m i s x (accept h fac) has q = absurd (some_none 0 q)
 row_resetting c g e m i s x (clear h cause n) has q = record { next = record { agreed = g; is = refl; fits = tt }; owed = refl; quiet = (tt, tt); no_fault = (tt, tt) }
@@ -129,16 +130,16 @@ row_free laws c g e m i (restart cause n) has q = absurd has
 row_free laws c g e m i restart_conf has q = absurd has
 row_free laws c g e m i other has q = absurd (some_none 0 q)
 
-collision_row : (r : Role) (g : Agreed) (e : ℕ) (m i : List CallRequest) (mine : Params) (request : CallRequest) → may_propose request.params ≡ true
-    → Follows (collides r (view g (in_call e m i (Waiting mine))) request) (lifted_call e (call_crosses r mine m i request) (call_crosses r mine m i request).error)
-collision_row Dte g e m i mine request allowed = record { next = record { agreed = g; is = refl; fits = tt }; owed = refl; quiet = tt; no_fault = tt }
-collision_row Dce g e m i mine request allowed = record { next = record { agreed = g; is = refl; fits = allowed }; owed = refl; quiet = tt; no_fault = (tt, (tt, tt)) }
+collision_row : (most : ℕ) (r : Role) (g : Agreed) (e : ℕ) (m i : List CallRequest) (mine : Params) (request : CallRequest) → may_propose request.params ≡ true
+    → Follows most (collides r (view g (in_call e m i (Waiting mine))) request) (lifted_call e (call_crosses r mine m i request) (call_crosses r mine m i request).error)
+collision_row most Dte g e m i mine request allowed = record { next = record { agreed = g; is = refl; fits = tt }; owed = refl; quiet = tt; no_fault = tt }
+collision_row most Dce g e m i mine request allowed = record { next = record { agreed = g; is = refl; fits = allowed }; owed = refl; quiet = tt; no_fault = (tt, (tt, tt)) }
 
 -- an acceptance of what this end proposed, where it answers what may be answered
 answered_row : (c : Settings) (x : Circuit) (e : ℕ) (m i : List CallRequest) (a : Phase) (answer : Params) → x.clears ≡ e → x.resets ≡ 0 → (b : Bool)
-    → let s : Step Connection Packet = if b then nested_calls.goes (calling_talk answer) m i [] else nested_calls.unexpected a m i in
+    → let s : Step Connection Packet = if b then nested_calls.goes (calling_talk c.longest answer) m i [] else nested_calls.unexpected a m i in
     (lifted_call e s s.error).error ≡ None
-    → Follows (if b then goes x Open answer true None (connected answer ∷ []) else clears_for c x 3 66) (lifted_call e s s.error)
+    → Follows c.longest (if b then goes x Open answer true None (connected answer ∷ []) else clears_for c x 3 66) (lifted_call e s s.error)
 answered_row c x e m i a answer clears resets true q = record {
   next = record {
     agreed = record { params = answer; calls = true };
@@ -153,7 +154,7 @@ answered_row c x e m i a answer clears resets true q = record {
 answered_row c x e m i a answer clears resets false q = absurd (some_none 0 q)
 
 row_calling : ParamsLaws → (c : Settings) (g : Agreed) (e : ℕ) (m i : List CallRequest) (mine : Params) (p : PlainPacket) → Row c g (in_call e m i (Waiting mine)) p
-row_calling laws c g e m i mine (call h called calling fac user) has q = collision_row c.role g e m i mine (request_in called calling fac user) (laws.allowed default_params fac refl)
+row_calling laws c g e m i mine (call h called calling fac user) has q = collision_row c.longest c.role g e m i mine (request_in called calling fac user) (laws.allowed default_params fac refl)
 row_calling laws c g e m i mine (accept h fac) has q =
     answered_row c (view g (in_call e m i (Waiting mine))) e m i (Waiting mine) (said_in mine fac) refl refl (may_answer mine (said_in mine fac)) q
 row_calling laws c g e m i mine (clear h cause n) has q = record { next = record { agreed = g; is = refl; fits = tt }; owed = refl; quiet = (tt, tt); no_fault = (tt, tt) }
@@ -175,21 +176,21 @@ row_arriving c g e m i theirs (restart cause n) has q = absurd has
 row_arriving c g e m i theirs restart_conf has q = absurd has
 row_arriving c g e m i theirs other has q = absurd (some_none 0 q)
 
-row_in_transfer : (c : Settings) (g : Agreed) (e : ℕ) (m i : List CallRequest) (s : ℕ) (x : Side Stretch) (p : PlainPacket) → Row c g (in_talk g e m i (record { epoch = s; side = x })) p
+row_in_transfer : (c : Settings) (g : Agreed) (e : ℕ) (m i : List CallRequest) (s : ℕ) (x : Side Stretch) (p : PlainPacket) → Row c g (in_talk c.longest g e m i (record { epoch = s; side = x })) p
 row_in_transfer c g e m i s (Live x) p has q = row_open c g e m i s x p has q
 row_in_transfer c g e m i s (Left x) p has q = row_resetting c g e m i s x p has q
 
 -- what holds on the terms agreed holds on these
-pub on_terms : (P : Phase → Type 0) (g : Agreed) (t b : Terms) (at : At Stretch) → AreAgreedIn g (Talking t b at) → P (Talking (sent_on g) (taken_on g) at) → P (Talking t b at)
-on_terms P g t b at fits h =
-    subst (λ (u : Terms). P (Talking u b at)) (sym fits.0) (subst (λ (u : Terms). P (Talking (sent_on g) u at)) (sym fits.1) h)
+pub on_terms : (most : ℕ) (P : Phase → Type 0) (g : Agreed) (t b : Terms) (at : At Stretch) → AreAgreedIn most g (Talking t b at) → P (Talking (sent_on most g) (taken_on most g) at) → P (Talking t b at)
+on_terms most P g t b at fits h =
+    subst (λ (u : Terms). P (Talking u b at)) (sym fits.0) (subst (λ (u : Terms). P (Talking (sent_on most g) u at)) (sym fits.1) h)
 
-row_in_call : ParamsLaws → (c : Settings) (g : Agreed) (e : ℕ) (m i : List CallRequest) (a : Phase) (p : PlainPacket) → AreAgreedIn g a → Row c g (in_call e m i a) p
+row_in_call : ParamsLaws → (c : Settings) (g : Agreed) (e : ℕ) (m i : List CallRequest) (a : Phase) (p : PlainPacket) → AreAgreedIn c.longest g a → Row c g (in_call e m i a) p
 row_in_call laws c g e m i Unused p fits = row_free laws c g e m i p
 row_in_call laws c g e m i (Waiting mine) p fits = row_calling laws c g e m i mine p
 row_in_call laws c g e m i (Offered theirs) p fits = row_arriving c g e m i theirs p
 row_in_call laws c g e m i (Crossed mine) p fits = row_collision c g e m i mine p
-row_in_call laws c g e m i (Talking t b at) p fits = on_terms (λ a. Row c g (in_call e m i a) p) g t b at fits (row_in_transfer c g e m i at.epoch at.side p)
+row_in_call laws c g e m i (Talking t b at) p fits = on_terms c.longest (λ a. Row c g (in_call e m i a) p) g t b at fits (row_in_transfer c g e m i at.epoch at.side p)
 
 row_clearing : (c : Settings) (g : Agreed) (e : ℕ) (x : Connection) (p : PlainPacket) → Row c g (left e x) p
 row_clearing c g e x (clear h cause n) has q = record { next = record { agreed = g; is = refl; fits = tt }; owed = refl; quiet = tt; no_fault = (tt, tt) }
@@ -198,66 +199,66 @@ row_clearing c g e x (restart cause n) has q = absurd has
 row_clearing c g e x restart_conf has q = absurd has
 row_clearing c g e x other has q = record { next = record { agreed = g; is = refl; fits = tt }; owed = refl; quiet = tt; no_fault = tt }
 
-row_side : ParamsLaws → (c : Settings) (g : Agreed) (e : ℕ) (x : Side Connection) (p : PlainPacket) → AreAgreed g x → Row c g (record { epoch = e; side = x }) p
+row_side : ParamsLaws → (c : Settings) (g : Agreed) (e : ℕ) (x : Side Connection) (p : PlainPacket) → AreAgreed c.longest g x → Row c g (record { epoch = e; side = x }) p
 row_side laws c g e (Live x) p fits = row_in_call laws c g e x.made x.indicated x.phase p fits
 row_side laws c g e (Left x) p fits = row_clearing c g e x p
 
 -- A packet taken.
-pub follows : ParamsLaws → (c : Settings) (g : Agreed) (n : At Connection) (p : PlainPacket) → AreAgreed g n.side → HasChannel p → found (bare p) (channel_takes c.role n (bare p)).error ≡ None
-    → Follows (answers c (view g n) p) (channel_takes c.role n (bare p))
+pub follows : ParamsLaws → (c : Settings) (g : Agreed) (n : At Connection) (p : PlainPacket) → AreAgreed c.longest g n.side → HasChannel p → found (bare c.longest p) (channel_takes c.role n (bare c.longest p)).error ≡ None
+    → Follows c.longest (answers c (view g n) p) (channel_takes c.role n (bare c.longest p))
 follows laws c g n p fits has q = row_side laws c g n.epoch n.side p fits has q
 
 -- ---- calls of the user
 
-if_heeds : (b : Bool) (u v : Outcome) (f : Step Stretch Packet → Step (At Connection) Packet) (s w : Step Stretch Packet) → Heeds u (f s) → Heeds v (f w) → Heeds (if b then u else v) (f (if b then s else w))
-if_heeds true u v f s w h g = h
-if_heeds false u v f s w h g = g
+if_heeds : (most : ℕ) (b : Bool) (u v : Outcome) (f : Step Stretch Packet → Step (At Connection) Packet) (s w : Step Stretch Packet) → Heeds most u (f s) → Heeds most v (f w) → Heeds most (if b then u else v) (f (if b then s else w))
+if_heeds most true u v f s w h g = h
+if_heeds most false u v f s w h g = g
 
 -- two tests joined, and one in the other
-if_both : (a b : Bool) (u v : Outcome) (f : Step Stretch Packet → Step (At Connection) Packet) (s w : Step Stretch Packet) → Heeds u (f s) → Heeds v (f w) → Heeds (if a && b then u else v) (f (if a then (if b then s else w) else w))
-if_both true true u v f s w h g = h
-if_both true false u v f s w h g = g
-if_both false b u v f s w h g = g
+if_both : (most : ℕ) (a b : Bool) (u v : Outcome) (f : Step Stretch Packet → Step (At Connection) Packet) (s w : Step Stretch Packet) → Heeds most u (f s) → Heeds most v (f w) → Heeds most (if a && b then u else v) (f (if a then (if b then s else w) else w))
+if_both most true true u v f s w h g = h
+if_both most true false u v f s w h g = g
+if_both most false b u v f s w h g = g
 
 -- a clear or a reset goes where its cause may be given, and that is no cause of a fault
-given_heeds : (is_fault : Bool) (role : Role) (cause : ℕ) (u : Outcome) (s : Step (At Connection) Packet) → (is_fault ≡ false → Heeds u s) → Heeds (if may_give is_fault role cause then u else Refused BadParameter) s
-given_heeds true role cause u s h = tt
-given_heeds false role cause u s h = test (cause == 0 || is_of_end role cause)
+given_heeds : (most : ℕ) (is_fault : Bool) (role : Role) (cause : ℕ) (u : Outcome) (s : Step (At Connection) Packet) → (is_fault ≡ false → Heeds most u s) → Heeds most (if may_give is_fault role cause then u else Refused BadParameter) s
+given_heeds most true role cause u s h = tt
+given_heeds most false role cause u s h = test (cause == 0 || is_of_end role cause)
   where
-    test : (b : Bool) → Heeds (if b then u else Refused BadParameter) s
+    test : (b : Bool) → Heeds most (if b then u else Refused BadParameter) s
     test true = h refl
     test false = tt
 
 abbrev Asked : Settings → Agreed → At Connection → Request → Type 0
-Asked c g n request = Heeds (outcome c (view g n) request) (channel_acts n (act_of request))
+Asked c g n request = Heeds c.longest (outcome c (view g n) request) (channel_acts n (act_of c.longest request))
 
-asked_send : (c : Settings) (g : Agreed) (e : ℕ) (m i : List CallRequest) (s : ℕ) (x : Stretch) (q : Marks) (user : List ℕ) → Asked c g (in_open g e m i s x) (Sends q user)
+asked_send : (c : Settings) (g : Agreed) (e : ℕ) (m i : List CallRequest) (s : ℕ) (x : Stretch) (q : Marks) (user : List ℕ) → Asked c g (in_open c.longest g e m i s x) (Sends q user)
 asked_send c g e m i s x q user =
-    if_heeds (nat_le (length user) 65535) _ _ (λ st. channel_step g e m i s st) _ _
-    (if_heeds (nat_lt (wholes x.rest) 8) _ _ (λ st. channel_step g e m i s st) _ _ (record { next = record { agreed = g; is = refl; fits = (refl, refl) }; packet = refl; quiet = tt }) tt)
+    if_heeds c.longest (nat_le (length user) c.longest) _ _ (λ st. channel_step c.longest g e m i s st) _ _
+    (if_heeds c.longest (nat_lt (wholes x.rest) 8) _ _ (λ st. channel_step c.longest g e m i s st) _ _ (record { next = record { agreed = g; is = refl; fits = (refl, refl) }; packet = refl; quiet = tt }) tt)
     tt
 
-asked_interrupt : (c : Settings) (g : Agreed) (e : ℕ) (m i : List CallRequest) (s : ℕ) (x : Stretch) (user : List ℕ) → Asked c g (in_open g e m i s x) (Interrupts user)
+asked_interrupt : (c : Settings) (g : Agreed) (e : ℕ) (m i : List CallRequest) (s : ℕ) (x : Stretch) (user : List ℕ) → Asked c g (in_open c.longest g e m i s x) (Interrupts user)
 asked_interrupt c g e m i s x user =
-    if_both (nat_le 1 (length user)) (nat_le (length user) 32) _ _ (λ st. channel_step g e m i s st) _ _
-    (if_heeds x.int_out _ _ (λ st. channel_step g e m i s st) _ _ tt (record { next = record { agreed = g; is = refl; fits = (refl, refl) }; packet = refl; quiet = (tt, tt) }))
+    if_both c.longest (nat_le 1 (length user)) (nat_le (length user) 32) _ _ (λ st. channel_step c.longest g e m i s st) _ _
+    (if_heeds c.longest x.int_out _ _ (λ st. channel_step c.longest g e m i s st) _ _ tt (record { next = record { agreed = g; is = refl; fits = (refl, refl) }; packet = refl; quiet = (tt, tt) }))
     tt
 
-asked_open : (c : Settings) (g : Agreed) (e : ℕ) (m i : List CallRequest) (s : ℕ) (x : Stretch) (request : Request) → Asked c g (in_open g e m i s x) request
+asked_open : (c : Settings) (g : Agreed) (e : ℕ) (m i : List CallRequest) (s : ℕ) (x : Stretch) (request : Request) → Asked c g (in_open c.longest g e m i s x) request
 asked_open c g e m i s x (Calls called calling user params) = tt
 asked_open c g e m i s x (Accepts answer) = tt
-asked_open c g e m i s x (Clears cause diagnostic) = given_heeds (is_fault_of_clear cause) c.role cause _ _ (λ quiet. record { next = record { agreed = g; is = refl; fits = tt }; packet = refl; quiet = (quiet, tt) })
+asked_open c g e m i s x (Clears cause diagnostic) = given_heeds c.longest (is_fault_of_clear cause) c.role cause _ _ (λ quiet. record { next = record { agreed = g; is = refl; fits = tt }; packet = refl; quiet = (quiet, tt) })
 asked_open c g e m i s x (Sends q user) = asked_send c g e m i s x q user
 asked_open c g e m i s x (Interrupts user) = asked_interrupt c g e m i s x user
-asked_open c g e m i s x (Resets cause diagnostic) = given_heeds (is_fault_of_reset cause) c.role cause _ _ (λ quiet. record { next = record { agreed = g; is = refl; fits = (refl, refl) }; packet = refl; quiet = (quiet, tt) })
+asked_open c g e m i s x (Resets cause diagnostic) = given_heeds c.longest (is_fault_of_reset cause) c.role cause _ _ (λ quiet. record { next = record { agreed = g; is = refl; fits = (refl, refl) }; packet = refl; quiet = (quiet, tt) })
 asked_open c g e m i s x SaysReady = record { next = record { agreed = g; is = refl; fits = (refl, refl) }; packet = refl; quiet = (tt, tt) }
 asked_open c g e m i s x SaysNotReady = record { next = record { agreed = g; is = refl; fits = (refl, refl) }; packet = refl; quiet = (tt, tt) }
 
-asked_resetting : (c : Settings) (g : Agreed) (e : ℕ) (m i : List CallRequest) (s : ℕ) (x : Stretch) (request : Request) → Asked c g (in_resetting g e m i s x) request
-asked_resetting c g e m i s x (Clears cause diagnostic) = given_heeds (is_fault_of_clear cause) c.role cause _ _ (λ quiet. record { next = record { agreed = g; is = refl; fits = tt }; packet = refl; quiet = (quiet, tt) })
+asked_resetting : (c : Settings) (g : Agreed) (e : ℕ) (m i : List CallRequest) (s : ℕ) (x : Stretch) (request : Request) → Asked c g (in_resetting c.longest g e m i s x) request
+asked_resetting c g e m i s x (Clears cause diagnostic) = given_heeds c.longest (is_fault_of_clear cause) c.role cause _ _ (λ quiet. record { next = record { agreed = g; is = refl; fits = tt }; packet = refl; quiet = (quiet, tt) })
 asked_resetting c g e m i s x other = tt
 
-asked_in_transfer : (c : Settings) (g : Agreed) (e : ℕ) (m i : List CallRequest) (s : ℕ) (x : Side Stretch) (request : Request) → Asked c g (in_talk g e m i (record { epoch = s; side = x })) request
+asked_in_transfer : (c : Settings) (g : Agreed) (e : ℕ) (m i : List CallRequest) (s : ℕ) (x : Side Stretch) (request : Request) → Asked c g (in_talk c.longest g e m i (record { epoch = s; side = x })) request
 asked_in_transfer c g e m i s (Live x) request = asked_open c g e m i s x request
 asked_in_transfer c g e m i s (Left x) request = asked_resetting c g e m i s x request
 
@@ -272,11 +273,11 @@ asked_call laws c g e m i called calling user proposal = test (may_call c.long_d
     placed b = if b then nested_calls.goes (Waiting params) (m ++ request_of called calling user params ∷ []) i (Call (request_of called calling user params) ∷ []) else nested_calls.goes Unused m i []
 
     test : (b : Bool) → may_call c.long_data called calling user params ≡ b
-        → Heeds (if b then does (view g (in_call e m i Unused)) Calling params true (call_sent called calling user proposal) else Refused BadParameter)
-        (channel_acts (in_call e m i Unused) (act_of (Calls called calling user proposal)))
+        → Heeds c.longest (if b then does (view g (in_call e m i Unused)) Calling params true (call_sent called calling user proposal) else Refused BadParameter)
+        (channel_acts (in_call e m i Unused) (act_of c.longest (Calls called calling user proposal)))
     test true is =
         let allowed : may_propose params ≡ true = call_proposes c.long_data called calling user params is in
-        subst (λ (b : Bool). Does (entered (view g (in_call e m i Unused)) Calling params true) (Some (call_sent called calling user proposal)) (lifted_call e (placed b) (placed b).error)) (sym allowed)
+        subst (λ (b : Bool). Does c.longest (entered (view g (in_call e m i Unused)) Calling params true) (Some (call_sent called calling user proposal)) (lifted_call e (placed b) (placed b).error)) (sym allowed)
         (record {
           next = record { agreed = g; is = refl; fits = tt };
           packet = ap (λ (p : Params). Call (record { called = digits_of_text called; calling = digits_of_text calling; user = user; params = p }) ∷ []) (laws.said default_params proposal allowed);
@@ -289,10 +290,10 @@ asked_answer : ParamsLaws → (c : Settings) (g : Agreed) (e : ℕ) (m i : List 
 asked_answer laws c g e m i theirs answer allowed = test (may_answer theirs answer.params) refl
   where
     answered : Bool → Step Connection Packet
-    answered b = if b then nested_calls.goes (called_talk answer.params) m i (Accept (field_for theirs answer) ∷ []) else nested_calls.goes (Offered theirs) m i []
+    answered b = if b then nested_calls.goes (called_talk c.longest answer.params) m i (Accept (field_for theirs answer) c.longest ∷ []) else nested_calls.goes (Offered theirs) m i []
 
     test : (b : Bool) → may_answer theirs answer.params ≡ b
-        → Heeds (if b then does (view g (in_call e m i (Offered theirs))) Open answer.params false (accept 1 (field_for theirs answer)) else Refused BadParameter) (lifted_call e (answered b) (answered b).error)
+        → Heeds c.longest (if b then does (view g (in_call e m i (Offered theirs))) Open answer.params false (accept 1 (field_for theirs answer)) else Refused BadParameter) (lifted_call e (answered b) (answered b).error)
     test true is = record {
       next = record { agreed = record { params = answer.params; calls = false }; is = refl; fits = (refl, refl) };
       packet = refl;
@@ -300,68 +301,68 @@ asked_answer laws c g e m i theirs answer allowed = test (may_answer theirs answ
     }
     test false is = tt
 
-asked_in_call : ParamsLaws → (c : Settings) (g : Agreed) (e : ℕ) (m i : List CallRequest) (a : Phase) (request : Request) → AreAgreedIn g a → Asked c g (in_call e m i a) request
+asked_in_call : ParamsLaws → (c : Settings) (g : Agreed) (e : ℕ) (m i : List CallRequest) (a : Phase) (request : Request) → AreAgreedIn c.longest g a → Asked c g (in_call e m i a) request
 asked_in_call laws c g e m i Unused (Calls called calling user params) fits = asked_call laws c g e m i called calling user params
 asked_in_call laws c g e m i Unused other fits = tt
-asked_in_call laws c g e m i (Waiting mine) (Clears cause diagnostic) fits = given_heeds (is_fault_of_clear cause) c.role cause _ _ (λ quiet. record { next = record { agreed = g; is = refl; fits = tt }; packet = refl; quiet = (quiet, tt) })
+asked_in_call laws c g e m i (Waiting mine) (Clears cause diagnostic) fits = given_heeds c.longest (is_fault_of_clear cause) c.role cause _ _ (λ quiet. record { next = record { agreed = g; is = refl; fits = tt }; packet = refl; quiet = (quiet, tt) })
 asked_in_call laws c g e m i (Waiting mine) other fits = tt
 asked_in_call laws c g e m i (Offered theirs) (Accepts None) fits =
     record { next = record { agreed = record { params = theirs; calls = false }; is = refl; fits = (refl, refl) }; packet = refl; quiet = (no_field, tt) }
 asked_in_call laws c g e m i (Offered theirs) (Accepts (Some answer)) fits = asked_answer laws c g e m i theirs answer fits
-asked_in_call laws c g e m i (Offered theirs) (Clears cause diagnostic) fits = given_heeds (is_fault_of_clear cause) c.role cause _ _ (λ quiet. record { next = record { agreed = g; is = refl; fits = tt }; packet = refl; quiet = (quiet, tt) })
+asked_in_call laws c g e m i (Offered theirs) (Clears cause diagnostic) fits = given_heeds c.longest (is_fault_of_clear cause) c.role cause _ _ (λ quiet. record { next = record { agreed = g; is = refl; fits = tt }; packet = refl; quiet = (quiet, tt) })
 asked_in_call laws c g e m i (Offered theirs) other fits = tt
-asked_in_call laws c g e m i (Crossed mine) (Clears cause diagnostic) fits = given_heeds (is_fault_of_clear cause) c.role cause _ _ (λ quiet. record { next = record { agreed = g; is = refl; fits = tt }; packet = refl; quiet = (quiet, tt) })
+asked_in_call laws c g e m i (Crossed mine) (Clears cause diagnostic) fits = given_heeds c.longest (is_fault_of_clear cause) c.role cause _ _ (λ quiet. record { next = record { agreed = g; is = refl; fits = tt }; packet = refl; quiet = (quiet, tt) })
 asked_in_call laws c g e m i (Crossed mine) other fits = tt
-asked_in_call laws c g e m i (Talking t b at) request fits = on_terms (λ a. Asked c g (in_call e m i a) request) g t b at fits (asked_in_transfer c g e m i at.epoch at.side request)
+asked_in_call laws c g e m i (Talking t b at) request fits = on_terms c.longest (λ a. Asked c g (in_call e m i a) request) g t b at fits (asked_in_transfer c g e m i at.epoch at.side request)
 
-asked_side : ParamsLaws → (c : Settings) (g : Agreed) (e : ℕ) (x : Side Connection) (request : Request) → AreAgreed g x → Asked c g (record { epoch = e; side = x }) request
+asked_side : ParamsLaws → (c : Settings) (g : Agreed) (e : ℕ) (x : Side Connection) (request : Request) → AreAgreed c.longest g x → Asked c g (record { epoch = e; side = x }) request
 asked_side laws c g e (Live x) request fits = asked_in_call laws c g e x.made x.indicated x.phase request fits
 asked_side laws c g e (Left x) (Accepts answer) fits = tt
 asked_side laws c g e (Left x) other fits = tt
 
-pub heeds : ParamsLaws → (c : Settings) (g : Agreed) (n : At Connection) (request : Request) → AreAgreed g n.side → Heeds (outcome c (view g n) request) (channel_acts n (act_of request))
+pub heeds : ParamsLaws → (c : Settings) (g : Agreed) (n : At Connection) (request : Request) → AreAgreed c.longest g n.side → Heeds c.longest (outcome c (view g n) request) (channel_acts n (act_of c.longest request))
 heeds laws c g n request fits = asked_side laws c g n.epoch n.side request fits
 
 -- ---- the next data packet
 
-abbrev pub DoesPull : Pulled → Step (At Connection) Packet → Type 0
-DoesPull p s = Does p.next p.packet s
+abbrev pub DoesPull : ℕ → Pulled → Step (At Connection) Packet → Type 0
+DoesPull most p s = Does most p.next p.packet s
 
-if_pulled : (a b : Bool) (u v : Pulled) (f : Step Stretch Packet → Step (At Connection) Packet) (s w : Step Stretch Packet) → DoesPull u (f s) → DoesPull v (f w) → DoesPull (if a && b then u else v) (f (if a then (if b then s else w) else w))
-if_pulled true true u v f s w h g = h
-if_pulled true false u v f s w h g = g
-if_pulled false b u v f s w h g = g
+if_pulled : (most : ℕ) (a b : Bool) (u v : Pulled) (f : Step Stretch Packet → Step (At Connection) Packet) (s w : Step Stretch Packet) → DoesPull most u (f s) → DoesPull most v (f w) → DoesPull most (if a && b then u else v) (f (if a then (if b then s else w) else w))
+if_pulled most true true u v f s w h g = h
+if_pulled most true false u v f s w h g = g
+if_pulled most false b u v f s w h g = g
 
-bare_data : (ps pr : ℕ) (p : Piece) → bare_if (Some (data_packet ps pr p)) ≡ Data ps pr p ∷ []
-bare_data ps pr (More q user) = refl
-bare_data ps pr (Last q user) = refl
+bare_data : (most : ℕ) (ps pr : ℕ) (p : Piece) → bare_if most (Some (data_packet ps pr p)) ≡ Data ps pr p ∷ []
+bare_data most ps pr (More q user) = refl
+bare_data most ps pr (Last q user) = refl
 
 quiet_data : (ps pr : ℕ) (p : Piece) → IsQuietIf (Some (data_packet ps pr p))
 quiet_data ps pr (More q user) = (tt, tt)
 quiet_data ps pr (Last q user) = (tt, tt)
 
 abbrev PullsAs : Settings → Agreed → At Connection → Type 0
-PullsAs c g n = DoesPull (pulled c (view g n)) (channel_acts n pull_act)
+PullsAs c g n = DoesPull c.longest (pulled c (view g n)) (channel_acts n pull_act)
 
 pulls_open : (c : Settings) (g : Agreed) (e : ℕ) (m i : List CallRequest) (s : ℕ) (x : Stretch) (rest : List Piece)
-    → DoesPull (pull_open c (view g (in_open g e m i s x)) (talk_of x) rest) (channel_step g e m i s (pulls (sent_on g) x rest))
+    → DoesPull c.longest (pull_open c (view g (in_open c.longest g e m i s x)) (talk_of x) rest) (channel_step c.longest g e m i s (pulls (sent_on c.longest g) x rest))
 pulls_open c g e m i s x [] = record { next = record { agreed = g; is = refl; fits = (refl, refl) }; packet = refl; quiet = tt }
 pulls_open c g e m i s x (p ∷ ps) =
-    if_pulled x.peer_ready (nat_lt (length x.sent) (x.acked + (sent_on g).window)) _ _ (λ st. channel_step g e m i s st) _ _
-    (record { next = record { agreed = g; is = refl; fits = (refl, refl) }; packet = bare_data (length x.sent % 8) (length x.taken % 8) p; quiet = quiet_data (length x.sent % 8) (length x.taken % 8) p })
+    if_pulled c.longest x.peer_ready (nat_lt (length x.sent) (x.acked + (sent_on c.longest g).window)) _ _ (λ st. channel_step c.longest g e m i s st) _ _
+    (record { next = record { agreed = g; is = refl; fits = (refl, refl) }; packet = bare_data c.longest (length x.sent % 8) (length x.taken % 8) p; quiet = quiet_data (length x.sent % 8) (length x.taken % 8) p })
     (record { next = record { agreed = g; is = refl; fits = (refl, refl) }; packet = refl; quiet = tt })
 
-pulls_in_transfer : (c : Settings) (g : Agreed) (e : ℕ) (m i : List CallRequest) (s : ℕ) (x : Side Stretch) → PullsAs c g (in_talk g e m i (record { epoch = s; side = x }))
+pulls_in_transfer : (c : Settings) (g : Agreed) (e : ℕ) (m i : List CallRequest) (s : ℕ) (x : Side Stretch) → PullsAs c g (in_talk c.longest g e m i (record { epoch = s; side = x }))
 pulls_in_transfer c g e m i s (Live x) = pulls_open c g e m i s x x.rest
 pulls_in_transfer c g e m i s (Left x) = record { next = record { agreed = g; is = refl; fits = (refl, refl) }; packet = refl; quiet = tt }
 
-pulls_in_call : (c : Settings) (g : Agreed) (e : ℕ) (m i : List CallRequest) (a : Phase) → AreAgreedIn g a → PullsAs c g (in_call e m i a)
-pulls_in_call c g e m i (Talking t b at) fits = on_terms (λ a. PullsAs c g (in_call e m i a)) g t b at fits (pulls_in_transfer c g e m i at.epoch at.side)
+pulls_in_call : (c : Settings) (g : Agreed) (e : ℕ) (m i : List CallRequest) (a : Phase) → AreAgreedIn c.longest g a → PullsAs c g (in_call e m i a)
+pulls_in_call c g e m i (Talking t b at) fits = on_terms c.longest (λ a. PullsAs c g (in_call e m i a)) g t b at fits (pulls_in_transfer c g e m i at.epoch at.side)
 pulls_in_call c g e m i other fits = record { next = record { agreed = g; is = refl; fits = fits }; packet = refl; quiet = tt }
 
-pub pulls_as : (c : Settings) (g : Agreed) (n : At Connection) → AreAgreed g n.side → PullsAs c g n
+pub pulls_as : (c : Settings) (g : Agreed) (n : At Connection) → AreAgreed c.longest g n.side → PullsAs c g n
 pulls_as c g n fits = side n.epoch n.side fits
   where
-    side : (e : ℕ) (x : Side Connection) → AreAgreed g x → PullsAs c g (record { epoch = e; side = x })
+    side : (e : ℕ) (x : Side Connection) → AreAgreed c.longest g x → PullsAs c g (record { epoch = e; side = x })
     side e (Live x) fits = pulls_in_call c g e x.made x.indicated x.phase fits
     side e (Left x) fits = record { next = record { agreed = g; is = refl; fits = tt }; packet = refl; quiet = tt }

@@ -5,7 +5,7 @@ use Rattle.std.proofs.lemmas.Bool.{true≢false}
 use Rattle.x25_bits.specs.declared.role.Role.TheVariants.{Dte, Dce}
 use Rattle.x25_packet.specs.Packet.{PlainPacket}
 use Rattle.x25_circuit.specs.Message.{wholes}
-use Rattle.x25_circuit.specs.Params.{Terms}
+use Rattle.x25_handshakes.specs.laws.Terms.{Terms}
 use Rattle.x25_circuit.specs.Circuit.{Circuit, is_open, waits}
 use Rattle.x25_handshakes.specs.laws.Handshake.{Side, Live, Left, has_left, At, state_of}
 use Rattle.x25_handshakes.specs.laws.Stretch.{Stretch}
@@ -49,11 +49,11 @@ closed_view a x closed = side x.epoch x.side closed
     side e (Live c) is = phase e c c.phase is
     side e (Left c) is = refl
 
-closed_end : (e : End) (s : Side (At Channels)) (k : ℕ) → SeesEnd e s → is_open (e.layer.circuits k) ≡ false → waits (e.layer.circuits k) ≡ 0
-closed_end e (Left z) k sees closed = ap (λ (l : Layer). waits (l.circuits k)) sees.1
-closed_end e (Live z) k sees closed = at z.side (sees.1.circuits k)
+closed_end : (most : ℕ) (e : End) (s : Side (At Channels)) (k : ℕ) → SeesEnd most e s → is_open (e.layer.circuits k) ≡ false → waits (e.layer.circuits k) ≡ 0
+closed_end most e (Left z) k sees closed = ap (λ (l : Layer). waits (l.circuits k)) sees.1
+closed_end most e (Live z) k sees closed = at z.side (sees.1.circuits k)
   where
-    at : (y : Side Channels) → ShowsAt y k (e.layer.circuits k) → waits (e.layer.circuits k) ≡ 0
+    at : (y : Side Channels) → ShowsAt most y k (e.layer.circuits k) → waits (e.layer.circuits k) ≡ 0
     at (Left x) shows = ap waits shows
     at (Live x) shows = ap waits shows.is ∙ closed_view shows.agreed (x k) (sym (ap is_open shows.is) ∙ closed)
 
@@ -62,13 +62,13 @@ always_closed p long_data channels es =
     let w : TwoLayers = run long_data channels es (start long_data channels) in
     let h : InRun channels w = in_run p long_data channels es in
     let j : Pair = pair_run h.events pair_start in
-    record { near = λ k closed. closed_end w.near j.near k h.sees.near closed; far = λ k closed. closed_end w.far j.far k h.sees.far closed }
+    record { near = λ k closed. closed_end channels.message w.near j.near k h.sees.near closed; far = λ k closed. closed_end channels.message w.far j.far k h.sees.far closed }
 
-restarting_end : (e : End) (s : Side (At Channels)) → SeesEnd e s → e.layer.restarting ≡ true → (k : ℕ) → is_open (e.layer.circuits k) ≡ false
-restarting_end e (Left z) sees restarts k = absurd (true≢false (sym restarts ∙ ap (λ (l : Layer). l.restarting) sees.1))
-restarting_end e (Live z) sees restarts k = at z.side sees.1.restarting (sees.1.circuits k)
+restarting_end : (most : ℕ) (e : End) (s : Side (At Channels)) → SeesEnd most e s → e.layer.restarting ≡ true → (k : ℕ) → is_open (e.layer.circuits k) ≡ false
+restarting_end most e (Left z) sees restarts k = absurd (true≢false (sym restarts ∙ ap (λ (l : Layer). l.restarting) sees.1))
+restarting_end most e (Live z) sees restarts k = at z.side sees.1.restarting (sees.1.circuits k)
   where
-    at : (y : Side Channels) → e.layer.restarting ≡ has_left y → ShowsAt y k (e.layer.circuits k) → is_open (e.layer.circuits k) ≡ false
+    at : (y : Side Channels) → e.layer.restarting ≡ has_left y → ShowsAt most y k (e.layer.circuits k) → is_open (e.layer.circuits k) ≡ false
     at (Left x) same shows = ap is_open shows
     at (Live x) same shows = absurd (true≢false (sym restarts ∙ same))
 
@@ -77,7 +77,7 @@ always_shut p long_data channels es =
     let w : TwoLayers = run long_data channels es (start long_data channels) in
     let h : InRun channels w = in_run p long_data channels es in
     let j : Pair = pair_run h.events pair_start in
-    record { near = restarting_end w.near j.near h.sees.near; far = restarting_end w.far j.far h.sees.far }
+    record { near = restarting_end channels.message w.near j.near h.sees.near; far = restarting_end channels.message w.far j.far h.sees.far }
 
 -- ---- a stretch that is open, as the circuit shows it
 
@@ -109,11 +109,11 @@ record OpenShown (e : End) (s : Side (At Channels)) (k : ℕ) (y : Stretch) : Ty
   ready : (e.layer.circuits k).talk.own_ready ≡ y.own_ready
   named : name_of e.layer k ≡ name_at messages (state_of s) k
 
-open_shown : (e : End) (s : Side (At Channels)) (k : ℕ) (y : Stretch) → SeesEnd e s → open_at s k ≡ Some y → OpenShown e s k y
-open_shown e (Left z) k y sees none = absurd (none-some y none)
-open_shown e (Live z) k y sees is = at z.epoch z.side sees.1.restarts (sees.1.circuits k) is
+open_shown : (most : ℕ) (e : End) (s : Side (At Channels)) (k : ℕ) (y : Stretch) → SeesEnd most e s → open_at s k ≡ Some y → OpenShown e s k y
+open_shown most e (Left z) k y sees none = absurd (none-some y none)
+open_shown most e (Live z) k y sees is = at z.epoch z.side sees.1.restarts (sees.1.circuits k) is
   where
-    at : (epoch : ℕ) (x : Side Channels) → e.layer.restarts ≡ epoch → ShowsAt x k (e.layer.circuits k) → open_at (Live (record { epoch = epoch; side = x })) k ≡ Some y
+    at : (epoch : ℕ) (x : Side Channels) → e.layer.restarts ≡ epoch → ShowsAt most x k (e.layer.circuits k) → open_at (Live (record { epoch = epoch; side = x })) k ≡ Some y
         → OpenShown e (Live (record { epoch = epoch; side = x })) k y
     at epoch (Left x) same shows none = absurd (none-some y none)
     at epoch (Live x) same shows opened =
@@ -126,26 +126,26 @@ open_shown e (Live z) k y sees is = at z.epoch z.side sees.1.restarts (sees.1.ci
 
 -- ---- an end that is up, for which a pull gives nothing
 
-seen_up : (e : End) (s : Side (At Channels)) → SeesEnd e s → e.is_out ≡ false → is_up s ≡ true
-seen_up e (Live z) sees up = refl
-seen_up e (Left z) sees up = absurd (true≢false (sym sees.0 ∙ up))
+seen_up : (most : ℕ) (e : End) (s : Side (At Channels)) → SeesEnd most e s → e.is_out ≡ false → is_up s ≡ true
+seen_up most e (Live z) sees up = refl
+seen_up most e (Left z) sees up = absurd (true≢false (sym sees.0 ∙ up))
 
-seen_none : (c : LayerSettings) (e : End) (s : Side (At Channels)) (k : ℕ) → SeesEnd e s → is_channel c.channels k ≡ true → (layer_pulled c e.layer k).packet ≡ None → pulled_at s k ≡ []
+seen_none : (c : LayerSettings) (e : End) (s : Side (At Channels)) (k : ℕ) → SeesEnd c.circuit.longest e s → is_channel c.channels k ≡ true → (layer_pulled c e.layer k).packet ≡ None → pulled_at s k ≡ []
 seen_none c e (Left z) k sees there none = refl
-seen_none c e (Live z) k sees there none = sym (layer_pulls c e.layer z k there sees.1).put ∙ ap (λ (o : Option PlainPacket). bare_layers (option_to_list o)) none
+seen_none c e (Live z) k sees there none = sym (layer_pulls c e.layer z k there sees.1).put ∙ ap (λ (o : Option PlainPacket). bare_layers c.circuit.longest (option_to_list o)) none
 
 -- the law of one end, where the giver's stretches are known as the handshakes say
-waits_for : (c : LayerSettings) (e f : End) (s u : Side (At Channels)) (k : ℕ) → SeesEnd e s → SeesEnd f u → ((x : Stretch) → open_at s k ≡ Some x → IsOpenThere k s u x)
+waits_for : (c : LayerSettings) (e f : End) (s u : Side (At Channels)) (k : ℕ) → SeesEnd c.circuit.longest e s → SeesEnd c.circuit.longest f u → ((x : Stretch) → open_at s k ≡ Some x → IsOpenThere k s u x)
     → (IsIdleTo k e f (length e.given) → HasAllOf k (name_of e.layer k) e.entries f.entries) → length e.given ≤ length f.taken
     → is_channel c.channels k ≡ true → (layer_pulled c e.layer k).packet ≡ None → WaitsForUser k e f
 waits_for c e f s u k sees there known arrives taken is none = by (is_open (e.layer.circuits k)) refl
   where
     by : (b : Bool) → is_open (e.layer.circuits k) ≡ b → WaitsForUser k e f
-    by false closed = NotOpen closed (closed_end e s k sees closed)
+    by false closed = NotOpen closed (closed_end c.circuit.longest e s k sees closed)
     by true opened =
-        let o : OpenEnd e s k = open_end e s k sees opened in
+        let o : OpenEnd e s k = open_end c.circuit.longest e s k sees opened in
         let t : IsOpenThere k s u o.stretch = known o.stretch o.opened in
-        let p : OpenShown f u k t.stretch = open_shown f u k t.stretch there t.opened in
+        let p : OpenShown f u k t.stretch = open_shown c.circuit.longest f u k t.stretch there t.opened in
         let both : IsOpenAtBoth k e f = record { opened = opened; opened_there = p.opened; same_name = o.named ∙ t.same_name ∙ sym p.named } in
         held both o p (t.waits (seen_none c e s k sees is none))
       where
@@ -170,9 +170,9 @@ always_waits p known long_data channels es =
     let arrives = always_arrives p long_data channels es in
     record {
       near = λ drained none k is. waits_for (settings_of Dte long_data channels) w.near w.far j.near j.far k h.sees.near h.sees.far
-          (λ x opened. (known h.events k x (sym h.sees.out ∙ ap bare_layers drained.out) (sym h.sees.back ∙ ap bare_layers drained.back)).0 (seen_up w.far j.far h.sees.far drained.far_up) opened)
+          (λ x opened. (known h.events k x (sym h.sees.out ∙ ap (bare_layers channels.message) drained.out) (sym h.sees.back ∙ ap (bare_layers channels.message) drained.back)).0 (seen_up channels.message w.far j.far h.sees.far drained.far_up) opened)
           (λ idle. arrives.near k (length w.near.given) idle) (all_taken w.near.given w.far.taken w.out h.sees.order.near drained.out) is (none k is);
       far = λ drained none k is. waits_for (settings_of Dce long_data channels) w.far w.near j.far j.near k h.sees.far h.sees.near
-          (λ x opened. (known h.events k x (sym h.sees.out ∙ ap bare_layers drained.out) (sym h.sees.back ∙ ap bare_layers drained.back)).1 (seen_up w.near j.near h.sees.near drained.near_up) opened)
+          (λ x opened. (known h.events k x (sym h.sees.out ∙ ap (bare_layers channels.message) drained.out) (sym h.sees.back ∙ ap (bare_layers channels.message) drained.back)).1 (seen_up channels.message w.near j.near h.sees.near drained.near_up) opened)
           (λ idle. arrives.far k (length w.far.given) idle) (all_taken w.far.given w.near.taken w.back h.sees.order.far drained.back) is (none k is);
     }

@@ -1,4 +1,4 @@
--- The ranges of logical channels, by who calls on them (Annex A).
+-- The ranges of logical channels, by who calls on them (Annex A), and the most octets of a message on them (profile).
 use Rattle.std.specs.Prelude.{ℕ, ◌+◌, Bool, nat_le, nat_lt, ◌&&◌}
 use Rattle.x25_bits.specs.declared.role.Role.{Role}
 use Rattle.x25_bits.specs.declared.role.Role.TheVariants.{Dte, Dce}
@@ -18,8 +18,9 @@ may_call Dte channels h = nat_lt channels.incoming h
 may_call Dce channels h = nat_le (h + channels.outgoing) channels.count
 
 abbrev pub two_way : ℕ → Ranges
-two_way count = record { count = count; incoming = 0; outgoing = 0 }
+two_way count = record { count = count; incoming = 0; outgoing = 0; message = 65535 }
 
--- there are 1 to 4,095 channels, and no more are one-way than there are (profile)
+-- there are 1 to 4,095 channels, no more are one-way than there are, and a message may have an octet (profile)
 abbrev pub are_ranges : Ranges → Bool
-are_ranges channels = is_number 4095 channels.count && nat_le (channels.incoming + channels.outgoing) channels.count
+are_ranges channels = is_number 4095 channels.count
+    && (nat_le (channels.incoming + channels.outgoing) channels.count && nat_le 1 channels.message)

@@ -1,5 +1,5 @@
 //! All circuits of a layer at once.
-ghost use Rattle.std.specs.Prelude.{◌≡◌, ℕ, length, vec_capacity, IfOk, IfErr};
+ghost use Rattle.std.specs.Prelude.{◌≡◌, ◌≤◌, ℕ, length, vec_capacity, IfOk, IfErr};
 ghost use Rattle.x25_circuit.specs.Circuit.{forgotten};
 ghost use Rattle.x25_circuit.specs.Circuit.{Circuit as Channel};
 ghost use Rattle.x25_layer.specs.Layer.{LayerSettings, at_rest};
@@ -11,12 +11,13 @@ use std::alloc::Global;
 use x25_bits::Role;
 use x25_circuit::Circuit;
 
-/// So many circuits that were never used.
+/// So many circuits that were never used, of messages of so many octets at most.
 pub(crate) fn begun_circuits(
     alloc: Global,
     role: Role,
     channels: usize,
     long_data: bool,
+    longest: u16,
 ) -> Result<Vec<Circuit>, LayerError>
     ensures fits { IfOk result (λ v. FitsCircuits
         (record {
@@ -24,17 +25,19 @@ pub(crate) fn begun_circuits(
           circuit = record {
             role = role;
             long_data = long_data;
+            longest = longest;
           };
         }) v.items at_rest.circuits) }
     ensures count { IfOk result (λ v. length v.items ≡ channels) }
     ensures places { IfOk result (λ v. vec_capacity v ≡ channels) }
+    ensures message { longest ≤ 65535 }
     ensures err { IfErr result (λ e. e ≡ LayerError.NoMemory) }
 {
     let Ok(mut circuits) = Vec::with_capacity(alloc, channels) else {
         return Err(LayerError::NoMemory);
     };
     for _ in 0..channels {
-        let Ok(circuit) = Circuit::with(alloc, role, long_data) else {
+        let Ok(circuit) = Circuit::with(alloc, role, long_data, longest) else {
             return Err(LayerError::NoMemory);
         };
         circuits.push_reserved(circuit);

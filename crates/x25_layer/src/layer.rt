@@ -66,7 +66,8 @@ impl Layer {
     /// The layer of an end whose link isn't up, with these channels. With `long_data` a call has at most 128 octets of
     /// user data (profile), else at most 16. Both are the same at both ends.
     ///
-    /// 14 BadConfig where there aren't 1 to 4,095 channels, or more are one-way than there are, and else 70 alone.
+    /// 14 BadConfig where there aren't 1 to 4,095 channels, more are one-way than there are, or no message has an
+    /// octet, and else 70 alone.
     pub fn with(
         alloc: Global,
         role: Role,
@@ -74,7 +75,14 @@ impl Layer {
         long_data: bool,
     ) -> Result<Layer, LayerError>
         ensures fits { IfOk result (λ v. FitsLayer
-            (record { channels = channels; circuit = record { role = role; long_data = long_data } }) v at_rest) }
+            (record {
+              channels = channels;
+              circuit = record {
+                role = role;
+                long_data = long_data;
+                longest = channels.message;
+              };
+            }) v at_rest) }
         ensures config { IsErrOf result LayerError.BadConfig ↔ (are_ranges channels ≡ false) }
         ensures memory { are_ranges channels ≡ true → IfErr result (λ e. e ≡ LayerError.NoMemory) }
     {
@@ -83,7 +91,7 @@ impl Layer {
         }
         let count = usize::from(channels.count);
         let mut busy = Busy::with(alloc, count)?;
-        let circuits = begun_circuits(alloc, role, count, long_data)?;
+        let circuits = begun_circuits(alloc, role, count, long_data, channels.message)?;
         busy.note_all(&circuits);
         let Ok(sheet) = Sheet::new(alloc) else {
             return Err(LayerError::NoMemory);

@@ -236,6 +236,7 @@ fn refusal(alloc: Global, count: u16, incoming: u16, outgoing: u16) -> Option<La
         count,
         incoming,
         outgoing,
+        message: 65_535,
     };
     layer_with(alloc, Role::Dte, channels).err()
 }

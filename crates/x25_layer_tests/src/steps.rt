@@ -454,6 +454,7 @@ fn called_in_ranges(alloc: Global, role: Role) -> Option<FourCalls> {
         count: 4,
         incoming: 2,
         outgoing: 1,
+        message: 65_535,
     };
     let mut layer = layer_with(alloc, role, channels).ok()?;
     let (_, first) = call(&mut layer, UP, ("1", "2"), &[]);

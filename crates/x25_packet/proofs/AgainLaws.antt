@@ -5,13 +5,13 @@ use Rattle.std.proofs.lemmas.Bool.{le-leb, le-ltb, ne_eqb}
 use Rattle.std.proofs.lemmas.List.{take_at, drop_at}
 use Rattle.x25_bits.specs.Bits.{bit}
 use Rattle.x25_packet.specs.declared.facilities.Facilities.{Facilities}
-use Rattle.x25_packet.specs.declared.wide_packet.Forms.{Forms}
-use Rattle.x25_packet.specs.declared.wide_packet.Forms.TheVariants.{Written, Any}
+use Rattle.x25_packet.specs.declared.form.Forms.{Forms}
+use Rattle.x25_packet.specs.declared.form.Forms.TheVariants.{Written, Any}
 use Rattle.x25_packet.specs.Block.{PlainFields, PlainBlock, fields_octets, block_octets, optional_octets, IsField, MayBeFields, IsBlock, MayBeBlock}
 use Rattle.x25_packet.specs.Facilities.{facilities_of}
-use Rattle.x25_packet.specs.WidePacket.{PlainKind, PlainWide, call, accept, clear, extended_clear, clear_conf, user_data, rr, rnr, rej, interrupt, interrupt_conf, reset, reset_conf, restart, restart_conf, diagnostic, registration, registration_conf}
-use Rattle.x25_packet.specs.WidePacket.Spelling.{type_of, body_of, spelling_of, first_of, reason_octets, may_have, HasFacilities, HasPlace, IsAnswer, IsCall, IsCleared, IsShort, IsKind, IsPacket, MayLack, Spells}
-use Rattle.x25_packet.specs.WideReading.{when, mapped, is_over, field_read, fields_of, with_addresses, addressed, block_of, optional_block, is_short, called, call_of, written_answer, accept_of, reason_of, caused, clear_of, clear_conf_of, interrupt_of, unchannelled, channelled, kind_of, with_head, read_of}
+use Rattle.x25_packet.specs.Form.{PlainKind, PlainForm, call, accept, clear, extended_clear, clear_conf, user_data, rr, rnr, rej, interrupt, interrupt_conf, reset, reset_conf, restart, restart_conf, diagnostic, registration, registration_conf}
+use Rattle.x25_packet.specs.Form.Spelling.{type_of, body_of, spelling_of, first_of, reason_octets, may_have, HasFacilities, HasPlace, IsAnswer, IsCall, IsCleared, IsShort, IsKind, IsPacket, MayLack, Spells}
+use Rattle.x25_packet.specs.Grammar.{when, mapped, is_over, field_read, fields_of, with_addresses, addressed, block_of, optional_block, is_short, called, call_of, written_answer, accept_of, reason_of, caused, clear_of, clear_conf_of, interrupt_of, unchannelled, channelled, kind_of, with_head, read_of}
 use Rattle.x25_packet.proofs.FacilityLaws.{facilities_again}
 use Rattle.x25_packet.proofs.FacilityLemmas.{field_again}
 
@@ -205,13 +205,13 @@ kind_again Any a d most channel (registration_conf octets) place marks h = off A
 -- ---- the whole packet
 
 -- the bits of the first octet
-record FirstIs (w : PlainWide) : Type 0 where
+record FirstIs (w : PlainForm) : Type 0 where
   pub modulo : first_of w / 16 % 4 ≡ 1
   pub bit_8 : nat_eq (first_of w / 128) 1 ≡ w.bit_8
   pub d : nat_eq (first_of w / 64 % 2) 1 ≡ w.d
   pub channel : first_of w % 16 * 256 + w.channel % 256 ≡ w.channel
 
-first_again : (w : PlainWide) → w.channel ≤ 4095 → FirstIs w
+first_again : (w : PlainForm) → w.channel ≤ 4095 → FirstIs w
 first_again w few =
     let q = bit_lt w.bit_8 in
     let d = bit_lt w.d in
@@ -224,12 +224,12 @@ first_again w few =
       channel = omega arith;
     }
 
-pub read_again : (forms : Forms) (most : ℕ) (w : PlainWide) → IsPacket forms most w → read_of forms most (spelling_of w) ≡ Ok w
+pub read_again : (forms : Forms) (most : ℕ) (w : PlainForm) → IsPacket forms most w → read_of forms most (spelling_of w) ≡ Ok w
 unfolding read_of
 read_again forms most w h =
     let first = first_again w h.channel in
     rw (first.modulo, first.bit_8, first.d, h.marks, first.channel)
     (ap (with_head w.channel w.bit_8 w.d) (kind_again forms w.bit_8 w.d most w.channel w.kind h.place h.marks h.kind))
 
-pub only_found : (forms : Forms) (most : ℕ) (octets : List ℕ) (w : PlainWide) → Spells forms most w octets → read_of forms most octets ≡ Ok w
+pub only_found : (forms : Forms) (most : ℕ) (octets : List ℕ) (w : PlainForm) → Spells forms most w octets → read_of forms most octets ≡ Ok w
 only_found forms most octets w spells = ap (read_of forms most) spells.spelling ∙ read_again forms most w spells.packet

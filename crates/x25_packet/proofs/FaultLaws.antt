@@ -6,7 +6,7 @@ use Rattle.std.proofs.lemmas.List.{take-append-drop, length-take-le}
 use Rattle.x25_packet.specs.declared.error.PacketError.{PacketError}
 use Rattle.x25_packet.specs.declared.error.PacketError.TheVariants.{Unidentified}
 use Rattle.x25_packet.specs.declared.facilities.Facilities.{Facilities}
-use Rattle.x25_packet.specs.declared.wide_packet.Forms.TheVariants.{Written}
+use Rattle.x25_packet.specs.declared.form.Forms.TheVariants.{Written}
 use Rattle.x25_packet.specs.Digits.{halves_of, hold_digits}
 use Rattle.x25_packet.specs.Reading.FirstError.{AcceptError, BehindError, CallError, FieldError, HasFormat, IsBodyError, IsFirstError, IsLengthError, digits_of}
 use Rattle.x25_packet.specs.Reading.FirstError.FieldError.{wrong_code, cut_off, out_of_range}
@@ -22,10 +22,10 @@ use Rattle.x25_packet.specs.Spelling.{channel_of, format_of, header_of, type_of,
 use Rattle.x25_packet.specs.Block.{PlainFields}
 use Rattle.x25_packet.specs.Facilities.{facilities_of}
 use Rattle.x25_packet.specs.Reading.{packet_of}
-use Rattle.x25_packet.specs.WidePacket as wide
-use Rattle.x25_packet.specs.WidePacket.{PlainKind, PlainWide}
-use Rattle.x25_packet.specs.WidePacket.Spelling.{may_have}
-use Rattle.x25_packet.specs.WideReading.{when, mapped, field_read, fields_of, with_addresses, block_of, optional_block, bare, written_answer, accept_of, reason_of, caused, clear_of, interrupt_of, data_of, unchannelled, named, channelled, kind_of, has_format, with_head, read_of}
+use Rattle.x25_packet.specs.Form as wide
+use Rattle.x25_packet.specs.Form.{PlainKind, PlainForm}
+use Rattle.x25_packet.specs.Form.Spelling.{may_have}
+use Rattle.x25_packet.specs.Grammar.{when, mapped, field_read, fields_of, with_addresses, block_of, optional_block, bare, written_answer, accept_of, reason_of, caused, clear_of, interrupt_of, data_of, unchannelled, named, channelled, kind_of, has_format, with_head, read_of}
 use Rattle.x25_packet.proofs.AgainLaws.{bit_lt}
 use Rattle.x25_packet.proofs.FieldLaws.{no_field as none_is_field}
 use Rattle.x25_packet.proofs.FoundLaws.{AreSmall, bit_eq, field_read_found, is_true}

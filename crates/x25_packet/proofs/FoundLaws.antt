@@ -6,14 +6,14 @@ use Rattle.std.proofs.lemmas.List.{take-append-drop, length-take-le}
 use Rattle.x25_packet.specs.declared.error.PacketError.{PacketError}
 use Rattle.x25_bits.specs.Bits.{bit}
 use Rattle.x25_packet.specs.declared.facilities.Facilities.{Facilities}
-use Rattle.x25_packet.specs.declared.wide_packet.Forms.{Forms}
-use Rattle.x25_packet.specs.declared.wide_packet.Forms.TheVariants.{Written, Any}
+use Rattle.x25_packet.specs.declared.form.Forms.{Forms}
+use Rattle.x25_packet.specs.declared.form.Forms.TheVariants.{Written, Any}
 use Rattle.x25_packet.specs.Block.{PlainFields, PlainBlock, fields_octets, block_octets, optional_octets, bound_of, hold_addresses, IsField, MayBeFields, IsBlock, MayBeBlock}
 use Rattle.x25_packet.specs.Facilities.{facilities_of}
-use Rattle.x25_packet.specs.WideFacilities.{are_facilities, asks_fast_select}
-use Rattle.x25_packet.specs.WidePacket.{registration, registration_conf, PlainKind, PlainWide, call, accept, extended_clear, clear_conf, rr, rnr, rej, interrupt_conf, reset, reset_conf, restart, restart_conf}
-use Rattle.x25_packet.specs.WidePacket.Spelling.{type_of, body_of, reason_octets, may_have, HasFacilities, HasPlace, IsAnswer, IsShort, IsKind, MayLack, Spells}
-use Rattle.x25_packet.specs.WideReading.{when, mapped, is_over, field_read, fields_of, with_addresses, addressed, block_of, optional_block, bare, is_short, called, call_of, written_answer, accept_of, reason_of, caused, clear_of, clear_conf_of, interrupt_of, data_of, diagnostic_of, registered, rej_of, others, unchannelled, named, channelled, kind_of, has_format, with_head, read_of}
+use Rattle.x25_packet.specs.Classes.{are_facilities, asks_fast_select}
+use Rattle.x25_packet.specs.Form.{registration, registration_conf, PlainKind, PlainForm, call, accept, extended_clear, clear_conf, rr, rnr, rej, interrupt_conf, reset, reset_conf, restart, restart_conf}
+use Rattle.x25_packet.specs.Form.Spelling.{type_of, body_of, reason_octets, may_have, HasFacilities, HasPlace, IsAnswer, IsShort, IsKind, MayLack, Spells}
+use Rattle.x25_packet.specs.Grammar.{when, mapped, is_over, field_read, fields_of, with_addresses, addressed, block_of, optional_block, bare, is_short, called, call_of, written_answer, accept_of, reason_of, caused, clear_of, clear_conf_of, interrupt_of, data_of, diagnostic_of, registered, rej_of, others, unchannelled, named, channelled, kind_of, has_format, with_head, read_of}
 use Rattle.x25_packet.proofs.FacilityLaws.{chosen, ok_err, ok_same, facilities_found}
 use Rattle.x25_packet.proofs.FieldLaws.{field_few}
 use Rattle.x25_packet.proofs.FacilityLemmas.{field_found}
@@ -392,12 +392,12 @@ kind_found forms a d most channel kind body k marks small octets e = elim (chose
 
 -- ---- the whole packet
 
-with_head_found : (channel : ℕ) (q d : Bool) (r : Result PlainKind PacketError) (w : PlainWide) → with_head channel q d r ≡ Ok w
-    → (k : PlainKind) × (r ≡ Ok k) × ((let v : PlainWide = record { channel = channel; bit_8 = q; d = d; kind = k } in v) ≡ w)
+with_head_found : (channel : ℕ) (q d : Bool) (r : Result PlainKind PacketError) (w : PlainForm) → with_head channel q d r ≡ Ok w
+    → (k : PlainKind) × (r ≡ Ok k) × ((let v : PlainForm = record { channel = channel; bit_8 = q; d = d; kind = k } in v) ≡ w)
 with_head_found channel q d (Ok k) w e = (k, refl, ok_same e)
 with_head_found channel q d (Err x) w e = absurd (ok_err e)
 
-pub found_spells : (forms : Forms) (most : ℕ) (octets : List ℕ) (w : PlainWide) → AreSmall octets → read_of forms most octets ≡ Ok w → Spells forms most w octets
+pub found_spells : (forms : Forms) (most : ℕ) (octets : List ℕ) (w : PlainForm) → AreSmall octets → read_of forms most octets ≡ Ok w → Spells forms most w octets
 unfolding read_of
 found_spells forms most [] w small e = absurd (ok_err e)
 found_spells forms most (first ∷ []) w small e = absurd (ok_err e)

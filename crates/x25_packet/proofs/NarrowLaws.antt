@@ -4,8 +4,8 @@ use Rattle.std.proofs.lemmas.Bool.{and_parts, eqb-true}
 use Rattle.x25_bits.specs.Bits.{bit}
 use Rattle.x25_packet.specs.declared.error.PacketError.{PacketError}
 use Rattle.x25_packet.specs.declared.marks.Marks.{Marks}
-use Rattle.x25_packet.specs.declared.wide_packet.Forms.{Forms}
-use Rattle.x25_packet.specs.declared.wide_packet.Forms.TheVariants.{Written, Any}
+use Rattle.x25_packet.specs.declared.form.Forms.{Forms}
+use Rattle.x25_packet.specs.declared.form.Forms.TheVariants.{Written, Any}
 use Rattle.x25_packet.specs.Digits.{IsAddress, halves_at, halves_of, hold_digits, packed}
 use Rattle.x25_packet.specs.Facilities as strict_field
 use Rattle.x25_packet.specs.Packet as strict
@@ -13,9 +13,9 @@ use Rattle.x25_packet.specs.Reading.{packet_of}
 use Rattle.x25_packet.specs.Spelling as strict_spelling
 use Rattle.x25_packet.specs.Block.{PlainBlock, PlainFields, IsBlock}
 use Rattle.x25_packet.specs.Narrowing.{narrow_of, narrowed, taken_of}
-use Rattle.x25_packet.specs.WidePacket.{PlainKind, PlainWide, call, accept, clear, extended_clear, clear_conf, user_data, rr, rnr, rej, interrupt, interrupt_conf, reset, reset_conf, restart, restart_conf, diagnostic, registration, registration_conf}
-use Rattle.x25_packet.specs.WidePacket.Spelling.{spelling_of, type_of, may_have, HasFacilities, HasPlace, IsAnswer, IsKind, IsPacket, Spells}
-use Rattle.x25_packet.specs.WideReading.{read_of, wide_of}
+use Rattle.x25_packet.specs.Form.{PlainKind, PlainForm, call, accept, clear, extended_clear, clear_conf, user_data, rr, rnr, rej, interrupt, interrupt_conf, reset, reset_conf, restart, restart_conf, diagnostic, registration, registration_conf}
+use Rattle.x25_packet.specs.Form.Spelling.{spelling_of, type_of, may_have, HasFacilities, HasPlace, IsAnswer, IsKind, IsPacket, Spells}
+use Rattle.x25_packet.specs.Grammar.{read_of, form_in}
 use Rattle.x25_packet.proofs.AddressLaws.{drop_first, address_at, block_packed, block_when, called_again, calling_again, length-halves_at, length-pairs, packed_holds}
 use Rattle.x25_packet.proofs.AgainLaws.{read_again}
 use Rattle.x25_packet.proofs.FacilityLaws.{ok_err, ok_same}
@@ -25,12 +25,12 @@ use Rattle.x25_packet.proofs.WiderLaws.{no_d, taken_wider}
 
 -- ---- a packet that a station writes is spelled in its form
 
-abbrev headed : ℕ → Bool → PlainKind → PlainWide
+abbrev headed : ℕ → Bool → PlainKind → PlainForm
 headed channel q kind = record { channel = channel; bit_8 = q; d = false; kind = kind }
 
 -- the octets of v spell w, which is taken for v
 record Taken (forms : Forms) (most : ℕ) (v : strict.PlainPacket) : Type 0 where
-  pub wide : PlainWide
+  pub wide : PlainForm
   pub packet : IsPacket forms most wide
   pub spelling : strict_spelling.spelling_of v ≡ spelling_of wide
   pub taken : narrow_of wide ≡ Ok v
@@ -196,14 +196,14 @@ appended_again most v before after h plain e =
 -- ---- it is one of any form
 
 -- the octets of a packet in its ranges, of data with D too, are taken for it
-pub spelled_taken : (most : ℕ) (v : strict.PlainPacket) → strict_spelling.IsInRange most v → taken_of (wide_of most (strict_spelling.spelling_of v)) ≡ Ok v
+pub spelled_taken : (most : ℕ) (v : strict.PlainPacket) → strict_spelling.IsInRange most v → taken_of (form_in most (strict_spelling.spelling_of v)) ≡ Ok v
 spelled_taken most (strict.user_data channel marks m ps pr user) h =
     taken_as Any most (strict.user_data channel marks m ps pr user) (data_taken Any most channel marks m ps pr user (any_marks marks.q marks.d m ps pr) h.0 h.1 h.2 h.3)
 spelled_taken most v h = taken_wider most v (strict_spelling.spelling_of v) (written_again most v h tt)
 
 -- ---- what is read in the form that a station writes is taken for a packet that is spelled so
 
-record Narrowed (most : ℕ) (w : PlainWide) : Type 0 where
+record Narrowed (most : ℕ) (w : PlainForm) : Type 0 where
   pub v : strict.PlainPacket
   pub taken : narrow_of w ≡ Ok v
   pub in_range : strict_spelling.IsInRange most v
@@ -317,14 +317,14 @@ kind_narrowed most channel a d (registration octets) few place marks h = absurd 
 kind_narrowed most channel a d (registration_conf octets) few place marks h = absurd h
 
 module _ (most : ℕ) (octets : List ℕ) (small : AreSmall octets) where
-  narrowed_of : (w : PlainWide) → Spells Written most w octets → Narrowed most w
+  narrowed_of : (w : PlainForm) → Spells Written most w octets → Narrowed most w
   narrowed_of w spells = kind_narrowed most w.channel w.bit_8 w.d w.kind spells.packet.channel spells.packet.place spells.packet.marks spells.packet.kind
 
   -- what is read is spelled so
   pub found_written : (v : strict.PlainPacket) → packet_of most octets ≡ Ok v → strict_spelling.Spells most v octets
   found_written v e = by (read_of Written most octets) refl e
     where
-      by : (r : Result PlainWide PacketError) → read_of Written most octets ≡ r → taken_of r ≡ Ok v → strict_spelling.Spells most v octets
+      by : (r : Result PlainForm PacketError) → read_of Written most octets ≡ r → taken_of r ≡ Ok v → strict_spelling.Spells most v octets
       by (Err x) is h = absurd (ok_err h)
       by (Ok w) is h =
           let spells = found_spells Written most octets w small is in
@@ -336,6 +336,6 @@ module _ (most : ℕ) (octets : List ℕ) (small : AreSmall octets) where
   pub error_read : (e : PacketError) → packet_of most octets ≡ Err e → read_of Written most octets ≡ Err e
   error_read e h = by (read_of Written most octets) refl h
     where
-      by : (r : Result PlainWide PacketError) → read_of Written most octets ≡ r → taken_of r ≡ Err e → r ≡ Err e
+      by : (r : Result PlainForm PacketError) → read_of Written most octets ≡ r → taken_of r ≡ Err e → r ≡ Err e
       by (Err x) is h = cc
       by (Ok w) is h = absurd (ok_err (sym h ∙ (narrowed_of w (found_spells Written most octets w small is)).taken))

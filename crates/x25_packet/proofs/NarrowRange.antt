@@ -10,12 +10,12 @@ use Rattle.x25_packet.specs.Spelling as strict_spelling
 use Rattle.x25_packet.specs.declared.error.PacketError.{PacketError}
 use Rattle.x25_packet.specs.declared.facilities.Directions.{Directions}
 use Rattle.x25_packet.specs.Block.{AreAddresses, MayBeFields, PlainBlock, PlainFields}
-use Rattle.x25_packet.specs.WideFacilities.{none_own, own_in}
+use Rattle.x25_packet.specs.Classes.{none_own, own_in}
 use Rattle.x25_packet.specs.Narrowing.{are_within, field_in, field_said, field_taken, user_taken, called_taken, calling_taken, digits_behind, with_field}
-use Rattle.x25_packet.specs.WidePacket.{PlainKind, call, accept, clear, extended_clear, clear_conf, user_data, rr, rnr, rej, interrupt, interrupt_conf, reset, reset_conf, restart, restart_conf, diagnostic, registration, registration_conf}
-use Rattle.x25_packet.specs.WidePacket.Spelling.{HasPlace, IsKind}
-use Rattle.x25_packet.specs.declared.wide_facilities.Own.{Own}
-use Rattle.x25_packet.specs.declared.wide_packet.Forms.TheVariants.{Any}
+use Rattle.x25_packet.specs.Form.{PlainKind, call, accept, clear, extended_clear, clear_conf, user_data, rr, rnr, rej, interrupt, interrupt_conf, reset, reset_conf, restart, restart_conf, diagnostic, registration, registration_conf}
+use Rattle.x25_packet.specs.Form.Spelling.{HasPlace, IsKind}
+use Rattle.x25_packet.specs.declared.classes.Own.{Own}
+use Rattle.x25_packet.specs.declared.form.Forms.TheVariants.{Any}
 use Rattle.x25_packet.proofs.FacilityLaws.{chosen, ok_err, ok_same}
 use Rattle.x25_packet.proofs.FieldLaws.{no_field}
 

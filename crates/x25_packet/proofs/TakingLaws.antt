@@ -1,16 +1,16 @@
 -- What a station takes octets for: its channel, its user data, and the ranges of its fields.
 use Rattle.std.proofs.Common.{ℕ, zero, suc, lit≤, ◌+◌, ◌*◌, ◌/◌, ◌%◌, ◌<◌, ◌≤◌, ◌≡◌, ◌∙◌, Bool, true, false, List, [], ◌∷◌, ◌++◌, length, take, refl, ap, sym, subst, arith, All, Some, Result, Ok, Err}
 use Rattle.x25_bits.specs.Bits.{bit}
-use Rattle.x25_packet.specs.declared.wide_packet.Forms.TheVariants.{Any}
+use Rattle.x25_packet.specs.declared.form.Forms.TheVariants.{Any}
 use Rattle.x25_packet.specs.Packet as strict
 use Rattle.x25_packet.specs.Reading.{channel_in}
 use Rattle.x25_packet.specs.Spelling as strict_spelling
 use Rattle.x25_packet.specs.Spelling.{HasChannel, channel_of}
 use Rattle.x25_packet.specs.declared.error.PacketError.{PacketError}
 use Rattle.x25_packet.specs.Narrowing.{field_in, narrow_of, narrowed, taken_of, with_field}
-use Rattle.x25_packet.specs.WidePacket.{PlainKind, PlainWide, call, accept, clear, extended_clear, clear_conf, user_data, rr, rnr, rej, interrupt, interrupt_conf, reset, reset_conf, restart, restart_conf, diagnostic, registration, registration_conf}
-use Rattle.x25_packet.specs.WidePacket.Spelling.{spelling_of, body_of, Spells}
-use Rattle.x25_packet.specs.WideReading.{wide_of}
+use Rattle.x25_packet.specs.Form.{PlainKind, PlainForm, call, accept, clear, extended_clear, clear_conf, user_data, rr, rnr, rej, interrupt, interrupt_conf, reset, reset_conf, restart, restart_conf, diagnostic, registration, registration_conf}
+use Rattle.x25_packet.specs.Form.Spelling.{spelling_of, body_of, Spells}
+use Rattle.x25_packet.specs.Grammar.{form_in}
 use Rattle.x25_packet.specs.Taking.{read_in}
 use Rattle.x25_packet.specs.laws.TakingLaw.{TakesWhatIsWritten, TakesWhatIsSpelled, TakesOnItsChannel, TakesItsUserData, TakesAllBehindThree, TakesInRange}
 use Rattle.x25_packet.proofs.NarrowLaws.{spelled_taken}
@@ -25,7 +25,7 @@ takes_what_is_written true most v octets e = taken_wider most v octets e
 
 -- ---- the channel that the first two octets name
 
-wide_names : (w : PlainWide) → w.channel ≤ 4095 → channel_in (spelling_of w) ≡ Some w.channel
+wide_names : (w : PlainForm) → w.channel ≤ 4095 → channel_in (spelling_of w) ≡ Some w.channel
 wide_names w few = at w.channel (bit w.bit_8) (bit w.d) few
   where
     at : (channel q d : ℕ) → channel ≤ 4095 → Some ((128 * q + 64 * d + 16 + channel / 256) % 16 * 256 + channel % 256) ≡ Some channel
@@ -83,7 +83,7 @@ with_user channel q d (registration octets) field v e is_data = absurd (ok_err e
 with_user channel q d (registration_conf octets) field v e is_data = absurd (ok_err e)
 
 -- with the field that is taken from it
-taken_with : {P : Type 0} (w : PlainWide) (v : strict.PlainPacket) → narrow_of w ≡ Ok v → ((field : List ℕ) → field_in w.kind ≡ Ok field → with_field w.channel w.bit_8 w.d w.kind field ≡ Ok v → P) → P
+taken_with : {P : Type 0} (w : PlainForm) (v : strict.PlainPacket) → narrow_of w ≡ Ok v → ((field : List ℕ) → field_in w.kind ≡ Ok field → with_field w.channel w.bit_8 w.d w.kind field ≡ Ok v → P) → P
 taken_with {P} w v e f = go (field_in w.kind) refl e
   where
     go : (r : Result (List ℕ) PacketError) → field_in w.kind ≡ r → narrowed w r ≡ Ok v → P
@@ -98,11 +98,11 @@ all_small (octet ∷ octets) small zero = small zero 0 (omega arith)
 all_small (octet ∷ octets) small (suc i) = all_small octets (λ k d low. small (suc k) d (omega (arith, low))) i
 
 -- what is read is a packet of any form, and what it is taken for
-module _ (most : ℕ) (v : strict.PlainPacket) (octets : List ℕ) (small : AreSmall octets) (P : Type 0) (of : (w : PlainWide) → Spells Any most w octets → narrow_of w ≡ Ok v → P) where
-  in_any : taken_of (wide_of most octets) ≡ Ok v → P
-  in_any e = by (wide_of most octets) refl e
+module _ (most : ℕ) (v : strict.PlainPacket) (octets : List ℕ) (small : AreSmall octets) (P : Type 0) (of : (w : PlainForm) → Spells Any most w octets → narrow_of w ≡ Ok v → P) where
+  in_any : taken_of (form_in most octets) ≡ Ok v → P
+  in_any e = by (form_in most octets) refl e
     where
-      by : (r : Result PlainWide PacketError) → wide_of most octets ≡ r → taken_of r ≡ Ok v → P
+      by : (r : Result PlainForm PacketError) → form_in most octets ≡ r → taken_of r ≡ Ok v → P
       by (Ok w) is h = of w (found_spells Any most octets w small is) h
       by (Err x) is h = absurd (ok_err h)
 

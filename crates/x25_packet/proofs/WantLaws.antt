@@ -2,17 +2,17 @@
 use Rattle.std.proofs.Common.{ℕ, ◌≢◌, ◌+◌, ◌*◌, ◌/◌, ◌%◌, ◌==◌, Bool, true, false, cond, List, [], ◌∷◌, max, take, drop, Option, Some, None, Result, Ok, Err, refl}
 use Rattle.x25_packet.specs.Reading.FirstError.{FieldError}
 use Rattle.x25_packet.specs.Reading.FirstError.FieldError.{wrong_code, cut_off, out_of_range}
-use Rattle.x25_packet.specs.declared.wide_packet.Forms.{Forms}
-use Rattle.x25_packet.specs.declared.wide_packet.Forms.TheVariants.{Written, Any}
+use Rattle.x25_packet.specs.declared.form.Forms.{Forms}
+use Rattle.x25_packet.specs.declared.form.Forms.TheVariants.{Written, Any}
 use Rattle.x25_packet.specs.Facilities.{facilities_of}
 use Rattle.x25_packet.specs.declared.error.PacketError.{PacketError}
 use Rattle.x25_packet.specs.declared.error.PacketError.TheVariants.{NoMemory, TooShort, BadFormat, Unidentified, TooLong, BadDigit, BadParameter}
 use Rattle.x25_packet.specs.Block.{PlainBlock, PlainFields}
 use Rattle.x25_packet.specs.Narrowing.{field_in, field_said, field_taken, narrowed, taken_of, with_field}
-use Rattle.x25_packet.specs.WideFacilities.{none_own, own_in}
-use Rattle.x25_packet.specs.declared.wide_facilities.Own.{Own}
-use Rattle.x25_packet.specs.WidePacket.{PlainKind, PlainWide, call, accept, clear, extended_clear, clear_conf, user_data, rr, rnr, rej, interrupt, interrupt_conf, reset, reset_conf, restart, restart_conf, diagnostic, registration, registration_conf}
-use Rattle.x25_packet.specs.WideReading.{when, field_read, no_fields, fields_of, with_addresses, addressed, block_of, optional_block, mapped, bare, called, call_of, answer_read, answer_most, accept_of, cause_alone, reason_of, caused, clear_of, clear_conf_of, interrupt_of, data_of, diagnostic_of, registered, rej_of, others, unchannelled, named, channelled, kind_of, has_format, with_head, read_of, wide_of}
+use Rattle.x25_packet.specs.Classes.{none_own, own_in}
+use Rattle.x25_packet.specs.declared.classes.Own.{Own}
+use Rattle.x25_packet.specs.Form.{PlainKind, PlainForm, call, accept, clear, extended_clear, clear_conf, user_data, rr, rnr, rej, interrupt, interrupt_conf, reset, reset_conf, restart, restart_conf, diagnostic, registration, registration_conf}
+use Rattle.x25_packet.specs.Grammar.{when, field_read, no_fields, fields_of, with_addresses, addressed, block_of, optional_block, mapped, bare, called, call_of, answer_read, answer_most, accept_of, cause_alone, reason_of, caused, clear_of, clear_conf_of, interrupt_of, data_of, diagnostic_of, registered, rej_of, others, unchannelled, named, channelled, kind_of, has_format, with_head, read_of, form_in}
 use Rattle.x25_packet.specs.laws.TakingLaw.{TakesWithoutMemory}
 use Rattle.x25_packet.proofs.FacilityFaults.{facilities_fault}
 
@@ -245,11 +245,11 @@ with_read channel q d (diagnostic number explanation) field = λ h. cc
 with_read channel q d (registration octets) field = λ h. cc
 with_read channel q d (registration_conf octets) field = λ h. cc
 
-narrowed_read : (w : PlainWide) (r : Result (List ℕ) PacketError) → Reads r → Reads (narrowed w r)
+narrowed_read : (w : PlainForm) (r : Result (List ℕ) PacketError) → Reads r → Reads (narrowed w r)
 narrowed_read w (Ok field) reads = with_read w.channel w.bit_8 w.d w.kind field
 narrowed_read w (Err e) reads = λ h. reads (cc)
 
-taken_read : (r : Result PlainWide PacketError) → Reads r → Reads (taken_of r)
+taken_read : (r : Result PlainForm PacketError) → Reads r → Reads (taken_of r)
 taken_read (Ok w) reads = narrowed_read w (field_in w.kind) (in_read w.kind)
 taken_read (Err e) reads = λ h. reads (cc)
 
@@ -257,4 +257,4 @@ taken_read (Err e) reads = λ h. reads (cc)
 
 pub takes_without_memory : TakesWithoutMemory
 takes_without_memory false most octets small h = taken_read (read_of Written most octets) (forms_read Written most octets) h
-takes_without_memory true most octets small h = taken_read (wide_of most octets) (forms_read Any most octets) h
+takes_without_memory true most octets small h = taken_read (form_in most octets) (forms_read Any most octets) h

@@ -4,14 +4,14 @@ use Rattle.std.specs.Prelude.{◌||◌, cond, max}
 use Rattle.std.proofs.lemmas.Bool.{and_parts, and_from, le-leb, le-ltb, ltb-false}
 use Rattle.std.proofs.lemmas.List.{length-take-le}
 use Rattle.x25_packet.specs.declared.error.PacketError.{PacketError}
-use Rattle.x25_packet.specs.declared.wide_packet.Forms.TheVariants.{Written, Any}
+use Rattle.x25_packet.specs.declared.form.Forms.TheVariants.{Written, Any}
 use Rattle.x25_packet.specs.Block.{PlainFields, PlainBlock, hold_addresses}
 use Rattle.x25_packet.specs.Packet.{PlainPacket}
 use Rattle.x25_packet.specs.Reading.{packet_of}
 use Rattle.x25_packet.specs.Narrowing.{taken_of}
-use Rattle.x25_packet.specs.WidePacket.{PlainKind, PlainWide, call, accept, reset, restart}
-use Rattle.x25_packet.specs.WidePacket.Spelling.{may_have}
-use Rattle.x25_packet.specs.WideReading.{mapped, is_over, field_read, fields_of, with_addresses, addressed, block_of, optional_block, is_short, called, call_of, written_answer, accept_of, reason_of, caused, clear_of, clear_conf_of, rej_of, others, unchannelled, named, channelled, kind_of, has_format, with_head, read_of, wide_of}
+use Rattle.x25_packet.specs.Form.{PlainKind, PlainForm, call, accept, reset, restart}
+use Rattle.x25_packet.specs.Form.Spelling.{may_have}
+use Rattle.x25_packet.specs.Grammar.{mapped, is_over, field_read, fields_of, with_addresses, addressed, block_of, optional_block, is_short, called, call_of, written_answer, accept_of, reason_of, caused, clear_of, clear_conf_of, rej_of, others, unchannelled, named, channelled, kind_of, has_format, with_head, read_of, form_in}
 use Rattle.x25_packet.proofs.FacilityLaws.{ok_err, ok_same}
 use Rattle.x25_packet.proofs.FacilityLemmas.{field_again}
 use Rattle.x25_packet.proofs.FieldLaws.{says_itself}
@@ -161,9 +161,9 @@ read_wider most (first ∷ second ∷ kind ∷ body) v e =
     let q = nat_eq (first / 128) 1 in
     rw (format_wider first kind format.0) (head_wider channel q (nat_eq (first / 64 % 2) 1) _ _ (kind_wider q most channel kind body) v format.1)
 
-pub taken_wider : (most : ℕ) (v : PlainPacket) (octets : List ℕ) → packet_of most octets ≡ Ok v → taken_of (wide_of most octets) ≡ Ok v
+pub taken_wider : (most : ℕ) (v : PlainPacket) (octets : List ℕ) → packet_of most octets ≡ Ok v → taken_of (form_in most octets) ≡ Ok v
 taken_wider most v octets e = by (read_of Written most octets) refl e
   where
-    by : (r : Result PlainWide PacketError) → read_of Written most octets ≡ r → taken_of r ≡ Ok v → taken_of (wide_of most octets) ≡ Ok v
+    by : (r : Result PlainForm PacketError) → read_of Written most octets ≡ r → taken_of r ≡ Ok v → taken_of (form_in most octets) ≡ Ok v
     by (Ok w) is h = ap taken_of (read_wider most octets w is) ∙ h
     by (Err x) is h = absurd (ok_err h)

@@ -4,11 +4,11 @@ use Rattle.std.specs.Prelude.{drop, Option, Some, None}
 use Rattle.std.specs.List.{list_all}
 use Rattle.x25_packet.specs.Digits.{halves_at, halves_of, hold_digits}
 use Rattle.x25_packet.specs.Facilities as written_field
-use Rattle.x25_packet.specs.WideFacilities.{IsFacilityField}
+use Rattle.x25_packet.specs.Classes.{IsFacilityField}
 use Rattle.x25_packet.specs.declared.block.Block.{Block}
 use Rattle.x25_packet.specs.declared.fields.Fields.{Fields}
-use Rattle.x25_packet.specs.declared.wide_packet.Forms.{Forms}
-use Rattle.x25_packet.specs.declared.wide_packet.Forms.TheVariants.{Written, Any}
+use Rattle.x25_packet.specs.declared.form.Forms.{Forms}
+use Rattle.x25_packet.specs.declared.form.Forms.TheVariants.{Written, Any}
 
 pub record PlainFields : Type 0 where
   pub facilities : List ℕ

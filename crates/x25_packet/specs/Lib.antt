@@ -5,10 +5,10 @@ pub mod Facilities
 pub mod Spelling
 pub mod Error
 pub mod Reading
-pub mod WideFacilities
+pub mod Classes
 pub mod Block
-pub mod WidePacket
-pub mod WideReading
+pub mod Form
+pub mod Grammar
 pub mod Narrowing
 pub mod Made
 pub mod Taking

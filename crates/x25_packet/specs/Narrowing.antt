@@ -8,14 +8,14 @@ use Rattle.x25_packet.specs.declared.error.PacketError.{PacketError}
 use Rattle.x25_packet.specs.declared.error.PacketError.TheVariants.{BadParameter, Unidentified}
 use Rattle.x25_packet.specs.declared.facilities.Directions.{Directions}
 use Rattle.x25_packet.specs.Block.{AreAddresses, PlainBlock, PlainFields, called_in, calling_in}
-use Rattle.x25_packet.specs.WideFacilities.{none_own, own_in}
-use Rattle.x25_packet.specs.WidePacket.{PlainKind, PlainWide, call, accept, clear, extended_clear, clear_conf}
-use Rattle.x25_packet.specs.WidePacket.{user_data, rr}
-use Rattle.x25_packet.specs.WidePacket.{rnr}
-use Rattle.x25_packet.specs.WidePacket.{rej, interrupt, interrupt_conf, reset, reset_conf, restart, restart_conf}
-use Rattle.x25_packet.specs.WidePacket.{diagnostic}
-use Rattle.x25_packet.specs.WidePacket.{registration, registration_conf}
-use Rattle.x25_packet.specs.declared.wide_facilities.Own.{Own}
+use Rattle.x25_packet.specs.Classes.{none_own, own_in}
+use Rattle.x25_packet.specs.Form.{PlainKind, PlainForm, call, accept, clear, extended_clear, clear_conf}
+use Rattle.x25_packet.specs.Form.{user_data, rr}
+use Rattle.x25_packet.specs.Form.{rnr}
+use Rattle.x25_packet.specs.Form.{rej, interrupt, interrupt_conf, reset, reset_conf, restart, restart_conf}
+use Rattle.x25_packet.specs.Form.{diagnostic}
+use Rattle.x25_packet.specs.Form.{registration, registration_conf}
+use Rattle.x25_packet.specs.declared.classes.Own.{Own}
 
 abbrev pub are_within : ℕ → ℕ → Option Directions → Bool
 are_within least most None = true
@@ -92,14 +92,14 @@ with_field channel bit_8 d (diagnostic number explanation) field = Err Unidentif
 with_field channel bit_8 d (registration octets) field = Err Unidentified
 with_field channel bit_8 d (registration_conf octets) field = Err Unidentified
 
-abbrev pub narrowed : PlainWide → Result (List ℕ) PacketError → Result written.PlainPacket PacketError
+abbrev pub narrowed : PlainForm → Result (List ℕ) PacketError → Result written.PlainPacket PacketError
 narrowed w (Ok field) = with_field w.channel w.bit_8 w.d w.kind field
 narrowed w (Err e) = Err e
 
-abbrev pub narrow_of : PlainWide → Result written.PlainPacket PacketError
+abbrev pub narrow_of : PlainForm → Result written.PlainPacket PacketError
 narrow_of w = narrowed w (field_in w.kind)
 
 -- what octets are taken for
-abbrev pub taken_of : Result PlainWide PacketError → Result written.PlainPacket PacketError
+abbrev pub taken_of : Result PlainForm PacketError → Result written.PlainPacket PacketError
 taken_of (Ok w) = narrow_of w
 taken_of (Err e) = Err e

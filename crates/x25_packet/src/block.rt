@@ -4,17 +4,17 @@ ghost use Rattle.x25_packet.specs.Block.{AreAddresses, called_in, calling_in, ho
 ghost use Rattle.x25_packet.specs.Block.{plain_fields};
 ghost use Rattle.x25_packet.specs.Block.{plain_optional};
 ghost use Rattle.x25_packet.specs.Narrowing.{called_taken, calling_taken, digits_behind};
-ghost use Rattle.x25_packet.specs.WideFacilities.{none_own, own_in};
-ghost use Rattle.x25_packet.specs.WideReading.{Gives, addressed, block_of, field_read, fields_of, is_over, no_fields};
-ghost use Rattle.x25_packet.specs.WideReading.{optional_block};
+ghost use Rattle.x25_packet.specs.Classes.{none_own, own_in};
+ghost use Rattle.x25_packet.specs.Grammar.{Gives, addressed, block_of, field_read, fields_of, is_over, no_fields};
+ghost use Rattle.x25_packet.specs.Grammar.{optional_block};
 
+use crate::classes::{Own, are_facilities, own_facilities};
 use crate::digits::{Digits, hold_digits};
 use crate::error::PacketError;
 use crate::facilities::Facilities;
 use crate::fields::Fields;
+use crate::form::Forms;
 use crate::halves::Halves;
-use crate::wide_facilities::{Own, are_facilities, own_facilities};
-use crate::wide_packet::Forms;
 
 /// The most octets of a facility field, section 7.1.
 const FIELD_OCTETS: usize = 109;

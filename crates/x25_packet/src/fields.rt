@@ -1,7 +1,7 @@
 ghost use Rattle.std.specs.Prelude.{◌≡◌};
-ghost use Rattle.x25_packet.specs.WideFacilities.{none_own, own_in};
+ghost use Rattle.x25_packet.specs.Classes.{none_own, own_in};
 
-use crate::wide_facilities::Own;
+use crate::classes::Own;
 
 /// A facility field, what it asks for, and the user data behind it.
 #[derive(Clone, Copy, Debug)]

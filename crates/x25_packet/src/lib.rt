@@ -6,11 +6,14 @@
 #![tactic(auto)]
 
 mod block;
+mod classes;
 pub mod codes;
 mod digits;
 mod error;
 mod facilities;
 mod fields;
+mod form;
+mod grammar;
 mod halves;
 mod law;
 mod made;
@@ -20,15 +23,15 @@ mod packet;
 mod reading;
 mod spelling;
 mod taking;
-mod wide_facilities;
-mod wide_packet;
-mod wide_reading;
 
 pub use block::Block;
+pub use classes::{Own, are_facilities, own_facilities};
 pub use digits::{Digits, hold_digits};
 pub use error::PacketError;
 pub use facilities::{Directions, Facilities, FacilityField};
 pub use fields::Fields;
+pub use form::{Form, Forms, Kind};
+pub use grammar::{FAST_SELECT_OCTETS, decode};
 pub use halves::Halves;
 pub use law::{reading_is_the_grammar, taking_keeps_octets};
 pub use marks::Marks;
@@ -36,7 +39,4 @@ pub use packet::Packet;
 pub use reading::{CALL_OCTETS, LONG_CALL_OCTETS, channel, decode_within, longest_user};
 pub use spelling::encode;
 pub use taking::{read, take};
-pub use wide_facilities::{Own, are_facilities, own_facilities};
-pub use wide_packet::{Forms, Kind, WidePacket};
-pub use wide_reading::{FAST_SELECT_OCTETS, decode};
 pub use x25_bits::{NoMemory, Seq};

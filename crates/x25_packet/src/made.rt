@@ -2,15 +2,15 @@
 ghost use Rattle.x25_packet.specs.Made.{head_with};
 ghost use Rattle.x25_packet.specs.Narrowing.{HasAddresses, narrow_of};
 ghost use Rattle.x25_packet.specs.Packet.{plain as plain_written};
-ghost use Rattle.x25_packet.specs.WidePacket.{PlainWide, plain, plain_kind};
-ghost use Rattle.x25_packet.specs.WideReading.{Gives};
+ghost use Rattle.x25_packet.specs.Form.{PlainForm, plain, plain_kind};
+ghost use Rattle.x25_packet.specs.Grammar.{Gives};
 ghost use Rattle.x25_packet.specs.declared.error.PacketError.{PacketError};
 ghost use Rattle.std.specs.Prelude.{Result, Ok};
 
 use crate::error::PacketError;
+use crate::form::{Form, Kind};
 use crate::narrowing::narrow;
 use crate::packet::Packet;
-use crate::wide_packet::{Kind, WidePacket};
 
 /// What the first two octets say.
 #[derive(Clone, Copy, Debug)]
@@ -23,19 +23,19 @@ pub(crate) struct Head {
 /// What a packet is read to: the packet as it is, or the one that a station takes it for.
 pub(crate) trait Made<'a>: Sized {
     /// This is the answer for the packet.
-    ghost gives: { Result Self PacketError → PlainWide → Type 0 };
+    ghost gives: { Result Self PacketError → PlainForm → Type 0 };
 
     fn made(head: Head, kind: Kind<'a>) -> Result<Self, PacketError>
         requires { HasAddresses head.bit_8 (plain_kind kind) }
         ensures { gives result (head_with head (plain_kind kind.entry)) };
 }
 
-impl<'a> Made<'a> for WidePacket<'a> {
+impl<'a> Made<'a> for Form<'a> {
     ghost gives = { λ r w. Gives plain r (Ok w) };
 
     #[inline(always)]
-    fn made(head: Head, kind: Kind<'a>) -> Result<WidePacket<'a>, PacketError> {
-        Ok(WidePacket {
+    fn made(head: Head, kind: Kind<'a>) -> Result<Form<'a>, PacketError> {
+        Ok(Form {
             channel: head.channel,
             bit_8: head.bit_8,
             d: head.d,
@@ -49,7 +49,7 @@ impl<'a> Made<'a> for Packet<'a> {
 
     #[inline(always)]
     fn made(head: Head, kind: Kind<'a>) -> Result<Packet<'a>, PacketError> {
-        narrow(&WidePacket {
+        narrow(&Form {
             channel: head.channel,
             bit_8: head.bit_8,
             d: head.d,

@@ -4,16 +4,16 @@ ghost use Rattle.x25_packet.specs.Packet.{plain as plain_written};
 ghost use Rattle.x25_packet.specs.Block.{plain_fields};
 ghost use Rattle.x25_packet.specs.Narrowing.{HasAddresses, are_within, field_in, field_said, field_taken, narrow_of};
 ghost use Rattle.x25_packet.specs.Narrowing.{user_taken, with_field};
-ghost use Rattle.x25_packet.specs.WidePacket.{plain, plain_kind};
-ghost use Rattle.x25_packet.specs.WideReading.{Gives};
+ghost use Rattle.x25_packet.specs.Form.{plain, plain_kind};
+ghost use Rattle.x25_packet.specs.Grammar.{Gives};
 
+use crate::classes::Own;
 use crate::error::PacketError;
 use crate::facilities::{Directions, Facilities, FacilityField};
 use crate::fields::Fields;
+use crate::form::{Form, Kind};
 use crate::marks::Marks;
 use crate::packet::Packet;
-use crate::wide_facilities::Own;
-use crate::wide_packet::{Kind, WidePacket};
 
 fn are_within(least: u8, most: u8, values: Option<Directions>) -> bool
     ensures { result ≡ are_within least most values }
@@ -51,7 +51,7 @@ fn field_taken(fields: &Option<Fields>) -> Result<FacilityField, PacketError>
 
 // The facility field of what a packet is taken for: the facilities before a marker that a station knows.
 #[inline(always)]
-fn field_in(packet: &WidePacket) -> Result<FacilityField, PacketError>
+fn field_in(packet: &Form) -> Result<FacilityField, PacketError>
     ensures { result ≡ field_in (plain_kind packet.now.kind) }
 {
     match &packet.kind {
@@ -71,7 +71,7 @@ fn user_taken<'a>(fields: &Option<Fields<'a>>) -> &'a [u8]
 }
 
 #[inline(always)]
-fn with_field<'a>(packet: &WidePacket<'a>, field: FacilityField) -> Result<Packet<'a>, PacketError>
+fn with_field<'a>(packet: &Form<'a>, field: FacilityField) -> Result<Packet<'a>, PacketError>
     requires { HasAddresses packet.now.bit_8 (plain_kind packet.now.kind) }
     ensures { Gives plain_written result (with_field packet.now.channel packet.now.bit_8 packet.now.d
         (plain_kind packet.now.kind) field) }
@@ -142,7 +142,7 @@ fn with_field<'a>(packet: &WidePacket<'a>, field: FacilityField) -> Result<Packe
 /// 26: a packet size or window size out of its range. 22: REJ, DIAGNOSTIC and REGISTRATION, which a station doesn't
 /// know.
 #[inline(always)]
-pub(crate) fn narrow<'a>(packet: &WidePacket<'a>) -> Result<Packet<'a>, PacketError>
+pub(crate) fn narrow<'a>(packet: &Form<'a>) -> Result<Packet<'a>, PacketError>
     requires { HasAddresses packet.now.bit_8 (plain_kind packet.now.kind) }
     ensures { Gives plain_written result (narrow_of (plain packet.now)) }
 {

@@ -2,15 +2,15 @@
 ghost use Rattle.std.specs.Prelude.{◌≡◌, ◌≤◌, IfErr, IfOk, IsOkAnd};
 ghost use Rattle.x25_packet.specs.Narrowing.{taken_of};
 ghost use Rattle.x25_packet.specs.Packet.{PlainPacket, plain};
-ghost use Rattle.x25_packet.specs.Reading.{Gives, channel_in, packet_of};
+ghost use Rattle.x25_packet.specs.Reading.{channel_in, packet_of};
 ghost use Rattle.x25_packet.specs.Reading.FirstError.{IsFirstError};
 ghost use Rattle.x25_packet.specs.Spelling.{Spells, longest_user};
-ghost use Rattle.x25_packet.specs.WideReading.{read_of};
+ghost use Rattle.x25_packet.specs.Grammar.{Gives, read_of};
 
 use crate::error::PacketError;
+use crate::form::Forms;
+use crate::grammar::read;
 use crate::packet::Packet;
-use crate::wide_packet::Forms;
-use crate::wide_reading::read;
 
 /// The most octets of user data in a CALL, section 5.2.1.
 pub const CALL_OCTETS: usize = 16;
@@ -51,7 +51,7 @@ pub(crate) fn read_forms<'a>(
     most: usize,
     octets: &'a [u8],
 ) -> Result<Packet<'a>, PacketError>
-    ensures { Gives result (taken_of (read_of forms most octets.now)) }
+    ensures { Gives plain result (taken_of (read_of forms most octets.now)) }
 {
     read(forms, most, octets)
 }
@@ -62,7 +62,7 @@ pub(crate) fn read_forms<'a>(
 /// format identifier (21), the type on this channel (22), then the body from its front to its end: octets missing (20),
 /// digits (24), facilities (25 and 26), octets left over (23).
 pub fn decode_within<'a>(most: usize, octets: &'a [u8]) -> Result<Packet<'a>, PacketError>
-    ensures exact { Gives result (packet_of most octets.now) }
+    ensures exact { Gives plain result (packet_of most octets.now) }
     // The first error, from the front.
     ensures fault { IfErr result (IsFirstError most octets.now) }
     // What is read is spelled so.

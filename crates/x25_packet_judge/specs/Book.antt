@@ -24,9 +24,9 @@ use Rattle.x25_packet_judge.specs.declared.layers.Layers.{Layers}
 use Rattle.x25_packet_judge.specs.declared.packet_rule.PacketRule.TheVariants.{NoPacket, RestartAwaited}
 use Rattle.x25_possible.specs.declared.packet.Packet.{Packet as Item}
 use Rattle.x25_possible.specs.declared.packet.Packet.TheVariants.{Elsewhere}
-use Rattle.x25_packet.specs.WidePacket as wide_packet
-use Rattle.x25_packet.specs.WidePacket.{PlainKind, PlainWide}
-use Rattle.x25_packet.specs.WideReading.{wide_of}
+use Rattle.x25_packet.specs.Form as form
+use Rattle.x25_packet.specs.Form.{PlainKind, PlainForm}
+use Rattle.x25_packet.specs.Grammar.{form_in}
 use Rattle.x25_packet.specs.Taking.{taken_in}
 
 -- nothing was sent
@@ -132,10 +132,10 @@ misses_on channel b =
 
 -- DIAGNOSTIC changes nothing of calls and restarts
 abbrev pub diagnoses : PlainKind → Bool
-diagnoses (wide_packet.diagnostic number explanation) = true
+diagnoses (form.diagnostic number explanation) = true
 diagnoses kind = false
 
-abbrev pub is_diagnostic : Result PlainWide PacketError → Bool
+abbrev pub is_diagnostic : Result PlainForm PacketError → Bool
 is_diagnostic (Ok w) = diagnoses w.kind
 is_diagnostic (Err e) = false
 
@@ -153,7 +153,7 @@ is_modulo_8 [] = false
 is_modulo_8 (first ∷ octets) = first / 16 % 4 == 1
 
 -- octets of that format that are no packet in any form
-abbrev pub is_no_packet : List ℕ → Result PlainWide PacketError → Bool
+abbrev pub is_no_packet : List ℕ → Result PlainForm PacketError → Bool
 is_no_packet octets (Ok w) = false
 is_no_packet octets (Err e) = is_modulo_8 octets
 
@@ -171,7 +171,7 @@ takes_any from channel diagnoses is_none (Err e) b =
 
 abbrev pub reads_any : Role → ℕ → ℕ → List ℕ → Book → Seen
 reads_any from channel most octets b =
-    takes_any from channel (is_diagnostic (wide_of most octets)) (is_no_packet octets (wide_of most octets))
+    takes_any from channel (is_diagnostic (form_in most octets)) (is_no_packet octets (form_in most octets))
     (taken_in most octets) b
 
 abbrev pub reads_on : Role → Reading → List ℕ → Option ℕ → Book → Seen

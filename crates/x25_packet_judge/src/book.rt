@@ -3,7 +3,7 @@ ghost use Rattle.std.specs.Prelude.{◌≡◌, IfOk, None, Some, true, false};
 ghost use Rattle.x25_frame.specs.Frame.{plain as plain_frame};
 ghost use Rattle.x25_packet.specs.Packet.{plain};
 ghost use Rattle.x25_packet_judge.specs.Book as definition;
-ghost use Rattle.x25_packet.specs.WideReading.{wide_of};
+ghost use Rattle.x25_packet.specs.Grammar.{form_in};
 
 use crate::channel::{Channel, Event, Finding};
 use crate::channels::Channels;
@@ -15,7 +15,7 @@ use x25_bits::Role;
 use x25_decode::Reading;
 use x25_frame::Frame;
 use x25_packet::{Kind, Packet, channel, decode, decode_within, longest_user, take};
-use x25_possible::Packet as Item;
+use x25_possible::{Packet as Item, Spare};
 
 /// Which packets of both ends are followed, and what is known of the ends of the channels.
 #[derive(Drop)]
@@ -59,7 +59,7 @@ fn passed(unjudged: Option<u16>) -> Verdict
 
 /// Whether octets are a DIAGNOSTIC in any form.
 fn is_diagnostic(most: usize, octets: &[u8]) -> bool
-    ensures { result ≡ definition.is_diagnostic (wide_of most octets.now) }
+    ensures { result ≡ definition.is_diagnostic (form_in most octets.now) }
 {
     match decode(most, octets) {
         Ok(packet) => matches!(packet.kind, Kind::Diagnostic { .. }),
@@ -79,7 +79,7 @@ fn is_modulo_8(octets: &[u8]) -> bool
 
 /// Whether octets of that format are no packet in any form.
 fn is_no_packet(most: usize, octets: &[u8]) -> bool
-    ensures { result ≡ definition.is_no_packet octets.now (wide_of most octets.now) }
+    ensures { result ≡ definition.is_no_packet octets.now (form_in most octets.now) }
 {
     match decode(most, octets) {
         Ok(_) => false,
@@ -165,7 +165,7 @@ impl Book {
         ensures book { self.new ≡ (definition.restarts from item is_judged self.old).book }
         ensures verdict { result ≡ (definition.restarts from item is_judged self.old).verdict }
     {
-        let finding = self.restarts.takes(from, item);
+        let finding = self.restarts.takes(from, item, &mut Spare::new());
         self.channels.happens(Event::Sends(from, item));
         Verdict {
             rule: finding.rule,

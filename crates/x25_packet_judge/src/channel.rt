@@ -7,7 +7,7 @@ ghost use Rattle.x25_possible.specs.declared.packet.Packet.TheVariants.{Elsewher
 use crate::packet_rule::{PacketRule, is_order};
 use crate::reason::{manners, reason};
 use x25_bits::Role;
-use x25_possible::{Packet, Phase, Set, Told};
+use x25_possible::{Packet, Phase, Set, Spare, Told};
 
 /// Both ends of a channel, or of all that were never seen.
 #[derive(Drop)]
@@ -57,12 +57,12 @@ fn is_begun(set: &Set) -> bool
 }
 
 /// An end sends a packet.
-fn sent(own: &mut Set, packet: Packet) -> Finding
+fn sent(own: &mut Set, packet: Packet, spare: &mut Spare) -> Finding
     ensures own { own.new ≡ (definition.sent packet own.old).set }
     ensures finding { result ≡ (definition.sent packet own.old).finding }
 {
     let was_known = own.is_known();
-    let rule = rule_of(own.sends(packet), packet);
+    let rule = rule_of(own.sends(packet, spare), packet);
     Finding {
         rule,
         is_judged: was_known && (rule.is_some() || own.is_known()),
@@ -125,30 +125,30 @@ impl Channel {
     }
 
     /// An end sends a packet, which may come to the other one at any moment.
-    pub(crate) fn takes(&mut self, from: Role, packet: Packet) -> Finding
+    pub(crate) fn takes(&mut self, from: Role, packet: Packet, spare: &mut Spare) -> Finding
         ensures channel { self.new ≡ (definition.takes from packet self.old).channel }
         ensures finding { result ≡ (definition.takes from packet self.old).finding }
     {
         match from {
             Role::Dte => {
-                let finding = sent(&mut self.dte, packet);
-                self.dce.shows(packet);
+                let finding = sent(&mut self.dte, packet, spare);
+                self.dce.shows(packet, spare);
                 finding
             }
             Role::Dce => {
-                let finding = sent(&mut self.dce, packet);
-                self.dte.shows(packet);
+                let finding = sent(&mut self.dce, packet, spare);
+                self.dte.shows(packet, spare);
                 finding
             }
         }
     }
 
-    pub(crate) fn happens(&mut self, event: Event)
+    pub(crate) fn happens(&mut self, event: Event, spare: &mut Spare)
         ensures { self.new ≡ definition.happens event self.old }
     {
         match event {
             Event::Sends(from, packet) => {
-                self.takes(from, packet);
+                self.takes(from, packet, spare);
             }
             Event::Loss => self.lose(),
         }
@@ -164,7 +164,8 @@ impl Channel {
         if is_begun(&self.dte) && is_begun(&self.dce) {
             return false;
         }
-        is_order(self.takes(from, Packet::Elsewhere).rule)
+        let finding = self.takes(from, Packet::Elsewhere, &mut Spare::new());
+        is_order(finding.rule)
     }
 
     fn is_known(&self) -> bool
@@ -201,11 +202,11 @@ impl Channel {
 
     /// The same as `takes`, and where it isn't judged that is noted.
     #[tactic(auto, unfolding(crate::specs::Channel::judges))]
-    pub(crate) fn judges(&mut self, from: Role, packet: Packet) -> Finding
+    pub(crate) fn judges(&mut self, from: Role, packet: Packet, spare: &mut Spare) -> Finding
         ensures channel { self.new ≡ (definition.judges from packet self.old).channel }
         ensures finding { result ≡ (definition.judges from packet self.old).finding }
     {
-        let finding = self.takes(from, packet);
+        let finding = self.takes(from, packet, spare);
         self.marks(finding)
     }
 

@@ -8,7 +8,7 @@ use crate::channel::{Channel, Event, Finding};
 use std::alloc::{AllocError, Global};
 use std::marker::Model;
 use x25_bits::Role;
-use x25_possible::Packet;
+use x25_possible::{Packet, Spare};
 
 /// How many numbers a logical channel may have.
 const CHANNELS: usize = 4_096;
@@ -20,6 +20,7 @@ pub(crate) struct Channels {
     seen: Vec<Option<Channel>>,
     /// What each is that wasn't seen since then.
     usual: Channel,
+    spare: Spare,
 }
 
 impl Model for Channels {
@@ -45,15 +46,21 @@ fn pad(seen: &mut Vec<Option<Channel>>, index: usize)
 }
 
 /// A packet of one.
-fn judges(place: &mut Option<Channel>, usual: &Channel, from: Role, packet: Packet) -> Finding
+fn judges(
+    place: &mut Option<Channel>,
+    usual: &Channel,
+    from: Role,
+    packet: Packet,
+    spare: &mut Spare,
+) -> Finding
     ensures place { place.new ≡ Some (definition.judges from packet (unwrap_or place.old usual.now)).channel }
     ensures finding { result ≡ (definition.judges from packet (unwrap_or place.old usual.now)).finding }
 {
     match place {
-        Some(channel) => channel.judges(from, packet),
+        Some(channel) => channel.judges(from, packet, spare),
         None => {
             let mut channel = usual.copy();
-            let finding = channel.judges(from, packet);
+            let finding = channel.judges(from, packet, spare);
             *place = Some(channel);
             finding
         }
@@ -76,20 +83,20 @@ fn misses(place: &mut Option<Channel>, usual: &Channel) -> Finding
     }
 }
 
-fn happens(place: &mut Option<Channel>, event: Event)
+fn happens(place: &mut Option<Channel>, event: Event, spare: &mut Spare)
     ensures { place.new ≡ option_map (definition.happens event) place.old }
 {
     if let Some(channel) = place {
-        channel.happens(event);
+        channel.happens(event, spare);
     }
 }
 
-fn each_happens(seen: &mut Vec<Option<Channel>>, event: Event)
+fn each_happens(seen: &mut Vec<Option<Channel>>, event: Event, spare: &mut Spare)
     ensures items { seen.new.items ≡ map (option_map (definition.happens event)) seen.old.items }
     ensures room { vec_capacity seen.new ≡ vec_capacity seen.old }
 {
     for place in seen.iter_mut() {
-        happens(place, event);
+        happens(place, event, spare);
     }
 }
 
@@ -101,6 +108,7 @@ impl Channels {
         Ok(Channels {
             seen: Vec::with_capacity(alloc, CHANNELS)?,
             usual: Channel::any(),
+            spare: Spare::new(),
         })
     }
 
@@ -112,7 +120,13 @@ impl Channels {
     {
         let index = usize::from(channel) % CHANNELS;
         pad(&mut self.seen, index);
-        judges(&mut self.seen[index], &self.usual, from, packet)
+        judges(
+            &mut self.seen[index],
+            &self.usual,
+            from,
+            packet,
+            &mut self.spare,
+        )
     }
 
     /// A packet of a channel that isn't read.
@@ -129,8 +143,8 @@ impl Channels {
     pub(crate) fn happens(&mut self, event: Event)
         ensures { self.new ≡ all_happens event self.old }
     {
-        each_happens(&mut self.seen, event);
-        self.usual.happens(event);
+        each_happens(&mut self.seen, event, &mut self.spare);
+        self.usual.happens(event, &mut self.spare);
     }
 
     /// All are as this one.

@@ -1,6 +1,6 @@
 use crate::fields::are_digits;
 use std::alloc::Global;
-use x25_packet::{Halves, Kind, WidePacket, decode};
+use x25_packet::{Form, Halves, Kind, decode};
 
 /// Octets in hexadecimal, and the number of their error, 0 where they spell a packet.
 static ROWS: [(&str, u8); 61] = [
@@ -101,7 +101,7 @@ static CALL: [u8; 13] = [
 fn has_digits(octets: &[u8], called: &str, calling: &str) -> bool {
     match decode(16, octets) {
         Ok(
-            WidePacket {
+            Form {
                 channel: 1,
                 bit_8: false,
                 d: true,
@@ -119,7 +119,7 @@ fn has_digits(octets: &[u8], called: &str, calling: &str) -> bool {
 fn has_fields(octets: &[u8], facilities: &[u8], user: &[u8]) -> bool {
     match decode(16, octets) {
         Ok(
-            WidePacket {
+            Form {
                 kind: Kind::Call { block },
                 ..
             },
@@ -157,7 +157,7 @@ fn are_halves(found: &Halves, wanted: &[u8]) -> bool {
 // Whether these are the half octets of the addresses of a CALL with A, and of the called one behind two.
 fn has_halves(octets: &[u8], called: &[u8], calling: &[u8], behind: &[u8]) -> bool {
     let Ok(
-        WidePacket {
+        Form {
             bit_8: true,
             kind: Kind::Call { block },
             ..

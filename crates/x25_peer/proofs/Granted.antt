@@ -2,7 +2,7 @@
 use Rattle.std.proofs.Common.{◌≡◌, ◌+◌, ◌==◌, nat_lt, List, Bool, true, false, if◌then◌else◌, Option, None, refl, sym, ap, subst}
 use Rattle.x25_packet.specs.Packet.{PlainPacket}
 use Rattle.x25_given.specs.Given.{PlainGiven}
-use Rattle.x25_link.specs.{declared.phase.Phase.{Phase}, declared.phase.Phase.TheVariants.{Down, Waiting, Up, Closed}}
+use Rattle.x25_link.specs.{declared.phase.Phase.{Phase}, declared.phase.Phase.TheVariants.{Down, Up}}
 use Rattle.x25_link.specs.{declared.phase.Reason.TheVariants.{Retries}, Outgoing.{waits}, Station.{Settings as LinkSettings, LinkStation, is_up, with_near}}
 use Rattle.x25_link.specs.{Hearing.{quiet, leaves}, Link.{alone, closed_by, asks_again, timer_step, connect_refusal, relink_refusal}}
 use Rattle.x25_circuit.specs.Calling.{Sends}
@@ -47,11 +47,11 @@ did_granted c s request step is = by (is_up s.link.phase) (may_ask c.wide reques
 
     by : (up may : Bool) (o : LayerOutcome) → where_asked may (did c (alone s.link) (entries o) (if up then went (view_of (link_settings c) s.link) (layer_settings c) o else Refuses layer_error.NotUp)) ≡ Did step → IsGranted up may o (entries o) step
     by true true (Accepted next own) is = record { is_up = refl; is_taken = refl; next = next; own = own; accepted = refl; entries = entries_did step _ is }
-    by true true (Declined e) is = refused_did (error.Layer e) step is
     by false true o is = refused_did (error.Layer layer_error.NotUp) step is
     by true false (Accepted next own) is = refused_did not_taken step is
-    by true false (Declined e) is = refused_did (error.Layer e) step is
     by false false o is = refused_did (error.Layer layer_error.NotUp) step is
+    by true true (Declined e) is = refused_did (error.Layer e) step is
+    by true false (Declined e) is = refused_did (error.Layer e) step is
 
 pub gave_granted : (c : Settings) (s : Station) (g : PlainGiven) (request : LayerRequest) (step : Step) → gives c s g request ≡ Did step
     → (let o = layer_outcome (layer_settings c) (waits s.link.outgoing == 256) s.layer request in IsGranted (is_up s.link.phase) (is_taken c g request) o (entries_of_outcome (layer_settings c) s.layer request o) step)
@@ -75,10 +75,8 @@ connects_in_down p is = absurd (cc)
 
 -- relink is accepted in Up alone
 pub relinks_in_up : (p : Phase) → relink_refusal p ≡ None → is_up p ≡ true
-relinks_in_up Down is = absurd (cc)
-relinks_in_up Waiting is = absurd (cc)
 relinks_in_up Up is = refl
-relinks_in_up Closed is = absurd (cc)
+relinks_in_up p is = absurd (cc)
 
 -- a firing of T1 hands nothing up and notes no LinkUp
 pub timer_silent : (c : LinkSettings) (s : LinkStation) → ((timer_step c s).packet ≡ None) × ((timer_step c s).notes.up ≡ false)

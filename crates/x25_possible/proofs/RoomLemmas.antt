@@ -311,16 +311,16 @@ makes_by n m out o p same e h =
 makes_none : (out : List Spot) → Makes 0 out (Some out)
 makes_none out = record { new = out; is = refl; size = omega arith }
 
-kept_makes : (spot : Spot) (out : List Spot) → length out + 1 ≤ 8 → Makes 1 out (kept spot out)
+kept_makes : (spot : Spot) (out : List Spot) → length out + 1 ≤ 16 → Makes 1 out (kept spot out)
 kept_makes spot out room = go (is_there spot out)
   where
-    pushed : (b : Bool) → (length out == 8) ≡ b → Makes 1 out (if b then None else Some (out ++ spot ∷ []))
-    pushed true e = let full = eqb-true (length out) 8 e in absurd (omega (arith, full, room))
+    pushed : (b : Bool) → (length out == 16) ≡ b → Makes 1 out (if b then None else Some (out ++ spot ∷ []))
+    pushed true e = let full = eqb-true (length out) 16 e in absurd (omega (arith, full, room))
     pushed false e = let long = length-append out (spot ∷ []) in record { new = out ++ spot ∷ []; is = refl; size = omega (arith, long) }
 
-    go : (b : Bool) → Makes 1 out (if b then Some out else if length out == 8 then None else Some (out ++ spot ∷ []))
+    go : (b : Bool) → Makes 1 out (if b then Some out else if length out == 16 then None else Some (out ++ spot ∷ []))
     go true = record { new = out; is = refl; size = omega arith }
-    go false = pushed (length out == 8) refl
+    go false = pushed (length out == 16) refl
 
 then_makes : (n m : ℕ) (out : List Spot) (o : Option (List Spot)) (f : List Spot → Option (List Spot)) → Makes n out o
     → ((mid : List Spot) → length mid ≤ length out + n → Makes m mid (f mid)) → Makes (n + m) out (and_then o f)
@@ -331,8 +331,8 @@ then_makes n m out o f first rest =
     record { new = second.new; is = ap (λ p. and_then p f) first.is ∙ second.is; size = omega (arith, a, b) }
 
 all_make : (step : Spot → List Spot → Option (List Spot)) (g : Spot → List (Place Phase Packet)) (qs out : List Spot)
-    → ((q : Spot) (old : List Spot) → IsIn q qs → length old + length (g q) ≤ 8 → Makes (length (g q)) old (step q old))
-    → length out + length (flat_map g qs) ≤ 8 → Makes (length (flat_map g qs)) out (all_of step qs out)
+    → ((q : Spot) (old : List Spot) → IsIn q qs → length old + length (g q) ≤ 16 → Makes (length (g q)) old (step q old))
+    → length out + length (flat_map g qs) ≤ 16 → Makes (length (flat_map g qs)) out (all_of step qs out)
 all_make step g [] out each room = makes_none out
 all_make step g (q ∷ qs) out each room =
     let long = length-append (g q) (flat_map g qs) in
@@ -342,12 +342,12 @@ all_make step g (q ∷ qs) out each room =
     (each q out (inl refl) (omega (arith, room, long)))
     (λ mid h. all_make step g qs mid (λ r old i. each r old (inr i)) (omega (arith, room, long, h))))
 
-from_none : (ps : List (Place Phase Packet)) → length ps ≤ 8 → length {A = Spot} [] + length ps ≤ 8
+from_none : (ps : List (Place Phase Packet)) → length ps ≤ 16 → length {A = Spot} [] + length ps ≤ 16
 from_none ps h = omega (arith, h)
 
 module _ (role : Role) (n : ℕ) (x : Packet) (rest : List Packet) (s : Phase) (out : List Spot)
-    (counted : IsCounted (x ∷ rest) role s) (room : length out + length (settled (channel_choices role) (x ∷ rest) s) ≤ 8)
-    (more : (u : Phase) (mid : List Spot) → IsCounted rest role u → length mid + length (settled (channel_choices role) rest u) ≤ 8
+    (counted : IsCounted (x ∷ rest) role s) (room : length out + length (settled (channel_choices role) (x ∷ rest) s) ≤ 16)
+    (more : (u : Phase) (mid : List Spot) → IsCounted rest role u → length mid + length (settled (channel_choices role) rest u) ≤ 16
     → Makes (length (settled (channel_choices role) rest u)) mid (settles role (n + 1) rest u mid)) where
   abbrev Size : ℕ
   Size = length (settled (channel_choices role) (x ∷ rest) s)
@@ -391,7 +391,7 @@ module _ (role : Role) (n : ℕ) (x : Packet) (rest : List Packet) (s : Phase) (
       (makes_once (at_once s x) refl)
 
 settles_make : (role : Role) (n : ℕ) (rest : List Packet) (s : Phase) (out : List Spot) → IsCounted rest role s
-    → length out + length (settled (channel_choices role) rest s) ≤ 8
+    → length out + length (settled (channel_choices role) rest s) ≤ 16
     → Makes (length (settled (channel_choices role) rest s)) out (settles role n rest s out)
 settles_make role n [] s out counted room =
     makes_by 1 1 out (settles role n [] s out) (kept (spot_at n s) out) refl
@@ -403,7 +403,7 @@ settles_make role n (x ∷ rest) s out counted room =
 
 goes_make : (role : Role) (way : List Packet) (x : Packet) (q : Spot) (out : List Spot) → is_large q.phase ≡ false
     → OfSome (sends q.phase x) (IsCounted (drop q.at way) role)
-    → length out + length (after_own (channel_choices role) x (placed way q)) ≤ 8
+    → length out + length (after_own (channel_choices role) x (placed way q)) ≤ 16
     → Makes (length (after_own (channel_choices role) x (placed way q))) out (goes false role way x q out)
 goes_make role way x q out small counted room =
     makes_by Size Size out (goes false role way x q out) (goes_by role way q.at (sends q.phase x) out) refl
@@ -413,7 +413,7 @@ goes_make role way x q out small counted room =
     Size = length (after_own (channel_choices role) x (placed way q))
 
     go : (o : Option Phase) → OfSome o (IsCounted (drop q.at way) role)
-        → length out + length (flat_map (settled (channel_choices role) (drop q.at way)) (one o)) ≤ 8
+        → length out + length (flat_map (settled (channel_choices role) (drop q.at way)) (one o)) ≤ 16
         → Makes (length (flat_map (settled (channel_choices role) (drop q.at way)) (one o))) out (goes_by role way q.at o out)
     go None k fits = makes_none out
     go (Some u) k fits =
@@ -454,7 +454,7 @@ sent_known s x is all room = go (go_all false s.role s.way.items x s.spots.items
         all_make (goes false s.role s.way.items x) (λ q. after_own (channel_choices s.role) x (placed s.way.items q)) s.spots.items []
         (λ q old i fits. goes_make s.role s.way.items x q old (all q i) (room.counted q i) fits)
         (from_none (flat_map (λ q. after_own (channel_choices s.role) x (placed s.way.items q)) s.spots.items)
-        (subst (λ ps. length ps ≤ 8) (all_mapped (after_own (channel_choices s.role) x) (placed s.way.items) s.spots.items) room.few))
+        (subst (λ ps. length ps ≤ 16) (all_mapped (after_own (channel_choices s.role) x) (placed s.way.items) s.spots.items) room.few))
 
     go : (o : Option (List Spot)) → o ≡ Some made.new → IsUntold (sent_to x o s).told → is_known (sent_to x o s).set ≡ true
     go None e = absurd (none-some made.new e)
@@ -475,23 +475,23 @@ module _ (role : Role) (before : List Packet) (x : Packet) (q : Spot) (out : Lis
   abbrev Grown : List Packet → ℕ
   Grown w = length (grown (channel_choices role) x q.phase w)
 
-  makes_at_end : length before ≤ q.at → length out + Grown (drop q.at before) ≤ 8
+  makes_at_end : length before ≤ q.at → length out + Grown (drop q.at before) ≤ 16
       → Makes (Grown (drop q.at before)) out (settles role (length before) (drop (length before) (before ++ x ∷ [])) q.phase out)
   makes_at_end far room =
       let none : drop q.at before ≡ [] = drop_of_length-le before far in
       let tail : drop (length before) (before ++ x ∷ []) ≡ x ∷ [] = drop_at before (x ∷ []) (length before) refl in
       subst (λ w. Makes (Grown w) out (settles role (length before) (drop (length before) (before ++ x ∷ [])) q.phase out)) (sym none)
       (subst (λ w. Makes (Grown []) out (settles role (length before) w q.phase out)) (sym tail)
-      (settles_make role (length before) (x ∷ []) q.phase out counted (subst (λ w. length out + Grown w ≤ 8) none room)))
+      (settles_make role (length before) (x ∷ []) q.phase out counted (subst (λ w. length out + Grown w ≤ 16) none room)))
 
-  makes_inside : q.at < length before → length out + Grown (drop q.at before) ≤ 8 → Makes (Grown (drop q.at before)) out (kept q out)
+  makes_inside : q.at < length before → length out + Grown (drop q.at before) ≤ 16 → Makes (Grown (drop q.at before)) out (kept q out)
   makes_inside near room =
       let size : length (drop q.at before) ≡ length before - q.at = length-drop q.at before in
       let some : 0 < length (drop q.at before) = omega (arith, size, near) in
       let long : Grown (drop q.at before) ≡ 1 = ap length (grown_inside role x q.phase (drop q.at before) some) in
       makes_by 1 (Grown (drop q.at before)) out (kept q out) (kept q out) (sym long) refl (kept_makes q out (omega (arith, room, long)))
 
-  grows_make : length out + length (after_other (channel_choices role) x (placed before q)) ≤ 8
+  grows_make : length out + length (after_other (channel_choices role) x (placed before q)) ≤ 16
       → Makes (length (after_other (channel_choices role) x (placed before q))) out (grows role (length before) (before ++ x ∷ []) q out)
   grows_make room = go (nat_le (length before) q.at) refl
     where
@@ -511,7 +511,7 @@ shown_known s x is room = by_length (length s.way.items == 16) refl
         (λ q. after_other (channel_choices s.role) x (placed s.way.items q)) s.spots.items []
         (λ q old i fits. grows_make s.role s.way.items x q old (room.counted q i) fits)
         (from_none (flat_map (λ q. after_other (channel_choices s.role) x (placed s.way.items q)) s.spots.items)
-        (subst (λ ps. length ps ≤ 8) (all_mapped (after_other (channel_choices s.role) x) (placed s.way.items) s.spots.items) room.few))
+        (subst (λ ps. length ps ≤ 16) (all_mapped (after_other (channel_choices s.role) x) (placed s.way.items) s.spots.items) room.few))
 
     stays : (b : Bool) → b ≡ true → (k : Bool) → known_by (if b || k then Known else s.knowledge) ≡ true
     stays true e k = refl

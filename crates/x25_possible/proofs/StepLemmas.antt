@@ -9,12 +9,13 @@ use Rattle.x25_bits.specs.declared.role.Role.{Role}
 use Rattle.x25_possible.specs.Channel.{channel_choices, at_once, takes, sends, one}
 use Rattle.x25_possible.specs.laws.Possible.{Place, at, IsIn, settled, settled_by, grown, after_own, after_other}
 use Rattle.x25_possible.specs.laws.Sets.{placed}
-use Rattle.x25_possible.specs.code.Steps.{same_limits, is_same, is_there, kept, and_then, is_large, spot_at, taken_on, settles_by}
+use Rattle.x25_possible.specs.code.Steps.{same_limits, same_terms, is_same, is_there, kept, and_then, is_large, spot_at, taken_on, settles_by}
 use Rattle.x25_possible.specs.code.Steps.{settles, all_of, goes_by, goes, go_all, grows, grow_all, are_at_end, anew_at, anew}
 use Rattle.x25_possible.specs.declared.packet.Packet.{Packet}
+use Rattle.x25_possible.specs.declared.packet.Terms.{Terms}
 use Rattle.x25_possible.specs.declared.phase.Limits.{Limits}
 use Rattle.x25_possible.specs.declared.phase.Phase.{Phase}
-use Rattle.x25_possible.specs.declared.phase.Phase.TheVariants.{Idle, Free, Resets, WasReset, Clears, WasCleared, Restarts}
+use Rattle.x25_possible.specs.declared.phase.Phase.TheVariants.{Idle, Calls, WasCalled, Free, Resets, WasReset, Clears, WasCleared, Restarts}
 use Rattle.x25_possible.specs.declared.phase.Phase.TheVariants.{WasRestarted}
 use Rattle.x25_possible.specs.declared.spots.Spot.{Spot}
 use Rattle.x25_possible.proofs.Lists.{in_left, in_right, in_either}
@@ -44,6 +45,18 @@ limits_are_same a b h =
     let p = and_parts (a.most == b.most) (a.window == b.window) h in
     ap₂ (λ m w. record { most = m; window = w }) (eqb-true a.most b.most p.0) (eqb-true a.window b.window p.1)
 
+terms_are_same : (a b : Terms) → same_terms a b ≡ true → a ≡ b
+terms_are_same a b h =
+    let p = and_parts (a.calling_size == b.calling_size) (a.called_size == b.called_size && (a.calling_window == b.calling_window && a.called_window == b.called_window)) h in
+    let q = and_parts (a.called_size == b.called_size) (a.calling_window == b.calling_window && a.called_window == b.called_window) p.1 in
+    let r = and_parts (a.calling_window == b.calling_window) (a.called_window == b.called_window) q.1 in
+    ap₂ (λ (f : ℕ → Terms) w. f w)
+    (ap₂ (λ (f : ℕ → ℕ → Terms) v. f v)
+    (ap₂ (λ m n v w. record { calling_size = m; called_size = n; calling_window = v; called_window = w })
+    (eqb-true a.calling_size b.calling_size p.0) (eqb-true a.called_size b.called_size q.0))
+    (eqb-true a.calling_window b.calling_window r.0))
+    (eqb-true a.called_window b.called_window r.1)
+
 are_same : (s r : Phase) → is_same s r ≡ true → s ≡ r
 are_same Idle Idle h = refl
 are_same Free Free h = refl
@@ -51,6 +64,8 @@ are_same Clears Clears h = refl
 are_same WasCleared WasCleared h = refl
 are_same Restarts Restarts h = refl
 are_same WasRestarted WasRestarted h = refl
+are_same (Calls a) (Calls b) h = ap Calls (terms_are_same a b h)
+are_same (WasCalled a) (WasCalled b) h = ap WasCalled (terms_are_same a b h)
 are_same (Resets a) (Resets b) h = ap Resets (limits_are_same a b h)
 are_same (WasReset a) (WasReset b) h = ap WasReset (limits_are_same a b h)
 are_same s r h = absurd (both_ways (is_same s r) refl h)
@@ -96,9 +111,9 @@ keeps spot out new h = go (is_there spot out) refl h
     pushed false g = subst (λ xs. Keeps spot out xs) (same_Some (out ++ spot ∷ []) new g) (keeps_pushed spot out)
 
     go : (b : Bool) → is_there spot out ≡ b
-        → (if b then Some out else if length out == 8 then None else Some (out ++ spot ∷ [])) ≡ Some new → Keeps spot out new
+        → (if b then Some out else if length out == 16 then None else Some (out ++ spot ∷ [])) ≡ Some new → Keeps spot out new
     go true e g = subst (λ xs. Keeps spot out xs) (same_Some out new g) (keeps_there spot out (is_in_there spot out e))
-    go false e g = pushed (length out == 8) g
+    go false e g = pushed (length out == 16) g
 
 module _ (f : Spot → Place Phase Packet) where
   adds_one : (spot : Spot) (old new : List Spot) → Keeps spot old new → Adds f old new (f spot ∷ [])

@@ -10,6 +10,7 @@ use crate::spots::{
     renew, rude,
 };
 use arrayvec::ArrayVec;
+use std::marker::Model;
 use x25_bits::Role;
 
 /// What is known of an end: nothing any more; nothing, and it may be anywhere on the way; or the states in which it may
@@ -33,6 +34,26 @@ pub enum Told {
     Nothing,
     Rude(Phase),
     Broken(Phase),
+}
+
+/// A list in which states are made, lent from packet to packet: no contract says what it holds.
+#[derive(Drop)]
+pub struct Spare {
+    list: Spots,
+}
+
+impl Model for Spare {
+    ghost use Rattle.std.specs.Prelude.{◌≡◌};
+
+    ghost Value = { Unit {0} };
+
+    ghost view = { λ s. tt };
+}
+
+impl Spare {
+    pub fn new() -> Spare {
+        Spare { list: Spots::new() }
+    }
 }
 
 /// The states in which an end may be, and what the other one sent that it may not have taken.
@@ -302,16 +323,15 @@ impl Set {
     }
 
     /// The end sends a packet.
-    pub fn sends(&mut self, packet: Packet) -> Told
+    pub fn sends(&mut self, packet: Packet, spare: &mut Spare) -> Told
         ensures set { self.new ≡ (definition.sends_to packet self.old).set }
         ensures told { result ≡ (definition.sends_to packet self.old).told }
     {
-        let mut next = Spots::new();
         if self.is_blind() {
-            self.finds(packet, &mut next);
+            self.finds(packet, &mut spare.list);
             return Told::Nothing;
         }
-        let told = self.goes(packet, &mut next);
+        let told = self.goes(packet, &mut spare.list);
         self.trim();
         told
     }
@@ -352,15 +372,14 @@ impl Set {
     }
 
     /// The other end sends a packet, which may come at any moment from now on.
-    pub fn shows(&mut self, packet: Packet)
+    pub fn shows(&mut self, packet: Packet, spare: &mut Spare)
         ensures { self.new ≡ definition.shows_to packet self.old }
     {
         if self.is_blind() {
             self.awaits(packet);
             return;
         }
-        let mut next = Spots::new();
-        self.grows(packet, &mut next);
+        self.grows(packet, &mut spare.list);
         self.trim();
     }
 }

@@ -4,7 +4,7 @@ ghost use Rattle.x25_possible.specs.code.Steps as definition;
 ghost use Rattle.x25_possible.specs.declared.phase.Phase.TheVariants.{Idle};
 
 use crate::channel::{at_once, found, goes_on, is_large, is_polite, sends, takes};
-use crate::packet::Packet;
+use crate::packet::{Packet, Terms};
 use crate::phase::{Limits, Phase};
 use arrayvec::ArrayVec;
 use x25_bits::Role;
@@ -16,12 +16,21 @@ pub struct Spot {
     pub at: usize,
 }
 
-pub type Spots = ArrayVec<Spot, 8>;
+pub type Spots = ArrayVec<Spot, 16>;
 
 fn same_limits(one: Limits, two: Limits) -> bool
     ensures { result ≡ definition.same_limits one two }
 {
     one.most == two.most && one.window == two.window
+}
+
+fn same_terms(one: Terms, two: Terms) -> bool
+    ensures { result ≡ definition.same_terms one two }
+{
+    one.calling_size == two.calling_size
+        && one.called_size == two.called_size
+        && one.calling_window == two.calling_window
+        && one.called_window == two.called_window
 }
 
 /// Whether two states are surely one.
@@ -35,6 +44,8 @@ fn is_same(one: Phase, two: Phase) -> bool
         (Phase::WasCleared, Phase::WasCleared) => true,
         (Phase::Restarts, Phase::Restarts) => true,
         (Phase::WasRestarted, Phase::WasRestarted) => true,
+        (Phase::Calls(one), Phase::Calls(two)) => same_terms(one, two),
+        (Phase::WasCalled(one), Phase::WasCalled(two)) => same_terms(one, two),
         (Phase::Resets(one), Phase::Resets(two)) => same_limits(one, two),
         (Phase::WasReset(one), Phase::WasReset(two)) => same_limits(one, two),
         _ => false,
@@ -218,7 +229,7 @@ fn is_past(spots: &[Spot], end: usize) -> bool
 
 /// Nothing is on the way any more. Those that are kept stand in front, and are counted.
 fn renew_all(spots: &mut [Spot]) -> usize
-    requires { length spots.old ≤ 8 }
+    requires { length spots.old ≤ 16 }
     ensures kept { Some (take result spots.new) ≡ definition.anew spots.old [] }
 {
     let mut count = 0;

@@ -4,6 +4,7 @@ pub mod Covers
 pub mod Sends
 pub mod Leads
 pub mod Exactly
+pub mod Alone
 pub mod LoopLemmas
 pub mod StepLemmas
 pub mod Covering

@@ -1,5 +1,5 @@
 //! What an end may send, and what it makes of what comes, as the definition has it.
-ghost use Rattle.std.specs.Prelude.{◌≡◌, ◌<◌, ◌^◌, false, true, drop};
+ghost use Rattle.std.specs.Prelude.{◌≡◌, ◌<◌, ◌^◌, false, true, drop, IfSome};
 ghost use Rattle.x25_possible.specs.Channel.{nth as nth_of};
 ghost use Rattle.x25_possible_links.specs.laws.Link as definition;
 ghost use Rattle.x25_possible_links.specs.laws.Places as places;
@@ -351,6 +351,49 @@ pub(crate) fn is_sure(stand: Stand) -> bool
         Stand::Up(k) => k.taken < FAR,
         Stand::Free => false,
         Stand::Out | Stand::Asking => true,
+    }
+}
+
+/// The numbers of a session, where they aren't too large and what it may acknowledge is known.
+#[inline(always)]
+pub(crate) fn sure_numbers(stand: Stand) -> Option<Numbers>
+    ensures same { result ≡ steps.sure_numbers stand }
+    ensures small { IfSome result (λ k. IsSmall (Up k)) }
+{
+    match stand {
+        Stand::Up(k) => if !is_large(stand) && k.taken < FAR {
+            Some(k)
+        } else {
+            None
+        },
+        _ => None,
+    }
+}
+
+/// Its numbers behind a frame of a session that it sends; None where it may not, or they are too large.
+#[inline(always)]
+pub(crate) fn up_sends(k: Numbers, frame: Frame) -> Option<Numbers>
+    requires { IsSmall (Up k) }
+    ensures { result ≡ steps.up_sends k frame }
+{
+    match frame {
+        Frame::Info { .. } | Frame::Ready(_) => match up_counts(k, frame) {
+            Some(next) => sure_numbers(next),
+            None => None,
+        },
+        _ => None,
+    }
+}
+
+/// Its numbers behind a frame of a session that comes; None where it is of none, or they are too large.
+#[inline(always)]
+pub(crate) fn up_hears(k: Numbers, frame: Frame) -> Option<Numbers>
+    requires { IsSmall (Up k) }
+    ensures { result ≡ steps.up_hears k frame }
+{
+    match frame {
+        Frame::Info { .. } | Frame::Ready(_) => sure_numbers(Stand::Up(heard(k, frame))),
+        _ => None,
     }
 }
 

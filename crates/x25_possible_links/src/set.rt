@@ -1,13 +1,15 @@
 //! The places in which an end of a link may be, frame by frame.
-ghost use Rattle.std.specs.Prelude.{◌≡◌, ◌<◌, length};
+ghost use Rattle.std.specs.Prelude.{◌≡◌, ◌<◌, length, IfSome};
 ghost use Rattle.x25_possible_links.specs.code.Steps as definition;
+ghost use Rattle.x25_possible_links.specs.code.Steps.{IsInSession, IsSmall, IsStep, IsTaken};
+ghost use Rattle.x25_possible_links.specs.declared.stand.Stand.TheVariants.{Up};
 
 use crate::frame::Frame;
-use crate::link::{Mode, is_sure};
+use crate::link::{Mode, is_sure, sure_numbers, up_hears, up_sends};
 use crate::spots::{
     Spot, Spots, agree, grow_all, hurry_all, latest, least, plainest, shift_all, walk_all,
 };
-use crate::stand::Stand;
+use crate::stand::{Numbers, Stand};
 use arrayvec::ArrayVec;
 use std::marker::Model;
 
@@ -288,6 +290,60 @@ impl LinkSet {
             self.trim();
             Told::Skips(stand)
         }
+    }
+
+    /// Its numbers, where it has one place, in a session, nothing is on the way, and what it may acknowledge is known.
+    #[inline(always)]
+    fn session(&self) -> Option<Numbers>
+        ensures same { result ≡ definition.session self.now }
+        ensures small { IfSome result (λ k. IsSmall (Up k)) }
+    {
+        match (self.way.as_slice(), self.spots.as_slice()) {
+            ([], [spot]) => if spot.at == 0 {
+                sure_numbers(spot.stand)
+            } else {
+                None
+            },
+            _ => None,
+        }
+    }
+
+    /// Its numbers, and those behind a frame that it sends, where it is known to be in a session, and nothing is on the
+    /// way. None: it isn't, or it may not send that frame so.
+    #[inline(always)]
+    pub fn steps(&self, frame: Frame) -> Option<(Numbers, Numbers)>
+        ensures same { result ≡ definition.steps frame self.now }
+        ensures step { IfSome result (λ both. IsStep frame both.0 both.1 self.now) }
+    {
+        let Some(k) = self.session() else {
+            return None;
+        };
+        match up_sends(k, frame) {
+            Some(next) => Some((k, next)),
+            None => None,
+        }
+    }
+
+    /// Its numbers behind a frame that comes, where it is known to be in a session, and nothing else is on the way.
+    /// None: it isn't, or the frame is of none.
+    #[inline(always)]
+    pub fn takes(&self, frame: Frame) -> Option<Numbers>
+        ensures same { result ≡ definition.takes frame self.now }
+        ensures taken { IfSome result (λ next. IsTaken frame next self.now) }
+    {
+        match self.session() {
+            Some(k) => up_hears(k, frame),
+            None => None,
+        }
+    }
+
+    /// Its one place is in a session with other numbers.
+    #[inline(always)]
+    pub fn stands(&mut self, k: Numbers)
+        requires { IsInSession self.old }
+        ensures { self.new ≡ definition.in_session k self.old }
+    {
+        self.spots[0].stand = Stand::Up(k);
     }
 
     /// The end sends a frame. Something is told where no run of an end that keeps the rules explains it.

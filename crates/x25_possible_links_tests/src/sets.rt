@@ -155,10 +155,19 @@ fn digit(is_so: bool) -> u8 {
     if is_so { b'1' } else { b'0' }
 }
 
-/// What it has sent where it has come farthest, and where octets that spell no frame were none; how much can't be read.
-fn stands(tape: &[u8]) -> (u64, u64, usize) {
+/// What it has sent where it has come farthest, where octets that spell no frame were none, and where it is known to be
+/// in a session; how much can't be read.
+fn stands(tape: &[u8]) -> (u64, u64, u64, usize) {
     let set = behind(tape);
-    (sent_by(set.latest()), sent_by(set.plainest()), set.unread())
+    (
+        sent_by(set.latest()),
+        sent_by(set.plainest()),
+        match set.takes(Frame::Ready(0)) {
+            Some(k) => k.sent,
+            None => 99,
+        },
+        set.unread(),
+    )
 }
 
 /// Whether it is known, surely, agrees on one I frame, and whether UA of it is judged and what it may answer is shown.
@@ -173,20 +182,20 @@ fn marks(tape: &[u8]) -> [u8; 5] {
     ]
 }
 
-static KNOWN: [(&[u8], (u64, u64, usize), [u8; 5]); 13] = [
-    (b"", (99, 99, 0), *b"00100"),
-    (b"<S", (99, 99, 0), *b"00110"),
-    (b">0<S", (99, 99, 0), *b"00110"),
-    (b">S", (98, 98, 0), *b"11100"),
-    (b">U", (0, 0, 0), *b"11000"),
-    (b">D", (97, 97, 0), *b"11100"),
-    (b">X", (99, 99, 0), *b"00100"),
-    (b">S<U>0", (1, 1, 0), *b"11111"),
-    (b">S<U>01", (2, 2, 0), *b"11011"),
-    (b">S<U>0X", (1, 1, 0), *b"11011"),
-    (b">S<U>0<X", (1, 1, 1), *b"10111"),
-    (b">S<U>0<S", (1, 1, 0), *b"11111"),
-    (b">S<U>0b", (1, 1, 0), *b"10111"),
+static KNOWN: [(&[u8], (u64, u64, u64, usize), [u8; 5]); 13] = [
+    (b"", (99, 99, 99, 0), *b"00100"),
+    (b"<S", (99, 99, 99, 0), *b"00110"),
+    (b">0<S", (99, 99, 99, 0), *b"00110"),
+    (b">S", (98, 98, 99, 0), *b"11100"),
+    (b">U", (0, 0, 99, 0), *b"11000"),
+    (b">D", (97, 97, 99, 0), *b"11100"),
+    (b">X", (99, 99, 99, 0), *b"00100"),
+    (b">S<U>0", (1, 1, 1, 0), *b"11111"),
+    (b">S<U>01", (2, 2, 2, 0), *b"11011"),
+    (b">S<U>0X", (1, 1, 99, 0), *b"11011"),
+    (b">S<U>0<X", (1, 1, 99, 1), *b"10111"),
+    (b">S<U>0<S", (1, 1, 99, 0), *b"11111"),
+    (b">S<U>0b", (1, 1, 99, 0), *b"10111"),
 ];
 
 #[test]
@@ -194,6 +203,27 @@ fn knows_an_end(rt: HostRuntime) {
     for &(tape, at, marked) in &KNOWN {
         assert_eq!(rt; (stands(tape), marks(tape)), (at, marked), "{tape:?}");
     }
+}
+
+/// What it has sent behind a frame that it sends in its session; 99 where it isn't in one so, or may not send that.
+fn step(set: &mut LinkSet, frame: Frame) -> u64 {
+    match set.steps(frame) {
+        Some((_, next)) => {
+            set.stands(next);
+            sent_by(set.latest())
+        }
+        None => 99,
+    }
+}
+
+#[test]
+fn goes_on_in_a_session(rt: HostRuntime) {
+    let mut set = behind(b">S<U>0");
+    let steps = (
+        step(&mut set, frame_of(b'1')),
+        step(&mut set, frame_of(b'3')),
+    );
+    assert_eq!(rt; steps, (2, 99));
 }
 
 // What is heard at once doesn't wait. Of 129 set-ups 65 do.

@@ -43,9 +43,9 @@ record Fitting (size n : ℕ) (begun : Option Bool) (q : Bool) : Type 0 where
 abbrev grounds : Bool → Bool → Bool → Option ℕ
 grounds a b c = if a then (if b then (if c then None else Some 83) else Some 39) else Some 39
 
-fitting : (size n m : ℕ) (begun : Option Bool) (q : Bool)
-    → grounds (nat_le n size) (nat_le m 65535) (may_have_q begun q) ≡ None → Fitting size n begun q
-fitting size n m begun q h = go (nat_le n size) (nat_le m 65535) (may_have_q begun q) refl refl h
+fitting : (longest size n m : ℕ) (begun : Option Bool) (q : Bool)
+    → grounds (nat_le n size) (nat_le m longest) (may_have_q begun q) ≡ None → Fitting size n begun q
+fitting longest size n m begun q h = go (nat_le n size) (nat_le m longest) (may_have_q begun q) refl refl h
   where
     go : (a b c : Bool) → nat_le n size ≡ a → may_have_q begun q ≡ c → grounds a b c ≡ None
         → Fitting size n begun q
@@ -66,10 +66,10 @@ acks size y n may =
     (and_from (n % 8 == n % 8) (nat_le y.told n) (eq-eqb (n % 8) (n % 8) refl) (le-leb y.told n may.rising))
     (le-leb n (length y.taken) may.taken)
 
-follows : (size : ℕ) (y : PeerStretch) (p : Piece) → stretch.MayFollow size y p
+follows : (longest size : ℕ) (y : PeerStretch) (p : Piece) → stretch.MayFollow longest size y p
     → may_follow (talk_of size y) (q_of p) (length y.sent % 8) (length (user_of p)) ≡ true
-follows size y p may =
-    let fits = fitting size (length (user_of p)) (length (joining no_part y.sent).user + length (user_of p)) (joining no_part y.sent).begun (q_of p) may.fits in
+follows longest size y p may =
+    let fits = fitting longest size (length (user_of p)) (length (joining no_part y.sent).user + length (user_of p)) (joining no_part y.sent).begun (q_of p) may.fits in
     and_from (may_number (talk_of size y) (length y.sent % 8))
     (within size (length (user_of p)) && is_one_message (joining no_part y.sent).begun (q_of p))
     (and_from (length y.sent % 8 == length y.sent % 8) (nat_lt (length y.sent) (y.acked + 7))
@@ -83,43 +83,43 @@ sends_then b j k e f = ap (λ c. cond c (Some (phase.Talks j)) None) e ∙ ap (�
 
 -- ---- d1
 
-stretch_sends : (size : ℕ) (y : PeerStretch) (d : Deed) → stretch.MayDo size y d
+stretch_sends : (longest size : ℕ) (y : PeerStretch) (d : Deed) → stretch.MayDo longest size y d
     → (t : ℕ) × (talk_sends t (talk_of size y) (item_of (stretch.packet_of y d)) ≡ Some (phase.Talks (talk_of size (stretch.does y d))))
-stretch_sends size y (Sends (More q user) n) may = (
+stretch_sends longest size y (Sends (More q user) n) may = (
   n,
   sends_then (may_ack n (talk_of size y) (n % 8) && may_follow (talk_of size y) q.q (length y.sent % 8) (length user))
       (talked n (talk_of size y) (data_of (length y.sent % 8) (n % 8) (More q user))) (talk_of size (stretch.does y (Sends (More q user) n)))
       (and_from (may_ack n (talk_of size y) (n % 8)) (may_follow (talk_of size y) q.q (length y.sent % 8) (length user))
-      (acks size y n may.0) (follows size y (More q user) may.1))
+      (acks size y n may.0) (follows longest size y (More q user) may.1))
       (ap₂ (λ m b. record (talk_of size y) { sent = m; told = n; begun = b }) (sym (length_push y.sent (More q user)))
       (ap (λ j. j.begun) (sym (joining_push no_part y.sent (More q user))))),
 )
-stretch_sends size y (Sends (Last q user) n) may = (
+stretch_sends longest size y (Sends (Last q user) n) may = (
   n,
   sends_then (may_ack n (talk_of size y) (n % 8) && may_follow (talk_of size y) q.q (length y.sent % 8) (length user))
       (talked n (talk_of size y) (data_of (length y.sent % 8) (n % 8) (Last q user))) (talk_of size (stretch.does y (Sends (Last q user) n)))
       (and_from (may_ack n (talk_of size y) (n % 8)) (may_follow (talk_of size y) q.q (length y.sent % 8) (length user))
-      (acks size y n may.0) (follows size y (Last q user) may.1))
+      (acks size y n may.0) (follows longest size y (Last q user) may.1))
       (ap₂ (λ m b. record (talk_of size y) { sent = m; told = n; begun = b }) (sym (length_push y.sent (Last q user)))
       (ap (λ j. j.begun) (sym (joining_push no_part y.sent (Last q user))))),
 )
-stretch_sends size y (Says true n) may =
+stretch_sends longest size y (Says true n) may =
     (n, sends_then (may_ack n (talk_of size y) (n % 8)) (record (talk_of size y) { told = n }) (record (talk_of size y) { told = n }) (acks size y n may) refl)
-stretch_sends size y (Says false n) may =
+stretch_sends longest size y (Says false n) may =
     (n, sends_then (may_ack n (talk_of size y) (n % 8)) (record (talk_of size y) { told = n }) (record (talk_of size y) { told = n }) (acks size y n may) refl)
-stretch_sends size y (Interrupts user) may =
+stretch_sends longest size y (Interrupts user) may =
     (0, sends_then (not y.int_out) (record (talk_of size y) { is_out = true }) (record (talk_of size y) { is_out = true }) (ap not may) refl)
-stretch_sends size y Confirms may = (
+stretch_sends longest size y Confirms may = (
   0,
   sends_then (nat_lt 0 y.owed) (record (talk_of size y) { owed = y.owed - 1 }) (record (talk_of size y) { owed = y.owed - 1 })
       (lt-ltb 0 y.owed (omega (arith, may))) refl,
 )
 
-transfer_sends : (size e : ℕ) (y : Side PeerStretch) (d : TransferDeed) → MayDoTransfer size y d
+transfer_sends : (longest size e : ℕ) (y : Side PeerStretch) (d : TransferDeed) → MayDoTransfer longest size y d
     → (t : ℕ) × (sends_as t (transfer_phase size y) (item_of (transfer_packet_of y d)) ≡ Some (transfer_phase size (does_transfer e y d).side))
-transfer_sends size e (Live y) (InStretch d) may = stretch_sends size y d may
-transfer_sends size e (Live y) Resets may = (0, refl)
-transfer_sends size e (Left y) d may = absurd may
+transfer_sends longest size e (Live y) (InStretch d) may = stretch_sends longest size y d may
+transfer_sends longest size e (Live y) Resets may = (0, refl)
+transfer_sends longest size e (Left y) d may = absurd may
 
 -- ---- calls
 
@@ -146,8 +146,8 @@ calling_most known (Err e) = refl
 call_sends : (stage : Stage (At PeerStretch)) (m i : List CallRequest) (d : CallDeed) → MayDoCall stage d
     → (t : ℕ) × (sends_as t (stage_phase stage) (item_of (call_packet_of stage d)) ≡ Some (stage_phase (does_call stage m i d).stage))
 call_sends Unused m i (PlacesCall n) may = (0, refl)
-call_sends (Offered theirs) m i (AcceptsCall field) may = (0, ap (λ n. Some (fresh (limits n))) (called_most theirs (facilities_of field)))
-call_sends (Talking t b at) m i (InTransfer d) may = transfer_sends t.size at.epoch at.side d may
+call_sends (Offered theirs) m i (AcceptsCall field most) may = (0, ap (λ n. Some (fresh (limits n))) (called_most theirs (facilities_of field)))
+call_sends (Talking t b at) m i (InTransfer d) may = transfer_sends t.longest t.size at.epoch at.side d may
 call_sends stage m i d may = absurd may
 
 transfer_clears : (size : ℕ) (y : Side PeerStretch) → sends_as 0 (transfer_phase size y) item.Clear ≡ Some phase.Clears
@@ -201,9 +201,9 @@ transfer_takes role size e (Left y) (theirs.Data ns nr (More q user)) clear next
 transfer_takes role size e (Left y) (theirs.Data ns nr (Last q user)) clear next = refl
 transfer_takes role size e (Left y) p clear next = refl
 
-calls_accept : (known : Params) (field : List ℕ) (role : Role)
-    → takes role (phase.Calls (terms_of known)) (item.Accept (said_of (facilities_of field))) ≡ Some (stage_phase (calling_in_data (said_in known field)))
-calls_accept known field role = ap (λ n. Some (fresh (limits n))) (calling_most known (facilities_of field))
+calls_accept : (known : Params) (field : List ℕ) (most : ℕ) (role : Role)
+    → takes role (phase.Calls (terms_of known)) (item.Accept (said_of (facilities_of field))) ≡ Some (stage_phase (calling_in_data most (said_in known field)))
+calls_accept known field most role = ap (λ n. Some (fresh (limits n))) (calling_most known (facilities_of field))
 
 call_takes : (r : Role) (stage : Stage (At PeerStretch)) (m i : List CallRequest) (p : theirs.Packet) → NotClear p
     → IsOfRole r (Live (stands stage m i)) → IsNext p (Live (stands stage m i))
@@ -216,7 +216,7 @@ call_takes r Unused m i p clear of next = refl
 call_takes r (Waiting mine) m i theirs.Clear clear of next = absurd clear
 call_takes Dte (Waiting mine) m i (theirs.Call n) clear of next = refl
 call_takes Dce (Waiting mine) m i (theirs.Call n) clear of next = refl
-call_takes r (Waiting mine) m i (theirs.Accept field) clear of next = calls_accept mine field r
+call_takes r (Waiting mine) m i (theirs.Accept field most) clear of next = calls_accept mine field most r
 call_takes r (Waiting mine) m i (theirs.Data ns nr (More q user)) clear of next = refl
 call_takes r (Waiting mine) m i (theirs.Data ns nr (Last q user)) clear of next = refl
 call_takes r (Waiting mine) m i p clear of next = refl
@@ -227,7 +227,7 @@ call_takes r (Offered their) m i p clear of next = refl
 call_takes r (Crossed mine) m i theirs.Clear clear of next = absurd clear
 call_takes Dte (Crossed mine) m i (theirs.Call n) clear of next = refl
 call_takes Dce (Crossed mine) m i (theirs.Call n) clear of next = absurd of
-call_takes r (Crossed mine) m i (theirs.Accept field) clear of next = calls_accept mine field r
+call_takes r (Crossed mine) m i (theirs.Accept field most) clear of next = calls_accept mine field most r
 call_takes r (Crossed mine) m i (theirs.Data ns nr (More q user)) clear of next = refl
 call_takes r (Crossed mine) m i (theirs.Data ns nr (Last q user)) clear of next = refl
 call_takes r (Crossed mine) m i p clear of next = refl

@@ -26,7 +26,7 @@ call_of_role : (stage : Stage (At PeerStretch)) (m i : List CallRequest) (d : Ca
 call_of_role Unused m i (PlacesCall n) h = tt
 call_of_role Unused m i d h = tt
 call_of_role (Waiting mine) m i d h = tt
-call_of_role (Offered their) m i (AcceptsCall field) h = tt
+call_of_role (Offered their) m i (AcceptsCall field most) h = tt
 call_of_role (Offered their) m i d h = tt
 call_of_role (Crossed mine) m i d h = absurd h
 call_of_role (Talking t b at) m i (InTransfer d) h = tt
@@ -43,7 +43,7 @@ call_taken_of_role : (stage : Stage (At PeerStretch)) (m i : List CallRequest) (
 call_taken_of_role Unused m i (theirs.Call n) h = tt
 call_taken_of_role Unused m i p h = tt
 call_taken_of_role (Waiting mine) m i (theirs.Call n) h = tt
-call_taken_of_role (Waiting mine) m i (theirs.Accept field) h = tt
+call_taken_of_role (Waiting mine) m i (theirs.Accept field most) h = tt
 call_taken_of_role (Waiting mine) m i p h = tt
 call_taken_of_role (Offered their) m i p h = tt
 call_taken_of_role (Crossed mine) m i p h = absurd h

@@ -1,6 +1,6 @@
 //! Sets of states behind tapes.
 use x25_bits::Role;
-use x25_possible::{Packet, Said, Set, Terms, Told};
+use x25_possible::{Packet, Said, Set, Spare, Terms, Told};
 
 static USUAL: Terms = Terms {
     calling_size: 128,
@@ -54,6 +54,7 @@ fn mark_of(told: Told) -> u8 {
 /// Whether of the packets of the end (behind `>`; `<` of the other one) this is told.
 fn is_told(begun: &Set, tape: &[u8], told: &[u8]) -> bool {
     let mut set = begun.copy();
+    let mut spare = Spare::new();
     let mut count = 0;
     let mut is_own = false;
     for &letter in tape {
@@ -61,13 +62,13 @@ fn is_told(begun: &Set, tape: &[u8], told: &[u8]) -> bool {
             b'>' => is_own = true,
             b'<' => is_own = false,
             _ => if is_own {
-                let mark = mark_of(set.sends(packet_of(letter)));
+                let mark = mark_of(set.sends(packet_of(letter), &mut spare));
                 if count >= told.len() || told[count] != mark {
                     return false;
                 }
                 count += 1;
             } else {
-                set.shows(packet_of(letter));
+                set.shows(packet_of(letter), &mut spare);
             },
         }
     }
@@ -129,15 +130,16 @@ fn is_found(begun: &Set, tape: &[u8]) -> bool {
 }
 
 fn is_found_by(set: &mut Set, tape: &[u8]) -> bool {
+    let mut spare = Spare::new();
     let mut is_own = false;
     for &letter in tape {
         match letter {
             b'>' => is_own = true,
             b'<' => is_own = false,
             _ => if is_own {
-                set.sends(packet_of(letter));
+                set.sends(packet_of(letter), &mut spare);
             } else {
-                set.shows(packet_of(letter));
+                set.shows(packet_of(letter), &mut spare);
             },
         }
     }
@@ -163,7 +165,20 @@ fn knows_an_end(rt: HostRuntime) {
     }
     assert!(rt; is_found(&Set::new(Role::Dte), b""));
     assert!(rt; is_found(&Set::ready(Role::Dte), b">T"));
-    assert!(rt; is_told(&Set::ready(Role::Dte), b">0>T>0", b"..!"));
+}
+
+/// Tapes from a set-up of the link: each RESTART may be answered by some of those that cross it.
+static SET_UP: [(&[u8], &[u8]); 3] = [
+    (b">0>T>0", b"..!"),
+    (b"<T>T>T<U<C<T>T<C>A>h", b"....!"),
+    (b"<T>T>T<U>T<C<U>T<U>C>L<M>C<T>L>U>C<A>g", b"..........!"),
+];
+
+#[test]
+fn follows_restarts(rt: HostRuntime) {
+    for &(tape, told) in &SET_UP {
+        assert!(rt; is_told(&Set::ready(Role::Dte), tape, told), "{tape:?}");
+    }
 }
 
 /// What was on the way where packets weren't seen comes yet: from there on, what is told of the DTE, and whether it is
@@ -207,13 +222,14 @@ fn doubts_an_end(rt: HostRuntime) {
 #[test]
 fn tells_nothing_without_room(rt: HostRuntime) {
     let mut set = Set::new(Role::Dte);
+    let mut spare = Spare::new();
     for _ in 0..17 {
-        set.shows(Packet::Reset);
-        set.shows(Packet::Call(USUAL));
+        set.shows(Packet::Reset, &mut spare);
+        set.shows(Packet::Call(USUAL), &mut spare);
     }
     assert!(rt; !set.is_known());
-    assert_eq!(rt; mark_of(set.sends(Packet::InterruptConf)), b'.');
-    set.shows(Packet::Restart);
-    assert_eq!(rt; mark_of(set.sends(Packet::RestartConf)), b'.');
+    assert_eq!(rt; mark_of(set.sends(Packet::InterruptConf, &mut spare)), b'.');
+    set.shows(Packet::Restart, &mut spare);
+    assert_eq!(rt; mark_of(set.sends(Packet::RestartConf, &mut spare)), b'.');
     assert!(rt; !set.is_known());
 }

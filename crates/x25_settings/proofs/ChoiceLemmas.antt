@@ -13,7 +13,7 @@ use Rattle.x25_settings.specs.declared.options.Flag.TheVariants.{Clock, Down, Ev
 use Rattle.x25_settings.specs.declared.options.Kind.{Kind}
 use Rattle.x25_settings.specs.declared.options.Kind.TheVariants.{Decode, Sim, Station, Judge, Frame}
 use Rattle.x25_settings.specs.declared.options.Numbered.{Numbered}
-use Rattle.x25_settings.specs.declared.options.Numbered.TheVariants.{Window, Tries, Channels, Incoming, Outgoing, T1, T3, T20, T21, T22, T23}
+use Rattle.x25_settings.specs.declared.options.Numbered.TheVariants.{Window, Tries, Channels, Incoming, Outgoing, Message, T1, T3, T20, T21, T22, T23}
 use Rattle.x25_settings.specs.Options.Choosing.{at_in, number_in, flags, flag_in, numbers, numbered_in, places, put_flag, put_fresh, put_read, put_text, put_number, put_pair, put_place, chosen_in}
 use Rattle.x25_settings.specs.Options.{Choice, flag, number, place, at_word, flag_word, word_of, least_of, most_of, words_of, nothing, chosen_flag, with_flag, chosen_number, with_number, takes, has, has_place, IsInRange, IsOpen, Leads, settled, Choose, AreInRange}
 use Rattle.x25_settings.proofs.NumberLemmas.{number_found, number_read}
@@ -49,6 +49,7 @@ no_flag Tries = refl
 no_flag Channels = refl
 no_flag Incoming = refl
 no_flag Outgoing = refl
+no_flag Message = refl
 no_flag T1 = refl
 no_flag T3 = refl
 no_flag T20 = refl
@@ -62,6 +63,7 @@ no_place Tries = refl
 no_place Channels = refl
 no_place Incoming = refl
 no_place Outgoing = refl
+no_place Message = refl
 no_place T1 = refl
 no_place T3 = refl
 no_place T20 = refl
@@ -81,6 +83,7 @@ is_numbered Tries = refl
 is_numbered Channels = refl
 is_numbered Incoming = refl
 is_numbered Outgoing = refl
+is_numbered Message = refl
 is_numbered T1 = refl
 is_numbered T3 = refl
 is_numbered T20 = refl
@@ -101,6 +104,7 @@ few kind Tries = omega arith
 few kind Channels = (few_channels kind).1
 few kind Incoming = omega arith
 few kind Outgoing = omega arith
+few kind Message = omega arith
 few kind T1 = omega arith
 few kind T3 = omega arith
 few kind T20 = omega arith
@@ -332,43 +336,46 @@ module _ (kind : Kind) where
     k : IfSome c.k (IsInRange kind Window)
     n2 : IfSome c.n2 (IsInRange kind Tries)
     channels : IfSome c.channels (IsInRange kind Channels)
+    message : IfSome c.message (IsInRange kind Message)
 
   flag_keeps : (x : Flag) (c : Chosen) → IsKept c → IsKept (with_flag c x)
-  flag_keeps Clock c kept = record { k = kept.k; n2 = kept.n2; channels = kept.channels }
-  flag_keeps Down c kept = record { k = kept.k; n2 = kept.n2; channels = kept.channels }
-  flag_keeps Events c kept = record { k = kept.k; n2 = kept.n2; channels = kept.channels }
-  flag_keeps Long c kept = record { k = kept.k; n2 = kept.n2; channels = kept.channels }
-  flag_keeps Loose c kept = record { k = kept.k; n2 = kept.n2; channels = kept.channels }
-  flag_keeps Manners c kept = record { k = kept.k; n2 = kept.n2; channels = kept.channels }
-  flag_keeps SaySizes c kept = record { k = kept.k; n2 = kept.n2; channels = kept.channels }
-  flag_keeps Tap c kept = record { k = kept.k; n2 = kept.n2; channels = kept.channels }
-  flag_keeps Strict c kept = record { k = kept.k; n2 = kept.n2; channels = kept.channels }
-  flag_keeps Wide c kept = record { k = kept.k; n2 = kept.n2; channels = kept.channels }
+  flag_keeps Clock c kept = record { k = kept.k; n2 = kept.n2; channels = kept.channels; message = kept.message }
+  flag_keeps Down c kept = record { k = kept.k; n2 = kept.n2; channels = kept.channels; message = kept.message }
+  flag_keeps Events c kept = record { k = kept.k; n2 = kept.n2; channels = kept.channels; message = kept.message }
+  flag_keeps Long c kept = record { k = kept.k; n2 = kept.n2; channels = kept.channels; message = kept.message }
+  flag_keeps Loose c kept = record { k = kept.k; n2 = kept.n2; channels = kept.channels; message = kept.message }
+  flag_keeps Manners c kept = record { k = kept.k; n2 = kept.n2; channels = kept.channels; message = kept.message }
+  flag_keeps SaySizes c kept = record { k = kept.k; n2 = kept.n2; channels = kept.channels; message = kept.message }
+  flag_keeps Tap c kept = record { k = kept.k; n2 = kept.n2; channels = kept.channels; message = kept.message }
+  flag_keeps Strict c kept = record { k = kept.k; n2 = kept.n2; channels = kept.channels; message = kept.message }
+  flag_keeps Wide c kept = record { k = kept.k; n2 = kept.n2; channels = kept.channels; message = kept.message }
 
   number_keeps : (x : Numbered) (n : ℕ) (c : Chosen) → IsInRange kind x n → IsKept c → IsKept (with_number c x n)
-  number_keeps Window n c range kept = record { k = range; n2 = kept.n2; channels = kept.channels }
-  number_keeps Tries n c range kept = record { k = kept.k; n2 = range; channels = kept.channels }
-  number_keeps Channels n c range kept = record { k = kept.k; n2 = kept.n2; channels = range }
-  number_keeps Incoming n c range kept = record { k = kept.k; n2 = kept.n2; channels = kept.channels }
-  number_keeps Outgoing n c range kept = record { k = kept.k; n2 = kept.n2; channels = kept.channels }
-  number_keeps T1 n c range kept = record { k = kept.k; n2 = kept.n2; channels = kept.channels }
-  number_keeps T3 n c range kept = record { k = kept.k; n2 = kept.n2; channels = kept.channels }
-  number_keeps T20 n c range kept = record { k = kept.k; n2 = kept.n2; channels = kept.channels }
-  number_keeps T21 n c range kept = record { k = kept.k; n2 = kept.n2; channels = kept.channels }
-  number_keeps T22 n c range kept = record { k = kept.k; n2 = kept.n2; channels = kept.channels }
-  number_keeps T23 n c range kept = record { k = kept.k; n2 = kept.n2; channels = kept.channels }
+  number_keeps Window n c range kept = record { k = range; n2 = kept.n2; channels = kept.channels; message = kept.message }
+  number_keeps Tries n c range kept = record { k = kept.k; n2 = range; channels = kept.channels; message = kept.message }
+  number_keeps Channels n c range kept = record { k = kept.k; n2 = kept.n2; channels = range; message = kept.message }
+  number_keeps Incoming n c range kept = record { k = kept.k; n2 = kept.n2; channels = kept.channels; message = kept.message }
+  number_keeps Outgoing n c range kept = record { k = kept.k; n2 = kept.n2; channels = kept.channels; message = kept.message }
+  number_keeps Message n c range kept = record { k = kept.k; n2 = kept.n2; channels = kept.channels; message = range }
+  number_keeps T1 n c range kept = record { k = kept.k; n2 = kept.n2; channels = kept.channels; message = kept.message }
+  number_keeps T3 n c range kept = record { k = kept.k; n2 = kept.n2; channels = kept.channels; message = kept.message }
+  number_keeps T20 n c range kept = record { k = kept.k; n2 = kept.n2; channels = kept.channels; message = kept.message }
+  number_keeps T21 n c range kept = record { k = kept.k; n2 = kept.n2; channels = kept.channels; message = kept.message }
+  number_keeps T22 n c range kept = record { k = kept.k; n2 = kept.n2; channels = kept.channels; message = kept.message }
+  number_keeps T23 n c range kept = record { k = kept.k; n2 = kept.n2; channels = kept.channels; message = kept.message }
 
   keeps : (choices : List Choice) (c end : Chosen) → IsKept c → Leads kind c choices end → IsKept end
   keeps [] c end kept e = subst IsKept (sym e) kept
   keeps (flag x ∷ choices) c end kept h = keeps choices (with_flag c x) end (flag_keeps x c kept) h.1
   keeps (number x n ∷ choices) c end kept h = keeps choices (with_number c x n) end (number_keeps x n c h.0.2 kept) h.1
   keeps (place x ∷ choices) c end kept h =
-      keeps choices (record c { at = Some x }) end (record { k = kept.k; n2 = kept.n2; channels = kept.channels }) h.1
+      keeps choices (record c { at = Some x }) end (record { k = kept.k; n2 = kept.n2; channels = kept.channels; message = kept.message }) h.1
 
   pub in_range : (words : List (List ℕ)) (c : Chosen) → Choose kind words c → AreInRange kind (settled c)
   in_range words c h =
-      let kept = keeps h.0 nothing c (record { k = tt; n2 = tt; channels = tt }) h.2 in (
+      let kept = keeps h.0 nothing c (record { k = tt; n2 = tt; channels = tt; message = tt }) h.2 in (
         within kind Window c.k 7 (omega arith) (omega arith) kept.k,
         within kind Tries c.n2 10 (omega arith) (omega arith) kept.n2,
         within kind Channels c.channels 1 (omega arith) (few_channels kind).0 kept.channels,
+        within kind Message c.message 65535 (omega arith) (omega arith) kept.message,
       )

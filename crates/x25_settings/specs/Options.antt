@@ -19,7 +19,8 @@ use Rattle.x25_settings.specs.declared.options.Flag.TheVariants.{SaySizes, Tap, 
 use Rattle.x25_settings.specs.declared.options.Kind.{Kind}
 use Rattle.x25_settings.specs.declared.options.Kind.TheVariants.{Decode, Sim, Station, Judge, Frame}
 use Rattle.x25_settings.specs.declared.options.Numbered.{Numbered}
-use Rattle.x25_settings.specs.declared.options.Numbered.TheVariants.{Window, Tries, Channels, Incoming, Outgoing, T1}
+use Rattle.x25_settings.specs.declared.options.Numbered.TheVariants.{Window, Tries, Channels, Incoming, Outgoing}
+use Rattle.x25_settings.specs.declared.options.Numbered.TheVariants.{Message, T1}
 use Rattle.x25_settings.specs.declared.options.Numbered.TheVariants.{T3, T20, T21, T22, T23}
 pub mod Choosing
 
@@ -41,6 +42,7 @@ word_of Tries = codes "--n2"
 word_of Channels = codes "--channels"
 word_of Incoming = codes "--incoming"
 word_of Outgoing = codes "--outgoing"
+word_of Message = codes "--message"
 word_of T1 = codes "--t1"
 word_of T3 = codes "--t3"
 word_of T20 = codes "--t20"
@@ -77,6 +79,7 @@ has Decode option = false
 has Sim Window = true
 has Sim Tries = true
 has Sim Channels = true
+has Sim Message = true
 has Sim option = false
 has Station option = true
 has Judge Window = true
@@ -92,6 +95,7 @@ abbrev pub least_of : Numbered → ℕ
 least_of Window = 1
 least_of Tries = 1
 least_of Channels = 1
+least_of Message = 1
 least_of other = 0
 
 -- the most that it may be behind a command; of a time, in milliseconds, a day
@@ -102,6 +106,7 @@ most_of Sim Channels = 16
 most_of kind Channels = 4095
 most_of kind Incoming = 4095
 most_of kind Outgoing = 4095
+most_of kind Message = 65535
 most_of kind time = 86400000
 
 abbrev pub at_word : At → List ℕ
@@ -141,6 +146,7 @@ nothing = record {
   channels = None;
   incoming = None;
   outgoing = None;
+  message = None;
   times = no_times;
   at = None;
 }
@@ -151,6 +157,7 @@ chosen_number c Tries = c.n2
 chosen_number c Channels = c.channels
 chosen_number c Incoming = c.incoming
 chosen_number c Outgoing = c.outgoing
+chosen_number c Message = c.message
 chosen_number c T1 = c.times.t1
 chosen_number c T3 = c.times.t3
 chosen_number c T20 = c.times.t20
@@ -188,6 +195,7 @@ with_number c Tries n = record c { n2 = Some n }
 with_number c Channels n = record c { channels = Some n }
 with_number c Incoming n = record c { incoming = Some n }
 with_number c Outgoing n = record c { outgoing = Some n }
+with_number c Message n = record c { message = Some n }
 with_number c T1 n = record c { times = record c.times { t1 = Some n } }
 with_number c T3 n = record c { times = record c.times { t3 = Some n } }
 with_number c T20 n = record c { times = record c.times { t20 = Some n } }
@@ -225,6 +233,7 @@ settled c = record {
   channels = unwrap_or c.channels 1;
   incoming = unwrap_or c.incoming 0;
   outgoing = unwrap_or c.outgoing 0;
+  message = unwrap_or c.message 65535;
 }
 
 abbrev pub simulated : Chosen → Simulation
@@ -273,3 +282,4 @@ JudgingIsInRange g = IsInRange Judge Window g.k
 
 abbrev pub AreInRange : Kind → StationOptions → Type 0
 AreInRange kind s = IsInRange kind Window s.k × IsInRange kind Tries s.n2 × IsInRange kind Channels s.channels
+    × IsInRange kind Message s.message

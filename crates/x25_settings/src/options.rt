@@ -43,6 +43,8 @@ pub struct StationOptions {
     pub incoming: u16,
     /// So many of the highest are one-way outgoing.
     pub outgoing: u16,
+    /// The most octets of a message, 1 to 65,535.
+    pub message: u16,
 }
 
 /// What `sim` is run with.
@@ -149,6 +151,7 @@ pub(crate) enum Numbered {
     Channels,
     Incoming,
     Outgoing,
+    Message,
     T1,
     T3,
     T20,
@@ -157,12 +160,14 @@ pub(crate) enum Numbered {
     T23,
 }
 
-/// What is so where no option says it: the window, the tries and the channels.
+/// What is so where no option says it: the window, the tries, the channels and the longest message.
 const WINDOW: u8 = 7;
 
 const TRIES: u8 = 10;
 
 const CHANNELS: u16 = 1;
+
+const MESSAGE: u16 = 65_535;
 
 impl Kind {
     /// Whether the command has an option that is one word.
@@ -185,7 +190,9 @@ impl Kind {
     {
         match option {
             Numbered::Window => matches!(self, Kind::Sim | Kind::Station | Kind::Judge),
-            Numbered::Tries | Numbered::Channels => matches!(self, Kind::Sim | Kind::Station),
+            Numbered::Tries | Numbered::Channels | Numbered::Message => {
+                matches!(self, Kind::Sim | Kind::Station)
+            }
             _ => matches!(self, Kind::Station),
         }
     }
@@ -207,6 +214,7 @@ impl Numbered {
             Numbered::Channels => "channels",
             Numbered::Incoming => "incoming",
             Numbered::Outgoing => "outgoing",
+            Numbered::Message => "message",
             Numbered::T1 => "t1",
             Numbered::T3 => "t3",
             Numbered::T20 => "t20",
@@ -221,7 +229,7 @@ impl Numbered {
         ensures { result ≡ least_of self }
     {
         match self {
-            Numbered::Window | Numbered::Tries | Numbered::Channels => 1,
+            Numbered::Window | Numbered::Tries | Numbered::Channels | Numbered::Message => 1,
             _ => 0,
         }
     }
@@ -236,6 +244,7 @@ impl Numbered {
             Numbered::Tries => 255,
             Numbered::Channels if matches!(kind, Kind::Sim) => 16,
             Numbered::Channels | Numbered::Incoming | Numbered::Outgoing => 4095,
+            Numbered::Message => 65_535,
             _ => 86_400_000,
         }
     }
@@ -247,6 +256,7 @@ impl Numbered {
             Numbered::Tries => Some("10"),
             Numbered::Channels => Some("1"),
             Numbered::Incoming | Numbered::Outgoing => Some("0"),
+            Numbered::Message => Some("65535"),
             _ => None,
         }
     }
@@ -284,6 +294,7 @@ struct Chosen {
     channels: Option<u16>,
     incoming: Option<u16>,
     outgoing: Option<u16>,
+    message: Option<u16>,
     times: GivenTimes,
     at: Option<At>,
 }
@@ -335,6 +346,8 @@ fn numbered_option(word: &str) -> Option<Numbered>
         Some(Numbered::Incoming)
     } else if is(word, "--outgoing") {
         Some(Numbered::Outgoing)
+    } else if is(word, "--message") {
+        Some(Numbered::Message)
     } else if is(word, "--t1") {
         Some(Numbered::T1)
     } else if is(word, "--t3") {
@@ -452,6 +465,7 @@ impl Chosen {
             Numbered::Channels => self.channels.is_some(),
             Numbered::Incoming => self.incoming.is_some(),
             Numbered::Outgoing => self.outgoing.is_some(),
+            Numbered::Message => self.message.is_some(),
             Numbered::T1 => self.times.t1.is_some(),
             Numbered::T3 => self.times.t3.is_some(),
             Numbered::T20 => self.times.t20.is_some(),
@@ -486,6 +500,10 @@ impl Chosen {
             },
             Numbered::Outgoing => Chosen {
                 outgoing: Some(n as u16),
+                ..self
+            },
+            Numbered::Message => Chosen {
+                message: Some(n as u16),
                 ..self
             },
             Numbered::T1 => self.with_times(GivenTimes {
@@ -577,6 +595,7 @@ impl Chosen {
             channels: self.channels.unwrap_or(CHANNELS),
             incoming: self.incoming.unwrap_or(0),
             outgoing: self.outgoing.unwrap_or(0),
+            message: self.message.unwrap_or(MESSAGE),
         }
     }
 
@@ -629,6 +648,7 @@ fn choose<S: AsStr>(kind: Kind, words: &[S]) -> Option<Chosen>
         channels: None,
         incoming: None,
         outgoing: None,
+        message: None,
         times: GivenTimes {
             t1: None,
             t3: None,

@@ -86,6 +86,12 @@ const OUTGOING: Word = Word::Number(
     "The N highest channels are one-way outgoing: a DCE doesn't call on them",
 );
 
+const MESSAGE: Word = Word::Number(
+    Kind::Station,
+    Numbered::Message,
+    "The most octets of a message, for which each call has memory: 1 to 65535",
+);
+
 const CLOCK: Word = Word::Flag(
     "clock",
     "Read the time in lines `@ MS`, in milliseconds, and ask for what is due then",
@@ -164,6 +170,7 @@ static COMMANDS: [Row; 7] = [
             WINDOW,
             TRIES,
             FEW_CHANNELS,
+            MESSAGE,
         ],
     },
     Row {
@@ -184,6 +191,7 @@ static COMMANDS: [Row; 7] = [
             CHANNELS,
             INCOMING,
             OUTGOING,
+            MESSAGE,
             CLOCK,
             T1,
             T3,

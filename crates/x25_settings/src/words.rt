@@ -172,11 +172,11 @@ fn usage_fault<'a, S: AsStr>(alloc: Global, words: &'a [S]) -> SettingsError {
 /// Plain words are a command and its options, each at most once and in any order, or `vectors` alone, or `deframe` and
 /// `dte` or `dce`. Options of `decode` are `--long`, `--loose` and `--wide`; of `judge` these, `--manners`,
 /// `--strict`, `--at` and `line`, `dte`, `dce` or `either`, and `--k N`; of `frame` `--loose`; of `station`, behind
-/// `dte` or `dce`, `--long`, `--say-sizes`, `--wide`, `--k N`, `--n2 N` and `--channels N`; of `sim` these, `--down`,
-/// `--events`, `--loose` and `--tap`. N is decimal without leading zeros, from 1 to 7, 255 and 4,095, of `sim` 16;
-/// what isn't said is 7, 10 and 1. `station` has `--incoming N` and `--outgoing N` too, which aren't more than the
-/// channels together, and `--clock`, and with it `--t1 N`, `--t3 N` and `--t20 N` to `--t23 N`, from 0 to 86,400,000.
-/// All others are a usage fault, help words too. Plain words take no memory. Profile.
+/// `dte` or `dce`, `--long`, `--say-sizes`, `--wide`, `--k N`, `--n2 N`, `--channels N` and `--message N`; of `sim`
+/// these, `--down`, `--events`, `--loose` and `--tap`. N is decimal without leading zeros, from 1 to 7, 255, 4,095, of
+/// `sim` 16, and 65,535; what isn't said is 7, 10, 1 and 65,535. `station` has `--incoming N` and `--outgoing N` too,
+/// which aren't more than the channels together, and `--clock`, and with it `--t1 N`, `--t3 N` and `--t20 N` to `--t23
+/// N`, from 0 to 86,400,000. All others are a usage fault, help words too. Plain words take no memory. Profile.
 pub fn settings<'a, S: AsStr>(alloc: Global, words: &'a [S]) -> Result<Task, SettingsError>
     ensures plain { (task : TaskValue) → Say (map S.text words.now) task → result ≡ Ok task }
     ensures only { IfOk result (Say (map S.text words.now)) }

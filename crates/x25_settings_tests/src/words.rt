@@ -13,6 +13,7 @@ const DEFAULTS: StationOptions = StationOptions {
     channels: 1,
     incoming: 0,
     outgoing: 0,
+    message: 65_535,
 };
 
 const PLAIN_DECODING: Decoding = Decoding {
@@ -76,7 +77,7 @@ fn timed(end: End, times: GivenTimes) -> Task {
 
 #[test]
 fn takes_plain_words_alone(rt: HostRuntime) {
-    let plain: [(&[&str], Task); 39] = [
+    let plain: [(&[&str], Task); 40] = [
         (&["decode"], Task::Decode(PLAIN_DECODING)),
         (
             &["decode", "--long"],
@@ -320,6 +321,16 @@ fn takes_plain_words_alone(rt: HostRuntime) {
                 },
             ),
         ),
+        (
+            &["station", "dce", "--message", "1"],
+            place(
+                End::Dce,
+                StationOptions {
+                    message: 1,
+                    ..DEFAULTS
+                },
+            ),
+        ),
         (&["station", "dce", "--clock"], timed(End::Dce, USUAL_TIMES)),
         (
             &["station", "dte", "--t1", "0", "--clock", "--t3", "86400000"],
@@ -360,7 +371,7 @@ fn takes_plain_words_alone(rt: HostRuntime) {
 
 #[test]
 fn takes_no_other_words(rt: HostRuntime) {
-    let others: [&[&str]; 81] = [
+    let others: [&[&str]; 84] = [
         &[],
         &["dec"],
         &["decode", "decode"],
@@ -402,6 +413,9 @@ fn takes_no_other_words(rt: HostRuntime) {
             "2",
         ],
         &["station", "dte", "--outgoing", "4096"],
+        &["station", "dte", "--message", "0"],
+        &["station", "dte", "--message", "65536"],
+        &["judge", "--message", "1"],
         &["sim", "--incoming", "0"],
         &["sim", "--chan", "2"],
         &["sim", "--tap", "--"],
@@ -510,7 +524,8 @@ Usage: x25 sim [OPTIONS] [FILE]\n\nOptions:\n      \
 --wide          Take packets in all the forms that X.25 lets equipment send\n      \
 --k <N>         The window of the link: 1 to 7 [default: 7]\n      \
 --n2 <N>        How often an unanswered command of the link is sent again: 1 to 255 [default: 10]\n      \
---channels <N>  The number of logical channels: 1 to 16 [default: 1]\n  \
+--channels <N>  The number of logical channels: 1 to 16 [default: 1]\n      \
+--message <N>   The most octets of a message, for which each call has memory: 1 to 65535 [default: 65535]\n  \
 -h, --help          Print help\n\nExamples:\n  x25 sim < examples/call.script\n  \
 x25 sim --tap < examples/call.script | grep '^[<>]' | x25 decode\n";
 

@@ -63,15 +63,16 @@ call_done c x Open called calling user proposal = tt
 call_done c x Resetting called calling user proposal = tt
 call_done c x Clearing called calling user proposal = tt
 
-send_done : (c : Settings) (x : Circuit) (s : State) (q : Marks) (user : List ℕ) → WhereDone (send_in c x s q user) (length user ≤ 65535)
-send_done c x Open q user =
-    where_tested _ (nat_le (length user) 65535) _ TooLong (λ short. where_tested _ (nat_lt (waits x) 8) _ Full (λ few. leb-true (length user) 65535 short))
-send_done c x Free q user = tt
-send_done c x Calling q user = tt
-send_done c x Arriving q user = tt
-send_done c x Collision q user = tt
-send_done c x Resetting q user = tt
-send_done c x Clearing q user = tt
+send_done : (c : Settings) → c.longest ≤ 65535 → (x : Circuit) (s : State) (q : Marks) (user : List ℕ) → WhereDone (send_in c x s q user) (length user ≤ 65535)
+send_done c most x Open q user =
+    where_tested _ (nat_le (length user) c.longest) _ TooLong
+    (λ short. where_tested _ (nat_lt (waits x) 8) _ Full (λ few. (let low = leb-true (length user) c.longest short in omega (arith, low, most))))
+send_done c most x Free q user = tt
+send_done c most x Calling q user = tt
+send_done c most x Arriving q user = tt
+send_done c most x Collision q user = tt
+send_done c most x Resetting q user = tt
+send_done c most x Clearing q user = tt
 
 interrupt_brief : (user : List ℕ) → (nat_le 1 (length user) && nat_le (length user) 32) ≡ true → length user ≤ 128
 interrupt_brief user is = let n = leb-true (length user) 32 (and_parts (nat_le 1 (length user)) (nat_le (length user) 32) is).1 in omega (arith, n)
@@ -85,15 +86,15 @@ interrupt_done x Collision user = tt
 interrupt_done x Resetting user = tt
 interrupt_done x Clearing user = tt
 
-done_brief : (c : Settings) (x : Circuit) (request : Request) → WhereDone (outcome c x request) (IsBrief request)
-done_brief c x (Calls called calling user proposal) = call_done c x x.state called calling user proposal
-done_brief c x (Accepts answer) = always (outcome c x (Accepts answer))
-done_brief c x (Clears cause diagnostic) = always (outcome c x (Clears cause diagnostic))
-done_brief c x (Sends q user) = send_done c x x.state q user
-done_brief c x (Interrupts user) = interrupt_done x x.state user
-done_brief c x (Resets cause diagnostic) = always (outcome c x (Resets cause diagnostic))
-done_brief c x SaysReady = always (outcome c x SaysReady)
-done_brief c x SaysNotReady = always (outcome c x SaysNotReady)
+done_brief : (c : Settings) → c.longest ≤ 65535 → (x : Circuit) (request : Request) → WhereDone (outcome c x request) (IsBrief request)
+done_brief c most x (Calls called calling user proposal) = call_done c x x.state called calling user proposal
+done_brief c most x (Accepts answer) = always (outcome c x (Accepts answer))
+done_brief c most x (Clears cause diagnostic) = always (outcome c x (Clears cause diagnostic))
+done_brief c most x (Sends q user) = send_done c most x x.state q user
+done_brief c most x (Interrupts user) = interrupt_done x x.state user
+done_brief c most x (Resets cause diagnostic) = always (outcome c x (Resets cause diagnostic))
+done_brief c most x SaysReady = always (outcome c x SaysReady)
+done_brief c most x SaysNotReady = always (outcome c x SaysNotReady)
 
 -- ---- of a layer
 
@@ -113,32 +114,32 @@ at_once : (P : Type 0) (b full : Bool) (o : LayerOutcome) → WhereAccepted o P 
 at_once P true full o p = in_room P full o p
 at_once P false full o p = p
 
-asks_brief : (c : LayerSettings) (full busy : Bool) (l : Layer) (h : ℕ) (request : Request) → WhereAccepted (outcome_in c full busy l.restarts l.circuits (Asks h request)) (IsBrief request)
-asks_brief c full true l h request = tt
-asks_brief c full false l h request = test (is_channel c.channels h)
+asks_brief : (c : LayerSettings) → c.circuit.longest ≤ 65535 → (full busy : Bool) (l : Layer) (h : ℕ) (request : Request) → WhereAccepted (outcome_in c full busy l.restarts l.circuits (Asks h request)) (IsBrief request)
+asks_brief c most full true l h request = tt
+asks_brief c most full false l h request = test (is_channel c.channels h)
   where
     good : LayerOutcome
     good = if_at_once (puts_at_once request) full (outcome_on l.restarts l.circuits h (outcome c.circuit (l.circuits h) request))
 
     test : (b : Bool) → WhereAccepted (if b then good else Declined NoSuchChannel) (IsBrief request)
-    test true = at_once (IsBrief request) (puts_at_once request) full _ (on_circuit (IsBrief request) l.restarts l.circuits h _ (done_brief c.circuit (l.circuits h) request))
+    test true = at_once (IsBrief request) (puts_at_once request) full _ (on_circuit (IsBrief request) l.restarts l.circuits h _ (done_brief c.circuit most (l.circuits h) request))
     test false = tt
 
-dials_brief : (c : LayerSettings) (full busy : Bool) (l : Layer) (called calling user : List ℕ) (proposal : Proposal) → WhereAccepted (outcome_in c full busy l.restarts l.circuits (Dials called calling user proposal)) (IsBrief (Calls called calling user proposal))
-dials_brief c full true l called calling user proposal = tt
-dials_brief c full false l called calling user proposal = at (free_channel c.circuit.role l.circuits c.channels)
+dials_brief : (c : LayerSettings) → c.circuit.longest ≤ 65535 → (full busy : Bool) (l : Layer) (called calling user : List ℕ) (proposal : Proposal) → WhereAccepted (outcome_in c full busy l.restarts l.circuits (Dials called calling user proposal)) (IsBrief (Calls called calling user proposal))
+dials_brief c most full true l called calling user proposal = tt
+dials_brief c most full false l called calling user proposal = at (free_channel c.circuit.role l.circuits c.channels)
   where
     request : Request
     request = Calls called calling user proposal
 
     at : (o : Option ℕ) → WhereAccepted (dialled c full l.restarts l.circuits o called calling user proposal) (IsBrief request)
     at None = tt
-    at (Some h) = in_room (IsBrief request) full _ (on_circuit (IsBrief request) l.restarts l.circuits h _ (done_brief c.circuit (l.circuits h) request))
+    at (Some h) = in_room (IsBrief request) full _ (on_circuit (IsBrief request) l.restarts l.circuits h _ (done_brief c.circuit most (l.circuits h) request))
 
-pub asked_brief : (view : LinkView) (c : LayerSettings) (l : Layer) (h : ℕ) (request : Request) (p : Putting) → calls view c l (Asks h request) ≡ Went p → IsBrief request
-asked_brief view c l h request p is =
-    subst (λ (o : LayerOutcome). WhereAccepted o (IsBrief request)) (accepted view c l (Asks h request) p is).outcome (asks_brief c (view.waits [] == 256) l.restarting l h request)
+pub asked_brief : (view : LinkView) (c : LayerSettings) → c.circuit.longest ≤ 65535 → (l : Layer) (h : ℕ) (request : Request) (p : Putting) → calls view c l (Asks h request) ≡ Went p → IsBrief request
+asked_brief view c most l h request p is =
+    subst (λ (o : LayerOutcome). WhereAccepted o (IsBrief request)) (accepted view c l (Asks h request) p is).outcome (asks_brief c most (view.waits [] == 256) l.restarting l h request)
 
-pub dialled_brief : (view : LinkView) (c : LayerSettings) (l : Layer) (called calling user : List ℕ) (proposal : Proposal) (p : Putting) → calls view c l (Dials called calling user proposal) ≡ Went p → IsBrief (Calls called calling user proposal)
-dialled_brief view c l called calling user proposal p is =
-    subst (λ (o : LayerOutcome). WhereAccepted o (IsBrief (Calls called calling user proposal))) (accepted view c l (Dials called calling user proposal) p is).outcome (dials_brief c (view.waits [] == 256) l.restarting l called calling user proposal)
+pub dialled_brief : (view : LinkView) (c : LayerSettings) → c.circuit.longest ≤ 65535 → (l : Layer) (called calling user : List ℕ) (proposal : Proposal) (p : Putting) → calls view c l (Dials called calling user proposal) ≡ Went p → IsBrief (Calls called calling user proposal)
+dialled_brief view c most l called calling user proposal p is =
+    subst (λ (o : LayerOutcome). WhereAccepted o (IsBrief (Calls called calling user proposal))) (accepted view c l (Dials called calling user proposal) p is).outcome (dials_brief c most (view.waits [] == 256) l.restarting l called calling user proposal)

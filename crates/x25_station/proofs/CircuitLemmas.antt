@@ -207,21 +207,21 @@ module _ (wide long_data : Bool) where
   number_low : (t : Talk) (pr : ℕ) → LowGround (table.number_ground t pr)
   number_low t pr = ground_if _ None (Some 2) tt (omega arith)
 
-  ground_low : (size : ℕ) (j : Partial) (n : ℕ) (q : Bool) → LowGround (ground_of size j n q)
-  ground_low size j n q =
-      ground_if (nat_le n size) (if nat_le (length j.user + n) 65535 then (if may_have_q j.begun q then None else Some 83) else Some 39) (Some 39)
-      (ground_if (nat_le (length j.user + n) 65535) (if may_have_q j.begun q then None else Some 83) (Some 39) (ground_if (may_have_q j.begun q) None (Some 83) tt (omega arith)) (omega arith))
+  ground_low : (longest size : ℕ) (j : Partial) (n : ℕ) (q : Bool) → LowGround (ground_of longest size j n q)
+  ground_low longest size j n q =
+      ground_if (nat_le n size) (if nat_le (length j.user + n) longest then (if may_have_q j.begun q then None else Some 83) else Some 39) (Some 39)
+      (ground_if (nat_le (length j.user + n) longest) (if may_have_q j.begun q then None else Some 83) (Some 39) (ground_if (may_have_q j.begun q) None (Some 83) tt (omega arith)) (omega arith))
       (omega arith)
 
-  data_low : (size : ℕ) (t : Talk) (ps pr : ℕ) (piece : Piece) → LowGround (table.data_ground size t ps pr piece)
-  data_low size t ps pr piece =
-      ground_if (nat_le (resolved t.acked pr) (length t.sent)) (if ps == length t.taken % 8 then piece_ground size (joining no_part t.taken) piece else Some 1) (Some 2)
-      (ground_if (ps == length t.taken % 8) (piece_ground size (joining no_part t.taken) piece) (Some 1) (ground_low size (joining no_part t.taken) (length (user_of piece)) (q_of piece)) (omega arith))
+  data_low : (longest size : ℕ) (t : Talk) (ps pr : ℕ) (piece : Piece) → LowGround (table.data_ground longest size t ps pr piece)
+  data_low longest size t ps pr piece =
+      ground_if (nat_le (resolved t.acked pr) (length t.sent)) (if ps == length t.taken % 8 then piece_ground longest size (joining no_part t.taken) piece else Some 1) (Some 2)
+      (ground_if (ps == length t.taken % 8) (piece_ground longest size (joining no_part t.taken) piece) (Some 1) (ground_low longest size (joining no_part t.taken) (length (user_of piece)) (q_of piece)) (omega arith))
       (omega arith)
 
   open_fits : (c : Settings) (x : Circuit) (p : PlainPacket) → CircuitFits wide x → AnswerFits (table.row_open c x x.talk p)
   open_fits c x (user_data h q m ps pr user) f =
-      unless_fits c x (table.data_ground (incoming x).size x.talk ps pr (piece_of q m user)) (table.takes x x.talk pr (piece_of q m user)) (data_low (incoming x).size x.talk ps pr (piece_of q m user)) f
+      unless_fits c x (table.data_ground c.longest (incoming x).size x.talk ps pr (piece_of q m user)) (table.takes x x.talk pr (piece_of q m user)) (data_low c.longest (incoming x).size x.talk ps pr (piece_of q m user)) f
       (record { next = f; owed = status_gives x.talk.own_ready (length x.talk.taken + 1) })
   open_fits c x (rr h pr) f = unless_fits c x (table.number_ground x.talk pr) (table.hears_status x x.talk true pr) (number_low x.talk pr) f (record { next = f; owed = tt })
   open_fits c x (rnr h pr) f = unless_fits c x (table.number_ground x.talk pr) (table.hears_status x x.talk false pr) (number_low x.talk pr) f (record { next = f; owed = tt })
@@ -343,7 +343,7 @@ module _ (wide long_data : Bool) where
 
   send_in_fits : Agreed → (c : Settings) (x : Circuit) (s : State) (q : Marks) (user : List ℕ) → CircuitFits wide x → AreOctets user → may_mark wide q ≡ true → OutcomeFits (send_in c x s q user)
   send_in_fits laws c x Open q user f octets may =
-      outcome_if (nat_le (length user) 65535) _ (Refused error.TooLong) (λ _. outcome_if (nat_lt (waits x) 8) _ (Refused error.Full) (λ _. ((cut_append x.talk.rest (cut (outgoing x).size q user) f.0 cut_fits, f.1), tt)) tt) tt
+      outcome_if (nat_le (length user) c.longest) _ (Refused error.TooLong) (λ _. outcome_if (nat_lt (waits x) 8) _ (Refused error.Full) (λ _. ((cut_append x.talk.rest (cut (outgoing x).size q user) f.0 cut_fits, f.1), tt)) tt) tt
     where
       cut_fits : AreCut wide (cut (outgoing x).size q user)
       cut_fits =

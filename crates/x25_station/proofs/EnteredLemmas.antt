@@ -42,7 +42,7 @@ asked_enters u c l y z s r h request fits layers entered =
     let lc : LayerSettings = layer_settings c in
     where_holds (Enters {T = Unit} r (Ok tt)) (may_ask c.wide (Asks h request)) (requested c s (Asks h request)) (λ e. tt)
     (enters_did c s.link r (entries_by c s (Asks h request)) (answered_by c s (Asks h request)) (λ p is.
-    entered p.layer (went_fits u c z _ p (layer_gives (Ok u) c l y z s (Asks h request) fits layers) is) (asked_channel view lc s.layer h request p is) (asked_brief view lc s.layer h request p is) ∙ sym (asked_entry view lc s.layer h request p is)))
+    entered p.layer (went_fits u c z _ p (layer_gives (Ok u) c l y z s (Asks h request) fits layers) is) (asked_channel view lc s.layer h request p is) (asked_brief view lc fits.layer.message s.layer h request p is) ∙ sym (asked_entry view lc s.layer h request p is)))
 
 pub dialled_enters : {manner : Manner} (c : Settings) (l : ShownLink) (y z : layer_code.Layer) (s : Station) (r : code_step.Step) (h : ℕ) (called calling user : List ℕ) (proposal : Proposal) → FitsParts c manner l y s → Layers l y z (Ok h) (Dials called calling user proposal)
     → free_channel c.role s.layer.circuits c.channels ≡ Some h
@@ -54,7 +54,7 @@ dialled_enters c l y z s r h called calling user proposal fits layers free enter
     let lc : LayerSettings = layer_settings c in
     let request : LayerRequest = Dials called calling user proposal in
     enters_did c s.link r (entries_by c s request) (answered_by c s request) (λ p is.
-    entered p.layer (went_fits h c z _ p (layer_gives (Ok h) c l y z s request fits layers) is) (free_is_channel c.role s.layer.circuits c.channels h free) (dialled_brief view lc s.layer called calling user proposal p is)
+    entered p.layer (went_fits h c z _ p (layer_gives (Ok h) c l y z s request fits layers) is) (free_is_channel c.role s.layer.circuits c.channels h free) (dialled_brief view lc fits.layer.message s.layer called calling user proposal p is)
     ∙ sym (dialled_entry view lc s.layer h called calling user proposal p is free))
 
 pub restart_enters : (c : Settings) (s : Station) (cause diagnostic : ℕ) (r : code_step.Step) → map plain_entry r.entries.items ≡ restart_asked cause diagnostic ∷ [] → Enters {T = Unit} r (Ok tt) (requests c s (Restarts cause diagnostic))

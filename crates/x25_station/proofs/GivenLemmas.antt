@@ -7,9 +7,9 @@ use Rattle.x25_packet.specs.Spelling.{IsInRange, IsWithoutD, spelling_of}
 use Rattle.x25_packet.specs.declared.marks.Marks.{Marks}
 use Rattle.x25_packet.specs.declared.error.PacketError.{PacketError}
 use Rattle.x25_packet.specs.laws.ReadingLaw.{ReadsWhatIsSpelled}
-use Rattle.x25_packet.specs.WidePacket as wide
-use Rattle.x25_packet.specs.WidePacket.{PlainWide}
-use Rattle.x25_packet.specs.WideReading.{wide_of}
+use Rattle.x25_packet.specs.Form as wide
+use Rattle.x25_packet.specs.Form.{PlainForm}
+use Rattle.x25_packet.specs.Grammar.{form_in}
 use Rattle.x25_packet.specs.laws.TakingLaw.{TakesWhatIsSpelled, TakesWhatIsWritten}
 use Rattle.x25_given.specs.Given.{PlainGiven, may_give}
 use Rattle.x25_given.specs.Writing.{bare_block, call_block, fields, form_of, headed, write, written, written_read}
@@ -55,11 +55,11 @@ given_written reads spelled alike g (packet.restart cause diagnostic) range octe
 given_written reads spelled alike g packet.restart_conf range octets = plainly reads g packet.restart_conf range tt octets
 
 -- octets that are no packet in the form that a station writes
-told_by : (o : List ℕ) (w : PlainWide) (r : Result PlainPacket PacketError) → packet_of 128 o ≡ r → ((u : PlainPacket) → packet_of 128 o ≡ Ok u → ⊥) → wide_of 128 o ≡ Ok w → unless_written r (beside_or_none (wide_of 128 o)) ≡ beside_kind w.kind
+told_by : (o : List ℕ) (w : PlainForm) (r : Result PlainPacket PacketError) → packet_of 128 o ≡ r → ((u : PlainPacket) → packet_of 128 o ≡ Ok u → ⊥) → form_in 128 o ≡ Ok w → unless_written r (beside_or_none (form_in 128 o)) ≡ beside_kind w.kind
 told_by o w (Ok u) is none form = absurd (none u is)
 told_by o w (Err e) is none form = ap beside_or_none form
 
-told_as : ReadsWhatIsSpelled → TakesWhatIsWritten → WrittenIsRead → WrittenIsInForm → (g : PlainGiven) (v : PlainPacket) (w : PlainWide) → may_give g ≡ true → IsInRange 128 v → MayGo 128 g v → AreOctets (written g v) → written g v ≢ spelling_of v
+told_as : ReadsWhatIsSpelled → TakesWhatIsWritten → WrittenIsRead → WrittenIsInForm → (g : PlainGiven) (v : PlainPacket) (w : PlainForm) → may_give g ≡ true → IsInRange 128 v → MayGo 128 g v → AreOctets (written g v) → written g v ≢ spelling_of v
     → form_of g v ≡ Some w → beside_in true (written g v) ≡ beside_kind w.kind
 told_as reads alike read form g v w allowed range may octets other is = told_by (written g v) w (packet_of 128 (written g v)) refl none (form g 128 v w (omega arith) allowed range may is)
   where

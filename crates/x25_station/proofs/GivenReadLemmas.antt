@@ -11,7 +11,7 @@ use Rattle.x25_packet.specs.Facilities.{IsFacilityField}
 use Rattle.x25_packet.specs.Packet.{PlainPacket, call, accept, clear, clear_conf, user_data, rr, rnr, interrupt, interrupt_conf, reset, reset_conf, restart, restart_conf}
 use Rattle.x25_packet.specs.Spelling.{IsInRange, addresses, body_of, header_of, longest_user, spelling_of}
 use Rattle.x25_packet.specs.laws.ReadingLaw.{ReadsWhatIsSpelled}
-use Rattle.x25_packet.specs.WideFacilities.{are_facilities, none_own, own_in}
+use Rattle.x25_packet.specs.Classes.{are_facilities, none_own, own_in}
 use Rattle.x25_packet.specs.Taking.{read_in}
 use Rattle.x25_packet.specs.laws.TakingLaw.{TakesWhatIsSpelled, TakesWhatIsWritten}
 use Rattle.x25_given.specs.Given.{PlainGiven, may_give}

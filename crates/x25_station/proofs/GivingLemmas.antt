@@ -303,7 +303,7 @@ asked_given {T = T} {manner = manner} u c g l y z s r h request fits layers take
     let view : LinkView = view_given (link_settings c) g s.link in
     let lc : LayerSettings = layer_settings c in
     entered_at c g s r (Asks h request) manner fits.same takes (λ p is.
-    entered p.layer (went_fits u c z _ p (layer_given x c g l y z s (Asks h request) fits layers) is) (asked_channel view lc s.layer h request p is) (asked_brief view lc s.layer h request p is) ∙ sym (asked_entry view lc s.layer h request p is))
+    entered p.layer (went_fits u c z _ p (layer_given x c g l y z s (Asks h request) fits layers) is) (asked_channel view lc s.layer h request p is) (asked_brief view lc fits.layer.message s.layer h request p is) ∙ sym (asked_entry view lc s.layer h request p is))
 
 pub dialled_given : {manner : Manner} (c : Settings) (g : PlainGiven) (l : ShownLink) (y z : layer_code.Layer) (s : Station) (r : code_step.Step) (h : ℕ) (called calling user : List ℕ) (proposal : Proposal) → FitsParts c manner l y s
     → (let x : Result ℕ LayerError = Ok h in LayersGiven g l y z x (Dials called calling user proposal)) → TakesIt manner g (Dials called calling user proposal)
@@ -317,7 +317,7 @@ dialled_given {manner = manner} c g l y z s r h called calling user proposal fit
     let lc : LayerSettings = layer_settings c in
     let request : LayerRequest = Dials called calling user proposal in
     entered_at c g s r request manner fits.same takes (λ p is.
-    entered p.layer (went_fits h c z _ p (layer_given x c g l y z s request fits layers) is) (free_is_channel c.role s.layer.circuits c.channels h free) (dialled_brief view lc s.layer called calling user proposal p is)
+    entered p.layer (went_fits h c z _ p (layer_given x c g l y z s request fits layers) is) (free_is_channel c.role s.layer.circuits c.channels h free) (dialled_brief view lc fits.layer.message s.layer called calling user proposal p is)
     ∙ sym (dialled_entry view lc s.layer h called calling user proposal p is free))
 
 -- From the link and the layer of the old station its call led to the link m, from which the frames were taken, and to the layer of the new one.

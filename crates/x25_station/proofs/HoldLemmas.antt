@@ -7,7 +7,7 @@ use Rattle.x25_packet.specs.declared.marks.Marks.{Marks}
 use Rattle.x25_packet.specs.Marks.{with_q}
 use Rattle.x25_circuit.specs.declared.circuit.Circuit as circuit_code
 use Rattle.x25_circuit.specs.declared.message.Message.{Message}
-use Rattle.x25_circuit.specs.Message.{Piece, More, Last, cut_from, cut_all, wholes, Partial}
+use Rattle.x25_circuit.specs.Message.{Piece, More, Last, cut_from, cut_all, wholes, Partial, no_part, joining}
 use Rattle.x25_circuit.specs.Circuit as circuit
 use Rattle.x25_circuit.specs.code.FitsCircuit.{FitsCircuit}
 use Rattle.x25_link.specs.code.Bounds.{FewStand as LinkStands, WindowIsSmall}
@@ -77,7 +77,8 @@ few_messages c v s h fits is = let u = circuit_on c v s h fits is in of_circuit 
 pub few_joined : law.FewJoined
 few_joined c v s h fits is =
     let u = circuit_on c v s h fits is in
-    subst (λ (j : Partial). length j.user ≤ 65535) u.1.talk.part u.1.talk.short
+    subst (λ (n : ℕ). length (joining no_part (s.layer.circuits h).talk.taken).user ≤ n) u.1.longest
+    (subst (λ (j : Partial). length j.user ≤ u.0.transfer.partial.longest) u.1.talk.part u.1.talk.short)
 
 pub few_held : law.FewHeld
 few_held v k u is = let few = u.transfer.queue.few in omega (arith, few)

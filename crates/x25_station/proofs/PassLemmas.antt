@@ -101,8 +101,8 @@ module _ (c : CircuitSettings) (x : Circuit) where
   unless_goes None good go = go refl
   unless_goes (Some n) good go = closed_goes x (unless c x (Some n) good).next refl
 
-  data_goes : (ps pr : ℕ) (piece : Piece) → GoesOn x (unless c x (data_ground (terms_in x).size x.talk ps pr piece) (takes x x.talk pr piece)).next
-  data_goes ps pr piece = unless_goes (data_ground (terms_in x).size x.talk ps pr piece) (takes x x.talk pr piece)
+  data_goes : (ps pr : ℕ) (piece : Piece) → GoesOn x (unless c x (data_ground c.longest (terms_in x).size x.talk ps pr piece) (takes x x.talk pr piece)).next
+  data_goes ps pr piece = unless_goes (data_ground c.longest (terms_in x).size x.talk ps pr piece) (takes x x.talk pr piece)
       (λ none opened behind clears resets. acked_to x (takes x x.talk pr piece).next.talk pr refl refl refl (within_number (resolved x.talk.acked pr) (length x.talk.sent) _ none))
 
   status_goes : (ready : Bool) (pr : ℕ) → GoesOn x (unless c x (number_ground x.talk pr) (hears_status x x.talk ready pr)).next

@@ -33,7 +33,7 @@ by_if true u v p q = p
 by_if false u v p q = q
 
 send_open_none : (c : Settings) (x : Circuit) (q : Marks) (user : List ℕ) → GivesNone (send_open c x x.talk q user)
-send_open_none c x q user = by_if (nat_le (length user) 65535) _ (Refused circuit.TooLong) (by_if (nat_lt (waits x) 8) (keeps_on x (sending c x q user) None) (Refused circuit.Full) tt tt) tt
+send_open_none c x q user = by_if (nat_le (length user) c.longest) _ (Refused circuit.TooLong) (by_if (nat_lt (waits x) 8) (keeps_on x (sending c x q user) None) (Refused circuit.Full) tt tt) tt
   where
     sending : Settings → Circuit → Marks → List ℕ → Talk
     sending c x q user = record { sent = x.talk.sent; taken = x.talk.taken; acked = x.talk.acked; rest = x.talk.rest ++ cut (outgoing x).size q user; int_out = x.talk.int_out; peer_ready = x.talk.peer_ready; own_ready = x.talk.own_ready }

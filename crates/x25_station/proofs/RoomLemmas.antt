@@ -69,7 +69,7 @@ by_circuit w next packet true true short is = is
 by_circuit w next packet true false short is = is
 by_circuit w next packet false has_room short is = absurd (cc)
 
-in_circuit : (c : CircuitSettings) (x : Circuit) (q : Marks) (user : List ℕ) → length user ≤ 65535 → (message_room x == 0) ≡ fails (outcome c x (Sends q user))
+in_circuit : (c : CircuitSettings) (x : Circuit) (q : Marks) (user : List ℕ) → length user ≤ c.longest → (message_room x == 0) ≡ fails (outcome c x (Sends q user))
 in_circuit c x q user short = at x.state
   where
     at : (state : State) → ((if is_open_in state then 8 - waits x else 0) == 0) ≡ fails (send_in c x state q user)
@@ -77,7 +77,7 @@ in_circuit c x q user short = at x.state
     at Calling = refl
     at Arriving = refl
     at Collision = refl
-    at Open = by_circuit (waits x) _ _ _ _ (le-leb (length user) 65535 short) (eight_less (waits x))
+    at Open = by_circuit (waits x) _ _ _ _ (le-leb (length user) c.longest short) (eight_less (waits x))
     at Resetting = refl
     at Clearing = refl
 
@@ -88,7 +88,7 @@ no_room true true configured n is e = refl
 no_room true false false n is e = refl
 no_room true false true n is e = e
 
-pub room_is_what_is_taken : (c : Settings) (s : Station) (h : ℕ) (q : Marks) (user : List ℕ) → may_mark c.wide q ≡ true → length user ≤ 65535 → (room c s h == 0) ≡ is_refused (requests c s (Asks h (Sends q user)))
+pub room_is_what_is_taken : (c : Settings) (s : Station) (h : ℕ) (q : Marks) (user : List ℕ) → may_mark c.wide q ≡ true → length user ≤ c.channels.message → (room c s h == 0) ≡ is_refused (requests c s (Asks h (Sends q user)))
 room_is_what_is_taken c s h q user may short =
     let lc = layer_settings c in
     let up = is_up s.link.phase in

@@ -140,7 +140,7 @@ IsOfData packet = ⊥
 
 open_short : (c : CircuitSettings) (x : Circuit) (t : Talk) (p : PlainPacket) → IsOfData p → IsShortPacket p → AreShort (row_open c x t p).notices
 open_short c x t (user_data channel q m ps pr user) kind short =
-    unless_short c x (data_ground (incoming x).size t ps pr (piece_of q m user)) (takes x t pr (piece_of q m user)) (deliveries_short (completed (joining no_part t.taken) (piece_of q m user)))
+    unless_short c x (data_ground c.longest (incoming x).size t ps pr (piece_of q m user)) (takes x t pr (piece_of q m user)) (deliveries_short (completed (joining no_part t.taken) (piece_of q m user)))
 open_short c x t (rr channel pr) kind short = unless_short c x (number_ground t pr) (hears_status x t true pr) tt
 open_short c x t (rnr channel pr) kind short = unless_short c x (number_ground t pr) (hears_status x t false pr) tt
 open_short c x t (interrupt channel user) kind short = (short, tt)

@@ -6,8 +6,8 @@ use Rattle.x25_packet.specs.Packet.{PlainPacket}
 use Rattle.x25_packet.specs.Reading.{packet_of}
 use Rattle.x25_packet.specs.declared.error.PacketError.{PacketError}
 use Rattle.x25_packet.specs.Block.{PlainBlock, PlainFields}
-use Rattle.x25_packet.specs.WidePacket.{PlainKind, PlainWide, call, accept, extended_clear, clear_conf, diagnostic}
-use Rattle.x25_packet.specs.WideReading.{wide_of}
+use Rattle.x25_packet.specs.Form.{PlainKind, PlainForm, call, accept, extended_clear, clear_conf, diagnostic}
+use Rattle.x25_packet.specs.Grammar.{form_in}
 use Rattle.x25_station.specs.declared.beside.Beside.{Beside}
 use Rattle.x25_station.specs.declared.beside.Beside.TheVariants as code
 
@@ -44,7 +44,7 @@ beside_kind (clear_conf block) = of_block block
 beside_kind (diagnostic number explanation) = diagnosed number
 beside_kind _ = nothing
 
-abbrev pub beside_or_none : Result PlainWide PacketError → PlainBeside
+abbrev pub beside_or_none : Result PlainForm PacketError → PlainBeside
 beside_or_none (Ok w) = beside_kind w.kind
 beside_or_none (Err e) = nothing
 
@@ -56,7 +56,7 @@ unless_written (Err e) beside = beside
 -- judged where the packet is read
 abbrev pub beside_in : Bool → List ℕ → PlainBeside
 beside_in false octets = nothing
-beside_in true octets = unless_written (packet_of 128 octets) (beside_or_none (wide_of 128 octets))
+beside_in true octets = unless_written (packet_of 128 octets) (beside_or_none (form_in 128 octets))
 
 -- sections 7.1 and 6.16
 abbrev pub AreFew : PlainBeside → Type 0

@@ -3,7 +3,7 @@ ghost use Rattle.std.specs.Prelude.{◌≡◌, true};
 ghost use Rattle.x25_station.specs.Beside.{AreFew, beside_in, beside_kind, of_block, of_fields, plain_beside};
 ghost use Rattle.x25_station.specs.Beside.{without_user};
 ghost use Rattle.x25_packet.specs.Block.{plain_fields, plain_optional};
-ghost use Rattle.x25_packet.specs.WidePacket.{plain_kind};
+ghost use Rattle.x25_packet.specs.Form.{plain_kind};
 
 use x25_packet::{Block, FAST_SELECT_OCTETS, Fields, Kind, decode, decode_within};
 

@@ -32,7 +32,7 @@ pub enum Cmd<'a> {
         given: Given<'a>,
         call: CallCmd<'a>,
     },
-    /// Sends a message of at most 65,535 octets, with the qualifier `q`. With `d`, where `Cfg::wide` is set,
+    /// Sends a message of at most `Ranges::message` octets, with the qualifier `q`. With `d`, where `Cfg::wide` is set,
     /// confirmation of its delivery is asked by its last packet.
     Send {
         channel: u16,

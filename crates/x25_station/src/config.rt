@@ -7,7 +7,7 @@ pub struct Cfg {
     pub k: u8,
     /// A command of the link that isn't answered is sent so many times more, 1 to 255.
     pub n2: u8,
-    /// The channels that are configured, and who calls on them. They are the same at both ends.
+    /// The channels that are configured, who calls on them, and the longest message. They are the same at both ends.
     pub channels: Ranges,
     /// Whether a call may have up to 128 octets of user data, in place of up to 16. It is the same at both ends.
     pub long_data: bool,

@@ -145,12 +145,12 @@ impl Station {
     }
 
     /// How many messages more a channel takes: 8 less those that wait, where it is open and the link is up, and else 0.
-    /// A message of at most 65,535 octets, of which confirmation isn't asked or may be, is refused exactly where it is
-    /// 0, but for want of memory.
+    /// A message that isn't too long, of which confirmation isn't asked or may be, is refused exactly where it is 0,
+    /// but for want of memory.
     pub fn room(&self, channel: u16) -> usize
         ensures value { (c : Settings) (s : State) → FitsStation c self.now s → result ≡ room c s channel }
         ensures takes { (c : Settings) (s : State) (marks : Marks) (user : List ℕ) → FitsStation c self.now s
-            → may_mark c.wide marks ≡ true → length user ≤ 65535
+            → may_mark c.wide marks ≡ true → length user ≤ c.channels.message
             → (result == 0) ≡ is_refused (requests c s (Asks channel (Sends marks user))) }
         ensures few { result ≤ 8 }
     {

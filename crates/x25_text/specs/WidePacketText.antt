@@ -8,11 +8,11 @@ use Rattle.x25_packet.specs.Reading.{packet_of}
 use Rattle.x25_packet.specs.Spelling.{longest_user}
 use Rattle.x25_packet.specs.declared.error.PacketError.{PacketError}
 use Rattle.x25_packet.specs.Block.{PlainBlock, PlainFields, called_in, calling_in}
-use Rattle.x25_packet.specs.WidePacket.{PlainKind, PlainWide, call, accept, clear, extended_clear, clear_conf}
-use Rattle.x25_packet.specs.WidePacket.{user_data, rr}
-use Rattle.x25_packet.specs.WidePacket.{rnr, rej, interrupt, interrupt_conf, reset, reset_conf, restart, restart_conf}
-use Rattle.x25_packet.specs.WidePacket.{diagnostic, registration, registration_conf}
-use Rattle.x25_packet.specs.WideReading.{wide_of}
+use Rattle.x25_packet.specs.Form.{PlainKind, PlainForm, call, accept, clear, extended_clear, clear_conf}
+use Rattle.x25_packet.specs.Form.{user_data, rr}
+use Rattle.x25_packet.specs.Form.{rnr, rej, interrupt, interrupt_conf, reset, reset_conf, restart, restart_conf}
+use Rattle.x25_packet.specs.Form.{diagnostic, registration, registration_conf}
+use Rattle.x25_packet.specs.Grammar.{form_in}
 use Rattle.x25_text.specs.PacketText.{reason_text, addresses_text, fields_text, numbers_text, marks_text}
 use Rattle.x25_text.specs.PacketText.{confirmation_text, packet_text}
 use Rattle.x25_text.specs.PacketText.{packet_fault_text}
@@ -85,19 +85,19 @@ kind_text channel q d (diagnostic number explanation) = codes "DIAG diag=" ++ de
 kind_text channel q d (registration octets) = codes "REG data=" ++ octets_text octets
 kind_text channel q d (registration_conf octets) = codes "REGCONF data=" ++ octets_text octets
 
-abbrev pub wide_packet_text : PlainWide → List ℕ
+abbrev pub wide_packet_text : PlainForm → List ℕ
 wide_packet_text w = kind_text w.channel w.bit_8 w.d w.kind ++ codes " ~ wide"
 
-abbrev pub wide_or_fault_text : Result PlainWide PacketError → List ℕ
+abbrev pub wide_or_fault_text : Result PlainForm PacketError → List ℕ
 wide_or_fault_text (Ok w) = wide_packet_text w
 wide_or_fault_text (Err error) = packet_fault_text error
 
 -- a packet in the form that a station writes, and else what the octets are in any form
-abbrev pub either_text : Result PlainPacket PacketError → Result PlainWide PacketError → List ℕ
+abbrev pub either_text : Result PlainPacket PacketError → Result PlainForm PacketError → List ℕ
 either_text (Ok v) wide = packet_text v
 either_text (Err error) wide = wide_or_fault_text wide
 
 -- what stands behind the bar of an I frame
 abbrev pub wide_information_text : Bool → List ℕ → List ℕ
 wide_information_text long_data octets = either_text (packet_of (longest_user long_data) octets)
-    (wide_of (longest_user long_data) octets)
+    (form_in (longest_user long_data) octets)

@@ -3,9 +3,9 @@ ghost use Rattle.std.specs.Prelude.{◌≡◌, ◌+◌, ◌*◌, ◌≤◌, ◌<
 ghost use Rattle.std.specs.Fmt.{digit_glyph};
 ghost use Rattle.x25_packet.specs.Block.{AreAddresses, IsBlock, MayBeBlock, MayBeFields, called_in, calling_in};
 ghost use Rattle.x25_packet.specs.Block.{plain_block, plain_fields, plain_optional};
-ghost use Rattle.x25_packet.specs.WidePacket.{plain, plain_kind};
-ghost use Rattle.x25_packet.specs.WidePacket.Spelling.{IsKind};
-ghost use Rattle.x25_packet.specs.declared.wide_packet.Forms.TheVariants.{Any};
+ghost use Rattle.x25_packet.specs.Form.{plain, plain_kind};
+ghost use Rattle.x25_packet.specs.Form.Spelling.{IsKind};
+ghost use Rattle.x25_packet.specs.declared.form.Forms.TheVariants.{Any};
 ghost use Rattle.x25_text.specs.PacketText.{confirmation_text, marks_text, numbers_text};
 ghost use Rattle.x25_text.specs.WidePacketText.{block_text, format_text, halves_text, kind_text};
 ghost use Rattle.x25_text.specs.WidePacketText.{optional_block_text, typed_addresses_text, typed_text};
@@ -18,7 +18,7 @@ use crate::packet_text::{
 };
 use crate::text::{ROOM, Text};
 use x25_frame::Seq;
-use x25_packet::{Block, Fields, Halves, Kind, WidePacket, decode, decode_within, longest_user};
+use x25_packet::{Block, Fields, Form, Halves, Kind, decode, decode_within, longest_user};
 
 fn push_format(a: bool, text: &mut Text)
     requires room { length text.old + 4 ≤ ROOM }
@@ -187,7 +187,7 @@ fn push_wide_reason(cause: u8, diagnostic: Option<u8>, text: &mut Text)
 
 /// Appends a packet without the mark of its form.
 #[tactic(auto, using(crate::proofs::BlockLength::with_user_data))]
-fn push_kind(packet: &WidePacket, text: &mut Text)
+fn push_kind(packet: &Form, text: &mut Text)
     requires range { IsKind Any packet.now.bit_8 128 (plain_kind packet.now.kind) }
     requires room { length text.old + 8_250 ≤ ROOM }
     ensures text { text.new ≡ text.old
@@ -271,7 +271,7 @@ fn push_kind(packet: &WidePacket, text: &mut Text)
 }
 
 /// Appends a packet that has another form than a station writes, with the mark of that.
-pub fn push_wide_packet(packet: &WidePacket, text: &mut Text)
+pub fn push_wide_packet(packet: &Form, text: &mut Text)
     requires range { IsKind Any packet.now.bit_8 128 (plain_kind packet.now.kind) }
     requires room { length text.old + MOST_PACKET_TEXT ≤ ROOM }
     ensures text { text.new ≡ text.old ++ wide_packet_text (plain packet.now) }

@@ -14,7 +14,7 @@ enum As {
     WideFrame,
     Information,
     WideInformation,
-    WidePacket,
+    Form,
 }
 
 /// Octets in hexadecimal, and their text.
@@ -33,8 +33,8 @@ static ROWS: [Row; 10] = [
     (As::Information, "10011300", "fault 20 diag=38"),
     (As::WideInformation, "1000fb07", "RESTART cause=7 ~ wide"),
     (As::WideInformation, "10010b000142", "fault 26 diag=66"),
-    (As::WidePacket, "1000fb07", "RESTART cause=7 ~ wide"),
-    (As::WidePacket, "100149", "REJ ch=1 R=2 ~ wide"),
+    (As::Form, "1000fb07", "RESTART cause=7 ~ wide"),
+    (As::Form, "100149", "REJ ch=1 R=2 ~ wide"),
 ];
 
 fn show_frame(octets: &[u8], text: &mut Text) {
@@ -79,7 +79,7 @@ fn show(read_as: As, octets: &[u8], text: &mut Text) {
         As::WideFrame => show_wide_frame(octets, text),
         As::Information => show_information(octets, text),
         As::WideInformation => show_wide_information(octets, text),
-        As::WidePacket => show_wide_packet(octets, text),
+        As::Form => show_wide_packet(octets, text),
     }
 }
 

@@ -1,5 +1,5 @@
 -- Damage to the bits of the line is damage to the octets, and is refused for no other ground than its own.
-use Rattle.std.proofs.Common.{◌≡◌, ◌∙◌, ℕ, ◌<◌, nat_lt, lt-ltb, Bool, true, false, not, List, length, None, Result, Ok, Err, IfErr, refl, ap}
+use Rattle.std.proofs.{Common.{◌≡◌, ◌∙◌, ℕ, ◌<◌, nat_lt, lt-ltb, Bool, true, false, not, List, length, None, Result, Ok, Err, IfErr, refl, ap}, lemmas.Bool.{or_right}}
 use Rattle.std.specs.Prelude.{◌||◌}
 use Rattle.x25_bits.specs.{FrameCheck.Sealed.{is_sealed}, Role.{end_of}, declared.direction.Direction.{Direction}}
 use Rattle.x25_bits.specs.declared.direction.Direction.TheVariants.{ToDce, ToDte}
@@ -10,12 +10,8 @@ use Rattle.x25_world.specs.{code.ShownWorld.{ShownWorld, line_of}, code.FitsWorl
 use Rattle.x25_world.proofs.WorldLemmas.{only_memory}
 use Rattle.x25_world.specs.declared.error.WorldError.TheVariants as error
 
-or_true : (b : Bool) → (b || true) ≡ true
-or_true true = refl
-or_true false = refl
-
 shown : (octets : List ℕ) → is_sealed octets ≡ false → is_visible octets ≡ true
-shown octets h = ap (λ b. nat_lt (length octets) 4 || not b) h ∙ or_true (nat_lt (length octets) 4)
+shown octets h = ap (λ b. nat_lt (length octets) 4 || not b) h ∙ or_right (nat_lt (length octets) 4) true refl
 
 damage_happens : (w : World) (place : ℕ) (octets : List ℕ) → place < length w.back → is_sealed octets ≡ false → refusal_of (damaged w place octets) ≡ None
 damage_happens w place octets h s = rw (lt-ltb place (length w.back) h, shown octets s) refl

@@ -1,7 +1,7 @@
 -- What a step leaves of a stretch that is open after it: it goes on, or has just begun.
 use Rattle.std.proofs.Common.{◌≡◌, ◌⊎◌, inl, inr, ℕ, suc, ◌≤◌, List, [], ◌∷◌, ◌++◌, length, Option, Some, None, Bool, true, false, nat_lt, nat_le, ◌&&◌, if◌then◌else◌, refl, sym, ap, ◌∙◌, arith, append-nil}
 use Rattle.x25_bits.specs.{declared.role.Role.{Role}, declared.role.Role.TheVariants.{Dte, Dce}}
-use Rattle.x25_packet.specs.Packet.{PlainPacket, call, accept, clear, clear_conf, user_data, rr, rnr, interrupt, interrupt_conf, reset, reset_conf, restart, restart_conf}
+use Rattle.x25_packet.specs.Packet.{PlainPacket, call, accept, clear, clear_conf, user_data, rr, rnr, interrupt, interrupt_conf, reset, reset_conf}
 use Rattle.x25_packet.specs.declared.marks.Marks.{Marks}
 use Rattle.x25_circuit.specs.{declared.state.State.{State}, declared.state.State.TheVariants.{Free, Calling, Arriving, Collision, Open, Resetting, Clearing}}
 use Rattle.x25_circuit.specs.{declared.params.Params.{Params}, declared.error.CircuitError.TheVariants.{BadParameter, Full, TooLong, InterruptOutstanding}}
@@ -65,11 +65,7 @@ module _ (c : Settings) (x : Circuit) where
   call_heard : (s : State) (request : CallRequest) → Heard (row_call c x s request)
   call_heard Calling request = collides_heard c.role request
   call_heard Clearing request = stays_heard x
-  call_heard Free request = λ is. never is
-  call_heard Arriving request = λ is. never is
-  call_heard Collision request = λ is. never is
-  call_heard Open request = λ is. never is
-  call_heard Resetting request = λ is. never is
+  call_heard s request = λ is. never is
 
   connects_heard : is_open x ≡ false → (answered : Params) → Heard (connects c x answered)
   connects_heard not_open answered = by (may_answer x.params answered)
@@ -82,46 +78,26 @@ module _ (c : Settings) (x : Circuit) where
   accept_heard Calling at facilities = connects_heard (ap is_open_in at) (said_in x.params facilities)
   accept_heard Collision at facilities = connects_heard (ap is_open_in at) (said_in x.params facilities)
   accept_heard Clearing at facilities = stays_heard x
-  accept_heard Free at facilities = λ is. never is
-  accept_heard Arriving at facilities = λ is. never is
-  accept_heard Open at facilities = λ is. never is
-  accept_heard Resetting at facilities = λ is. never is
+  accept_heard s at facilities = λ is. never is
 
   clear_heard : (s : State) (cause diagnostic : ℕ) → Heard (row_clear x s cause diagnostic)
   clear_heard Free cause diagnostic = λ is. never is
-  clear_heard Calling cause diagnostic = λ is. never is
-  clear_heard Arriving cause diagnostic = λ is. never is
-  clear_heard Collision cause diagnostic = λ is. never is
-  clear_heard Open cause diagnostic = λ is. never is
-  clear_heard Resetting cause diagnostic = λ is. never is
-  clear_heard Clearing cause diagnostic = λ is. never is
+  clear_heard s cause diagnostic = λ is. never is
 
   clear_conf_heard : (s : State) → Heard (row_clear_conf c x s)
   clear_conf_heard Free = λ is. never is
-  clear_conf_heard Calling = λ is. never is
-  clear_conf_heard Arriving = λ is. never is
-  clear_conf_heard Collision = λ is. never is
-  clear_conf_heard Open = λ is. never is
-  clear_conf_heard Resetting = λ is. never is
-  clear_conf_heard Clearing = λ is. never is
+  clear_conf_heard s = λ is. never is
 
   reset_heard : (s : State) (cause diagnostic : ℕ) → Heard (row_reset c x s cause diagnostic)
   reset_heard Open cause diagnostic = λ is. inl (record { silent = refl; new = inr refl })
   reset_heard Resetting cause diagnostic = λ is. inl (record { silent = refl; new = inr refl })
   reset_heard Clearing cause diagnostic = stays_heard x
-  reset_heard Free cause diagnostic = λ is. never is
-  reset_heard Calling cause diagnostic = λ is. never is
-  reset_heard Arriving cause diagnostic = λ is. never is
-  reset_heard Collision cause diagnostic = λ is. never is
+  reset_heard s cause diagnostic = λ is. never is
 
   reset_conf_heard : (s : State) → Heard (row_reset_conf c x s)
   reset_conf_heard Resetting = λ is. inl (record { silent = refl; new = inr refl })
   reset_conf_heard Clearing = stays_heard x
-  reset_conf_heard Open = λ is. never is
-  reset_conf_heard Free = λ is. never is
-  reset_conf_heard Calling = λ is. never is
-  reset_conf_heard Arriving = λ is. never is
-  reset_conf_heard Collision = λ is. never is
+  reset_conf_heard s = λ is. never is
 
   unless_heard : (ground : Option ℕ) (good : Answer) → Heard good → Heard (unless c x ground good)
   unless_heard None good h = h
@@ -136,7 +112,7 @@ module _ (c : Settings) (x : Circuit) where
 
   open_heard : (p : PlainPacket) → Heard (row_open c x x.talk p)
   open_heard (user_data channel q m ps pr user) =
-      unless_heard (data_ground (terms_in x).size x.talk ps pr (piece_of q m user)) (takes x x.talk pr (piece_of q m user))
+      unless_heard (data_ground c.longest (terms_in x).size x.talk ps pr (piece_of q m user)) (takes x x.talk pr (piece_of q m user))
       (λ is. inr (record { same = record { opened = is; clears = refl; resets = refl }; acked = acked_more pr; sent = refl; rest = refl }))
   open_heard (rr channel pr) =
       unless_heard (number_ground x.talk pr) (hears_status x x.talk true pr) (λ is. inr (record { same = record { opened = is; clears = refl; resets = refl }; acked = acked_more pr; sent = refl; rest = refl }))
@@ -150,10 +126,7 @@ module _ (c : Settings) (x : Circuit) where
   data_heard Open p = open_heard p
   data_heard Resetting p = stays_heard x
   data_heard Clearing p = stays_heard x
-  data_heard Free p = λ is. never is
-  data_heard Calling p = λ is. never is
-  data_heard Arriving p = λ is. never is
-  data_heard Collision p = λ is. never is
+  data_heard s p = λ is. never is
 
   pub packet_heard : (p : PlainPacket) → Heard (answers c x p)
   packet_heard (call channel called calling facilities user) = call_heard x.state (request_in called calling facilities user)
@@ -162,13 +135,12 @@ module _ (c : Settings) (x : Circuit) where
   packet_heard (clear_conf channel) = clear_conf_heard x.state
   packet_heard (reset channel cause diagnostic) = reset_heard x.state cause diagnostic
   packet_heard (reset_conf channel) = reset_conf_heard x.state
-  packet_heard (restart cause diagnostic) = stays_heard x
-  packet_heard restart_conf = stays_heard x
   packet_heard (user_data channel q m ps pr user) = data_heard x.state (user_data channel q m ps pr user)
   packet_heard (rr channel pr) = data_heard x.state (rr channel pr)
   packet_heard (rnr channel pr) = data_heard x.state (rnr channel pr)
   packet_heard (interrupt channel user) = data_heard x.state (interrupt channel user)
   packet_heard (interrupt_conf channel) = data_heard x.state (interrupt_conf channel)
+  packet_heard p = stays_heard x
 
 -- ---- calls of the user, and pulls
 
@@ -190,12 +162,7 @@ module _ (c : Settings) (x : Circuit) where
   call_called : (s : State) (called calling user : List ℕ) (proposal : Proposal) → AfterOutcome x (call_in c x s called calling user proposal)
   call_called Free called calling user proposal =
       called_if x (may_call c.long_data called calling user proposal.params) (does x Calling proposal.params true (call_sent called calling user proposal)) (Refused BadParameter) (λ is. never is) tt
-  call_called Calling called calling user params = tt
-  call_called Arriving called calling user params = tt
-  call_called Collision called calling user params = tt
-  call_called Open called calling user params = tt
-  call_called Resetting called calling user params = tt
-  call_called Clearing called calling user params = tt
+  call_called s called calling user params = tt
 
   answer_called : is_open x ≡ false → (answer : Option Proposal) → AfterOutcome x (accept_with x answer)
   answer_called not_open None = λ is. inl (record { silent = refl; new = inl not_open })
@@ -204,12 +171,7 @@ module _ (c : Settings) (x : Circuit) where
 
   accept_called : (s : State) → x.state ≡ s → (answer : Option Proposal) → AfterOutcome x (accept_in x s answer)
   accept_called Arriving at answer = answer_called (ap is_open_in at) answer
-  accept_called Free at answer = tt
-  accept_called Calling at answer = tt
-  accept_called Collision at answer = tt
-  accept_called Open at answer = tt
-  accept_called Resetting at answer = tt
-  accept_called Clearing at answer = tt
+  accept_called s at answer = tt
 
   clear_with_called : (cause diagnostic : ℕ) → AfterOutcome x (clear_with c x cause diagnostic)
   clear_with_called cause diagnostic = called_if x (may_clear_for c.role cause) (does x Clearing default_params false (clear 1 cause diagnostic)) (Refused BadParameter) (λ is. never is) tt
@@ -217,11 +179,7 @@ module _ (c : Settings) (x : Circuit) where
   clear_called : (s : State) (cause diagnostic : ℕ) → AfterOutcome x (clear_in c x s cause diagnostic)
   clear_called Free cause diagnostic = tt
   clear_called Clearing cause diagnostic = tt
-  clear_called Calling cause diagnostic = clear_with_called cause diagnostic
-  clear_called Arriving cause diagnostic = clear_with_called cause diagnostic
-  clear_called Collision cause diagnostic = clear_with_called cause diagnostic
-  clear_called Open cause diagnostic = clear_with_called cause diagnostic
-  clear_called Resetting cause diagnostic = clear_with_called cause diagnostic
+  clear_called s cause diagnostic = clear_with_called cause diagnostic
 
   abbrev sends : Marks → List ℕ → Outcome
   sends q user = keeps_on x (more_sent (x.talk.rest ++ cut (outgoing x).size q user)) None
@@ -232,43 +190,23 @@ module _ (c : Settings) (x : Circuit) where
 
   send_called : (s : State) (q : Marks) (user : List ℕ) → AfterOutcome x (send_in c x s q user)
   send_called Open q user =
-      called_if x (nat_le (length user) 65535) (if nat_lt (waits x) 8 then sends q user else Refused Full) (Refused TooLong)
+      called_if x (nat_le (length user) c.longest) (if nat_lt (waits x) 8 then sends q user else Refused Full) (Refused TooLong)
       (called_if x (nat_lt (waits x) 8) (sends q user) (Refused Full) (talks_on (more_sent (x.talk.rest ++ cut (outgoing x).size q user)) refl refl) tt) tt
-  send_called Free q user = tt
-  send_called Calling q user = tt
-  send_called Arriving q user = tt
-  send_called Collision q user = tt
-  send_called Resetting q user = tt
-  send_called Clearing q user = tt
+  send_called s q user = tt
 
   interrupt_called : (s : State) (user : List ℕ) → AfterOutcome x (interrupt_in x s user)
   interrupt_called Open user =
       called_if x (nat_le 1 (length user) && nat_le (length user) 32) (if x.talk.int_out then Refused InterruptOutstanding else interrupts user) (Refused BadParameter)
       (called_if x x.talk.int_out (Refused InterruptOutstanding) (interrupts user) tt (talks_on _ refl refl)) tt
-  interrupt_called Free user = tt
-  interrupt_called Calling user = tt
-  interrupt_called Arriving user = tt
-  interrupt_called Collision user = tt
-  interrupt_called Resetting user = tt
-  interrupt_called Clearing user = tt
+  interrupt_called s user = tt
 
   reset_called : (s : State) (cause diagnostic : ℕ) → AfterOutcome x (reset_in c x s cause diagnostic)
   reset_called Open cause diagnostic = called_if x (may_reset_for c.role cause) (does x Resetting x.params x.calls (reset 1 cause diagnostic)) (Refused BadParameter) (λ is. never is) tt
-  reset_called Free cause diagnostic = tt
-  reset_called Calling cause diagnostic = tt
-  reset_called Arriving cause diagnostic = tt
-  reset_called Collision cause diagnostic = tt
-  reset_called Resetting cause diagnostic = tt
-  reset_called Clearing cause diagnostic = tt
+  reset_called s cause diagnostic = tt
 
   ready_called : (s : State) (is_ready : Bool) → AfterOutcome x (ready_in x s is_ready)
   ready_called Open is_ready = talks_on _ refl refl
-  ready_called Free is_ready = tt
-  ready_called Calling is_ready = tt
-  ready_called Arriving is_ready = tt
-  ready_called Collision is_ready = tt
-  ready_called Resetting is_ready = tt
-  ready_called Clearing is_ready = tt
+  ready_called s is_ready = tt
 
   pub outcome_called : (request : Request) → AfterOutcome x (outcome c x request)
   outcome_called (Calls called calling user params) = call_called x.state called calling user params
@@ -291,12 +229,7 @@ module _ (c : Settings) (x : Circuit) where
 
   pull_in_called : (s : State) → AfterCall x (pull_in c x s).next
   pull_in_called Open = pull_open_called x.talk.rest
-  pull_in_called Free = stays_called x
-  pull_in_called Calling = stays_called x
-  pull_in_called Arriving = stays_called x
-  pull_in_called Collision = stays_called x
-  pull_in_called Resetting = stays_called x
-  pull_in_called Clearing = stays_called x
+  pull_in_called s = stays_called x
 
   pub pulled_called : AfterCall x (pulled c x).next
   pulled_called = pull_in_called x.state

@@ -1,6 +1,6 @@
 -- What a move of a layer's end leaves of a stretch that is open after it, and what it adds to the transcript.
 use Rattle.std.proofs.Common.{◌≡◌, ℕ, List, [], ◌∷◌, ◌++◌, Option, Some, None, Bool, true, false, ◌==◌, if◌then◌else◌, refl, sym, subst, append-nil}
-use Rattle.std.proofs.lemmas.Bool.{eqb-true}
+use Rattle.std.proofs.lemmas.Bool.{eqb-true, cond_both}
 use Rattle.x25_packet.specs.{Packet.{PlainPacket, restart, restart_conf}, Spelling.{channel_of}}
 use Rattle.x25_circuit.specs.{Circuit.{Circuit, is_open}, Hearing.{answers}, Calling.{Outcome, Done, Refused, Calls, outcome, pulled}, Cause.{may_restart_for}}
 use Rattle.x25_layer.specs.{Ranges.{is_channel}, Layer.{LayerSettings, Layer, put_at, answers_on, drops, answers_in, layer_answers, restarting_from}}
@@ -20,11 +20,8 @@ pub record LayerGoes (R : Circuit → Circuit → Type 0) (l next : Layer) (k : 
 
 -- the circuit of a channel alone goes on
 put_goes : (R : Circuit → Circuit → Type 0) → ((x : Circuit) → R x x) → (circuits : ℕ → Circuit) (h k : ℕ) (y : Circuit) → R (circuits h) y → R (circuits k) (put_at circuits h y k)
-put_goes R stays circuits h k y goes = by (k == h) refl
-  where
-    by : (b : Bool) → (k == h) ≡ b → R (circuits k) (if b then y else circuits k)
-    by true is = subst (λ (j : ℕ). R (circuits j) y) (sym (eqb-true k h is)) goes
-    by false is = stays (circuits k)
+put_goes R stays circuits h k y goes =
+    cond_both (k == h) y (circuits k) (λ (x : Circuit). R (circuits k) x) (λ is. subst (λ (j : ℕ). R (circuits j) y) (sym (eqb-true k h is)) goes) (λ _. stays (circuits k))
 
 module _ (c : LayerSettings) (l : Layer) (k : ℕ) where
   abbrev Heard : Layer → Type 0

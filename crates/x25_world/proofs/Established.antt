@@ -123,7 +123,7 @@ module _ (laws : Laws) (cfg : Cfg) where
       subst (λ (w : World). AreAccepted cfg (comes_to Dce ∷ comes_to Dte ∷ []) w) (sym (connected_is cfg)) (refl, (ua_comes, tt))
 
   pub just_set_up : IsJustSetUp cfg (established cfg)
-  just_set_up = subst (λ (x : World). IsJustSetUp cfg x) (sym established_is) (record {
+  just_set_up = rw established_is (record {
     near = sym dte_up.link;
     far = sym dce_up.link;
     out = ap (λ (fs : List PlainFrame). [] ++ map (spelling_of Dte) fs) (sym dte_up.out);

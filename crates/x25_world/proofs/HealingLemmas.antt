@@ -1,6 +1,6 @@
 -- What rest shows at a world of two stations; and how its two links heal, while the layers put nothing.
 use Rattle.std.proofs.Common.{◌≡◌, ℕ, List, [], ◌∷◌, ◌++◌, map, Bool, true, false, ◌&&◌, if◌then◌else◌, Option, Some, None, refl, sym, ap, ◌∙◌, subst, suc, length, ◌≤◌, inl}
-use Rattle.std.proofs.lemmas.Bool.{eq-eqb}
+use Rattle.std.proofs.lemmas.Bool.{eq-eqb, and_from}
 use Rattle.std.specs.Prelude.{◌==◌}
 use Rattle.x25_bits.specs.{declared.role.Role.{Role}, declared.role.Role.TheVariants.{Dte, Dce}}
 use Rattle.x25_frame.specs.Spelling.{spelling_of}
@@ -16,8 +16,8 @@ use Rattle.x25_world.specs.World.{World, swapped, WorldOutcome, Happened, Declin
 use Rattle.x25_world.specs.{laws.Claims.{link_of, station_at}, laws.LawsBelow.{SessionLaws}, laws.SessionClaims.{Throughout, AllArrive}}
 use Rattle.x25_world.specs.{laws.WindowGoes.{at_end}, laws.Sessions.{last_session, handed_in}}
 use Rattle.x25_world.specs.Healing.{IsDrained, receipt, all_received, firing, AreLinksOf, StopsAtRest, RestShows, PutsNothing, PutsNothingAt, NonePut, Heals, MayHeal, HealsWhereNonePut, DrainsWhereNonePut}
-use Rattle.x25_world.proofs.{Known.{IsConfigured, is_configured, links_joined}, WorldLemmas.{refusal-swapped}}
-use Rattle.x25_world.proofs.{sessions.SessionReaches.{both_down, known_sessions, links_append, timely_append}, sessions.SessionJoined.{SessionsJoined}}
+use Rattle.x25_world.proofs.{Known.{true_false, IsConfigured, is_configured}, WorldLemmas.{refusal-swapped}}
+use Rattle.x25_world.proofs.{sessions.SessionReaches.{joined_at, both_down, known_sessions, links_append, timely_append}, sessions.SessionJoined.{SessionsJoined}}
 use Rattle.x25_world.proofs.{Growing.{octets_put}, sessions.SessionFollows.{silent}, sessions.SessionRuns.{throughout_joined}}
 use Rattle.x25_peer.proofs.Granted.{timer_silent}
 use Rattle.x25_link.specs.{declared.error.LinkError.{LinkError}, Station.{Settings as LinkSettings, LinkStation, is_up, awaits_ua}}
@@ -123,10 +123,7 @@ deliveries_timely c d (Dte ∷ ends) v = (tt, deliveries_timely c d ends (links.
 deliveries_timely c d (Dce ∷ ends) v = (tt, deliveries_timely c d ends (links.happens c d (line.Far line.Deliver) v))
 
 off_timely : (c d : LinkSettings) (v : Sessions) → awaits_ua v.near.station.phase ≡ false → IsTimely c d line.T1 v
-off_timely c d v off = λ waiting. absurd (never (sym (ap awaits_ua waiting) ∙ off))
-  where
-    never : true ≡ false → ⊥
-    never e = cc
+off_timely c d v off = λ waiting. true_false (sym (ap awaits_ua waiting) ∙ off)
 
 -- its firing changes nothing of the other end
 fires_alone : (c : LinkSettings) (v : Sessions) → (links.acts c line.T1 v).far ≡ v.far
@@ -151,10 +148,7 @@ both_alike cfg w v h near_off far_off =
 
 pub none_of : (es : List links.Entry) → octets_of es ≡ [] → es ≡ []
 none_of [] is = refl
-none_of (e ∷ es) is = absurd (never is)
-  where
-    never : e.octets ∷ octets_of es ≡ [] → ⊥
-    never k = cc
+none_of (e ∷ es) is = absurd (cc)
 
 received_length : (ends : List Role) → length (received ends) ≡ length ends
 received_length [] = refl
@@ -212,7 +206,7 @@ module _ (cfg : Cfg) (w : World) (h : SessionsJoined both_down cfg Dte w) (near_
     standing_run (c_of cfg) (d_of cfg) (h.reach.events ++ fired_then more) from_nothing (standing_at (c_of cfg) (d_of cfg) from_nothing),
     record {
       events = h.reach.events ++ fired_then more;
-      timely = timely_append (c_of cfg) (d_of cfg) h.reach.events (fired_then more) from_nothing h.reach.timely (subst (λ (x : Sessions). AreTimely (c_of cfg) (d_of cfg) (fired_then more) x) (sym h.reach.run) timely);
+      timely = timely_append (c_of cfg) (d_of cfg) h.reach.events (fired_then more) from_nothing h.reach.timely (rw h.reach.run timely);
       run = links_append (c_of cfg) (d_of cfg) h.reach.events (fired_then more) from_nothing ∙ ap (links.run (c_of cfg) (d_of cfg) (fired_then more)) h.reach.run;
       standing = refl;
       near = alike.near;
@@ -239,16 +233,11 @@ module _ (laws : SessionLaws) (keeps : ConnectKeeps) where
       shown = known_sessions EachRestShows law cfg (is_configured cfg fine) Dte h.links h.reach
 
       rests : (s t : LinkStation) → s ≡ t → (is_up t.phase ≡ true → timer_runs t.phase t ≡ false → IsAtRest t) → is_up s.phase ≡ true → timer_runs s.phase s ≡ false → IsAtRest s
-      rests s t same there = subst (λ (x : LinkStation). is_up x.phase ≡ true → timer_runs x.phase x ≡ false → IsAtRest x) (sym same) there
+      rests s t same there = rw same there
 
       at_rest : (end : Role) → StopsAtRest (station_at end w)
       at_rest Dte up stopped = rests w.near.link h.links.near.station (sym h.near.link) (λ on off. (shown.near on off).0) up stopped
       at_rest Dce up stopped = rests w.far.link h.links.far.station (sym h.far.link) (λ on off. (shown.far on off).0) up stopped
-
-      idle : (a b : Bool) → a ≡ true → b ≡ true → (a && b) ≡ true
-      idle true true is too = refl
-      idle true false is too = too
-      idle false b is too = is
 
       messages : (end : Role) (channel : ℕ) (name : Name) → is_up (station_at end w).link.phase ≡ true → timer_runs (station_at end w).link.phase (station_at end w).link ≡ false
           → waits_up_to (station_at end w).layer.circuits cfg.channels.count ≡ 0 → stretch (settings_from end cfg) (station_at end w) channel ≡ Some name
@@ -256,7 +245,7 @@ module _ (laws : SessionLaws) (keeps : ConnectKeeps) where
           → HasAllOf channel name (handed_in end (last_session end w) w) (handed_in (other end) (last_session (other end) w) w)
       messages end channel name up stopped none here there =
           arrive cfg fine begin is events octets end channel name
-          (idle (link.is_idle (station_at end w).link) (waits_up_to (station_at end w).layer.circuits cfg.channels.count == 0) (at_rest end up stopped).idle (eq-eqb (waits_up_to (station_at end w).layer.circuits cfg.channels.count) 0 none)) here there
+          (and_from (link.is_idle (station_at end w).link) (waits_up_to (station_at end w).layer.circuits cfg.channels.count == 0) (at_rest end up stopped).idle (eq-eqb (waits_up_to (station_at end w).layer.circuits cfg.channels.count) 0 none)) here there
 
   module _ (law : SessionsHealUnlessBothBusy) (cfg : Cfg) (fine : IsConfigured cfg) (w : World) (h : SessionsJoined both_down cfg Dte w) (may : MayHeal w) (ends : List Role) where
     abbrev c : LinkSettings
@@ -282,7 +271,7 @@ module _ (laws : SessionLaws) (keeps : ConnectKeeps) where
     each : (u : World) → Alike u gone → IsDrained u → EachSessionHeals c d h.links gone
     each u alike after_all =
         known_sessions HealsOnce law cfg fine Dte h.links h.reach (none_of h.links.out (h.out ∙ may.drained.out)) (none_of h.links.back (h.back ∙ may.drained.back))
-        (subst (λ (s : LinkStation). OneIsFree s h.links.far.station) (sym h.near.link) (subst (λ (s : LinkStation). OneIsFree w.near.link s) (sym h.far.link) may.free))
+        (rw h.near.link (subst (λ (s : LinkStation). OneIsFree w.near.link s) (sym h.far.link) may.free))
         (received ends) (are_deliveries ends) (none_of gone.out (alike.out ∙ after_all.out)) (none_of gone.back (alike.back ∙ after_all.back))
 
     heals_at : (u : World) → Alike u gone → IsDrained u → Heals cfg w u
@@ -317,9 +306,9 @@ module _ (laws : SessionLaws) (keeps : ConnectKeeps) where
   drains_where law cfg fine begin is events octets =
       let w = run cfg events begin in
       let h : SessionsJoined both_down cfg Dte w = throughout_joined laws keeps cfg fine begin is events octets in
-      let bound = law (c_of cfg) (d_of cfg) (links_joined cfg (is_configured cfg fine)) from_nothing (inl refl) h.reach.events in (
+      let bound = law (c_of cfg) (d_of cfg) (joined_at cfg Dte (is_configured cfg fine)) from_nothing (inl refl) h.reach.events in (
         bound.0,
         λ ends none accepted.
             subst (λ (n : ℕ). n ≤ bound.0) (received_length ends)
-            (bound.1 (received ends) (are_deliveries ends) (subst (λ (x : Sessions). EachFindsIn (c_of cfg) (d_of cfg) (received ends) x) (sym h.reach.run) (each_finds cfg ends w h.links (joined_alike cfg w h) none accepted))),
+            (bound.1 (received ends) (are_deliveries ends) (rw h.reach.run (each_finds cfg ends w h.links (joined_alike cfg w h) none accepted))),
       )

@@ -87,8 +87,7 @@ module _ (laws : SessionLaws) (cfg : Cfg) (fine : IsConfigured cfg) (end : Role)
     comes = false;
     handed = p.handed;
     free = λ same. true_false (sym same);
-    alike = subst (λ (os : List (List ℕ)). Alike (after_step c w os step) (all_act (link_of cfg end) (puts_of p.handed) v)) like.back
-        (puts_alike v v.near.begun (alone w.near.link) [] v.back v.met step (stays_goes (link_of cfg end) v w.near.link like.near) p);
+    alike = rw (sym like.back) (puts_alike v v.near.begun (alone w.near.link) [] v.back v.met step (stays_goes (link_of cfg end) v w.near.link like.near) p);
   }
 
   request_asked : (request : LayerRequest) → RequestsOctets request → Asked cfg end w (after w (of_station c w (requests c w.near request))) v
@@ -147,8 +146,7 @@ event_asked laws cfg fine Dce act w h v like are octets free =
       comes = a.comes;
       handed = a.handed;
       free = λ is. free_turned w.far.link w.near.link (a.free is);
-      alike = subst (λ (u : World). Alike u (links.run (c_of cfg) (d_of cfg) (all_at Dce (asked_of a.comes a.handed)) v)) (sym (back_after w o))
-          (subst (Alike (swapped (after (swapped w) o))) (sym (far_run (c_of cfg) (d_of cfg) (asked_of a.comes a.handed) v)) (turned (after (swapped w) o) x a.alike));
+      alike = rw (back_after w o) (subst (Alike (swapped (after (swapped w) o))) (sym (far_run (c_of cfg) (d_of cfg) (asked_of a.comes a.handed) v)) (turned (after (swapped w) o) x a.alike));
     }
 
 -- ---- events are deliveries and packets that are put

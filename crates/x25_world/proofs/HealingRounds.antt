@@ -11,7 +11,7 @@ use Rattle.x25_world.specs.World.{World, AtEnd, swapped, WorldOutcome, Happened,
 use Rattle.x25_world.specs.{laws.Claims.{AreInOctets, IsBeginning}, laws.SessionClaims.{Throughout}}
 use Rattle.x25_world.specs.laws.WaitClaims.{pull_at, AllWaitForUsers, HasNoneToPull, PullsLeaveNone, UnpulledWaitForUsers}
 use Rattle.x25_world.specs.Healing.{receipt, all_received, firing, next_end, arrivals, deliveries, one_if, if_accepted, behind, both_tried, pull_round, unless_empty, pull_rounds, fire_and_pull, healing, received_by, received_in, IsDrained, AreReceiptsAndRequests, FreeThroughout, BothMayHeal, HaveArrived, HealsWithPuts, RestShows, ArrivesByHealing, AllArrives, RestShowsAll}
-use Rattle.x25_world.specs.{code.ShownWorld.{ShownWorld}, code.FitsWorld.{FitsWorld, FitsRun, Leaves}, code.FitsHealing.{most_times, TellingWorld, GoesBy}}
+use Rattle.x25_world.specs.{code.ShownWorld.{ShownWorld}, code.FitsWorld.{FitsRun, Leaves}, code.FitsHealing.{most_times, TellingWorld, GoesBy}}
 use Rattle.x25_world.proofs.{WorldLemmas.{run_append, accepted_append, octets_append}, HealingSchedule.{count_append, tried_is, Begun, goes_on, rest_is}}
 
 -- ---- rounds
@@ -186,7 +186,7 @@ holds_healed Holds old new cfg most from past before h goes law =
         settings = h.settings;
         octets = octets;
         accepted = accepted_append cfg past (healing cfg most w) from h.accepted goes.accepted;
-        fits = subst (λ (z : World). FitsWorld cfg new.world z) (sym (run_append cfg past (healing cfg most w) from)) goes.fits.fits;
+        fits = rw (run_append cfg past (healing cfg most w) from) goes.fits.fits;
       };
       holds = law octets;
     }
@@ -273,7 +273,7 @@ both_left law cfg w idle idle_there =
 
 pulled_left : PullsLeaveNone → (cfg : Cfg) (u : World) → ArePulled cfg u → is_idle u.near.link ≡ true → is_idle u.far.link ≡ true → HasNoneToPull cfg u Dte × HasNoneToPull cfg u Dce
 pulled_left law cfg u are =
-    subst (λ (v : World). is_idle v.near.link ≡ true → is_idle v.far.link ≡ true → HasNoneToPull cfg v Dte × HasNoneToPull cfg v Dce) (sym are.is) (both_left law cfg are.from)
+    rw are.is (both_left law cfg are.from)
 
 module _ (left : PullsLeaveNone) (unpulled : Throughout UnpulledWaitForUsers) (cfg : Cfg) (fine : config_refusal cfg ≡ None) (from : World) (begins : IsBeginning cfg from) (past : List Event) (octets : AreInOctets past) (most : ℕ) (some : 0 < most) where
   abbrev w : World

@@ -2,7 +2,7 @@
 use Rattle.std.proofs.Common.{◌≡◌, ℕ, zero, suc, ◌+◌, ◌-◌, ◌≤◌, ◌<◌, ◌⊎◌, inl, inr, ◌≢◌, List, [], ◌∷◌, ◌++◌, length, map, Some, None, Result, Ok, Err, OnOk, IfErr, refl, sym, ap, ap₂, ◌∙◌, subst, arith, append_assoc, append-nil, length-append}
 use Rattle.x25_bits.specs.{declared.role.Role.{Role}, declared.role.Role.TheVariants.{Dte, Dce}}
 use Rattle.x25_station.specs.{declared.config.Cfg.{Cfg}, Config.{settings_from}}
-use Rattle.x25_world.specs.World.{World, AtEnd, swapped, WorldOutcome, Happened, Declined, swapped_back, delivered, Event, happens, refusal_of, after, run, AreAccepted}
+use Rattle.x25_world.specs.World.{World, AtEnd, swapped, WorldOutcome, Happened, Declined, swapped_back, delivered, Event, happens, refusal_of, after, run}
 use Rattle.x25_world.specs.declared.error.WorldError.{WorldError}
 use Rattle.x25_world.specs.Healing.{receipt, all_received, next_end, arrivals_from, arrivals, deliveries, one_if, if_accepted, behind, received_in}
 use Rattle.x25_world.specs.{declared.told.Entered.{Entered}, code.PlainTold.{plain_entered}, code.ShownWorld.{ShownWorld}}
@@ -16,7 +16,7 @@ use Rattle.x25_world.specs.declared.error.WorldError.TheVariants as error
 pub goes_behind : (cfg : Cfg) (xs ys : List Event) (w : World) (u v : TellingWorld) (before : List AtEnd) → GoesBy cfg xs w u before → GoesBy cfg ys (run cfg xs w) v before → GoesBy cfg (xs ++ ys) w v before
 goes_behind cfg xs ys w u v before f g = record {
   accepted = accepted_append cfg xs ys w f.accepted g.accepted;
-  fits = subst (λ (x : World). Tells cfg v x before) (sym (run_append cfg xs ys w)) g.fits;
+  fits = rw (run_append cfg xs ys w) g.fits;
 }
 
 pub stops_first : (cfg : Cfg) (xs ys : List Event) (w : World) (v : TellingWorld) (before : List AtEnd) (e : WorldError) → GoesPartly cfg xs w v before e → GoesPartly cfg (xs ++ ys) w v before e
@@ -79,7 +79,7 @@ module _ (cfg : Cfg) (events : List Event) (w : World) (v : TellingWorld) (befor
   all_done none = h.all ∙ ap (λ (es : List Event). h.done ++ es) none ∙ append-nil h.done
 
   pub went_all : rest (run cfg h.done w) ≡ [] → GoesBy cfg events w v before
-  went_all none = subst (λ (es : List Event). GoesBy cfg es w v before) (sym (all_done none)) h.goes
+  went_all none = rw (all_done none) h.goes
 
   pub counted_all : rest (run cfg h.done w) ≡ [] → count ≡ received_in events
   counted_all none = sym h.counted ∙ ap received_in (sym (all_done none))
@@ -92,7 +92,7 @@ accepts_one cfg e w v before fits accepted = by (happens cfg w e) refl fits acce
     by : (o : WorldOutcome) → happens cfg w e ≡ o → Tells cfg v (after w o) before → refusal_of o ≡ None → GoesBy cfg (one_if e o) w v before
     by (Happened next) is fits accepted = record {
       accepted = (ap refusal_of is, tt);
-      fits = subst (λ (x : WorldOutcome). Tells cfg v (after w x) before) (sym is) fits;
+      fits = rw is fits;
     }
     by (Declined x) is fits accepted = absurd (cc)
 
@@ -176,8 +176,8 @@ one_delivered cfg most w u v before count at low h is fits =
     record {
       done = h.done ++ at ∷ [];
       goes = record {
-        accepted = subst (λ (es : List Event). AreAccepted cfg es w) (sym events) (accepted_append cfg (all_received h.done) (receipt at ∷ []) w h.goes.accepted (found cfg x at here, tt));
-        fits = subst (λ (z : World). Tells cfg v z before) (sym next) fits;
+        accepted = rw events (accepted_append cfg (all_received h.done) (receipt at ∷ []) w h.goes.accepted (found cfg x at here, tt));
+        fits = rw next fits;
       };
       counted = length-append h.done (at ∷ []) ∙ ap (λ (n : ℕ). n + 1) h.counted;
       all = h.all
@@ -198,7 +198,7 @@ pub record AllDelivered (cfg : Cfg) (most : ℕ) (w : World) (v : TellingWorld) 
 
 all_of_them : (cfg : Cfg) (most : ℕ) (w : World) (v : TellingWorld) (before : List AtEnd) (count : ℕ) (h : Delivered cfg most w v before count) → arrivals cfg most w ≡ h.done → AllDelivered cfg most w v before count
 all_of_them cfg most w v before count h is = record {
-  goes = subst (λ (l : List Role). GoesBy cfg (all_received l) w v before) (sym is) h.goes;
+  goes = rw is h.goes;
   counted = sym h.counted ∙ ap length (sym is);
 }
 

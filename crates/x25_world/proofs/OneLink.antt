@@ -1,6 +1,6 @@
 -- Two stations from a link just set up do as two links with their sessions do from there: the same acts lead to the same stations and lines.
 -- An end came up anew where it began a session behind the first.
-use Rattle.std.proofs.Common.{◌≡◌, ℕ, ◌<◌, ◌⊎◌, inl, inr, List, [], ◌∷◌, ◌++◌, Bool, true, false, ◌||◌, refl, sym, ap, ◌∙◌, subst, arith}
+use Rattle.std.proofs.{Common.{◌≡◌, ℕ, ◌<◌, ◌⊎◌, inl, inr, List, [], ◌∷◌, ◌++◌, Bool, true, false, ◌||◌, refl, ap, ◌∙◌, arith}, lemmas.Bool.{or_right}}
 use Rattle.x25_bits.specs.{declared.role.Role.{Role}, declared.role.Role.TheVariants.{Dte, Dce}}
 use Rattle.x25_link.specs.{Hearing.{other}, Station.{Settings as LinkSettings}}
 use Rattle.x25_line.specs.{laws.Stations.{StationEnd}, laws.StationClaims.{AcceptsNoConnect, AcceptsNoConnectAt, NoneConnects}}
@@ -27,11 +27,7 @@ AreAlike v s = Alike IsLike IsLike ⊥ v s
 anew_by : (up came_up : Bool) (begun : ℕ) → IsAnew came_up begun → IsAnew (came_up || up) (begun_by up begun)
 anew_by false true begun h = h
 anew_by false false begun h = h
-anew_by true came_up begun h = inr (either came_up, elim h [ inl first ↦ (let is = first.1 in omega (arith, is)) | inr later ↦ (let more = later.1 in omega (arith, more)) ])
-  where
-    either : (b : Bool) → (b || true) ≡ true
-    either true = refl
-    either false = refl
+anew_by true came_up begun h = inr (or_right came_up true refl, elim h [ inl first ↦ (let is = first.1 in omega (arith, is)) | inr later ↦ (let more = later.1 in omega (arith, more)) ])
 
 pub like_lasts : Lasts IsLike
 like_lasts = record { station = λ e s h. h.station; steps = λ e s h down step. record { station = refl; anew = anew_by step.notes.up s.came_up e.begun h.anew } }
@@ -65,7 +61,7 @@ module _ (asks : Bool) (cfg : Cfg) (v : line.Stations) where
       → line.happens (link_of cfg Dte) (link_of cfg Dce) e (links_at end v) ≡ links_at end w → LinksReach asks cfg end w
   reach_more end e none h w is = record {
     events = h.events ++ e ∷ [];
-    unasked = λ free. more_unasked (link_of cfg Dte) (link_of cfg Dce) h.events e line.start (h.unasked free) (subst (λ (x : line.Stations). AcceptsNoConnectAt e x) (sym h.run) (none free));
+    unasked = λ free. more_unasked (link_of cfg Dte) (link_of cfg Dce) h.events e line.start (h.unasked free) (rw h.run (none free));
     run = run_append (link_of cfg Dte) (link_of cfg Dce) h.events (e ∷ []) line.start ∙ ap (line.happens (link_of cfg Dte) (link_of cfg Dce) e) h.run ∙ is;
   }
 

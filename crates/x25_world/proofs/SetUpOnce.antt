@@ -8,8 +8,8 @@ use Rattle.x25_layer.specs.{laws.Apart.{OwnMove, own_run}, laws.TwoLayers.{start
 use Rattle.x25_station.specs.{declared.config.Cfg.{Cfg}, Entry.{StationEntry, link_up, link_down, layer_entries}, Station.{Station}}
 use Rattle.x25_world.specs.World.{World}
 use Rattle.x25_world.specs.laws.Claims.{station_at, entries_at, ups_in, IsUpOnce, IsUpAtMostOnce, handed_at, link_of, IsLawful, IsNamed, ArrivesAll}
-use Rattle.x25_world.specs.{laws.Sessions.{Progress, none_begun, after_entry, after_entries, session_at, last_session, handed_in}, laws.LawsBelow.{SessionLaws}}
-use Rattle.x25_world.proofs.{Known.{IsConfigured}, OneLink.{IsAnew, OneLink}, sessions.SessionTrace.{Done, layer_of, own}}
+use Rattle.x25_world.specs.{laws.Sessions.{Progress, none_begun, after_entry, after_entries, session_at, last_session}, laws.LawsBelow.{SessionLaws}}
+use Rattle.x25_world.proofs.{Known.{true_false, IsConfigured}, OneLink.{IsAnew, OneLink}, sessions.SessionTrace.{Done, layer_of, own}}
 use Rattle.x25_world.proofs.sessions.SessionReaches.{Beginning, set_up, known_sessions, joined_at}
 use Rattle.x25_world.proofs.sessions.SessionJoined.{HaveAll, IsEnd, HasMet, PairIsInOrder, SessionsJoined}
 use Rattle.x25_world.proofs.{sessions.SessionKnown.{met_in_order, nothing_in_order}, sessions.claims.SessionMeets.{begun_both, meet_in_step}}
@@ -35,10 +35,7 @@ pub not_anew : (came_up : Bool) (begun : ℕ) → IsAnew came_up begun → begun
 not_anew came_up begun h first = elim h [ inl once ↦ once.0 | inr again ↦ (let more = again.1 in absurd (omega (arith, more, first))) ]
 
 first_alone : (came_up : Bool) (begun : ℕ) → IsAnew came_up begun → came_up ≡ false → begun ≡ 1
-first_alone came_up begun h not_up = elim h [ inl once ↦ once.1 | inr again ↦ absurd (never (sym again.0 ∙ not_up)) ]
-  where
-    never : true ≡ false → ⊥
-    never e = cc
+first_alone came_up begun h not_up = elim h [ inl once ↦ once.1 | inr again ↦ true_false (sym again.0 ∙ not_up) ]
 
 -- ---- where none asks for set-up
 
@@ -119,7 +116,7 @@ module _ {since : Beginning} (laws : SessionLaws) (cfg : Cfg) (fine : IsConfigur
 
   pub lawful_once : IsLawful cfg w
   lawful_once end = subst (λ (e : List Entry). HandsUpLawfully e (handed_at (other end) w)) (handed end)
-      (subst (λ (f : List Entry). HandsUpLawfully (own cfg end 1 h.trace).entries f) (handed (other end)) (own_lawful laws cfg end 1 1 h.trace (by end)))
+      (rw (sym (handed (other end))) (own_lawful laws cfg end 1 1 h.trace (by end)))
     where
       by : (end : Role) → PairIsInOrder cfg end h.trace 1 1
       by Dte = paired
@@ -133,4 +130,4 @@ module _ {since : Beginning} (laws : SessionLaws) (cfg : Cfg) (fine : IsConfigur
       let met = open_stretches_meet laws cfg fine w h end channel channel name name here there in
       let begun = (meet_in_step laws cfg fine w h).begun end (last_session end w) (last_session (other end) w) met in
       subst (λ (e : List Entry). HasAllOf channel name e (handed_at (other end) w)) (last_has_all end begun.0).entries
-      (subst (λ (f : List Entry). HasAllOf channel name (handed_in end (last_session end w) w) f) (last_has_all (other end) begun.2).entries (all_arrive laws cfg fine w h end channel name idle here there))
+      (rw (sym (last_has_all (other end) begun.2).entries) (all_arrive laws cfg fine w h end channel name idle here there))

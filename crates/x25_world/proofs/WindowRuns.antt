@@ -31,10 +31,7 @@ event_in (at_event before e) x = e
 event_in since x = x
 
 event_is_none : {A : Type 0} (asks : _) (v : Sessions) (e : Event) → at_event v e ≡ set_up asks → A
-event_is_none asks v e is = absurd (never is)
-  where
-    never : at_event v e ≡ set_up asks → ⊥
-    never is = cc
+event_is_none asks v e is = absurd (cc)
 
 -- the links go on by what the end of the event asks
 pub record Next (cfg : Cfg) (w : World) (v : Sessions) (e : Event) : Type 0 where
@@ -105,9 +102,8 @@ module _ (laws : SessionLaws) (goes : MachineGoesAlong) (before : OnceStaysOnce)
   rest [] w h past alike octets is = record {
     joined = h;
     more = [];
-    alike = subst (λ (es : List line.Event). AreAlike h.links (links_by es)) (sym (append-nil past)) alike;
-    along = λ once. subst (λ (x : World). IsBehindWorld cfg x (links_by past) (machine_by past)) is
-        (is_behind w h past alike (subst (λ (es : List line.Event). IsSetUpOnce (links_by es)) (append-nil past) once));
+    alike = rw (append-nil past) alike;
+    along = λ once. rw (sym is) (is_behind w h past alike (subst (λ (es : List line.Event). IsSetUpOnce (links_by es)) (append-nil past) once));
   }
   rest (e ∷ events) w h past alike octets is =
       let n = next laws cfg fine w h e octets.0 in
@@ -115,19 +111,18 @@ module _ (laws : SessionLaws) (goes : MachineGoesAlong) (before : OnceStaysOnce)
       let all = run_append c d past es line.start in
       let on : AreAlike n.joined.links (links_by (past ++ es)) =
       subst (λ (v : Sessions). AreAlike v (links_by (past ++ es))) n.run
-      (subst (λ (s : line.Stations). AreAlike (links.run c d es h.links) s) (sym all) (runs_alike IsLike IsLike ⊥ like_lasts like_lasts c d es h.links (links_by past) alike)) in
+      (rw all (runs_alike IsLike IsLike ⊥ like_lasts like_lasts c d es h.links (links_by past) alike)) in
       let r = rest events (after w (happens cfg w e)) n.joined (past ++ es) on octets.1 is in
       record {
         joined = r.joined;
         more = es ++ r.more;
-        alike = subst (λ (xs : List line.Event). AreAlike r.joined.links (links_by xs)) (append_assoc past es r.more) r.alike;
+        alike = rw (sym (append_assoc past es r.more)) r.alike;
         along = λ once. (
           is_behind w h past alike (before c d (es ++ r.more) (links_by past) (subst IsSetUpOnce (run_append c d past (es ++ r.more) line.start) once)),
           n.asked,
           n.may,
           subst (λ (l : Line (List ℕ)). GoesAlong cfg here events (after w (happens cfg w e)) (line.run c d es (links_by past)) l) (machine_append c d past es line.start (machine_at_start c d))
-              (subst (λ (s : line.Stations). GoesAlong cfg here events (after w (happens cfg w e)) s (machine_by (past ++ es))) all
-              (r.along (subst (λ (xs : List line.Event). IsSetUpOnce (links_by xs)) (sym (append_assoc past es r.more)) once))),
+              (rw (sym all) (r.along (subst (λ (xs : List line.Event). IsSetUpOnce (links_by xs)) (sym (append_assoc past es r.more)) once))),
         );
       }
 

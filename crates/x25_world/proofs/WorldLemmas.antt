@@ -1,5 +1,5 @@
 -- An end that acts, in its world: the other end is as it was. And lists of events, one more at a time.
-use Rattle.std.proofs.Common.{◌≡◌, IfOk, ℕ, ◌≤◌, nat_lt, ◌&&◌, Bool, true, false, if◌then◌else◌, List, [], ◌∷◌, ◌++◌, length, map, drop, Option, Some, None, Result, Ok, Err, OnOk, OnErr, IfErr, ◌⊎◌, inl, inr, refl, ap, sym, ◌∙◌, subst, append_assoc, arith}
+use Rattle.std.proofs.Common.{◌≡◌, IfOk, ℕ, nat_lt, ◌&&◌, Bool, true, false, if◌then◌else◌, List, [], ◌∷◌, ◌++◌, length, map, drop, Option, Some, None, Result, Ok, Err, OnOk, OnErr, IfErr, ◌⊎◌, inl, inr, refl, ap, sym, ◌∙◌, subst, append_assoc, arith}
 use Rattle.std.proofs.{Math.Seq.{drop-append_seam}, lemmas.List.{append-nil, drop_all}}
 use Rattle.std.specs.List.{remove}
 use Rattle.x25_bits.specs.{declared.role.Role.{Role}, declared.role.Role.TheVariants.{Dte, Dce}}
@@ -10,7 +10,7 @@ use Rattle.x25_station.specs.{declared.config.Cfg.{Cfg}, declared.error.StationE
 use Rattle.x25_station.specs.{Config.{Settings, settings_from, config_refusal}, Step.{Step, Outcome, Did, Refused, commands, fires, receives}}
 use Rattle.x25_world.specs.declared.error.WorldError.{WorldError}
 use Rattle.x25_world.specs.World.{World, swapped, Event, Act, Commands, Receives, Fires, Loses, Damages, WorldOutcome, Happened, Declined, after_step, of_station, delivered, on_line, is_on_line, acts, acts_at, tapped, entered, swapped_back, AtEnd, happens, after, refusal_of, run, AreAccepted, connected, established, start}
-use Rattle.x25_world.specs.laws.Claims.{ActsInOctets, AreInOctets, entries_at, ups_in, IsUpOnce, IsUpAtMostOnce, IsBeginning, UpOnceUnlessConnected, Always, UntilSecondUp, IsLawful, IsNamed, ArrivesAll, HasNoProcedureError}
+use Rattle.x25_world.specs.laws.Claims.{ActsInOctets, AreInOctets, IsUpOnce, IsUpAtMostOnce, IsBeginning, UpOnceUnlessConnected, Always, UntilSecondUp, IsLawful, IsNamed, ArrivesAll, HasNoProcedureError}
 use Rattle.x25_world.specs.laws.SessionClaims.{Throughout, ThroughoutAlong, MeetInStep, AreLawfulWhereMet, AreNamedInSessions, AllArrive, UnmetAreToldNothing, OpenStretchesMeet, SessionsKeepOrder}
 use Rattle.x25_world.specs.{laws.BesideClaims.{BesideIsGiven}, laws.SessionWindow.{SessionsStayInWindow}, laws.WindowGoes.{StaysInWindow}}
 use Rattle.x25_world.specs.{code.ShownLine.{ShownLine}, code.ShownWorld.{ShownWorld, shown_with, line_from}}
@@ -215,7 +215,7 @@ run_and_then cfg from old new past e (Err x) h octets step accepted stays = reco
 
 -- where nothing was told no end went up
 none_up : (cfg : Cfg) (w : World) → w.transcript ≡ [] → IsUpAtMostOnce cfg w
-none_up cfg w nothing end = subst (λ (t : List AtEnd). ups_in (entries_at end t) ≤ 1) (sym nothing) (omega arith)
+none_up cfg w nothing end = rw nothing (omega arith)
 
 pub start_up : (cfg : Cfg) → IsUpAtMostOnce cfg start
 start_up cfg = none_up cfg start refl

@@ -163,8 +163,9 @@ pub fn messages_wait_for_users()
     x25_layer::messages_wait_for_users();
 }
 
-/// What a world holds at most: 781,330 octets and 1,310,700 for each channel, twice as many as a station does, the
-/// memory of a step and for 34 frames, and those of the frames on its line, each of which counts as the longest.
+/// What a world holds at most: 781,330 octets, for each channel 1,179,630 and two of the longest messages, twice as
+/// many as a station does, the memory of a step and for 34 frames, and those of the frames on its line, each of which
+/// counts as the longest.
 pub fn worlds_hold_few()
     ensures { FewOctets }
 {

@@ -11,6 +11,7 @@ pub const USUAL: Cfg = Cfg {
         count: 1,
         incoming: 0,
         outgoing: 0,
+        message: 65_535,
     },
     long_data: false,
     say_sizes: false,

@@ -12,13 +12,13 @@ use Rattle.x25_circuit.specs.Message.{Piece, piece_of, no_part, joining, cut_all
 use Rattle.x25_circuit.specs.Queue.{waiting}
 use Rattle.x25_circuit.specs.Circuit.{Talk}
 
--- with the most octets of a packet that is sent; of a message in part at most 65,535 octets have come (profile)
+-- with the most octets of a packet that is sent; of a message in part no more octets have come than the longest has
 pub record FitsTalk (size : ℕ) (v : Transfer) (t : Talk) : Type 0 where
   pub numbers : FitsNumbers v.sender t.acked t.sent
   pub taken : FitsTaken v.receiver (length t.taken)
   pub rest : t.rest ≡ cut_all size (waiting v.queue)
   pub part : v.partial.part ≡ joining no_part t.taken
-  pub short : length v.partial.part.user ≤ 65535
+  pub short : length v.partial.part.user ≤ v.partial.longest
   pub unconfirmed : v.unconfirmed ≡ asked_in (drop t.acked (t.sent ++ t.rest))
   pub int_out : v.interrupt_out ≡ t.int_out
   pub peer_ready : v.peer_ready ≡ t.peer_ready

@@ -15,6 +15,7 @@ use Rattle.x25_circuit.specs.Calling.{Outcome, Done, Refused}
 pub record FitsCircuit (c : Settings) (v : code.Circuit) (x : Circuit) : Type 0 where
   pub role : v.role ≡ c.role
   pub long_data : v.long_data ≡ c.long_data
+  pub longest : v.transfer.partial.longest ≡ c.longest
   pub state : v.state ≡ x.state
   pub clears : v.clears ≡ x.clears
   pub resets : v.resets ≡ x.resets

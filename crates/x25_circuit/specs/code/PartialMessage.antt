@@ -2,15 +2,11 @@
 use Rattle.std.specs.Prelude.{ℕ, List, [], Option, Some, None, Bool}
 use Rattle.x25_circuit.specs.Message.{Partial}
 
--- what has begun, and whether its memory is made
+-- what has begun, whether its memory is made, and the most octets of a message
 pub record ShownPartial : Type 0 where
   pub part : Partial
   pub made : Bool
-
--- the octets in this memory, and none where there is none
-abbrev pub octets_of : Option (List ℕ) → List ℕ
-octets_of None = []
-octets_of (Some octets) = octets
+  pub longest : ℕ
 
 -- how much spare memory this is, for a message each
 abbrev pub spares : Option (List ℕ) → ℕ

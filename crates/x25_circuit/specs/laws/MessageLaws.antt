@@ -14,8 +14,8 @@ CutCarries = (size : ℕ) (marks : Marks) (user : List ℕ)
 
 -- the other end refuses none of them: each is within the size, with one qualifier
 abbrev pub CutIsSound : Type 0
-CutIsSound = (size : ℕ) (marks : Marks) (user : List ℕ) → 1 ≤ size → length user ≤ 65535
-    → AreSound size no_part (cut size marks user)
+CutIsSound = (longest size : ℕ) (marks : Marks) (user : List ℕ) → 1 ≤ size → length user ≤ longest
+    → AreSound longest size no_part (cut size marks user)
 
 -- a message that is sent is carried behind all others, by the packets sent and those that wait
 abbrev pub SendAdds : Type 0

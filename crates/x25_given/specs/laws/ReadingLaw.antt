@@ -2,9 +2,9 @@
 use Rattle.std.specs.Prelude.{◌≡◌, ℕ, ◌<◌, ◌≤◌, ◌⊎◌, ◌++◌, length, true, All, Some, Ok}
 use Rattle.x25_packet.specs.Packet.{PlainPacket, call}
 use Rattle.x25_packet.specs.Spelling.{IsInRange}
-use Rattle.x25_packet.specs.WideFacilities.{asks_fast_select}
-use Rattle.x25_packet.specs.WidePacket.{PlainWide}
-use Rattle.x25_packet.specs.WideReading.{wide_of}
+use Rattle.x25_packet.specs.Classes.{asks_fast_select}
+use Rattle.x25_packet.specs.Form.{PlainForm}
+use Rattle.x25_packet.specs.Grammar.{form_in}
 use Rattle.x25_packet.specs.Taking.{taken_in}
 use Rattle.x25_given.specs.Given.{PlainGiven, may_give}
 use Rattle.x25_given.specs.Writing.{form_of, written}
@@ -22,5 +22,5 @@ WrittenIsRead = (g : PlainGiven) (most : ℕ) (v : PlainPacket) → most ≤ 128
 
 -- in the form in which it was written
 abbrev pub WrittenIsInForm : Type 0
-WrittenIsInForm = (g : PlainGiven) (most : ℕ) (v : PlainPacket) (w : PlainWide) → most ≤ 128 → may_give g ≡ true
-    → IsInRange 128 v → MayGo most g v → form_of g v ≡ Some w → wide_of most (written g v) ≡ Ok w
+WrittenIsInForm = (g : PlainGiven) (most : ℕ) (v : PlainPacket) (w : PlainForm) → most ≤ 128 → may_give g ≡ true
+    → IsInRange 128 v → MayGo most g v → form_of g v ≡ Some w → form_in most (written g v) ≡ Ok w

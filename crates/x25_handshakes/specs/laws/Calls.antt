@@ -1,11 +1,12 @@
 -- A circuit between two clears: p1, call sent, call received, collided (p5) and p4, with the calls made and indicated.
-use Rattle.std.specs.Prelude.{List, [], ◌∷◌, ◌++◌, Option, Some, None, if◌then◌else◌}
+use Rattle.std.specs.Prelude.{ℕ, List, [], ◌∷◌, ◌++◌, Option, Some, None, if◌then◌else◌}
 use Rattle.x25_handshakes.specs.{laws.Handshake.{At, Step}, laws.Stretch.{Packet, Call, Accept, Stretch}}
 use Rattle.x25_handshakes.specs.laws.Transfer.{fresh_transfer, transfer_takes, TransferAct, transfer_acts}
 use Rattle.x25_bits.specs.{declared.role.Role.{Role}, declared.role.Role.TheVariants.{Dte, Dce}}
 use Rattle.x25_circuit.specs.declared.params.Params.{Params}
-use Rattle.x25_circuit.specs.Params.{Terms, Proposal, may_propose, may_answer, field_for, said_in, called_terms}
-use Rattle.x25_circuit.specs.{Params.{calling_terms}, Notice.{CallRequest}}
+use Rattle.x25_circuit.specs.Params.{Proposal, may_propose, may_answer, field_for, said_in}
+use Rattle.x25_circuit.specs.{Notice.{CallRequest}}
+use Rattle.x25_handshakes.specs.laws.Terms.{Terms, called_terms, calling_terms}
 
 -- Where the call of an end stands; S is what an end of its kind is in p4.
 pub data Stage (S : Type 0) : Type 0 where
@@ -48,52 +49,52 @@ call_crosses Dte mine m i n = goes (Crossed mine) m i []
 call_crosses Dce mine m i n = goes (Offered n.params) m (i ++ n ∷ []) []
 
 -- the start of p4 at the calling end, and at the called one, with what was answered
-abbrev pub calling_talk : Params → Phase
-calling_talk q = Talking (calling_terms q) (called_terms q) fresh_transfer
+abbrev pub calling_talk : ℕ → Params → Phase
+calling_talk most q = Talking (calling_terms most q) (called_terms most q) fresh_transfer
 
-abbrev pub called_talk : Params → Phase
-called_talk q = Talking (called_terms q) (calling_terms q) fresh_transfer
+abbrev pub called_talk : ℕ → Params → Phase
+called_talk most q = Talking (called_terms most q) (calling_terms most q) fresh_transfer
 
 -- ACCEPT with this answer to what this end proposed; an answer that isn't allowed is as a packet that the phase doesn't
 -- allow
-abbrev pub is_answered : Phase → Params → List CallRequest → List CallRequest → Params → Step Connection Packet
-is_answered p mine m i q = if may_answer mine q then goes (calling_talk q) m i [] else unexpected p m i
+abbrev pub is_answered : Phase → Params → List CallRequest → List CallRequest → ℕ → Params → Step Connection Packet
+is_answered p mine m i most q = if may_answer mine q then goes (calling_talk most q) m i [] else unexpected p m i
 
 abbrev pub phase_takes : Role → Phase → List CallRequest → List CallRequest → Packet → Step Connection Packet
 phase_takes r Unused m i (Call n) = goes (Offered n.params) m (i ++ n ∷ []) []
 phase_takes r Unused m i other = unexpected Unused m i
 phase_takes r (Waiting mine) m i (Call n) = call_crosses r mine m i n
-phase_takes r (Waiting mine) m i (Accept field) = is_answered (Waiting mine) mine m i (said_in mine field)
+phase_takes r (Waiting mine) m i (Accept field most) = is_answered (Waiting mine) mine m i most (said_in mine field)
 phase_takes r (Waiting mine) m i other = unexpected (Waiting mine) m i
 phase_takes r (Offered theirs) m i p = unexpected (Offered theirs) m i
-phase_takes r (Crossed mine) m i (Accept field) = is_answered (Crossed mine) mine m i (said_in mine field)
+phase_takes r (Crossed mine) m i (Accept field most) = is_answered (Crossed mine) mine m i most (said_in mine field)
 phase_takes r (Crossed mine) m i other = unexpected (Crossed mine) m i
-phase_takes r (Talking t b x) m i p = in_transfer t b m i (transfer_takes b.size x p)
+phase_takes r (Talking t b x) m i p = in_transfer t b m i (transfer_takes b.longest b.size x p)
 
 abbrev pub call_takes : Role → Connection → Packet → Step Connection Packet
 call_takes r x p = phase_takes r x.phase x.made x.indicated p
 
 pub data CallAct : Type 0 where
   PlacesCall : (item : CallRequest) → CallAct
-  -- with an answer, or as it was proposed
-  AcceptsCall : (answer : Option Proposal) → CallAct
+  -- with an answer, or as it was proposed, and with the most octets of a message
+  AcceptsCall : (answer : Option Proposal) (longest : ℕ) → CallAct
   Talks : (act : TransferAct) → CallAct
 
 abbrev pub places : List CallRequest → List CallRequest → CallRequest → Step Connection Packet
 places m i n = if may_propose n.params then goes (Waiting n.params) (m ++ n ∷ []) i (Call n ∷ [])
     else goes Unused m i []
 
-abbrev pub accepts : Params → List CallRequest → List CallRequest → Option Proposal → Step Connection Packet
-accepts theirs m i None = goes (called_talk theirs) m i (Accept [] ∷ [])
-accepts theirs m i (Some q) =
-    if may_answer theirs q.params then goes (called_talk q.params) m i (Accept (field_for theirs q) ∷ [])
+abbrev pub accepts : Params → List CallRequest → List CallRequest → Option Proposal → ℕ → Step Connection Packet
+accepts theirs m i None most = goes (called_talk most theirs) m i (Accept [] most ∷ [])
+accepts theirs m i (Some q) most =
+    if may_answer theirs q.params then goes (called_talk most q.params) m i (Accept (field_for theirs q) most ∷ [])
     else goes (Offered theirs) m i []
 
 abbrev pub phase_acts : Phase → List CallRequest → List CallRequest → CallAct → Step Connection Packet
 phase_acts Unused m i (PlacesCall n) = places m i n
 phase_acts Unused m i other = goes Unused m i []
 phase_acts (Waiting mine) m i a = goes (Waiting mine) m i []
-phase_acts (Offered theirs) m i (AcceptsCall answer) = accepts theirs m i answer
+phase_acts (Offered theirs) m i (AcceptsCall answer most) = accepts theirs m i answer most
 phase_acts (Offered theirs) m i other = goes (Offered theirs) m i []
 phase_acts (Crossed mine) m i a = goes (Crossed mine) m i []
 phase_acts (Talking t b x) m i (Talks a) = in_transfer t b m i (transfer_acts t x a)

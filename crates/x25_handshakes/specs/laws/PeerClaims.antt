@@ -1,7 +1,7 @@
 -- What holds of our own end and any peer: of a circuit in p4, and of a whole packet layer.
 use Rattle.std.specs.Prelude.{◌≡◌, ◌⊎◌, ℕ, suc, ◌≤◌, [], length, Bool, true, false, not, Some, None}
 use Rattle.x25_bits.specs.declared.role.Role.{Role}
-use Rattle.x25_circuit.specs.{Message.{carried, wholes}, Params.{Terms}}
+use Rattle.x25_circuit.specs.{Message.{carried, wholes}}
 use Rattle.x25_handshakes.specs.laws.Handshake.{Side, Live, Left, At, has_left, state_of}
 use Rattle.x25_handshakes.specs.{laws.Stretch.{Stretch, fresh}, laws.Transfer.{fresh_transfer}}
 use Rattle.x25_handshakes.specs.laws.Calls.{Phase, Talking, Connection, fresh_call, Stage}
@@ -10,6 +10,7 @@ use Rattle.x25_handshakes.specs.{laws.Arrivals.{open_channel}, laws.PeerStretch.
 use Rattle.x25_handshakes.specs.{laws.PeerTransfer.{fresh_peer_transfer}, laws.PeerCalls.{PeerCall, fresh_peer_call}}
 use Rattle.x25_handshakes.specs.{laws.PeerLayer.{PeerChannels, peer_fresh}, laws.PeerJoined.{Joined, IsReached}}
 use Rattle.x25_handshakes.specs.laws.PeerLayers.{JoinedLayers, IsReached as LayersAreReached}
+use Rattle.x25_handshakes.specs.laws.Terms.{Terms}
 
 -- Two ends of a handshake, of which R is said in one epoch, also where an end or both have left it. Their counts differ
 -- by one at most. An end that is ahead stands as if the other were in the new epoch too and had done nothing there, and
@@ -101,7 +102,7 @@ pub record TookLayer (k : ℕ) (z : At Channels) (y : At PeerChannels) (x : Stre
 
 abbrev pub WithAnyPeer : (Joined → Type 0) → Type 0
 WithAnyPeer Holds =
-    (t : Terms) (size : ℕ) → t.window ≤ 7 → 1 ≤ t.size → (w : Joined) → IsReached t size w → Holds w
+    (t : Terms) (longest size : ℕ) → t.window ≤ 7 → 1 ≤ t.size → (w : Joined) → IsReached t longest size w → Holds w
 
 abbrev pub WithAnyPeerLayer : (JoinedLayers → Type 0) → Type 0
 WithAnyPeerLayer Holds = (r : Role) (w : JoinedLayers) → LayersAreReached r w → Holds w

@@ -45,17 +45,17 @@ pub record MayAcknowledge (y : PeerStretch) (n : ℕ) : Type 0 where
   pub taken : n ≤ length y.taken
 
 -- At most seven data packets stand unacknowledged (section 4.4.1.2). Each is of at most the size (4.3.2), has the
--- qualifier of the message that has begun (4.3.6), and a message has at most 65,535 octets (profile).
-pub record MayFollow (size : ℕ) (y : PeerStretch) (p : Piece) : Type 0 where
+-- qualifier of the message that has begun (4.3.6), and no message is longer than the longest (profile).
+pub record MayFollow (longest size : ℕ) (y : PeerStretch) (p : Piece) : Type 0 where
   pub window : length y.sent < y.acked + 7
-  pub fits : piece_ground size (joining no_part y.sent) p ≡ None
+  pub fits : piece_ground longest size (joining no_part y.sent) p ≡ None
 
 -- one interrupt at a time, and one confirmation of each (section 4.3.7)
-abbrev pub MayDo : ℕ → PeerStretch → Deed → Type 0
-MayDo size y (Sends p n) = MayAcknowledge y n × MayFollow size y p
-MayDo size y (Says ready n) = MayAcknowledge y n
-MayDo size y (Interrupts xs) = y.int_out ≡ false
-MayDo size y Confirms = 1 ≤ y.owed
+abbrev pub MayDo : ℕ → ℕ → PeerStretch → Deed → Type 0
+MayDo longest size y (Sends p n) = MayAcknowledge y n × MayFollow longest size y p
+MayDo longest size y (Says ready n) = MayAcknowledge y n
+MayDo longest size y (Interrupts xs) = y.int_out ≡ false
+MayDo longest size y Confirms = 1 ≤ y.owed
 
 abbrev pub does : PeerStretch → Deed → PeerStretch
 does y (Sends p n) = record y { sent = y.sent ++ p ∷ []; told = n }

@@ -16,10 +16,10 @@ pub data TransferDeed : Type 0 where
   Resets : TransferDeed
 
 -- a packet of the stretch, or RESET at any moment; and nothing while its RESET is out (sections 4.4.3.1 and 4.4.3.4)
-abbrev pub MayDoTransfer : ℕ → Side PeerStretch → TransferDeed → Type 0
-MayDoTransfer size (Live y) (InStretch d) = MayDo size y d
-MayDoTransfer size (Live y) Resets = Unit {0}
-MayDoTransfer size (Left y) d = ⊥
+abbrev pub MayDoTransfer : ℕ → ℕ → Side PeerStretch → TransferDeed → Type 0
+MayDoTransfer longest size (Live y) (InStretch d) = MayDo longest size y d
+MayDoTransfer longest size (Live y) Resets = Unit {0}
+MayDoTransfer longest size (Left y) d = ⊥
 
 abbrev pub does_transfer : ℕ → Side PeerStretch → TransferDeed → At PeerStretch
 does_transfer e (Live y) (InStretch d) = live e (does y d)

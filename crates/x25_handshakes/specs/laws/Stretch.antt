@@ -4,13 +4,14 @@ use Rattle.std.specs.Prelude.{ℕ, ◌+◌, ◌%◌, List, [], ◌∷◌, ◌++�
 use Rattle.std.specs.Prelude.{nat_le, if◌then◌else◌, ◌==◌}
 use Rattle.x25_packet.specs.declared.marks.Marks.{Marks}
 use Rattle.x25_circuit.specs.declared.message.Message.{Message}
-use Rattle.x25_circuit.specs.{Message.{Piece, no_part, joining, completed, piece_ground, cut, wholes}, Params.{Terms}}
+use Rattle.x25_circuit.specs.{Message.{Piece, no_part, joining, completed, piece_ground, cut, wholes}}
 use Rattle.x25_circuit.specs.Notice.{CallRequest}
 use Rattle.x25_window.specs.code.Modulo.{resolved}
 use Rattle.x25_handshakes.specs.laws.Handshake.{Step}
+use Rattle.x25_handshakes.specs.laws.Terms.{Terms}
 
 -- the packets of a channel, with what the two ends' order depends on: no channel, cause or diagnostic. A CALL has what
--- its facilities say, an ACCEPT its facility field.
+-- its facilities say, an ACCEPT its facility field, and the most octets of a message that the two ends hold to.
 pub data Packet : Type 0 where
   Data : (ns : ℕ) → (nr : ℕ) → (piece : Piece) → Packet
   Rr : (nr : ℕ) → Packet
@@ -20,7 +21,7 @@ pub data Packet : Type 0 where
   Reset : Packet
   ResetConf : Packet
   Call : (item : CallRequest) → Packet
-  Accept : (field : List ℕ) → Packet
+  Accept : (field : List ℕ) (longest : ℕ) → Packet
   Clear : Packet
   ClearConf : Packet
 
@@ -74,7 +75,7 @@ status false n = Rnr (n % 8)
 
 abbrev pub sends : Terms → Stretch → Marks → List ℕ → Step Stretch Packet
 sends t x marks xs =
-    if nat_le (length xs) 65535
+    if nat_le (length xs) t.longest
     then (if nat_lt (wholes x.rest) 8
     then stretch_does (record x {
       rest = x.rest ++ cut t.size marks xs;
@@ -118,10 +119,10 @@ stretch_acts t x (Interrupt xs) = interrupts x xs
 abbrev pub ack_ground : Stretch → ℕ → Option ℕ
 ack_ground x r = if nat_le (resolved x.acked r) (length x.sent) then None else Some 2
 
-abbrev pub data_ground : ℕ → Stretch → ℕ → ℕ → Piece → Option ℕ
-data_ground size x s r p =
+abbrev pub data_ground : ℕ → ℕ → Stretch → ℕ → ℕ → Piece → Option ℕ
+data_ground longest size x s r p =
     if nat_le (resolved x.acked r) (length x.sent)
-    then (if s == length x.taken % 8 then piece_ground size (joining no_part x.taken) p else Some 1)
+    then (if s == length x.taken % 8 then piece_ground longest size (joining no_part x.taken) p else Some 1)
     else Some 2
 
 abbrev pub by_ground : Option ℕ → Stretch → Step Stretch Packet → Step Stretch Packet
@@ -139,16 +140,18 @@ takes_data x r p =
 abbrev pub takes_status : Stretch → Bool → ℕ → Step Stretch Packet
 takes_status x ready r = stretch_does (record x { acked = resolved x.acked r; peer_ready = ready }) []
 
--- a packet taken in d1; the size is that of the direction to this end. What the levels above take is 0 here
-abbrev pub stretch_takes : ℕ → Stretch → Packet → Step Stretch Packet
-stretch_takes size x (Data s r p) = by_ground (data_ground size x s r p) x (takes_data x r p)
-stretch_takes size x (Rr r) = by_ground (ack_ground x r) x (takes_status x true r)
-stretch_takes size x (Rnr r) = by_ground (ack_ground x r) x (takes_status x false r)
-stretch_takes size x (Int xs) = stretch_does (record x { int_up = x.int_up ++ xs ∷ [] }) (IntConf ∷ [])
-stretch_takes size x IntConf = if x.int_out then stretch_does (record x { int_out = false }) [] else stretch_fails x 43
-stretch_takes size x Reset = stretch_fails x 0
-stretch_takes size x ResetConf = stretch_fails x 0
-stretch_takes size x (Call i) = stretch_fails x 0
-stretch_takes size x (Accept field) = stretch_fails x 0
-stretch_takes size x Clear = stretch_fails x 0
-stretch_takes size x ClearConf = stretch_fails x 0
+-- a packet taken in d1; by the longest message and the packet size of the direction to this end. What the levels above
+-- take is 0 here
+abbrev pub stretch_takes : ℕ → ℕ → Stretch → Packet → Step Stretch Packet
+stretch_takes longest size x (Data s r p) = by_ground (data_ground longest size x s r p) x (takes_data x r p)
+stretch_takes longest size x (Rr r) = by_ground (ack_ground x r) x (takes_status x true r)
+stretch_takes longest size x (Rnr r) = by_ground (ack_ground x r) x (takes_status x false r)
+stretch_takes longest size x (Int xs) = stretch_does (record x { int_up = x.int_up ++ xs ∷ [] }) (IntConf ∷ [])
+stretch_takes longest size x IntConf = if x.int_out then stretch_does (record x { int_out = false }) []
+    else stretch_fails x 43
+stretch_takes longest size x Reset = stretch_fails x 0
+stretch_takes longest size x ResetConf = stretch_fails x 0
+stretch_takes longest size x (Call i) = stretch_fails x 0
+stretch_takes longest size x (Accept field most) = stretch_fails x 0
+stretch_takes longest size x Clear = stretch_fails x 0
+stretch_takes longest size x ClearConf = stretch_fails x 0

@@ -3,7 +3,7 @@ use Rattle.std.specs.Prelude.{ℕ, suc, [], ◌∷◌, Option, Some, None}
 use Rattle.x25_handshakes.specs.laws.Handshake.{Side, Live, Left, At, Step, live, left}
 use Rattle.x25_handshakes.specs.laws.Stretch.{Packet, Reset, ResetConf, Call, Accept, Clear, ClearConf, Stretch, fresh}
 use Rattle.x25_handshakes.specs.laws.Stretch.{StretchAct, stretch_acts, stretch_takes}
-use Rattle.x25_circuit.specs.Params.{Terms}
+use Rattle.x25_handshakes.specs.laws.Terms.{Terms}
 
 abbrev pub fresh_transfer : At Stretch
 fresh_transfer = live 0 fresh
@@ -17,30 +17,31 @@ lifted e s (Some n) = record { next = left e s.next; out = Reset ∷ []; error =
 abbrev pub stray : At Stretch → Step (At Stretch) Packet
 stray x = record { next = x; out = []; error = Some 0 }
 
-abbrev pub takes_d1 : ℕ → ℕ → Stretch → Packet → Step (At Stretch) Packet
-takes_d1 size e x Reset = record { next = live (suc e) fresh; out = ResetConf ∷ []; error = None }
-takes_d1 size e x ResetConf = record { next = left e x; out = Reset ∷ []; error = Some 27 }
-takes_d1 size e x (Call i) = stray (live e x)
-takes_d1 size e x (Accept field) = stray (live e x)
-takes_d1 size e x Clear = stray (live e x)
-takes_d1 size e x ClearConf = stray (live e x)
-takes_d1 size e x other = lifted e (stretch_takes size x other) (stretch_takes size x other).error
+abbrev pub takes_d1 : ℕ → ℕ → ℕ → Stretch → Packet → Step (At Stretch) Packet
+takes_d1 longest size e x Reset = record { next = live (suc e) fresh; out = ResetConf ∷ []; error = None }
+takes_d1 longest size e x ResetConf = record { next = left e x; out = Reset ∷ []; error = Some 27 }
+takes_d1 longest size e x (Call i) = stray (live e x)
+takes_d1 longest size e x (Accept field most) = stray (live e x)
+takes_d1 longest size e x Clear = stray (live e x)
+takes_d1 longest size e x ClearConf = stray (live e x)
+takes_d1 longest size e x other = lifted e (stretch_takes longest size x other)
+    (stretch_takes longest size x other).error
 
 abbrev pub takes_rst : ℕ → Stretch → Packet → Step (At Stretch) Packet
 takes_rst e x Reset = record { next = live (suc e) fresh; out = []; error = None }
 takes_rst e x ResetConf = record { next = live (suc e) fresh; out = []; error = None }
 takes_rst e x (Call i) = stray (left e x)
-takes_rst e x (Accept field) = stray (left e x)
+takes_rst e x (Accept field most) = stray (left e x)
 takes_rst e x Clear = stray (left e x)
 takes_rst e x ClearConf = stray (left e x)
 takes_rst e x other = record { next = left e x; out = []; error = None }
 
-abbrev pub transfer_side_takes : ℕ → ℕ → Side Stretch → Packet → Step (At Stretch) Packet
-transfer_side_takes size e (Live x) p = takes_d1 size e x p
-transfer_side_takes size e (Left x) p = takes_rst e x p
+abbrev pub transfer_side_takes : ℕ → ℕ → ℕ → Side Stretch → Packet → Step (At Stretch) Packet
+transfer_side_takes longest size e (Live x) p = takes_d1 longest size e x p
+transfer_side_takes longest size e (Left x) p = takes_rst e x p
 
-abbrev pub transfer_takes : ℕ → At Stretch → Packet → Step (At Stretch) Packet
-transfer_takes size x p = transfer_side_takes size x.epoch x.side p
+abbrev pub transfer_takes : ℕ → ℕ → At Stretch → Packet → Step (At Stretch) Packet
+transfer_takes longest size x p = transfer_side_takes longest size x.epoch x.side p
 
 pub data TransferAct : Type 0 where
   Inside : (act : StretchAct) → TransferAct

@@ -2,7 +2,7 @@
 use Rattle.std.specs.Prelude.{◌≡◌, false, true, List, [], ◌∷◌, ◌++◌, None}
 use Rattle.x25_bits.specs.declared.role.Role.TheVariants.{Dte, Dce}
 use Rattle.x25_packet.specs.Marks.{with_q}
-use Rattle.x25_circuit.specs.{Message.{Last}, Params.{Terms, default_params}, Notice.{CallRequest}}
+use Rattle.x25_circuit.specs.{Message.{Last}, Params.{default_params}, Notice.{CallRequest}}
 use Rattle.x25_handshakes.specs.laws.Handshake.{state_of, near_stepped, peer_stepped}
 use Rattle.x25_handshakes.specs.laws.Stretch.{Data, Call, Accept, Send, Pull}
 use Rattle.x25_handshakes.specs.{laws.Transfer.{Inside, transfer_acts, transfer_takes}, laws.PeerStretch.{Sends, Says}}
@@ -15,9 +15,10 @@ use Rattle.x25_handshakes.specs.laws.PeerChannel.{InCall}
 use Rattle.x25_handshakes.specs.laws.PeerLayer.{LayerDeed, InChannel, does_layer, layer_packet_of, layer_taking}
 use Rattle.x25_handshakes.specs.laws.PeerLayers.{layer_found, JoinedLayers, start as layers_start}
 use Rattle.x25_handshakes.specs.{laws.PeerLayers.{IsReached as LayersAreReached}, laws.PeerClaims.{transfer_of}}
+use Rattle.x25_handshakes.specs.laws.Terms.{Terms}
 
 abbrev pub terms : Terms
-terms = record { window = 1; size = 128 }
+terms = record { window = 1; size = 128; longest = 1 }
 
 abbrev pub peer_does : Joined → TransferDeed → Joined
 peer_does w deed = record w {
@@ -41,13 +42,13 @@ answered = peer_does heard (InStretch (Sends (Last (with_q false) (7 ∷ [])) 0)
 
 -- the circuit takes it, and only then the peer acknowledges
 abbrev pub taken : Joined
-taken = near_stepped answered [] (transfer_takes 128 answered.near (Data 0 0 (Last (with_q false) (7 ∷ [])))) None
+taken = near_stepped answered [] (transfer_takes 1 128 answered.near (Data 0 0 (Last (with_q false) (7 ∷ [])))) None
 
 abbrev pub acknowledged : Joined
 acknowledged = peer_does taken (InStretch (Says true 1))
 
 pub record LatePeerMoves : Type 0 where
-  pub reached : IsReached terms 128 acknowledged
+  pub reached : IsReached terms 1 128 acknowledged
   pub up : (state_of acknowledged.near.side).up ≡ record { marks = with_q false; user = 7 ∷ [] } ∷ []
   pub there : (state_of acknowledged.peer.side).taken ≡ Last (with_q false) (5 ∷ []) ∷ []
   pub before : (state_of taken.peer.side).told ≡ 0
@@ -80,7 +81,7 @@ abbrev pub called : JoinedLayers
 called = layer_hears (layer_does restarted (InChannel 1 (InCall (PlacesCall proposal)))) (On 1 (Call proposal)) []
 
 abbrev pub accepted : JoinedLayers
-accepted = peer_hears (layer_does_itself called (OnChannel 1 (Within (AcceptsCall None)))) (On 1 (Accept []))
+accepted = peer_hears (layer_does_itself called (OnChannel 1 (Within (AcceptsCall None 1)))) (On 1 (Accept [] 1))
 
 abbrev pub message : LayerDeed
 message = InChannel 1 (InCall (InTransfer (InStretch (Sends (Last (with_q false) (7 ∷ [])) 0))))

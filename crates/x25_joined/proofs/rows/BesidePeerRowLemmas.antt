@@ -11,8 +11,8 @@ use Rattle.x25_frame.specs.Reading.{frame_of}
 use Rattle.x25_packet.specs.Packet.{call, restart, restart_conf}
 use Rattle.x25_packet.specs.Digits.{halves_of, packed}
 use Rattle.x25_packet.specs.Facilities.{facilities_of}
-use Rattle.x25_packet.specs.WideFacilities.{are_facilities, own_in}
-use Rattle.x25_packet.specs.WideReading.{read_of}
+use Rattle.x25_packet.specs.Classes.{are_facilities, own_in}
+use Rattle.x25_packet.specs.Grammar.{read_of}
 use Rattle.x25_circuit.specs.Hearing.{request_in}
 use Rattle.x25_link.specs.Station.{pumped}
 use Rattle.x25_line.specs.laws.Sessions.{Entry, Meeting}

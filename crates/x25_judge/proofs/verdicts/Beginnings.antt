@@ -3,8 +3,7 @@ use Rattle.x25_judge.proofs.verdicts.Names.{◌≡◌, ◌==◌, ◌⊎◌, inl,
 use Rattle.std.specs.Prelude.{if◌then◌else◌}
 use Rattle.std.proofs.lemmas.Bool.{eq-eqb, le-leb}
 use Rattle.x25_judge.specs.Judge.{begins as judge_begins}
-use Rattle.x25_possible_links.specs.laws.Link.{asks, answers, begins}
-use Rattle.x25_possible_links.specs.laws.Places.{first}
+use Rattle.x25_possible_links.specs.{laws.Link.{asks, answers, begins}, laws.Places.{first}}
 use Rattle.x25_possible_links.specs.declared.set.Told.TheVariants.{Skips as SkipsOf}
 use Rattle.x25_judge.specs.Rule.{first as first_rule}
 use Rattle.x25_judge.specs.declared.rule.Rule.TheVariants.{Skips}
@@ -12,11 +11,9 @@ use Rattle.std.specs.List.{list_any}
 use Rattle.std.proofs.lemmas.List.Folds.{list_any-append}
 use Rattle.x25_possible_links.proofs.Covers.{Covers, Here, Asked, Later, Begins}
 use Rattle.x25_judge.proofs.verdicts.Lines.{Goes, goes, next_goes, next_past, other_twice}
-use Rattle.x25_judge.proofs.verdicts.Octets.{HasRoom, each_room, keeps_room}
-use Rattle.x25_judge.proofs.verdicts.Silences.{no_numbers, saw}
+use Rattle.x25_judge.proofs.{verdicts.Octets.{HasRoom, each_room, keeps_room}, verdicts.Silences.{no_numbers, saw}}
 use Rattle.x25_judge.proofs.verdicts.Silent.{Fits, IsWithin, comes_on, settled_comes, up_below, settled_within, upward_within}
-use Rattle.x25_judge.proofs.verdicts.Following.{owed_first}
-use Rattle.x25_judge.proofs.verdicts.Innocents.{sent_end}
+use Rattle.x25_judge.proofs.{verdicts.Following.{owed_first}, verdicts.Innocents.{sent_end}}
 use Rattle.x25_judge.proofs.verdicts.Manners.{IsFair, minds_has, small_window}
 use Rattle.x25_judge.specs.Links as links
 use Rattle.x25_possible_links.specs.laws.Places as place

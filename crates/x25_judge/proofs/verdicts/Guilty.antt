@@ -1,7 +1,6 @@
 -- What no run of an end that keeps the rules explains is told, and the first rule of order is told of that alone.
 use Rattle.x25_judge.proofs.verdicts.Names.{◌≡◌, ℕ, Bool, true, false, [], ◌∷◌, None, refl, sym, ap, ◌∙◌, subst, is_some, both_ways, Role, PlainFrame, info, differs, own_of, seen_by, Judge, Minding, Sent, is_of_order, rule_of, GuiltyAreTold, ToldAreGuilty, begun_as, played, sends_to, Frame, Info, LinkSet, Told, Broken, Nothing, Skips, Stand, Free, Up}
-use Rattle.x25_judge.proofs.verdicts.Innocents.{none_of_order, seen_fair, sent_end}
-use Rattle.x25_judge.proofs.verdicts.Manners.{minds_has}
+use Rattle.x25_judge.proofs.{verdicts.Innocents.{none_of_order, seen_fair, sent_end}, verdicts.Manners.{minds_has}}
 use Rattle.x25_judge.proofs.verdicts.Minded.{IsTold, Tells, asks_tells, first_brings, first_keeps, number_tells, tells_of}
 use Rattle.x25_judge.proofs.verdicts.Tapes.{told_is}
 use Rattle.x25_judge.specs.Links as links

@@ -7,8 +7,7 @@ use Rattle.x25_judge.specs.Links.{rule_of}
 use Rattle.x25_possible_links.specs.laws.Link.{hears, begins}
 use Rattle.x25_line.specs.laws.Said.{said as read_as}
 use Rattle.x25_possible_links.proofs.Covers.{Covers, Here, Asked, Later, Begins}
-use Rattle.x25_judge.proofs.verdicts.Lines.{goes, past, told_of_order}
-use Rattle.x25_judge.proofs.verdicts.Manners.{minds_fair}
+use Rattle.x25_judge.proofs.{verdicts.Lines.{goes, past, told_of_order}, verdicts.Manners.{minds_fair}}
 use Rattle.x25_judge.proofs.verdicts.Octets.{HasSent, HasRoom, IsHeld, begun_held, each_room, held_less, held_more, keeps_room, pushed_held, same_octets, sent_held}
 use Rattle.x25_judge.proofs.verdicts.Following.{heard_keeps, IsPart, IsSame, IsSeen, Means, Says, front, means_on, means_same, numbers_of, says, stand_of}
 use Rattle.x25_judge.proofs.verdicts.Silent.{heard_sent}

@@ -1,8 +1,7 @@
 -- Manners tell no rule of order, and nothing of what is told of the link.
 use Rattle.x25_judge.proofs.verdicts.Names.{◌≡◌, ℕ, ◌<◌, ◌≤◌, ◌%◌, ◌==◌, Bool, true, false, Option, Some, None, refl, arith, is_some, not, nat_lt, nat_le, ◌&&◌, ◌||◌, and_parts, cond_both, leb-true, ltb-true, PlainFrame, info, rr, rnr, rej, sabm, disc, ua, dm, frmr, accepts, answers, asks, bits, by_other, by_own, counts_in, hears, minded_as, minded_by, minds, ready_minded, place_in, reject_minded, skipped_by, first, is_of_manners, Minding, Sent, Manners, Minded, Rule, OverWindow, is_of_order, LinkSet, Told, Nothing, Skips, Broken, Numbers, Stand, Up}
 use Rattle.std.specs.Prelude.{if◌then◌else◌}
-use Rattle.x25_judge.specs.Links.{begins}
-use Rattle.x25_judge.specs.declared.manners.Place.{Place}
+use Rattle.x25_judge.specs.{Links.{begins}, declared.manners.Place.{Place}}
 use Rattle.x25_judge.specs.Manners as manners
 
 abbrev pub IsFair : Option Rule → Type 0

@@ -3,10 +3,8 @@ use Rattle.x25_judge.proofs.verdicts.Names.{◌≡◌, ℕ, ◌+◌, ◌<◌, �
 use Rattle.x25_line.specs.laws.Said.{said as read_as}
 use Rattle.std.specs.List.{slice_get}
 use Rattle.x25_line.specs.laws.LawsBelow.{Laws}
-use Rattle.x25_line.proofs.StationPeers.{Seen, peer_acts}
-use Rattle.x25_line.proofs.StationRuns.{noted_before}
-use Rattle.x25_line.proofs.StationSays.{MayDo}
-use Rattle.x25_line.proofs.StationSends.{AllWithin, within_push, item_at}
+use Rattle.x25_line.proofs.{StationPeers.{Seen, peer_acts}, StationRuns.{noted_before}}
+use Rattle.x25_line.proofs.{StationSays.{MayDo}, StationSends.{AllWithin, within_push, item_at}}
 use Rattle.x25_judge.proofs.verdicts.Following.{heard_keeps}
 use Rattle.x25_judge.proofs.verdicts.Lag.{Did, Front, Sends, at_front, both, comes_behind, did_more, did_send, freed, nothing, numbered_front, said, was_given, OnLine, one_more, one_more_damaged, one_lost, one_damaged}
 use Rattle.x25_line.specs.laws.Peer as once

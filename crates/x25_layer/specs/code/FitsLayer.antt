@@ -1,5 +1,5 @@
 -- Which states of the definition a layer stands for, and what it tells of them.
-use Rattle.std.specs.Prelude.{◌≡◌, ℕ, zero, suc, ◌+◌, ◌^◌, ◌-◌, ◌==◌, ◌||◌, List, length, Option, Some, None, Bool}
+use Rattle.std.specs.Prelude.{◌≡◌, ◌≤◌, ℕ, zero, suc, ◌+◌, ◌^◌, ◌-◌, ◌==◌, ◌||◌, List, length, Option, Some, None, Bool}
 use Rattle.std.specs.Prelude.{false, slice_get, if◌then◌else◌}
 use Rattle.x25_circuit.specs.declared.awaits.Awaits.{Awaits}
 use Rattle.x25_circuit.specs.declared.awaits.Awaits.TheVariants.{Nothing}
@@ -22,6 +22,7 @@ FitsCircuits c circuits f = (k : ℕ) (v : circuit_code.Circuit) → slice_get c
 pub record FitsLayer (c : LayerSettings) (v : code.Layer) (l : Layer) : Type 0 where
   pub role : v.role ≡ c.circuit.role
   pub long_data : v.long_data ≡ c.circuit.long_data
+  pub message : c.circuit.longest ≤ 65535
   pub ranges : v.ranges ≡ c.channels
   pub channels : length v.circuits.items ≡ c.channels.count
   pub restarting : v.restarting ≡ l.restarting

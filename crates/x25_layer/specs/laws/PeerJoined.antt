@@ -46,7 +46,7 @@ AreConfigured channels (p ∷ ps) = IsConfigured channels p × AreConfigured cha
 -- the peer goes on to this, with these packets, as its step has it
 pub record Answers (channels : Ranges) (packets : List PlainPacket)
     (s : PeerStep (At PeerChannels) LayerPacket) : Type 0 where
-  pub are : bare_layers packets ≡ s.out
+  pub are : bare_layers channels.message packets ≡ s.out
   pub configured : AreConfigured channels packets
 
 abbrev pub peer_stepped : Joined → List PlainPacket → List PlainPacket → PeerStep (At PeerChannels) LayerPacket → Joined
@@ -63,23 +63,25 @@ pub data Happens (r : Role) (long_data : Bool) (channels : Ranges) (w : Joined) 
       → Happens r long_data channels w (with_peer w.peer (moves (settings_of r long_data channels) (our_end w) move))
   -- the peer sends a packet
   Does : (deed : LayerDeed) (p : PlainPacket) → MayDoLayer w.peer.side deed
-      → bare_layer p ≡ layer_packet_of w.peer.side deed → IsConfigured channels p
+      → bare_layer channels.message p ≡ layer_packet_of w.peer.side deed → IsConfigured channels p
       → Happens r long_data channels w (record w {
         peer = does_layer w.peer.epoch w.peer.side deed;
         back = w.back ++ p ∷ [];
       })
   -- it takes the packet in front
   Hears : (p : PlainPacket) (rest packets : List PlainPacket) → w.out ≡ p ∷ rest
-      → Answers channels packets (layer_taking (other_role r) w.peer.epoch w.peer.side (bare_layer p))
+      → Answers channels packets (layer_taking (other_role r) w.peer.epoch w.peer.side (bare_layer channels.message p))
       → Happens r long_data channels w
-      (peer_stepped w rest packets (layer_taking (other_role r) w.peer.epoch w.peer.side (bare_layer p)))
+      (peer_stepped w rest packets (layer_taking (other_role r) w.peer.epoch w.peer.side
+      (bare_layer channels.message p)))
   -- it takes the first packet of a channel before those of other channels that stand in front of it
   HearsChannel : (y : PeerChannels) (passed : List PlainPacket) (p : PlainPacket) (rest packets : List PlainPacket)
-      → w.peer.side ≡ Live y → HasChannel p → AreElsewhere (channel_of p) (bare_layers passed)
+      → w.peer.side ≡ Live y → HasChannel p → AreElsewhere (channel_of p) (bare_layers channels.message passed)
       → w.out ≡ passed ++ p ∷ rest
-      → Answers channels packets (ready_taking (other_role r) w.peer.epoch y (On (channel_of p) (bare p)))
+      → Answers channels packets (ready_taking (other_role r) w.peer.epoch y
+      (On (channel_of p) (bare channels.message p)))
       → Happens r long_data channels w (peer_stepped w (passed ++ rest) packets
-      (ready_taking (other_role r) w.peer.epoch y (On (channel_of p) (bare p))))
+      (ready_taking (other_role r) w.peer.epoch y (On (channel_of p) (bare channels.message p))))
 
 -- what is reached, event by event
 pub data IsReached (r : Role) (long_data : Bool) (channels : Ranges) : Joined → Type 0 where

@@ -159,12 +159,12 @@ moves c w move = moves_in c w w.near.is_out move
 abbrev pub turned : TwoLayers → TwoLayers
 turned w = record { near = w.far; far = w.near; out = w.back; back = w.out }
 
--- The settings of an end, by its role. Whether the user data of a CALL may be long, and the channels, are the same at
--- both ends.
+-- The settings of an end, by its role. Whether the user data of a CALL may be long, and the channels with the longest
+-- message, are the same at both ends.
 abbrev pub settings_of : Role → Bool → Ranges → LayerSettings
 settings_of role long_data channels = record {
   channels = channels;
-  circuit = record { role = role; long_data = long_data };
+  circuit = record { role = role; long_data = long_data; longest = channels.message };
 }
 
 -- the first end is the DTE

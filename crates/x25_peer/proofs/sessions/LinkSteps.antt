@@ -5,7 +5,7 @@ use Rattle.std.specs.Prelude.{remove}
 use Rattle.x25_frame.specs.Frame.{PlainFrame}
 use Rattle.x25_packet.specs.{Packet.{PlainPacket}, Taking.{read_in}}
 use Rattle.x25_given.specs.{Given.{PlainGiven, may_give}, Writing.{write}}
-use Rattle.x25_link.specs.{declared.error.LinkError.{LinkError}, declared.phase.Phase.{Phase}, declared.phase.Phase.TheVariants.{Down, Up, Waiting, Closed}}
+use Rattle.x25_link.specs.{declared.error.LinkError.{LinkError}, declared.phase.Phase.{Phase}, declared.phase.Phase.TheVariants.{Down}}
 use Rattle.x25_link.specs.{declared.phase.Reason.TheVariants.{Counts}, Hearing.{Step as LinkStep}}
 use Rattle.x25_link.specs.Station.{Settings as LinkSettings, LinkStation, Side, is_up, with_nothing}
 use Rattle.x25_link.specs.{Link.{put_refusal, put_step, take_step, timer_step, connect_step, abandon_step, probe_refusal, relink_step}, laws.NoteLaw.{PutTells}}
@@ -57,8 +57,7 @@ StepGoes c v v₂ k left met = SessionGoes c v v₂ (begun_by k.notes.up v.near.
 pub step_as : (c : LinkSettings) (v v₂ : Sessions) (k : LinkStep) (left : List Entry) (met : List Meeting) (up : Bool) (packet : Option (List ℕ)) → k.notes.up ≡ up → k.packet ≡ packet → StepGoes c v v₂ k left met
     → SessionGoes c v v₂ (begun_by up v.near.begun) k.side.near k.side.out [] (option_to_list packet) left met
 step_as c v v₂ k left met up packet is same g =
-    subst (λ (b : Bool). SessionGoes c v v₂ (begun_by b v.near.begun) k.side.near k.side.out [] (option_to_list packet) left met) is
-    (subst (λ (p : Option (List ℕ)). SessionGoes c v v₂ (begun_by k.notes.up v.near.begun) k.side.near k.side.out [] (option_to_list p) left met) same g)
+    rw (sym is) (subst (λ (p : Option (List ℕ)). SessionGoes c v v₂ (begun_by k.notes.up v.near.begun) k.side.near k.side.out [] (option_to_list p) left met) same g)
 
 -- ---- a step of its own
 
@@ -79,9 +78,7 @@ probe_acts c v = by v.near.station.phase
   where
     by : (p : Phase) → (let done = after_step c v v.back v.met [] (timer_step c v.near.station) in (if is_up p then done else v) ≡ unless (probe_refusal p) v done)
     by Down = refl
-    by Waiting = refl
-    by Up = refl
-    by Closed = refl
+    by p = refl
 
 left_up : (c : LinkSettings) (v : Sessions) (s : LinkStation) → v.near.station ≡ s → is_up s.phase ≡ true → acts c line.Abandon v ≡ after_step c v v.back v.met [] (abandon_step c s)
 left_up c v s station up =
@@ -91,7 +88,7 @@ left_up c v s station up =
 -- it is left, and the front octets are lost
 pub abandon_goes : (c : LinkSettings) (v : Sessions) (s : LinkStation) → v.near.station ≡ s → is_up s.phase ≡ true → StepGoes c v (acts c (line.Lose 0) (acts c line.Abandon v)) (abandon_step c s) (remove v.back 0) v.met
 abandon_goes c v s station up =
-    subst (λ (x : Sessions). StepGoes c v (acts c (line.Lose 0) x) (abandon_step c s) (remove v.back 0) v.met) (sym (left_up c v s station up)) (own_step c v (remove v.back 0) v.met (abandon_step c s))
+    rw (left_up c v s station up) (own_step c v (remove v.back 0) v.met (abandon_step c s))
 
 -- it is left, and then connected
 pub relink_goes : RelinkIsTwoSteps → (c : LinkSettings) (v : Sessions) (s : LinkStation) → v.near.station ≡ s → is_up s.phase ≡ true → StepGoes c v (acts c line.Connect (acts c line.Abandon v)) (relink_step c s) v.back v.met
@@ -103,7 +100,7 @@ relink_goes law c v s station up =
     let left : Side → Sessions = λ t. (let k : LinkStep = record { side = t; packet = None; notes = record { down = Some Counts; up = false } } in after_step c v v.back v.met [] k) in
     let was : acts c line.Abandon v ≡ left (record { near = down; out = [] }) = left_up c v s station up ∙ ap left two.abandoned in
     subst (λ (x : Sessions). StepGoes c v (acts c line.Connect x) (relink_step c s) v.back v.met) (sym was)
-    (subst (λ (t : Side). SessionGoes c v (acts c line.Connect (left (record { near = down; out = [] }))) n t.near t.out [] [] v.back v.met) (sym two.connected) (record {
+    (rw two.connected (record {
       station = refl;
       begun = refl;
       down = extended_again v.near.down (extended v.near.down n []) n [] [] (λ i. refl);
@@ -118,8 +115,7 @@ relink_goes law c v s station up =
 -- the front octets are taken
 pub deliver_goes : (c : LinkSettings) (v : Sessions) (s : LinkStation) (e : Entry) (rest : List Entry) → v.near.station ≡ s → v.back ≡ e ∷ rest → StepGoes c v (acts c line.Deliver v) (take_step c e.octets s) rest (acts c line.Deliver v).met
 deliver_goes c v s e rest station front =
-    subst (λ (x : LinkStation). StepGoes c v (acts c line.Deliver v) (take_step c e.octets x) rest (acts c line.Deliver v).met) station
-    (subst (λ (es : List Entry). StepGoes c v (delivered c es v) (take_step c e.octets v.near.station) rest (delivered c es v).met) (sym front) (own_step c v rest _ (take_step c e.octets v.near.station)))
+    rw (sym station) (subst (λ (es : List Entry). StepGoes c v (delivered c es v) (take_step c e.octets v.near.station) rest (delivered c es v).met) (sym front) (own_step c v rest _ (take_step c e.octets v.near.station)))
 
 -- ---- octets that are handed down
 
@@ -268,7 +264,7 @@ all_puts_go : (c : Settings) (v v₁ : Sessions) (session : ℕ) (os : List (Lis
     → (let lc = link_settings c in SessionGoes lc v v₁ session t.near t.out down up left met → AreHanded lc os t → AreReadBack c.wide c.long_data os ps
     → SessionGoes lc v (all_act lc (puts_of os) v₁) session (all_handed lc os t).near (all_handed lc os t).out (down ++ os) up left met)
 all_puts_go c v v₁ session [] [] t down up left met g ok readable =
-    subst (λ (d : List (List ℕ)). SessionGoes (link_settings c) v v₁ session t.near t.out d up left met) (sym (append-nil down)) g
+    rw (append-nil down) g
 all_puts_go c v v₁ session (o ∷ os) (p ∷ ps) t down up left met g ok readable =
     let lc = link_settings c in
     let u : Side = all_handed lc os (handed_on lc o t) in
@@ -283,8 +279,7 @@ puts_go c v v₁ session packets os t step up left met g p =
     let lc = link_settings c in
     let x : Sessions = all_act lc (puts_of os) v₁ in
     subst (λ (s : LinkStation). SessionGoes lc v x session s step.out os up left met) (sym p.link)
-    (subst (λ (fs : List PlainFrame). SessionGoes lc v x session (all_handed lc os t).near fs os up left met) (sym p.out)
-    (all_puts_go c v v₁ session os packets t [] up left met g p.accepted p.readable))
+    (rw p.out (all_puts_go c v v₁ session os packets t [] up left met g p.accepted p.readable))
 
 -- what lasts as octets are handed down
 pub puts_last : (c : LinkSettings) (R : Sessions → Type 0) → ((o : List ℕ) (v : Sessions) → R v → R (acts c (line.Put o) v)) → (os : List (List ℕ)) (v : Sessions) → R v → R (all_act c (puts_of os) v)

@@ -289,7 +289,7 @@ module _ (below : Below) (c : Settings) (low : 1 ≤ c.window) (high : c.window 
   abbrev layers : ℕ → Joined
   layers n = record { near = (h.known n).end; peer = their_layer w; out = way (their_now w) (h.known n).end.given; back = drop (length (h.known n).up) (h.puts b) }
 
-  pub layer_does : (deed : LayerDeed) (p : PlainPacket) (octets : List ℕ) → w.peer.stand ≡ In → MayDoLayer (their_layer w).side deed → bare_layer p ≡ layer_packet_of (their_layer w).side deed
+  pub layer_does : (deed : LayerDeed) (p : PlainPacket) (octets : List ℕ) → w.peer.stand ≡ In → MayDoLayer (their_layer w).side deed → bare_layer c.channels.message p ≡ layer_packet_of (their_layer w).side deed
       → IsConfigured c.channels p → read_by c octets ≡ Ok p → Stands c (layer_went w (record (their_now w) { layer = does_layer (their_layer w).epoch (their_layer w).side deed }) (octets ∷ []))
   layer_does deed p octets stand may is configured reads =
       layer_goes (record (their_now w) { layer = does_layer (their_layer w).epoch (their_layer w).side deed }) (p ∷ []) (octets ∷ []) stand (reads, tt) (h.peers b).heard
@@ -310,21 +310,21 @@ module _ (below : Below) (c : Settings) (low : 1 ≤ c.window) (high : c.window 
         ap (λ (l : List PlainPacket). (their_now w).passed ++ l) came ∙ sym (append_assoc (their_now w).passed read rest) ∙ ap (λ (l : List PlainPacket). l ++ rest) waits ∙ append_assoc front (p ∷ behind) rest
 
   pub layer_hears : (p : PlainPacket) (read behind packets : List PlainPacket) (all : List (List ℕ)) → w.peer.stand ≡ In → ReadAs c (coming w) read → (their_now w).passed ++ read ≡ p ∷ behind
-      → Answers c.channels packets (layer_taking (other_role c.role) (their_layer w).epoch (their_layer w).side (bare_layer p)) → ReadAs c all packets
-      → Stands c (layer_heard w (layer_taking (other_role c.role) (their_layer w).epoch (their_layer w).side (bare_layer p)).next behind all)
+      → Answers c.channels packets (layer_taking (other_role c.role) (their_layer w).epoch (their_layer w).side (bare_layer c.channels.message p)) → ReadAs c all packets
+      → Stands c (layer_heard w (layer_taking (other_role c.role) (their_layer w).epoch (their_layer w).side (bare_layer c.channels.message p)).next behind all)
   layer_hears p read behind packets all stand reads waits answered read_all =
-      let s = layer_taking (other_role c.role) (their_layer w).epoch (their_layer w).side (bare_layer p) in
+      let s = layer_taking (other_role c.role) (their_layer w).epoch (their_layer w).side (bare_layer c.channels.message p) in
       layer_goes (record { layer = s.next; heard = length (now w.peer).taken; passed = behind }) packets all stand read_all (omega (arith))
       (λ n can. (
       let after : List PlainPacket = behind ++ drop (length (now w.peer).taken) (h.known n).end.given in
       reached.goes_on (layers n) (layer_peer.peer_stepped (layers n) after packets s) (h.pairs n b can) (layer_peer.Hears p after packets (in_front read [] behind p reads waits n can) answered) tt))
 
   pub layer_hears_channel : (y : PeerChannels) (p : PlainPacket) (read passed behind packets : List PlainPacket) (all : List (List ℕ)) → w.peer.stand ≡ In → (their_layer w).side ≡ Live y → HasChannel p
-      → AreElsewhere (channel_of p) (bare_layers passed) → ReadAs c (coming w) read → (their_now w).passed ++ read ≡ passed ++ p ∷ behind
-      → Answers c.channels packets (ready_taking (other_role c.role) (their_layer w).epoch y (On (channel_of p) (bare p))) → ReadAs c all packets
-      → Stands c (layer_heard w (ready_taking (other_role c.role) (their_layer w).epoch y (On (channel_of p) (bare p))).next (passed ++ behind) all)
+      → AreElsewhere (channel_of p) (bare_layers c.channels.message passed) → ReadAs c (coming w) read → (their_now w).passed ++ read ≡ passed ++ p ∷ behind
+      → Answers c.channels packets (ready_taking (other_role c.role) (their_layer w).epoch y (On (channel_of p) (bare c.channels.message p))) → ReadAs c all packets
+      → Stands c (layer_heard w (ready_taking (other_role c.role) (their_layer w).epoch y (On (channel_of p) (bare c.channels.message p))).next (passed ++ behind) all)
   layer_hears_channel y p read passed behind packets all stand live has apart reads waits answered read_all =
-      let s = ready_taking (other_role c.role) (their_layer w).epoch y (On (channel_of p) (bare p)) in
+      let s = ready_taking (other_role c.role) (their_layer w).epoch y (On (channel_of p) (bare c.channels.message p)) in
       layer_goes (record { layer = s.next; heard = length (now w.peer).taken; passed = passed ++ behind }) packets all stand read_all (omega (arith))
       (λ n can. (
       let rest : List PlainPacket = drop (length (now w.peer).taken) (h.known n).end.given in

@@ -1,6 +1,6 @@
 -- The layer's half of a station beside a peer: moves of the layer, one after another; over sessions a session's layer moves by itself, whichever
 -- session of the peer it is beside.
-use Rattle.std.proofs.Common.{◌≡◌, ℕ, List, [], ◌∷◌, ◌++◌, Bool, true, false, if◌then◌else◌, option_to_list, refl, sym, ap, subst, ◌∙◌, append_assoc, append-nil}
+use Rattle.std.proofs.Common.{◌≡◌, ℕ, List, [], ◌∷◌, ◌++◌, Bool, true, false, if◌then◌else◌, option_to_list, refl, ap, subst, ◌∙◌, append_assoc, append-nil}
 use Rattle.x25_bits.specs.declared.role.Role.{Role}
 use Rattle.x25_packet.specs.Packet.{PlainPacket}
 use Rattle.x25_handshakes.specs.{laws.Handshake.{At}, laws.PeerLayer.{PeerChannels}}
@@ -103,7 +103,7 @@ pub asked_reached : (wide : Bool) (r : Role) (long_data : Bool) (n : Ranges) (y 
 asked_reached wide r long_data n y e o b ms asked stay h =
     let c : LayerSettings = settings_of r long_data n in
     let start : TwoLayers = beside o b (alone_at e) in
-    let moved = moves_reached wide r long_data n y start ms stay (subst (λ (l : List PlainPacket). IsReachedByOctets wide r long_data n (record { near = e; peer = y; out = l; back = b })) (sym (append-nil o)) h) in
+    let moved = moves_reached wide r long_data n y start ms stay (rw (append-nil o) h) in
     subst (λ (v : TwoLayers). IsReachedByOctets wide r long_data n (record { near = v.near; peer = y; out = v.out; back = v.back })) (moves_beside c o b (alone_at e) ms asked) moved
 
 -- ---- by such moves it takes nothing, and tells the user nothing

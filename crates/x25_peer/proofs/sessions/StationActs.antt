@@ -21,7 +21,7 @@ use Rattle.x25_station.specs.{Entry.{StationEntry, connect_asked, disconnect_ask
 use Rattle.x25_station.specs.{Step.{Step, Did, unless as refused_or, led_by, follows, abandons, receives, requests, gives}, laws.GivenLaw.{GivesOctets}}
 use Rattle.x25_station.specs.{laws.JoinLaw.{station_with, IsJoined, MovesAs}, laws.KeepLaw.{IsKept, KeptBy}}
 use Rattle.x25_station.specs.laws.ReadLaw.{AreReadable, RequestsOctets, IsReachedByOctets}
-use Rattle.x25_peer.specs.laws.BesideSessions.{ReadAs, Theirs, BesideSessions, stepped, followed, heard_here, links_of}
+use Rattle.x25_peer.specs.laws.BesideSessions.{Theirs, BesideSessions, stepped, followed, heard_here, links_of}
 use Rattle.x25_peer.proofs.Granted.{did_granted, gave_granted, suits_asks, connects_in_down, relinks_in_up, timer_silent}
 use Rattle.x25_peer.proofs.sessions.SessionLayers.{AllStay, pulls_stay, moves_reached, alone_at, AreAsked, pulls_asked, asked_reached, asked_leaves}
 use Rattle.x25_peer.proofs.{ReadLemmas.{Next, next_read, readable_behind}, sessions.Meetings.{CanMeet, could_meet, all_both, met_can_meet, could_meet_some}}
@@ -84,13 +84,13 @@ module _ (below : Below) (c : Settings) (low : 1 ≤ c.window) (high : c.window 
       goes below c few w h e [] [] ps a.handed v (alone w.near.link) step [] w.back w.met (both_ends links) a.up a.up a.layer (a.put (readable_behind c.wide c.long_data e.given ps (subst (AreReadable c.wide c.long_data) a.layer.given readable)))
       (reach, stays_goes (link_settings c) (both_ends links) w.near.link refl)
       (λ nothing. (asked_leaves (layer_settings c) (alone_at e) ms asked).told ∙ (h.each b).alone (sym same_up ∙ nothing)) as_it_met
-      (λ m can. subst (λ (u : List (List ℕ)). PairReached c (record { end = v.near; down = []; up = u }) (w.theirs m) (h.puts m)) (sym same_up) (pair m can)) a.kept
+      (λ m can. rw same_up (pair m can)) a.kept
 
   pub asks : (request : LayerRequest) (step : Step) → RequestsOctets request → requests c w.near request ≡ Did step → Stands c (stepped c w w.begun w.back w.met step)
   asks request step octets is =
       let s : LinkStation = w.near.link in
       let granted = did_granted c w.near request step is in
-      let j = below.request c s (alone_at known_now.end) request step (h.each b).out h.kept.few (subst (λ (l : Layer). requests c (station_with s l) request ≡ Did step) (sym (h.now granted.is_up).layer) is) in
+      let j = below.request c s (alone_at known_now.end) request step (h.each b).out h.kept.few (rw (h.now granted.is_up).layer is) in
       asked_stands request step octets
       (record {
         channels = j.0;
@@ -109,7 +109,7 @@ module _ (below : Below) (c : Settings) (low : 1 ≤ c.window) (high : c.window 
       let granted = gave_granted c w.near g request step is in
       let wide = and_parts c.wide (may_give g && suits g request) granted.is_taken in
       let suit = and_parts (may_give g) (suits g request) wide.1 in
-      let j = below.given c g s (alone_at known_now.end) request step (h.each b).out h.kept.few (subst (λ (l : Layer). gives c (station_with s l) g request ≡ Did step) (sym (h.now granted.is_up).layer) is) in
+      let j = below.given c g s (alone_at known_now.end) request step (h.each b).out h.kept.few (rw (h.now granted.is_up).layer is) in
       asked_stands request step octets
       (record {
         channels = j.0;
@@ -180,8 +180,7 @@ module _ (below : Below) (c : Settings) (low : 1 ≤ c.window) (high : c.window 
         subst (λ (x : Bool). IsKept (follows c w.near.layer (if x then k else take_step lc e.octets w.near.link)).near) full (below.takes c w.near e.octets h.kept) in
         follows_on below c few w h [] silent rest w.met k (below.abandon_tells lc w.near.link) refl
         (acts lc (line.Lose 0) left) (acts_reach lc w.peer (line.Lose 0) left tt (acts_reach lc w.peer line.Abandon (both_ends links) tt reach))
-        (subst (λ (es : List Entry). StepGoes lc (both_ends links) (acts lc (line.Lose 0) left) k es w.met) (ap (λ (es : List Entry). remove es 0) front)
-        (abandon_goes lc (both_ends links) w.near.link refl (and_parts (is_up w.near.link.phase) (is_full (layer_settings c) w.near.layer) full).0))
+        (rw (sym (ap (λ (es : List Entry). remove es 0) front)) (abandon_goes lc (both_ends links) w.near.link refl (and_parts (is_up w.near.link.phase) (is_full (layer_settings c) w.near.layer) full).0))
         as_it_met kept
 
     -- the link takes them
@@ -198,8 +197,7 @@ module _ (below : Below) (c : Settings) (low : 1 ≤ c.window) (high : c.window 
     reach_after = acts_reach (link_settings c) w.peer line.Deliver (both_ends links) tt reach
 
     taken : StepGoes (link_settings c) (both_ends links) after k rest met
-    taken = subst (λ (ms : List Meeting). StepGoes (link_settings c) (both_ends links) after k rest ms) (ap (λ (es : List Entry). (delivered (link_settings c) es (both_ends links)).met) front)
-        (deliver_goes (link_settings c) (both_ends links) w.near.link e rest refl front)
+    taken = rw (sym (ap (λ (es : List Entry). (delivered (link_settings c) es (both_ends links)).met) front)) (deliver_goes (link_settings c) (both_ends links) w.near.link e rest refl front)
 
     could : (n m : ℕ) → CanMeet n m met → CanMeet n m w.met
     could n m can = could_meet n m (is_up w.near.link.phase) (number_in (frame_of (other c.role) longest_packet e.octets)) (record { near = b; far = e.session }) w.met can
@@ -268,7 +266,7 @@ module _ (below : Below) (c : Settings) (low : 1 ≤ c.window) (high : c.window 
             let both = both_begin below (link_settings c) low high k.side.near b (downs_of h.known) (extended (ups_of h.known) b (o ∷ [])) w.peer (w.out ++ sent_in b c.role k.side.out) rest met link b there partner.1 in
             let prefix : IsPrefix up (w.peer.of_session there).given = subst (λ (u : List (List ℕ)). IsPrefix u (w.peer.of_session there).given) up_here both.back in
             next_read c known_now.up o prefix.0 (h.puts there)
-            (subst (λ (g : List (List ℕ)). ReadAs c g (h.puts there)) (sym prefix.1) (h.peers there).reads)
+            (rw prefix.1 (h.peers there).reads)
 
         abbrev theirs : Theirs
         theirs = w.theirs there
@@ -297,11 +295,11 @@ module _ (below : Below) (c : Settings) (low : 1 ≤ c.window) (high : c.window 
             j.layer.out ∙ way_more theirs ours.given ps (heard_few below c low high w h b there (could b there partner.1)) ∙ ap (way theirs) (sym j.layer.given) in
             let pair : PairReached c (record { end = v.near; down = []; up = up }) theirs (h.puts there) =
             subst (λ (x : List PlainPacket). IsReachedByOctets c.wide c.role c.long_data c.channels (record { near = v.near; peer = theirs.layer; out = way theirs v.near.given; back = x })) j.back
-            (subst (λ (x : List PlainPacket). IsReachedByOctets c.wide c.role c.long_data c.channels (record { near = v.near; peer = theirs.layer; out = x; back = v.back })) line moved) in
+            (rw (sym line) moved) in
             let readable : AreReadable c.wide c.long_data ps = readable_behind c.wide c.long_data ours.given ps (subst (AreReadable c.wide c.long_data) j.layer.given (below.readable c.wide c.role c.long_data c.channels few _ pair)) in
             goes below c few w h ours (way theirs ours.given) (drop (length known_now.up) (h.puts there)) ps (spelled ps) v k.side (follows c w.near.layer k) (o ∷ []) rest met after was_up still_up j.layer
             (puts_spelled c k.side ps (follows c w.near.layer k) j.link readable) (reach_after, goes_up) (λ nothing. absurd (never known_now.up nothing)) could
-            (λ m can. subst (λ (i : ℕ). PairReached c (record { end = v.near; down = []; up = up }) (w.theirs i) (h.puts i)) (alone_there m can) pair) kept
+            (λ m can. rw (sym (alone_there m can)) pair) kept
           where
             never : (xs : List (List ℕ)) → xs ++ o ∷ [] ≡ [] → ⊥
             never [] e = cc

@@ -60,7 +60,7 @@ module _ (below : Below) (c : Settings) (few : c.channels.count ≤ 4095) (w : B
     puts = h.puts;
     link = goes_reached lc w.peer linked (downs_of h.known) (ups_of h.known) (downs_of (in_session session k h.known)) (ups_of (in_session session k h.known)) v session step.near.link step.out handed lifted left met
         g.0 g.1 h.link.is_down h.link.is_up (into (λ (x : Known). x.down) h.known session k handed down) (into (λ (x : Known). x.up) h.known session k lifted up);
-    now = λ up. subst (λ (x : Known). IsStanding c x step.near.layer) (sym (in_here session k h.known)) (now up);
+    now = λ up. rw (in_here session k h.known) (now up);
     each = both_cases (IsKnown c) session k h.known
         (record { layer = if is_up step.near.link.phase then step.near.layer else (w.own session).layer; entries = (w.own session).entries ++ step.entries }) w.own known
         (λ n differs. h.each n);
@@ -95,7 +95,7 @@ module _ (below : Below) (c : Settings) (few : c.channels.count ≤ 4095) (w : B
       let b = w.begun in
       let k : Known = h.known b in
       steps b k step [] [] left met v g (sym (append-nil k.down)) (sym (append-nil k.up))
-      (λ up. subst (λ (x : Layer). IsStanding c k x) (sym (stays up).1) (h.now (stays up).0))
+      (λ up. rw (stays up).1 (h.now (stays up).0))
       (silently b (if is_up step.near.link.phase then step.near.layer else (w.own b).layer) step.entries k.down silent (by_phase (is_up step.near.link.phase) refl) (h.each b).begins)
       (omega (arith)) could (λ m yes. h.pairs b m (could b m yes)) kept
     where
@@ -179,7 +179,7 @@ module _ (below : Below) (c : Settings) (few : c.channels.count ≤ 4095) (w : B
         let still = puts_up below.put_tells c k.side ps os whole put (ap (λ (s : LinkStation). is_up s.phase) (tells.fresh_up up)) in
         let n : Known = record { end = old.end; down = old.down ++ os; up = old.up } in
         let handed : ReadAs c n.down n.end.given =
-        subst (λ (d : List (List ℕ)). ReadAs c (d ++ os) old.end.given) (sym before.down) (subst (λ (xs : List PlainPacket). ReadAs c os xs) (sym given) (back_reads c os ps put.readable)) in
+        subst (λ (d : List (List ℕ)). ReadAs c (d ++ os) old.end.given) (sym before.down) (rw given (back_reads c os ps put.readable)) in
         let layer : old.end.layer ≡ whole.near.layer = ap (λ (e : End). e.layer) before.end ∙ sym u.layer in
         let quiet : AreSilent whole.entries = silent_append asked (follows c w.near.layer k).entries silent (subst AreSilent (sym u.entries) (noted_silent k.notes.down k.notes.up)) in
         steps b n whole os [] left met (links_on os v) (put_on b ps os k.side whole [] left met v put (link_at true up)) refl (sym (append-nil old.up))

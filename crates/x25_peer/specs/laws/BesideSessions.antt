@@ -186,7 +186,8 @@ pub data Happens (c : Settings) (w : BesideSessions) : BesideSessions → Type 0
       → Happens c w (record w { peer = v.peer; out = v.out; back = v.back; met = v.met })
   -- in a session, its packet layer puts a packet, whose octets go down to its link
   LayerDoes : (deed : LayerDeed) (p : PlainPacket) (octets : List ℕ) → w.peer.stand ≡ In
-      → MayDoLayer (their_layer w).side deed → bare_layer p ≡ layer_packet_of (their_layer w).side deed
+      → MayDoLayer (their_layer w).side deed
+      → bare_layer c.channels.message p ≡ layer_packet_of (their_layer w).side deed
       → IsConfigured c.channels p → read_by c octets ≡ Ok p
       → Happens c w (layer_went w
       (record (their_now w) { layer = does_layer (their_layer w).epoch (their_layer w).side deed }) (octets ∷ []))
@@ -194,20 +195,22 @@ pub data Happens (c : Settings) (w : BesideSessions) : BesideSessions → Type 0
   LayerHears : (p : PlainPacket) (read behind packets : List PlainPacket) (all : List (List ℕ)) → w.peer.stand ≡ In
       → ReadAs c (coming w) read → (their_now w).passed ++ read ≡ p ∷ behind
       → Answers c.channels packets
-      (layer_taking (other_role c.role) (their_layer w).epoch (their_layer w).side (bare_layer p))
+      (layer_taking (other_role c.role) (their_layer w).epoch (their_layer w).side (bare_layer c.channels.message p))
       → ReadAs c all packets
       → Happens c w (layer_heard w
-      (layer_taking (other_role c.role) (their_layer w).epoch (their_layer w).side (bare_layer p)).next behind all)
+      (layer_taking (other_role c.role) (their_layer w).epoch (their_layer w).side
+      (bare_layer c.channels.message p)).next behind all)
   -- or the first of a channel before those of other channels that stand in front of it
   LayerHearsChannel : (y : PeerChannels) (p : PlainPacket) (read passed behind packets : List PlainPacket)
       (all : List (List ℕ)) → w.peer.stand ≡ In → (their_layer w).side ≡ Live y → HasChannel p
-      → AreElsewhere (channel_of p) (bare_layers passed)
+      → AreElsewhere (channel_of p) (bare_layers c.channels.message passed)
       → ReadAs c (coming w) read → (their_now w).passed ++ read ≡ passed ++ p ∷ behind
       → Answers c.channels packets
-      (ready_taking (other_role c.role) (their_layer w).epoch y (On (channel_of p) (bare p)))
+      (ready_taking (other_role c.role) (their_layer w).epoch y (On (channel_of p) (bare c.channels.message p)))
       → ReadAs c all packets
       → Happens c w (layer_heard w
-      (ready_taking (other_role c.role) (their_layer w).epoch y (On (channel_of p) (bare p))).next (passed ++ behind)
+      (ready_taking (other_role c.role) (their_layer w).epoch y (On (channel_of p) (bare c.channels.message p))).next
+      (passed ++ behind)
       all)
 
 -- what is reached, event by event

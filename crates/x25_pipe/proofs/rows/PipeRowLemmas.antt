@@ -7,8 +7,8 @@ use Rattle.x25_bits.specs.FrameCheck.Sealed.{is_sealed}
 use Rattle.x25_frame.specs.Reading.{frame_of}
 use Rattle.x25_packet.specs.Digits.{halves_of, packed}
 use Rattle.x25_packet.specs.Facilities.{facilities_of}
-use Rattle.x25_packet.specs.WideFacilities.{own_in}
-use Rattle.x25_packet.specs.WideReading.{read_of}
+use Rattle.x25_packet.specs.Classes.{own_in}
+use Rattle.x25_packet.specs.Grammar.{read_of}
 use Rattle.x25_link.specs.Station.{pumped}
 use Rattle.x25_script.specs.Reading.{parts_of, number_in, small_number_in, params_in, with_params_in, call_in, accept_in, send_in, interrupt_in, with_fields, command_in, lose_in, damage_in, drain_in, line_in}
 use Rattle.x25_io.specs.Lines.{lines_of}

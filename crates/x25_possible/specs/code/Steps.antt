@@ -1,5 +1,5 @@
 -- What a set of states becomes, packet by packet: over lists, in the order in which the code goes. No list has more
--- than eight states: None where there is no room, or a number is too large.
+-- than 16 states: None where there is no room, or a number is too large.
 use Rattle.std.specs.Prelude.{ℕ, ◌+◌, ◌==◌, nat_lt, nat_le, Bool, true, false, not, ◌&&◌, ◌||◌, if◌then◌else◌}
 use Rattle.std.specs.Prelude.{List, [], ◌∷◌, ◌++◌, length, drop, Option, Some, None}
 use Rattle.x25_bits.specs.declared.role.Role.{Role}
@@ -9,9 +9,10 @@ use Rattle.x25_possible.specs.laws.Possible.{Item, Own, Other}
 use Rattle.x25_possible.specs.declared.packet.Packet.{Packet}
 use Rattle.x25_possible.specs.declared.packet.Packet.TheVariants.{Accept, Clear, ClearConf, Restart, RestartConf, Data}
 use Rattle.x25_possible.specs.declared.packet.Packet.TheVariants.{Rr, Rnr, Interrupt, InterruptConf}
+use Rattle.x25_possible.specs.declared.packet.Terms.{Terms}
 use Rattle.x25_possible.specs.declared.phase.Limits.{Limits}
 use Rattle.x25_possible.specs.declared.phase.Phase.{Phase}
-use Rattle.x25_possible.specs.declared.phase.Phase.TheVariants.{Idle, Calls, Talks, Free, Resets, WasReset}
+use Rattle.x25_possible.specs.declared.phase.Phase.TheVariants.{Idle, Calls, WasCalled, Talks, Free, Resets, WasReset}
 use Rattle.x25_possible.specs.declared.phase.Phase.TheVariants.{Clears, WasCleared, Restarts, WasRestarted}
 use Rattle.x25_possible.specs.declared.set.Knowledge.{Knowledge}
 use Rattle.x25_possible.specs.declared.set.Knowledge.TheVariants.{Blind, Lost, Ready, Doubt, Likely, Known}
@@ -26,6 +27,11 @@ use Rattle.x25_possible.specs.declared.spots.Spot.{Spot}
 abbrev pub same_limits : Limits → Limits → Bool
 same_limits a b = a.most == b.most && a.window == b.window
 
+abbrev pub same_terms : Terms → Terms → Bool
+same_terms a b =
+    a.calling_size == b.calling_size && (a.called_size == b.called_size && (a.calling_window == b.calling_window
+    && a.called_window == b.called_window))
+
 abbrev pub is_same : Phase → Phase → Bool
 is_same Idle Idle = true
 is_same Free Free = true
@@ -33,6 +39,8 @@ is_same Clears Clears = true
 is_same WasCleared WasCleared = true
 is_same Restarts Restarts = true
 is_same WasRestarted WasRestarted = true
+is_same (Calls a) (Calls b) = same_terms a b
+is_same (WasCalled a) (WasCalled b) = same_terms a b
 is_same (Resets a) (Resets b) = same_limits a b
 is_same (WasReset a) (WasReset b) = same_limits a b
 is_same s r = false
@@ -42,7 +50,7 @@ is_there spot [] = false
 is_there spot (q ∷ qs) = (q.at == spot.at && is_same q.phase spot.phase) || is_there spot qs
 
 abbrev pub kept : Spot → List Spot → Option (List Spot)
-kept spot out = if is_there spot out then Some out else if length out == 8 then None else Some (out ++ spot ∷ [])
+kept spot out = if is_there spot out then Some out else if length out == 16 then None else Some (out ++ spot ∷ [])
 
 -- a list that was made, where there was room
 abbrev pub made : Bool → List Spot → Option (List Spot)

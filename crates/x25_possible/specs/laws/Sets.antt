@@ -77,14 +77,14 @@ IsCounted (x ∷ way) role s =
 abbrev pub AreCounted : List Spot → Type 0
 AreCounted qs = (q : Spot) → IsIn q qs → is_large q.phase ≡ false
 
--- behind the packet there are at most eight places, and it isn't the 17th on the way
+-- behind the packet there are at most 16 places, and it isn't the 17th on the way
 pub record HasRoomToSend (x : Packet) (s : Set) : Type 0 where
   pub counted : (q : Spot) → IsIn q s.spots.items → OfSome (sends q.phase x) (IsCounted (drop q.at s.way.items) s.role)
-  pub few : length (after (channel_choices s.role) (Own x) (map (placed s.way.items) s.spots.items)) ≤ 8
+  pub few : length (after (channel_choices s.role) (Own x) (map (placed s.way.items) s.spots.items)) ≤ 16
 
 pub record HasRoomToShow (x : Packet) (s : Set) : Type 0 where
   pub counted : (q : Spot) → IsIn q s.spots.items → IsCounted (x ∷ []) s.role q.phase
-  pub few : length (after (channel_choices s.role) (Other x) (map (placed s.way.items) s.spots.items)) ≤ 8
+  pub few : length (after (channel_choices s.role) (Other x) (map (placed s.way.items) s.spots.items)) ≤ 16
   pub short : length s.way.items < 16
 
 -- A set stays known where there is room; and whatever room there is, a rule is told where no run explains the packet.

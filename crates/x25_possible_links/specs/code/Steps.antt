@@ -1,6 +1,6 @@
 -- What a set of places becomes, frame by frame: over lists, in the order in which the code goes. No list has more than
 -- 16 places: None where there is no room, or a number is too large.
-use Rattle.std.specs.Prelude.{ℕ, ◌+◌, ◌-◌, ◌^◌, ◌<◌, ◌==◌, nat_lt, nat_le, Bool, true, false, not, ◌&&◌, ◌||◌}
+use Rattle.std.specs.Prelude.{◌≡◌, ℕ, ◌+◌, ◌-◌, ◌^◌, ◌<◌, ◌==◌, nat_lt, nat_le, Bool, true, false, not, ◌&&◌, ◌||◌}
 use Rattle.std.specs.Prelude.{if◌then◌else◌, List, [], ◌∷◌, ◌++◌, length, drop, take, map, Option, Some, None}
 use Rattle.x25_possible.specs.laws.Possible.{Item, Own, Other}
 use Rattle.x25_possible.specs.Channel.{nth}
@@ -381,6 +381,74 @@ hastened s = hastened_to (map (hurried 64 (take 64 s.way.items)) s.spots.items) 
 -- the other end sends one
 abbrev pub shows_to : Frame → LinkSet → LinkSet
 shows_to x s = extended x (if length s.way.items == 128 then hastened s else s)
+
+-- ---- one place in a session, with nothing on the way
+
+-- numbers that aren't too large, and it is known what it may acknowledge
+abbrev pub are_sure : Numbers → Bool
+are_sure k = not (is_large (Up k)) && nat_lt k.taken far
+
+abbrev pub sure_numbers : Stand → Option Numbers
+sure_numbers (Up k) = if are_sure k then Some k else None
+sure_numbers s = None
+
+abbrev pub sure_in : Option Stand → Option Numbers
+sure_in None = None
+sure_in (Some s) = sure_numbers s
+
+-- its numbers behind a frame of a session that it sends, or that comes
+abbrev pub up_sends : Numbers → Frame → Option Numbers
+up_sends k (Info ns nr differs) = sure_in (sends (Up k) [] (Info ns nr differs))
+up_sends k (Ready nr) = sure_in (sends (Up k) [] (Ready nr))
+up_sends k x = None
+
+abbrev pub up_hears : Numbers → Frame → Option Numbers
+up_hears k (Info ns nr differs) = sure_numbers (onward (Up k) (Info ns nr differs))
+up_hears k (Ready nr) = sure_numbers (onward (Up k) (Ready nr))
+up_hears k x = None
+
+abbrev pub session_of : List Frame → List Spot → Option Numbers
+session_of [] (q ∷ []) = if q.at == 0 then sure_numbers q.stand else None
+session_of way qs = None
+
+abbrev pub session : LinkSet → Option Numbers
+session s = session_of s.way.items s.spots.items
+
+abbrev pub in_session : Numbers → LinkSet → LinkSet
+in_session k s = set_as s [] (spot_at 0 (Up k) ∷ [])
+
+pub record IsInSession (s : LinkSet) : Type 0 where
+  pub numbers : Numbers
+  pub stands : s ≡ in_session numbers s
+
+-- and the numbers before
+abbrev pub both_of : Numbers → Option Numbers → Option (Numbers × Numbers)
+both_of k None = None
+both_of k (Some next) = Some (k, next)
+
+abbrev pub steps_by : Option Numbers → Frame → Option (Numbers × Numbers)
+steps_by None x = None
+steps_by (Some k) x = both_of k (up_sends k x)
+
+abbrev pub steps : Frame → LinkSet → Option (Numbers × Numbers)
+steps x s = steps_by (session s) x
+
+abbrev pub takes_by : Option Numbers → Frame → Option Numbers
+takes_by None x = None
+takes_by (Some k) x = up_hears k x
+
+abbrev pub takes : Frame → LinkSet → Option Numbers
+takes x s = takes_by (session s) x
+
+-- then the set becomes so
+pub record IsStep (x : Frame) (k next : Numbers) (s : LinkSet) : Type 0 where
+  pub sure : are_sure k ≡ true
+  pub stands : s ≡ in_session k s
+  pub step : sends_to x s ≡ telling Nothing (in_session next s)
+
+pub record IsTaken (x : Frame) (next : Numbers) (s : LinkSet) : Type 0 where
+  pub before : IsInSession s
+  pub step : shows_to x s ≡ in_session next s
 
 -- ---- over a tape, latest first
 

@@ -70,7 +70,7 @@ item_of theirs.IntConf = item.InterruptConf
 item_of theirs.Reset = item.Reset
 item_of theirs.ResetConf = item.ResetConf
 item_of (theirs.Call n) = item.Call (terms_of n.params)
-item_of (theirs.Accept field) = item.Accept (said_of (facilities_of field))
+item_of (theirs.Accept field longest) = item.Accept (said_of (facilities_of field))
 item_of theirs.Clear = item.Clear
 item_of theirs.ClearConf = item.ClearConf
 

@@ -16,7 +16,8 @@ use Rattle.x25_settings.specs.declared.options.Flag.TheVariants.{SaySizes, Tap, 
 use Rattle.x25_settings.specs.declared.options.Kind.{Kind}
 use Rattle.x25_settings.specs.declared.options.Kind.TheVariants as kind
 use Rattle.x25_settings.specs.declared.options.Numbered.{Numbered}
-use Rattle.x25_settings.specs.declared.options.Numbered.TheVariants.{Window, Tries, Channels, Incoming, Outgoing, T1}
+use Rattle.x25_settings.specs.declared.options.Numbered.TheVariants.{Window, Tries, Channels, Incoming, Outgoing}
+use Rattle.x25_settings.specs.declared.options.Numbered.TheVariants.{Message, T1}
 use Rattle.x25_settings.specs.declared.options.Numbered.TheVariants.{T3, T20, T21, T22, T23}
 use Rattle.x25_settings.specs.declared.options.Judging.{Judging}
 use Rattle.x25_settings.specs.declared.options.Place.{Place}
@@ -35,7 +36,7 @@ abbrev pub flag_in : List ℕ → Option Flag
 flag_in word = find (λ x. bytes_eq word (flag_word x)) flags
 
 abbrev pub numbers : List Numbered
-numbers = Window ∷ Tries ∷ Channels ∷ Incoming ∷ Outgoing ∷ T1 ∷ T3 ∷ T20 ∷ T21 ∷ T22 ∷ T23 ∷ []
+numbers = Window ∷ Tries ∷ Channels ∷ Incoming ∷ Outgoing ∷ Message ∷ T1 ∷ T3 ∷ T20 ∷ T21 ∷ T22 ∷ T23 ∷ []
 
 abbrev pub numbered_in : List ℕ → Option Numbered
 numbered_in word = find (λ x. bytes_eq word (word_of x)) numbers

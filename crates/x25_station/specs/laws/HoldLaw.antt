@@ -24,10 +24,11 @@ abbrev pub FewMessages : Type 0
 FewMessages = (c : Settings) (v : code.Station) (s : Station) (h : ℕ) → FitsStation c v s
     → is_channel c.channels h ≡ true → circuit.waits (s.layer.circuits h) ≤ 8
 
--- octets of the message of which some packets came, on each channel
+-- octets of the message of which some packets came, on each channel: no more than its settings say
 abbrev pub FewJoined : Type 0
 FewJoined = (c : Settings) (v : code.Station) (s : Station) (h : ℕ) → FitsStation c v s
-    → is_channel c.channels h ≡ true → length (joining no_part (s.layer.circuits h).talk.taken).user ≤ 65535
+    → is_channel c.channels h ≡ true
+    → length (joining no_part (s.layer.circuits h).talk.taken).user ≤ c.channels.message
 
 -- how many messages a circuit holds of those handed down: the one that is cut, or was cut last, and those behind it
 abbrev pub holds : circuit_code.Circuit → ℕ

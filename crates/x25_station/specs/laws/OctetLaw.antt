@@ -16,9 +16,13 @@ abbrev pub link_octets : ShownLink → ℕ
 link_octets l =
     260 * l.station.outgoing.places.short.all + (4099 * l.station.outgoing.places.long.all + 4103 * 25)
 
--- messages of 65,535 octets, and the memory for that of which some packets came
+-- the memory for the message of which some packets came, whether it is made yet or not
+abbrev pub part_octets : circuit_code.Circuit → ℕ
+part_octets u = u.transfer.partial.longest
+
+-- that, and messages of 65,535 octets
 abbrev pub circuit_octets : circuit_code.Circuit → ℕ
-circuit_octets u = 65535 * holds u + 65535
+circuit_octets u = 65535 * holds u + part_octets u
 
 -- those of its circuits, and the sheet on which a packet is spelled
 abbrev pub layer_octets : layer_code.Layer → ℕ
@@ -29,9 +33,10 @@ octets_held v = link_octets v.link + layer_octets v.layer
 
 -- so many, and so many for each channel
 abbrev pub FewOctets : Type 0
-FewOctets = (v : code.Station) → octets_held v ≤ 236539 + 655350 * length v.layer.circuits.items
+FewOctets = (v : code.Station) → octets_held v
+    ≤ 236539 + (589815 * length v.layer.circuits.items + sum_by part_octets v.layer.circuits.items)
 
--- with so many channels as its settings say
+-- with so many channels, and messages of so many octets, as its settings say
 abbrev pub FewOctetsInAll : Type 0
 FewOctetsInAll = (c : Settings) (v : code.Station) (s : Station) → FitsStation c v s
-    → octets_held v ≤ 236539 + 655350 * c.channels.count
+    → octets_held v ≤ 236539 + (589815 + c.channels.message) * c.channels.count

@@ -3,7 +3,7 @@ use Rattle.std.proofs.Common.{refl, arith}
 use Rattle.x25_bits.specs.{FrameCheck.{fcs_of, number_of, low_bits, add, divisor, divided}, FrameCheck.Sealed.{is_sealed}}
 use Rattle.x25_frame.specs.Reading.{frame_of}
 use Rattle.x25_link.specs.Station.{pumped}
-use Rattle.x25_packet.specs.{Digits.{packed, halves_of}, Facilities.{facilities_of}, WideFacilities.{are_facilities, own_in}, WideReading.{read_of}}
+use Rattle.x25_packet.specs.{Digits.{packed, halves_of}, Facilities.{facilities_of}, Classes.{are_facilities, own_in}, Grammar.{read_of}}
 use Rattle.x25_world.specs.rows.WorldRows.{SetsUp, MessageArrives, LostArrives, DamagedArrives, MoreArrives, GivenArrives, ConfirmedArrives, DisconnectEndsBoth, ConnectSetsUp, ConnectGoesAgain, SecondMeetsFirst, SecondMeet, TimerWaits, IsRefused}
 
 pub sets_up : SetsUp

@@ -1,10 +1,10 @@
 -- What octets bring beside a packet: of those that a link is handed down what its user gave, in order, and of those that it hands up what its user
 -- is told.
 use Rattle.std.proofs.Common.{◌≡◌, ℕ, ◌==◌, ◌≤◌, inl, inr, List, [], ◌∷◌, ◌++◌, length, Bool, true, false, nat_lt, ◌+◌, if◌then◌else◌, Option, Some, None, option_to_list, Result, Ok, Err, refl, sym, ap, ap₂, ◌∙◌, subst, append_assoc, append-nil, arith}
-use Rattle.std.proofs.{lemmas.Bool.{eqb-true}, lemmas.List.{append_cancel_left}}
+use Rattle.std.proofs.{lemmas.Bool.{cond_both, eqb-true}, lemmas.List.{append_cancel_left}}
 use Rattle.x25_packet.specs.{Facilities.{IsFacilityField}, Packet.{PlainPacket, call, accept, clear, user_data}, declared.marks.Marks.{Marks}}
 use Rattle.x25_packet.specs.{Reading.{packet_of}, Spelling.{IsInRange, IsWithoutD, channel_of, longest_user, spelling_of}}
-use Rattle.x25_packet.specs.{declared.error.PacketError.{PacketError}, WideReading.{wide_of}, WidePacket.{PlainKind, PlainWide}}
+use Rattle.x25_packet.specs.{declared.error.PacketError.{PacketError}, Grammar.{form_in}, Form.{PlainKind, PlainForm}}
 use Rattle.x25_packet.specs.{Narrowing.{with_field, narrowed, field_in, taken_of}, Taking.{read_in}}
 use Rattle.x25_given.specs.{Given.{PlainGiven, may_give}, Writing.{write, written}}
 use Rattle.x25_circuit.specs.{Circuit.{Circuit}, Params.{Proposal, default_params, field_for, may_answer}, Cause.{may_clear_for}, declared.state.State.{State}}
@@ -12,7 +12,7 @@ use Rattle.x25_circuit.specs.declared.state.State.TheVariants.{Free, Calling, Ar
 use Rattle.x25_circuit.specs.declared.error.CircuitError.TheVariants.{BadParameter}
 use Rattle.x25_layer.specs.{declared.error.LayerError.{LayerError}, declared.error.LayerError.TheVariants.{NoSuchChannel}}
 use Rattle.x25_layer.specs.Layer.{LayerSettings, Layer, is_channel}
-use Rattle.x25_layer.specs.Calls.{LayerRequest, Asks, Dials, Restarts, PullsAll, LayerOutcome, Accepted, Declined, free_channel, outcome_on, where_room, dialled, outcome_in, layer_outcome, layer_pulled}
+use Rattle.x25_layer.specs.Calls.{LayerRequest, Asks, Dials, LayerOutcome, Accepted, Declined, free_channel, outcome_on, where_room, dialled, outcome_in, layer_outcome, layer_pulled}
 use Rattle.x25_layer.specs.{laws.TwoLayers.{pulled_in, moves_in, requested}, laws.RoundLaw.{moves_all, pulls_of}, laws.Apart.{alone}}
 use Rattle.x25_station.specs.Beside.{PlainBeside, nothing, fields, of_fields, beside_kind, beside_in, beside_or_none, unless_written}
 use Rattle.x25_station.specs.{declared.config.Cfg.{Cfg}, Command.{said_by}, Giving.{suits}, laws.GivenLaw.{GivesOctets, told}}
@@ -20,7 +20,7 @@ use Rattle.x25_station.specs.{laws.ReadLaw.{AreOctets, IsReadable, AreReadable},
 use Rattle.x25_world.specs.{laws.BesideClaims.{Came, came_of, came_in, Gave, channel_for, IsGiven, AreSomeOf}, laws.LawsBelow.{Laws}}
 use Rattle.x25_world.proofs.{Known.{true_false}, Growing.{read_by}}
 use Rattle.x25_peer.proofs.sessions.LinkSteps.{spelled, spelled_with}
-use Rattle.x25_packet.specs.WidePacket as form
+use Rattle.x25_packet.specs.Form as form
 use Rattle.x25_circuit.specs.Calling as circuit
 use Rattle.x25_layer.specs.laws.TwoLayers as layer
 
@@ -49,7 +49,7 @@ module _ {A B : Type 0} (IsOf : A → B → Type 0) where
   some_of_same (x ∷ xs) (y ∷ ys) [] h g = absurd g
   some_of_same (x ∷ xs) (y ∷ ys) (z ∷ zs) h g = elim g [
     | inl both ↦ elim h [
-      | inl here ↦ inl (subst (λ (a : A). IsOf a z) (sym here.0) both.0, some_of_same xs ys zs here.1 both.1)
+      | inl here ↦ inl (rw here.0 both.0, some_of_same xs ys zs here.1 both.1)
       | inr there ↦ inr (some_of_same (x ∷ xs) ys zs there both.1)
     ]
     | inr rest ↦ inr (some_of_same (x ∷ xs) (y ∷ ys) zs h rest)
@@ -87,8 +87,7 @@ AreTold xs ys = AreSomeOf (λ (x y : Came). x ≡ y) xs ys
 pub told_more : (cfg : Cfg) (before es all : List StationEntry) (up came up₂ : List (List ℕ)) → AreTold (came_in before) (brought cfg up) → AreTold (came_in es) (brought cfg came) → all ≡ before ++ es → up₂ ≡ up ++ came
     → AreTold (came_in all) (brought cfg up₂)
 told_more cfg before es all up came up₂ old new is more =
-    subst (λ (es : List StationEntry). AreTold (came_in es) (brought cfg up₂)) (sym is)
-    (subst (λ (os : List (List ℕ)). AreTold (came_in (before ++ es)) (brought cfg os)) (sym more)
+    rw is (subst (λ (os : List (List ℕ)). AreTold (came_in (before ++ es)) (brought cfg os)) (sym more)
     (subst (λ (xs : List Came). AreTold xs (brought cfg (up ++ came))) (sym (came_append before es))
     (subst (λ (ys : List Came). AreTold (came_in before ++ came_in es) ys) (sym (brought_append cfg up came))
     (some_append (λ (x y : Came). x ≡ y) (came_in before) (came_in es) (brought cfg up) (brought cfg came) old new))))
@@ -107,7 +106,7 @@ pub more_again : (cfg : Cfg) (old new newer : List (List ℕ)) (xs ys : List Gav
 more_again cfg old new newer xs ys f g = record {
   more = f.more ++ g.more;
   is = g.is ∙ ap (λ (l : List (List ℕ)). l ++ g.more) f.is ∙ append_assoc old f.more g.more;
-  given = subst (λ (l : List Came). AreSomeOf IsGiven l (xs ++ ys)) (sym (brought_append cfg f.more g.more)) (some_append IsGiven (brought cfg f.more) (brought cfg g.more) xs ys f.given g.given);
+  given = rw (brought_append cfg f.more g.more) (some_append IsGiven (brought cfg f.more) (brought cfg g.more) xs ys f.given g.given);
 }
 
 -- ---- packets without anything given bring nothing
@@ -122,7 +121,7 @@ user_short true = omega arith
 user_short false = omega arith
 
 -- what is read as a data packet brings nothing
-data_brings : (h : ℕ) (marks : Marks) (m : Bool) (ps pr : ℕ) (user : List ℕ) (w : PlainWide) (field : Result (List ℕ) PacketError) → narrowed w field ≡ Ok (user_data h marks m ps pr user) → beside_kind w.kind ≡ nothing
+data_brings : (h : ℕ) (marks : Marks) (m : Bool) (ps pr : ℕ) (user : List ℕ) (w : PlainForm) (field : Result (List ℕ) PacketError) → narrowed w field ≡ Ok (user_data h marks m ps pr user) → beside_kind w.kind ≡ nothing
 data_brings h marks m ps pr user w (Err e) is = absurd (cc)
 data_brings h marks m ps pr user w (Ok field) is = by w.kind is
   where
@@ -142,10 +141,10 @@ module _ (laws : Laws) (cfg : Cfg) where
   read_plain p without r = (laws.grammar 128 p (spelling_of p) r.octets).1 (record { in_range = in_range p r; without_d = without; spelling = refl })
 
   plain_beside : (p : PlainPacket) → IsWithoutD p → IsReadable cfg.wide cfg.long_data p → beside_in true (spelling_of p) ≡ nothing
-  plain_beside p without r = ap (λ (read : Result PlainPacket PacketError). unless_written read (beside_or_none (wide_of 128 (spelling_of p)))) (read_plain p without r)
+  plain_beside p without r = ap (λ (read : Result PlainPacket PacketError). unless_written read (beside_or_none (form_in 128 (spelling_of p)))) (read_plain p without r)
 
   data_beside : (h : ℕ) (marks : Marks) (m : Bool) (ps pr : ℕ) (user : List ℕ) → IsReadable cfg.wide cfg.long_data (user_data h marks m ps pr user) → beside_in true (spelling_of (user_data h marks m ps pr user)) ≡ nothing
-  data_beside h marks m ps pr user r = by (packet_of 128 o) (wide_of 128 o) (laws.taken 128 p (omega arith) r.octets (in_range p r))
+  data_beside h marks m ps pr user r = by (packet_of 128 o) (form_in 128 o) (laws.taken 128 p (omega arith) r.octets (in_range p r))
     where
       p : PlainPacket
       p = user_data h marks m ps pr user
@@ -153,7 +152,7 @@ module _ (laws : Laws) (cfg : Cfg) where
       o : List ℕ
       o = spelling_of p
 
-      by : (read : Result PlainPacket PacketError) (wide : Result PlainWide PacketError) → taken_of wide ≡ Ok p → unless_written read (beside_or_none wide) ≡ nothing
+      by : (read : Result PlainPacket PacketError) (wide : Result PlainForm PacketError) → taken_of wide ≡ Ok p → unless_written read (beside_or_none wide) ≡ nothing
       by (Ok u) wide is = refl
       by (Err e) (Err f) is = refl
       by (Err e) (Ok w) is = data_brings h marks m ps pr user w (field_in w.kind) is
@@ -196,11 +195,8 @@ module _ (laws : Laws) (cfg : Cfg) (g : PlainGiven) (channel : Option ℕ) (wide
   -- fields that aren't both empty
   some_fields : (p : PlainPacket) (facilities user : List ℕ) → ((h : ℕ) → h ≡ channel_of p → IsGiven (record { channel = h; facilities = facilities; user = user }) (record { channel = channel; given = g }))
       → AreSomeOf IsGiven (brought_as (Ok p) (of_fields (Some (record { facilities = facilities; user = user })))) gave
-  some_fields p facilities user is = by (nat_lt 0 (length facilities + length user))
-    where
-      by : (b : Bool) → AreSomeOf IsGiven (brought_as (Ok p) (if b then fields facilities user else nothing)) gave
-      by true = inl (is (channel_of p) refl, tt)
-      by false = tt
+  some_fields p facilities user is =
+      cond_both (nat_lt 0 (length facilities + length user)) (fields facilities user) nothing (λ (b : PlainBeside). AreSomeOf IsGiven (brought_as (Ok p) b) gave) (λ _. inl (is (channel_of p) refl, tt)) (λ _. tt)
 
   told_brings : (p : PlainPacket) → MayGoOn g channel p → IsInRange 128 p → AreSomeOf IsGiven (brought_as (Ok p) (told g p)) gave
   told_brings (call h called calling field user) may range =
@@ -230,10 +226,10 @@ module _ (laws : Laws) (cfg : Cfg) (g : PlainGiven) (channel : Option ℕ) (wide
       err_ok e is = absurd (cc)
 
       brings : (beside : PlainBeside) → beside_in cfg.wide o ≡ beside → AreSomeOf IsGiven (brought_as (Ok p) beside) gave → AreSomeOf IsGiven (brought_by cfg o) gave
-      brings beside is h = subst (λ (l : List Came). AreSomeOf IsGiven l gave) (sym (ap₂ brought_as reads is)) h
+      brings beside is h = rw (ap₂ brought_as reads is) h
 
       by : (read : Result PlainPacket PacketError) → packet_of 128 o ≡ read → AreSomeOf IsGiven (brought_by cfg o) gave
-      by (Ok u) is = brings nothing (ap (λ (b : Bool). beside_in b o) wide ∙ ap (λ (read : Result PlainPacket PacketError). unless_written read (beside_or_none (wide_of 128 o))) is) tt
+      by (Ok u) is = brings nothing (ap (λ (b : Bool). beside_in b o) wide ∙ ap (λ (read : Result PlainPacket PacketError). unless_written read (beside_or_none (form_in 128 o))) is) tt
       by (Err e) is = brings (told g p)
           (ap (λ (b : Bool). beside_in b o) wide ∙ ap (λ (os : List ℕ). beside_in true os) is_written
           ∙ laws.given_told g p allowed (in_range laws cfg p r) of_written (λ same. err_ok e (sym is ∙ ap (λ (os : List ℕ). packet_of 128 os) (is_written ∙ same) ∙ read_plain laws cfg p without r)))
@@ -249,8 +245,7 @@ module _ (laws : Laws) (cfg : Cfg) (g : PlainGiven) (channel : Option ℕ) (wide
   pub spelled_with_bring : (packets : List PlainPacket) → FirstMayGo g channel packets → AreReadable cfg.wide cfg.long_data packets → AreSomeOf IsGiven (brought cfg (spelled_with g packets)) gave
   spelled_with_bring [] may h = tt
   spelled_with_bring (p ∷ packets) may h =
-      subst (λ (l : List Came). AreSomeOf IsGiven (brought_by cfg (write g (spelling_of p)) ++ l) gave) (sym (spelled_bring laws cfg packets h.1))
-      (subst (λ (l : List Came). AreSomeOf IsGiven l gave) (sym (append-nil (brought_by cfg (write g (spelling_of p))))) (with_brings p may h.0))
+      rw (spelled_bring laws cfg packets h.1) (subst (λ (l : List Came). AreSomeOf IsGiven l gave) (sym (append-nil (brought_by cfg (write g (spelling_of p))))) (with_brings p may h.0))
 
 -- ---- the layer puts the packet of such a command first
 
@@ -338,9 +333,7 @@ puts_own c g l full request is = by l.restarting
 -- what is said in full is of the same channel
 pub said_channel : (c : LayerSettings) (l : Layer) (says : Bool) (request : LayerRequest) → channel_for c l (said_by says l request) ≡ channel_for c l request
 said_channel c l says (Asks h request) = refl
-said_channel c l says (Dials called calling user proposal) = refl
-said_channel c l says (Restarts cause diagnostic) = refl
-said_channel c l says PullsAll = refl
+said_channel c l says request = refl
 
 -- ---- and behind it what waits
 

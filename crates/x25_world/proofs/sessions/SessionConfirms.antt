@@ -1,6 +1,6 @@
 -- Of two layers in order: as many messages as an end's moves confirm of a stretch, of those whose confirmation was asked, the other end has handed up.
 use Rattle.std.proofs.Common.{◌≡◌, ◌⊎◌, inl, inr, ℕ, zero, suc, ◌+◌, ◌-◌, ◌≤◌, List, [], ◌∷◌, ◌++◌, length, take, drop, Bool, true, false, ◌==◌, if◌then◌else◌, refl, sym, ap, subst, ◌∙◌, arith, append_assoc}
-use Rattle.std.proofs.{lemmas.Bool.{eqb-true}, lemmas.List.{take-append-drop, drop-append-le}}
+use Rattle.std.proofs.{lemmas.Bool.{and_parts, eqb-true}, lemmas.List.{take-append-drop, drop-append-le}}
 use Rattle.x25_bits.specs.{declared.role.Role.{Role}, declared.role.Role.TheVariants.{Dte, Dce}}
 use Rattle.x25_link.specs.Hearing.{other}
 use Rattle.x25_packet.specs.Packet.{PlainPacket}
@@ -14,7 +14,7 @@ use Rattle.x25_layer.specs.laws.Apart.{OwnMove, Takes, Ends, ApartEvent, own_mov
 use Rattle.x25_layer.specs.laws.ApartLaw.{EventsRunOn}
 use Rattle.x25_station.specs.Confirming.{goes_on}
 use Rattle.x25_world.specs.laws.ConfirmedClaims.{asked_among}
-use Rattle.x25_world.proofs.{Known.{true_false, both_true}, Continues.{Begins, Same, Hears}, EndContinues.{end_heard, end_called, end_enters}}
+use Rattle.x25_world.proofs.{Known.{true_false}, Continues.{Begins, Same, Hears}, EndContinues.{end_heard, end_called, end_enters}}
 use Rattle.x25_world.proofs.{sessions.SessionTrace.{TakesNone, moves_of}, sessions.SessionCounts.{counted_at, counted_by, counted_in}}
 use Rattle.x25_world.proofs.sessions.SessionKnown.{here_in}
 use Rattle.x25_layer.specs.laws.TwoLayers as layer
@@ -139,8 +139,8 @@ open_there false o is = absurd (cc)
 -- one that begins didn't go on
 not_on : (c : LayerSettings) (l next : Layer) (k : ℕ) → Begins (l.circuits k) (next.circuits k) → goes_on c l next k ≡ true → ⊥
 not_on c l next k begins on =
-    let opened = both_true (is_open_at c l k) _ on in
-    let others = both_true (is_open_at c next k) (same_name (name_of l k) (name_of next k)) opened.1 in
+    let opened = and_parts (is_open_at c l k) _ on in
+    let others = and_parts (is_open_at c next k) (same_name (name_of l k) (name_of next k)) opened.1 in
     elim begins.new [
       | inl closed ↦ true_false (sym (open_there (is_channel c.channels k) (is_open (l.circuits k)) opened.0) ∙ closed)
       | inr more ↦ (let e : suc (l.circuits k).resets ≡ (l.circuits k).resets = sym (ap (λ (n : Name). n.resets) (same_name_is (name_of l k) (name_of next k) others.1) ∙ more) in omega (arith, e))
@@ -236,8 +236,8 @@ module _ (c : LayerSettings) (k : ℕ) (name : Name) (n : ℕ) (e f : layer.End)
           by : (a b : Bool) → same_name name (name_of heard_end.layer k) ≡ a → goes_on c e.layer heard_end.layer k ≡ b
               → ((if a then (if b then unconfirmed x - unconfirmed y else 0) else 0) ≡ 0) ⊎ ((is_open y ≡ true) × (name_of heard_end.layer k ≡ name))
           by true true named on =
-              let opened = both_true (is_open_at c e.layer k) _ on in
-              let others = both_true (is_open_at c heard_end.layer k) (same_name (name_of e.layer k) (name_of heard_end.layer k)) opened.1 in
+              let opened = and_parts (is_open_at c e.layer k) _ on in
+              let others = and_parts (is_open_at c heard_end.layer k) (same_name (name_of e.layer k) (name_of heard_end.layer k)) opened.1 in
               inr (open_there (is_channel c.channels k) (is_open y) others.0, sym (same_name_is name (name_of heard_end.layer k) named))
           by true false named on = inl refl
           by false b named on = inl refl
@@ -288,7 +288,7 @@ module _ (c : LayerSettings) (k : ℕ) (name : Name) (n : ℕ) (e f : layer.End)
   -- its own move
   own_bounded : (what : OwnMove) → KnownAt k (own_moves c e what) f → Bounded k name (n + counted_by c k name e what) (own_moves c e what) f
   own_bounded (Takes p) known = heard p known
-  own_bounded what known = subst (λ (m : ℕ). Bounded k name m (own_moves c e what) f) (let is : n ≡ n + 0 = omega arith in is) (called what tt known)
+  own_bounded what known = rw (sym (let is : n ≡ n + 0 = omega arith in is)) (called what tt known)
 
   -- a move of the other
   other_bounded : (d : LayerSettings) (what : OwnMove) → Bounded k name n e (own_moves d f what)
@@ -340,7 +340,7 @@ module _ (long_data : Bool) (channels : Ranges) (behind : EventsRunOn) (law : Al
       by Dte true known h = own_bounded (settings Dte) k name n ends.near ends.far h e.what known
       by Dce false known h = own_bounded (settings Dce) k name n ends.far ends.near h e.what known
       by Dte false known h = subst (λ (m : ℕ). Bounded k name m ends.near (own_moves (settings Dce) ends.far e.what)) no_more (other_bounded (settings Dte) k name n ends.near ends.far h (settings Dce) e.what)
-      by Dce true known h = subst (λ (m : ℕ). Bounded k name m ends.far (own_moves (settings Dte) ends.near e.what)) no_more (other_bounded (settings Dce) k name n ends.far ends.near h (settings Dte) e.what)
+      by Dce true known h = rw (sym no_more) (other_bounded (settings Dce) k name n ends.far ends.near h (settings Dte) e.what)
 
   counts : (end : Role) (ends : Ends) (e : ApartEvent) (rest : List ApartEvent)
       → counted_in (settings end) k name (moves_of end (e ∷ rest)) (here_in end ends) ≡ added end ends e + counted_in (settings end) k name (moves_of end rest) (here_in end (happened ends e))
@@ -348,10 +348,9 @@ module _ (long_data : Bool) (channels : Ranges) (behind : EventsRunOn) (law : Al
     where
       by : (end : Role) (b : Bool) → (let d : ApartEvent = record { first = b; what = e.what } in
           counted_in (settings end) k name (moves_of end (d ∷ rest)) (here_in end ends) ≡ added end ends d + counted_in (settings end) k name (moves_of end rest) (here_in end (happened ends d)))
-      by Dte true = refl
-      by Dce false = refl
       by Dte false = omega arith
       by Dce true = omega arith
+      by end b = refl
 
   -- what the events to come confirm, behind those that were
   abbrev Confirms : Role → ℕ → List ApartEvent → Ends → Type 0

@@ -1,5 +1,5 @@
 -- How many messages a layer's moves confirm, and that an end is told of no more.
-use Rattle.std.proofs.Common.{◌≡◌, ℕ, ◌+◌, ◌≤◌, List, [], ◌∷◌, ◌++◌, if◌then◌else◌, refl, sym, ap, subst, ◌∙◌, arith}
+use Rattle.std.proofs.Common.{◌≡◌, ℕ, ◌+◌, ◌≤◌, List, [], ◌∷◌, ◌++◌, if◌then◌else◌, refl, ap, ◌∙◌, arith}
 use Rattle.x25_bits.specs.declared.role.Role.{Role}
 use Rattle.x25_handshakes.specs.laws.Names.{Name, same_name}
 use Rattle.x25_layer.specs.{Layer.{LayerSettings, Layer, goes_up}, laws.Transcript.{name_of}, laws.TwoLayers.{started}}
@@ -49,7 +49,7 @@ CountNone es = (k : ℕ) (name : Name) → confirmed_in k name es ≡ 0
 -- by the same moves
 pub counted_same : (cfg : Cfg) (end : Role) (n : ℕ) (trace trace₂ : List Done) (es : List StationEntry) → own_in end n trace₂ ≡ own_in end n trace → IsCounted cfg end n trace es → IsCounted cfg end n trace₂ es
 counted_same cfg end n trace trace₂ es same counted k name =
-    subst (λ (l : List OwnMove). confirmed_in k name es ≤ counted_in (layer_of cfg end) k name l (started (goes_up (layer_of cfg end)))) (sym same) (counted k name)
+    rw same (counted k name)
 
 pub counted_rests : (cfg : Cfg) (end : Role) (n : ℕ) (trace : List Done) (before more all : List StationEntry) → IsCounted cfg end n trace before → all ≡ before ++ more → CountNone more → IsCounted cfg end n trace all
 counted_rests cfg end n trace before more all counted is none k name =

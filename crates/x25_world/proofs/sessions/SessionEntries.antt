@@ -1,6 +1,6 @@
 -- What entries that an end's step adds say of its sessions, and of whom they meet.
 use Rattle.std.proofs.Common.{◌≡◌, ℕ, zero, suc, ◌+◌, ◌≤◌, ◌==◌, List, [], ◌∷◌, ◌++◌, inl, Bool, true, false, if◌then◌else◌, Option, Some, None, Result, Ok, refl, sym, ap, ap₂, ◌∙◌, subst, append_assoc, append-nil, arith}
-use Rattle.std.proofs.lemmas.Bool.{eqb-true}
+use Rattle.std.proofs.lemmas.Bool.{eqb-true, cond_both}
 use Rattle.x25_handshakes.specs.laws.Names.{Name, both, same_name}
 use Rattle.x25_bits.specs.{declared.role.Role.{Role}, declared.role.Role.TheVariants.{Dte, Dce}}
 use Rattle.x25_link.specs.{declared.phase.Notes.{Notes}, Hearing.{other, Step as LinkStep}, laws.NoteLaw.{IsQuiet}}
@@ -94,18 +94,12 @@ none_met n here there (of_channel e ∷ entries) none = none_met n here there en
     by : (said : Said) → notice_of e.channel said ++ layer_notices entries ≡ [] → layer_notices entries ≡ []
     by (Asked request) none = none
     by (Told notice) none = something (on_channel e.channel notice) (layer_notices entries) none
-none_met n here there (restart_asked cause diagnostic ∷ entries) none = none_met n here there entries none
-none_met n here there (connect_asked ∷ entries) none = none_met n here there entries none
-none_met n here there (disconnect_asked ∷ entries) none = none_met n here there entries none
-none_met n here there (relink_asked ∷ entries) none = none_met n here there entries none
 none_met n here there (link_up ∷ entries) none = none_met n (after_entry here link_up) there entries none
 none_met n here there (link_down reason ∷ entries) none = none_met n (after_entry here (link_down reason)) there entries none
 none_met n here there (was_restarted cause diagnostic ∷ entries) none = something (restarted cause diagnostic) (layer_notices entries) none
 none_met n here there (restart_confirmed ∷ entries) none = something restart_done (layer_notices entries) none
 none_met n here there (at_fault diagnostic ∷ entries) none = something (layer_fault diagnostic) (layer_notices entries) none
-none_met n here there (came_beside channel facilities user ∷ entries) none = none_met n here there entries none
-none_met n here there (was_diagnosed diagnostic ∷ entries) none = none_met n here there entries none
-none_met n here there (was_confirmed channel name count ∷ entries) none = none_met n here there entries none
+none_met n here there (other ∷ entries) none = none_met n here there entries none
 
 -- ---- entries that aren't the link's
 
@@ -119,19 +113,9 @@ ArePlain [] = Unit {0}
 ArePlain (e ∷ entries) = IsPlain e × ArePlain entries
 
 plain_after : (p : Progress) (e : StationEntry) → IsPlain e → after_entry p e ≡ p
-plain_after p (of_channel e) h = refl
-plain_after p (restart_asked cause diagnostic) h = refl
-plain_after p connect_asked h = refl
-plain_after p disconnect_asked h = refl
-plain_after p relink_asked h = refl
 plain_after p link_up h = absurd h
 plain_after p (link_down reason) h = absurd h
-plain_after p (was_restarted cause diagnostic) h = refl
-plain_after p restart_confirmed h = refl
-plain_after p (at_fault diagnostic) h = refl
-plain_after p (came_beside channel facilities user) h = refl
-plain_after p (was_diagnosed diagnostic) h = refl
-plain_after p (was_confirmed channel name count) h = refl
+plain_after p e h = refl
 
 pub plain_progress : (p : Progress) (entries : List StationEntry) → ArePlain entries → after_entries p entries ≡ p
 plain_progress p [] h = refl
@@ -156,19 +140,13 @@ restart_met n here there (of_channel e ∷ entries) plain is begins = restart_me
     by : (said : Said) → BeginsRestarted (notice_of e.channel said ++ layer_notices entries) → BeginsRestarted (layer_notices entries)
     by (Asked request) begins = begins
     by (Told notice) begins = absurd begins
-restart_met n here there (restart_asked cause diagnostic ∷ entries) plain is begins = restart_met n here there entries plain.1 is begins
-restart_met n here there (connect_asked ∷ entries) plain is begins = restart_met n here there entries plain.1 is begins
-restart_met n here there (disconnect_asked ∷ entries) plain is begins = restart_met n here there entries plain.1 is begins
-restart_met n here there (relink_asked ∷ entries) plain is begins = restart_met n here there entries plain.1 is begins
 restart_met n here there (link_up ∷ entries) plain is begins = absurd plain.0
 restart_met n here there (link_down reason ∷ entries) plain is begins = absurd plain.0
 restart_met n here there (was_restarted cause diagnostic ∷ entries) plain is begins =
     ap (λ (b : Bool). first_of (if b then Some there.begun else None) (met_by n here there entries)) is
 restart_met n here there (restart_confirmed ∷ entries) plain is begins = absurd begins
 restart_met n here there (at_fault diagnostic ∷ entries) plain is begins = absurd begins
-restart_met n here there (came_beside channel facilities user ∷ entries) plain is begins = restart_met n here there entries plain.1 is begins
-restart_met n here there (was_diagnosed diagnostic ∷ entries) plain is begins = restart_met n here there entries plain.1 is begins
-restart_met n here there (was_confirmed channel name count ∷ entries) plain is begins = restart_met n here there entries plain.1 is begins
+restart_met n here there (other ∷ entries) plain is begins = restart_met n here there entries plain.1 is begins
 
 -- in a session that doesn't stand none is met
 pub elsewhere_met : (n : ℕ) (here there : Progress) (entries : List StationEntry) → ArePlain entries → is_in n here ≡ false → met_by n here there entries ≡ None
@@ -230,11 +208,9 @@ mute_tell (e ∷ entries) h = by e h.0 (mute_tell entries h.1)
 -- of these, those of a session
 pub mute_in : (n : ℕ) (p : Progress) (entries : List StationEntry) → AreMute entries → AreMute (session_from n p entries)
 mute_in n p [] h = tt
-mute_in n p (e ∷ entries) h = by (is_in n (after_entry p e)) (mute_in n (after_entry p e) entries h.1)
-  where
-    by : (b : Bool) → AreMute (session_from n (after_entry p e) entries) → AreMute (entry_if b e ++ session_from n (after_entry p e) entries)
-    by true rest = (h.0, rest)
-    by false rest = rest
+mute_in n p (e ∷ entries) h =
+    let rest = mute_in n (after_entry p e) entries h.1 in
+    cond_both (is_in n (after_entry p e)) (e ∷ []) [] (λ (es : List StationEntry). AreMute (es ++ session_from n (after_entry p e) entries)) (λ _. (h.0, rest)) (λ _. rest)
 
 -- ---- those of a step that notes nothing are such
 
@@ -277,9 +253,7 @@ behind_plain l h (suc count) es plain = (tt, tt)
 told_plain : (l : Layer) (notices : List LayerNotice) (es : List StationEntry) → ArePlain es → ArePlain (station_told l notices ++ es)
 told_plain l [] es plain = plain
 told_plain l (on_channel h notice ∷ notices) es plain = (tt, told_plain l notices es plain)
-told_plain l (restarted cause diagnostic ∷ notices) es plain = (tt, told_plain l notices es plain)
-told_plain l (restart_done ∷ notices) es plain = (tt, told_plain l notices es plain)
-told_plain l (layer_fault diagnostic ∷ notices) es plain = (tt, told_plain l notices es plain)
+told_plain l (other ∷ notices) es plain = (tt, told_plain l notices es plain)
 
 -- the entries of a packet that is handed up
 pub heard_plain : (c : Settings) (l : Layer) (k : LinkStep) (octets : List ℕ) → k.packet ≡ Some octets → IsQuiet k → ArePlain (follows c l k).entries
@@ -295,9 +269,7 @@ heard_plain c l k octets some quiet =
 told_counts : (l : Layer) (notices : List LayerNotice) (es : List StationEntry) (k : ℕ) (name : Name) → confirmed_in k name (station_told l notices ++ es) ≡ confirmed_in k name es
 told_counts l [] es k name = refl
 told_counts l (on_channel h notice ∷ notices) es k name = let rest = told_counts l notices es k name in omega (arith, rest)
-told_counts l (restarted cause diagnostic ∷ notices) es k name = let rest = told_counts l notices es k name in omega (arith, rest)
-told_counts l (restart_done ∷ notices) es k name = let rest = told_counts l notices es k name in omega (arith, rest)
-told_counts l (layer_fault diagnostic ∷ notices) es k name = let rest = told_counts l notices es k name in omega (arith, rest)
+told_counts l (other ∷ notices) es k name = let rest = told_counts l notices es k name in omega (arith, rest)
 
 beside_counts : (b : PlainBeside) (o : Option ℕ) → CountNone (entries_beside b o)
 beside_counts nothing o = λ k name. refl
@@ -346,18 +318,12 @@ heard_confirms cfg end l k octets p some quiet reads h name =
 told_beside : (l : Layer) (notices : List LayerNotice) (es : List StationEntry) → came_in (station_told l notices ++ es) ≡ came_in es
 told_beside l [] es = refl
 told_beside l (on_channel h notice ∷ notices) es = told_beside l notices es
-told_beside l (restarted cause diagnostic ∷ notices) es = told_beside l notices es
-told_beside l (restart_done ∷ notices) es = told_beside l notices es
-told_beside l (layer_fault diagnostic ∷ notices) es = told_beside l notices es
+told_beside l (other ∷ notices) es = told_beside l notices es
 
 -- a notice is of the channel of its packet
 bringing_on : (h k : ℕ) (notices : List PlainNotice) → bringing (notices_on k notices) ≡ Some h → k ≡ h
 bringing_on h k [] e = absurd (cc)
-bringing_on h k (notice ∷ notices) e = by (may_bring notice) (bringing_on h k notices) e
-  where
-    by : (b : Bool) → (bringing (notices_on k notices) ≡ Some h → k ≡ h) → (if b then Some k else bringing (notices_on k notices)) ≡ Some h → k ≡ h
-    by true rest e = cc
-    by false rest e = rest e
+bringing_on h k (notice ∷ notices) e = cond_both (may_bring notice) (Some k) (bringing (notices_on k notices)) (λ (o : Option ℕ). o ≡ Some h → k ≡ h) (λ _ first. cc) (λ _. bringing_on h k notices) e
 
 answer_on : (c : LayerSettings) (l : Layer) (p : PlainPacket) (h : ℕ) → bringing (layer_answers c l p).notices ≡ Some h → channel_of p ≡ h
 answer_on c l p h = by l.restarting p
@@ -378,10 +344,8 @@ answer_on c l p h = by l.restarting p
     by false p e = if_channel (is_channel c.channels (channel_of p)) (channel_of p) (answers c.circuit (l.circuits (channel_of p)) p) e
 
 brings_told : (p : PlainPacket) (b : PlainBeside) (o : Option ℕ) → ((h : ℕ) → o ≡ Some h → channel_of p ≡ h) → AreTold (came_in (entries_beside b o)) (brought_as (Ok p) b)
-brings_told p nothing o is = tt
-brings_told p (fields facilities user) None is = tt
 brings_told p (fields facilities user) (Some h) is = inl (ap (λ (k : ℕ). record { channel = k; facilities = facilities; user = user }) (sym (is h refl)), tt)
-brings_told p (diagnosed diagnostic) o is = tt
+brings_told p b o_2 is = tt
 
 -- in the place of it may be told what the packet confirms
 behind_told : (l : Layer) (h count : ℕ) (es : List StationEntry) (brought : List Came) → AreTold (came_in es) brought → AreTold (came_in (entries_behind l h count es)) brought
@@ -403,6 +367,5 @@ heard_beside cfg end l k octets p some quiet reads =
     let count : ℕ = confirmed_by (layer_settings c) c.wide l a.next (named_by octets) in
     let es : List StationEntry = entries_beside (beside_in c.wide octets) (bringing a.notices) in
     subst (λ (xs : List Came). AreTold (came_in (follows c l k).entries) xs) (sym all)
-    (subst (λ (es : List Came). AreTold es (brought_as (Ok p) (beside_in c.wide octets))) (sym (ap came_in entries ∙ told_beside a.next a.notices (entries_behind a.next (named_by octets) count es)))
-    (behind_told a.next (named_by octets) count es (brought_as (Ok p) (beside_in c.wide octets))
+    (rw (ap came_in entries ∙ told_beside a.next a.notices (entries_behind a.next (named_by octets) count es)) (behind_told a.next (named_by octets) count es (brought_as (Ok p) (beside_in c.wide octets))
     (brings_told p (beside_in c.wide octets) (bringing a.notices) (λ h e. answer_on (layer_settings c) l p h (ap (λ (x : LayerAnswer). bringing x.notices) (sym answered) ∙ e)))))

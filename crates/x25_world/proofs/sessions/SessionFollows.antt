@@ -68,7 +68,7 @@ up_begins p (Some reason) = asked_silent p (record { begun = suc p.begun; stands
 -- nothing where the link hands nothing up and notes no LinkUp
 pub silent : (view : LinkView) (c : LayerSettings) (wide : Bool) (l : Layer) (packet : Option (List ℕ)) (down : Option Reason) (up : Bool) → packet ≡ None → up ≡ false → (layer_at view c wide l packet down up).put ≡ []
 silent view c wide l packet down up none not_up =
-    subst (λ (p : Option (List ℕ)). (layer_at view c wide l p down up).put ≡ []) (sym none) (subst (λ (b : Bool). (layer_at view c wide l None down b).put ≡ []) (sym not_up) (by down))
+    rw none (subst (λ (b : Bool). (layer_at view c wide l None down b).put ≡ []) (sym not_up) (by down))
   where
     by : (o : Option Reason) → (layer_at view c wide l None o false).put ≡ []
     by None = refl
@@ -138,7 +138,7 @@ module _ {since : Beginning} (laws : SessionLaws) (cfg : Cfg) (fine : IsConfigur
       let same : step ≡ whole_step = ap (λ (s : Step). led_by (lead_of lead) s) (sym is) in
       let off : is_up k.side.near.phase ≡ false = tells.left reason (ap (λ (n : Notes). n.down) noted) (ap (λ (n : Notes). n.up) noted) in
       subst (λ (s : Step). Goes since cfg end h.links gave_none (after_step (settings_from end cfg) w (octets_of left) s)) same
-      (rests cfg end w h step left v met (goes_at false (ap (λ (n : Notes). n.up) noted) none) (subst (λ (b : Bool). IsSilent standing (record { begun = standing.begun; stands = b }) (lead_of lead ++ link_down reason ∷ [])) (sym off) (down_silent lead standing reason)) (λ still. true_false (sym still ∙ off))
+      (rests cfg end w h step left v met (goes_at false (ap (λ (n : Notes). n.up) noted) none) (rw off (down_silent lead standing reason)) (λ still. true_false (sym still ∙ off))
       (subst (λ (s : Step). IsKept s.near) (sym same) kept) reach pairs more)
 
   pub follows_silent : k.notes.up ≡ false → k.packet ≡ None → IsKept whole_step.near → Goes since cfg end h.links gave_none (after_step (settings_from end cfg) w (octets_of left) whole_step)

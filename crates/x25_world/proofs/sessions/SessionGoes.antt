@@ -1,8 +1,8 @@
 -- A step of the near end, joined of a step of its link and moves of its layer: in the session that stands, at rest, or as a session begins.
 use Rattle.std.proofs.Common.{◌≡◌, ℕ, suc, ◌==◌, ◌≤◌, ◌<◌, ◌⊎◌, inl, inr, List, [], ◌∷◌, ◌++◌, map, Bool, true, false, ◌&&◌, if◌then◌else◌, Option, Some, None, refl, sym, ap, ap₂, ◌∙◌, subst, append-nil, arith}
-use Rattle.std.proofs.lemmas.Bool.{eqb-true, eq-eqb}
+use Rattle.std.proofs.lemmas.Bool.{ne_eqb, cases_eq, and_right}
 use Rattle.x25_bits.specs.{declared.role.Role.{Role}, declared.role.Role.TheVariants.{Dte, Dce}}
-use Rattle.x25_frame.specs.{Frame.{PlainFrame}, Spelling.{spelling_of}}
+use Rattle.x25_frame.specs.{Spelling.{spelling_of}}
 use Rattle.x25_packet.specs.Packet.{PlainPacket, restart}
 use Rattle.x25_link.specs.{Station.{is_up}, Hearing.{other}}
 use Rattle.x25_line.specs.{laws.Sessions.{SessionEnd, Meeting, Sessions, sent_in, extended}, laws.SessionClaims.{octets_of}}
@@ -11,12 +11,11 @@ use Rattle.x25_layer.specs.{Layer.{Layer, LayerNotice, goes_up, restart_cause}, 
 use Rattle.x25_layer.specs.{laws.Apart.{OwnMove, own_run}, laws.ApartLaw.{BeginsRestarted}}
 use Rattle.x25_station.specs.{declared.config.Cfg.{Cfg}, Config.{settings_from}, Entry.{StationEntry, layer_entries, layer_notices}, Station.{Station}}
 use Rattle.x25_station.specs.{Step.{Step}, laws.KeepLaw.{IsKept}}
-use Rattle.x25_world.specs.{World.{World, tapped, entered, after_step}, laws.Claims.{entries_at, link_of}}
+use Rattle.x25_world.specs.{World.{World, entered, after_step}, laws.Claims.{entries_at, link_of}}
 use Rattle.x25_world.specs.laws.Sessions.{Progress, none_begun, after_entries, is_in, session_from, first_of, met_by, meets}
-use Rattle.x25_world.specs.{laws.BesideClaims.{Came, came_in, Gave, IsGiven, AreSomeOf}, laws.ConfirmedClaims.{confirmed_in}}
-use Rattle.x25_world.proofs.Growing.{all_read, as_read, none_read, nothing_read, grown, AllAreOctets, all_octets_append, AreOnTap, entries_more, entries_other, on_tap, octets_put}
-use Rattle.x25_world.proofs.Known.{true_false}
-use Rattle.x25_world.proofs.sessions.SessionTrace.{layer_of, Done, moved, own_in, own, own_more, own_same, own_other, own_goes, same_number, other_number, TakeNothing, nothing_append, BringOctets, octets_append}
+use Rattle.x25_world.specs.{laws.BesideClaims.{came_in, Gave, IsGiven, AreSomeOf}, laws.ConfirmedClaims.{confirmed_in}}
+use Rattle.x25_world.proofs.Growing.{all_read, as_read, none_read, nothing_read, grown, AllAreOctets, all_octets_append, entries_more, entries_other, on_tap, octets_put}
+use Rattle.x25_world.proofs.sessions.SessionTrace.{layer_of, Done, moved, own_in, own, own_more, own_same, own_other, own_goes, same_number, TakeNothing, nothing_append, BringOctets, octets_append}
 use Rattle.x25_world.proofs.sessions.SessionCounts.{counted_in, IsCounted, counted_same, counted_rests, counted_goes}
 use Rattle.x25_world.proofs.{sessions.SessionReaches.{Beginning, SessionsReach}, sessions.SessionBeside.{brought, AreTold, told_more, MoreIs, none_more}}
 use Rattle.x25_world.proofs.sessions.SessionJoined.{HaveAll, IsSession, IsLayer, IsEnd, HasMet, Meets, Hears, PairsAreInOrder, SessionsJoined, Goes, gave_none}
@@ -31,22 +30,14 @@ pub here_extended : (lists : ℕ → List (List ℕ)) (n : ℕ) (more : List (Li
 here_extended lists n more = ap (λ (b : Bool). if b then lists n ++ more else lists n) (same_number n)
 
 elsewhere_extended : (lists : ℕ → List (List ℕ)) (n m : ℕ) (more : List (List ℕ)) → (n ≡ m → ⊥) → extended lists m more n ≡ lists n
-elsewhere_extended lists n m more differs = ap (λ (b : Bool). if b then lists n ++ more else lists n) (other_number n m differs)
+elsewhere_extended lists n m more differs = ap (λ (b : Bool). if b then lists n ++ more else lists n) (ne_eqb n m differs)
 
 -- one number or another
 pub same_or_not : {A : Type 0} (n m : ℕ) → (n ≡ m → A) → ((n ≡ m → ⊥) → A) → A
-same_or_not {A} n m same differs = by (n == m) refl
-  where
-    by : (b : Bool) → (n == m) ≡ b → A
-    by true is = same (eqb-true n m is)
-    by false is = differs (λ (e : n ≡ m). true_false (sym (eq-eqb n m e) ∙ is))
+same_or_not {A} n m same differs = elim (cases_eq n m) [ inl is ↦ same is | inr apart ↦ differs apart ]
 
 pub not_in : (n : ℕ) (p : Progress) → (n ≡ p.begun → ⊥) → is_in n p ≡ false
-not_in n p differs = ap (λ (b : Bool). p.stands && b) (other_number n p.begun differs) ∙ by p.stands
-  where
-    by : (b : Bool) → (b && false) ≡ false
-    by true = refl
-    by false = refl
+not_in n p differs = and_right p.stands (n == p.begun) (ne_eqb n p.begun differs)
 
 no_faults_append : (xs ys : List LayerNotice) → AreNoFaults xs → AreNoFaults ys → AreNoFaults (xs ++ ys)
 no_faults_append [] ys f g = g
@@ -96,7 +87,7 @@ session_rests cfg e f before all more down up down₂ up₂ same h is none same_
       ∙ sym (layer_append before more) ∙ ap layer_entries (sym is);
   told = ap (λ (x : layer.End). x.told) same ∙ h.told ∙ sym (append-nil (layer_notices before)) ∙ ap (λ (l : List LayerNotice). layer_notices before ++ l) (sym none.told)
       ∙ sym (notices_append before more) ∙ ap layer_notices (sym is);
-  beside = told_more cfg before more all up [] up₂ h.beside (subst (λ (l : List Came). AreTold l []) (sym none.beside) tt) is (same_up ∙ sym (append-nil up));
+  beside = told_more cfg before more all up [] up₂ h.beside (rw none.beside tt) is (same_up ∙ sym (append-nil up));
 }
 
 none_behind : (xs ys : List (List ℕ)) → xs ++ ys ≡ [] → ys ≡ []
@@ -113,11 +104,11 @@ end_stays cfg end s k t t₂ es same h = record {
   progress = h.progress;
   first = h.first;
   before = h.before;
-  sessions = λ n low high. subst (λ (e : layer.End). IsSession cfg e (k.down n) (k.up n) (session_from n none_begun es)) (sym (own_stays n)) (h.sessions n low high);
+  sessions = λ n low high. rw (own_stays n) (h.sessions n low high);
   octets = h.octets;
   confirmed = λ n. counted_same cfg end n t t₂ (session_from n none_begun es) (same n) (h.confirmed n);
   later = λ n more. (let nothing = h.later n more in record { moves = same n ∙ nothing.moves; entries = nothing.entries });
-  now = λ up. subst (λ (e : layer.End). IsLayer e s) (sym (own_stays k.begun)) (h.now up);
+  now = λ up. rw (own_stays k.begun) (h.now up);
   alone = λ n none. subst TakeNothing (sym (same n)) (h.alone n none);
   no_fault = h.no_fault;
   first_has_all = h.first_has_all;
@@ -206,18 +197,16 @@ module _ {since : Beginning} (cfg : Cfg) (end : Role) (w : World) (h : SessionsJ
     links = v;
     trace = h.trace ++ moved end at moves;
     reach = reach;
-    near = subst (λ (es : List StationEntry). IsEnd cfg end step.near v.near (h.trace ++ moved end at moves) es) (sym (entries_more end w.transcript step.entries)) near;
-    far = subst (λ (es : List StationEntry). IsEnd cfg (other end) w.far v.far (h.trace ++ moved end at moves) es) (sym (entries_other end w.transcript step.entries))
-        (subst (λ (k : SessionEnd). IsEnd cfg (other end) w.far k (h.trace ++ moved end at moves) told_there) (sym far)
+    near = rw (entries_more end w.transcript step.entries) near;
+    far = rw (entries_other end w.transcript step.entries) (subst (λ (k : SessionEnd). IsEnd cfg (other end) w.far k (h.trace ++ moved end at moves) told_there) (sym far)
         (end_stays cfg (other end) w.far h.links.far h.trace (h.trace ++ moved end at moves) told_there (λ n. own_other end n at h.trace moves) h.far));
     out = ap octets_of out ∙ octets_put h.links.out at end step.out ∙ ap (λ (os : List (List ℕ)). os ++ map (spelling_of end) step.out) h.out;
     back = ap octets_of same_left;
-    tap = subst (λ (fs : List PlainFrame). AreOnTap (w.tap ++ tapped end (map (spelling_of end) step.out)) fs) (sym sent) (on_tap end w.tap h.links.sent step.out h.tap);
+    tap = rw sent (on_tap end w.tap h.links.sent step.out h.tap);
     octets = octets_append cfg.wide h.trace (moved end at moves) h.octets octets;
     pairs = subst (PairsAreInOrder cfg end (h.trace ++ moved end at moves)) (sym same_met) pairs;
-    near_hears = λ n. subst (λ (ms : List Meeting). Hears (λ (n m : ℕ). HasMet n m ms) n (v.near.up n) (meets end n (w.transcript ++ entered end step.entries))) (sym same_met) (hears n);
-    far_hears = λ n. subst (λ (ms : List Meeting). Hears (λ (n m : ℕ). HasMet m n ms) n (v.far.up n) (meets (other end) n (w.transcript ++ entered end step.entries))) (sym same_met)
-        (hears_more (λ (n m : ℕ). HasMet m n h.links.met) (λ (n m : ℕ). HasMet m n met) n (h.links.far.up n) (v.far.up n) (meets (other end) n w.transcript) None
+    near_hears = λ n. rw same_met (hears n);
+    far_hears = λ n. rw same_met (hears_more (λ (n m : ℕ). HasMet m n h.links.met) (λ (n m : ℕ). HasMet m n met) n (h.links.far.up n) (v.far.up n) (meets (other end) n w.transcript) None
         (meets (other end) n (w.transcript ++ entered end step.entries)) (λ m has. more m n has) (meets_other end n w.transcript step.entries ∙ sym (with_none (meets (other end) n w.transcript)))
         (λ none. inl (ap (λ (k : SessionEnd). k.up n) far ∙ none, refl)) (h.far_hears n));
   }
@@ -236,12 +225,12 @@ module _ {since : Beginning} (cfg : Cfg) (end : Role) (w : World) (h : SessionsJ
 
     octets_then : AllAreOctets handed → (n : ℕ) → AllAreOctets (v.near.down n)
     octets_then in_octets n = same_or_not n b
-        (λ (is : n ≡ b). subst (λ (k : ℕ). AllAreOctets (v.near.down k)) (sym is) (subst AllAreOctets (sym down_here) (all_octets_append (h.links.near.down b) handed (h.near.octets b) in_octets)))
+        (λ (is : n ≡ b). rw is (subst AllAreOctets (sym down_here) (all_octets_append (h.links.near.down b) handed (h.near.octets b) in_octets)))
         (λ (differs : n ≡ b → ⊥). subst AllAreOctets (sym (down_apart n differs)) (h.near.octets n))
 
     more_then : (gave : ℕ → List Gave) → AreSomeOf IsGiven (brought cfg handed) (gave b) → (n : ℕ) → MoreIs cfg (h.links.near.down n) (v.near.down n) (gave n)
     more_then gave gives n = same_or_not n b
-        (λ (is : n ≡ b). subst (λ (k : ℕ). MoreIs cfg (h.links.near.down k) (v.near.down k) (gave k)) (sym is) (record { more = handed; is = down_here; given = gives }))
+        (λ (is : n ≡ b). rw is (record { more = handed; is = down_here; given = gives }))
         (λ (differs : n ≡ b → ⊥). none_more cfg (h.links.near.down n) (v.near.down n) (gave n) (down_apart n differs))
 
   -- ---- in the session that stands
@@ -277,7 +266,7 @@ module _ {since : Beginning} (cfg : Cfg) (end : Role) (w : World) (h : SessionsJ
     session_here =
         session_goes cfg (own cfg end session h.trace) (own cfg end session trace_on) step.near.layer packets lifted handed came step.entries (session_from session none_begun told_before)
         (session_from session none_begun (told_before ++ step.entries)) (h.links.near.down session) (h.links.near.up session) (v.near.down session) (v.near.up session)
-        (subst (λ (e : layer.End). OwnGoes (own cfg end session h.trace) e step.near.layer packets lifted step.entries) (sym (own_goes cfg end session h.trace moves)) o)
+        (rw (own_goes cfg end session h.trace moves) o)
         (h.near.sessions session (h.near.first up) (omega arith)) puts took tells
         (session_more session ∙ ap (λ (l : List StationEntry). session_from session none_begun told_before ++ l) (plain_here session standing step.entries plain stands_here))
         (down_here session handed g.down) up_here
@@ -292,8 +281,7 @@ module _ {since : Beginning} (cfg : Cfg) (end : Role) (w : World) (h : SessionsJ
     -- what is told as confirmed the moves confirm
     counted_on : (n : ℕ) → IsCounted cfg end n trace_on (session_from n none_begun (told_before ++ step.entries))
     counted_on n = same_or_not n session
-        (λ (is : n ≡ session). subst (λ (m : ℕ). IsCounted cfg end m trace_on (session_from m none_begun (told_before ++ step.entries))) (sym is)
-        (counted_goes cfg end session h.trace moves (session_from session none_begun told_before) step.entries (session_from session none_begun (told_before ++ step.entries)) (h.near.confirmed session)
+        (λ (is : n ≡ session). rw is (counted_goes cfg end session h.trace moves (session_from session none_begun told_before) step.entries (session_from session none_begun (told_before ++ step.entries)) (h.near.confirmed session)
         (session_more session ∙ ap (λ (l : List StationEntry). session_from session none_begun told_before ++ l) (plain_here session standing step.entries plain stands_here)) counts))
         (λ (differs : n ≡ session → ⊥). counted_same cfg end n h.trace trace_on (session_from n none_begun (told_before ++ step.entries)) (own_same end n session h.trace moves differs)
         (counted_rests cfg end n h.trace (session_from n none_begun told_before) [] (session_from n none_begun (told_before ++ step.entries)) (h.near.confirmed n)
@@ -313,14 +301,14 @@ module _ {since : Beginning} (cfg : Cfg) (end : Role) (w : World) (h : SessionsJ
             (alone (none_read lifted (sym took ∙ ap (all_read cfg) (none_behind (h.links.near.up session) came both)))))
 
         here : n ≡ session → TakeNothing (own_in end n trace_on)
-        here is = subst (λ (k : ℕ). TakeNothing (own_in end k trace_on)) (sym is) (at_session (ap v.near.up (sym is) ∙ none))
+        here is = rw is (at_session (ap v.near.up (sym is) ∙ none))
 
     near_goes_on : (lifted ≡ [] → TakeNothing moves) → AreNoFaults (layer_notices step.entries) → IsEnd cfg end step.near v.near trace_on (told_before ++ step.entries)
     near_goes_on alone no_fault = record {
       link = g.station;
       kept = kept;
       progress = progress_more ∙ plain_progress standing step.entries plain ∙ ap₂ (λ (n : ℕ) (b : Bool). record { begun = n; stands = b }) (sym g.begun) (up ∙ sym still);
-      first = λ _. subst (λ (n : ℕ). 1 ≤ n) (sym g.begun) (h.near.first up);
+      first = λ _. rw g.begun (h.near.first up);
       before = (
         down_elsewhere 0 none ∙ h.near.before.0,
         up_elsewhere 0 none ∙ h.near.before.1,
@@ -336,14 +324,13 @@ module _ {since : Beginning} (cfg : Cfg) (end : Role) (w : World) (h : SessionsJ
             moves = own_same end n session h.trace moves differs ∙ nothing.moves;
             entries = session_more n ∙ ap₂ (λ (a b : List StationEntry). a ++ b) nothing.entries (plain_elsewhere n standing step.entries plain (not_in n standing differs));
           });
-      now = λ _. subst (λ (n : ℕ). IsLayer (own cfg end n trace_on) step.near) (sym g.begun)
-          (subst (λ (e : layer.End). IsLayer e step.near) (sym (own_goes cfg end session h.trace moves)) (record { layer = o.layer; out = o.out }));
+      now = λ _. rw g.begun (subst (λ (e : layer.End). IsLayer e step.near) (sym (own_goes cfg end session h.trace moves)) (record { layer = o.layer; out = o.out }));
       alone = nothing_taken alone;
       no_fault = subst AreNoFaults (sym (notices_append told_before step.entries)) (no_faults_append (layer_notices told_before) (layer_notices step.entries) h.near.no_fault no_fault);
       first_has_all = λ low. (let most = subst (λ (n : ℕ). n ≤ 1) g.begun low in
           let low = h.near.first up in
           let one : session ≡ 1 = omega (arith, low, most) in
-          let all = plain_here 1 standing step.entries plain (subst (λ (n : ℕ). is_in n standing ≡ true) one stands_here) in
+          let all = plain_here 1 standing step.entries plain (rw (sym one) stands_here) in
           all_more (h.near.first_has_all most) (record { entries = ap layer_entries all; told = ap layer_notices all }));
     }
       where
@@ -390,7 +377,7 @@ module _ {since : Beginning} (cfg : Cfg) (end : Role) (w : World) (h : SessionsJ
 
         now : (n : ℕ) → h.links.near.up n ≡ [] → ((v.near.up n ≡ []) × (found n ≡ None)) ⊎ Meets HasMetOn n (found n)
         now n = same_or_not n session
-            (λ (is : n ≡ session). subst (λ (k : ℕ). h.links.near.up k ≡ [] → ((v.near.up k ≡ []) × (found k ≡ None)) ⊎ Meets HasMetOn k (found k)) (sym is) here)
+            (λ (is : n ≡ session). rw is here)
             (λ (differs : n ≡ session → ⊥). elsewhere n differs)
 
         hears : (n : ℕ) → Hears HasMetOn n (v.near.up n) (all_of n)
@@ -420,17 +407,17 @@ module _ {since : Beginning} (cfg : Cfg) (end : Role) (w : World) (h : SessionsJ
         link = g.station;
         kept = kept;
         progress = progress_more ∙ silent.progress ∙ ap (λ (n : ℕ). record { begun = n; stands = is_up step.near.link.phase }) (sym g.begun);
-        first = λ still. subst (λ (n : ℕ). 1 ≤ n) (sym g.begun) (stands still).0;
+        first = λ still. rw g.begun (stands still).0;
         before = (before ∙ h.near.before.0, up_same 0 ∙ h.near.before.1);
         sessions = λ n low high. (let most = subst (λ (m : ℕ). n ≤ m) g.begun high in
-            same_or_not n b (λ (is : n ≡ b). subst IsSessionThen (sym is) (here (subst (λ (m : ℕ). 1 ≤ m) is low)))
+            same_or_not n b (λ (is : n ≡ b). subst IsSessionThen (sym is) (here (rw (sym is) low)))
             (λ (differs : n ≡ b → ⊥). session_stays n low (omega (arith, most, differs, one_more)) (down_apart b handed g.down n differs)));
         octets = octets_then b handed g.down in_octets;
         confirmed = silent_counts silent.mute;
         later = λ n more. (let above = subst (λ (m : ℕ). m < n) g.begun more in
             let nothing = h.near.later n (omega (arith, above, latest)) in
             record { moves = nothing.moves; entries = session_more n ∙ ap₂ (λ (xs ys : List StationEntry). xs ++ ys) nothing.entries (silent.later n (λ (is : n ≡ b). omega (arith, above, is))) });
-        now = λ still. subst (λ (n : ℕ). IsLayer (own cfg end n h.trace) step.near) (sym g.begun) (stands still).1;
+        now = λ still. rw g.begun (stands still).1;
         alone = λ n none. h.near.alone n (sym (up_same n) ∙ none);
         no_fault = silent_faults silent.mute;
         first_has_all = λ low. (let most = subst (λ (n : ℕ). n ≤ 1) g.begun low in all_more (h.near.first_has_all (omega (arith, most, latest))) (silent_all silent.mute));
@@ -440,12 +427,12 @@ module _ {since : Beginning} (cfg : Cfg) (end : Role) (w : World) (h : SessionsJ
           → Goes since cfg end h.links gave_none (after_step (settings_from end cfg) w (octets_of left) step)
       unfolding joined_of
       quietly reach pairs more bring_none = record {
-        joined = joined_of [] b reach g.far g.out g.back g.sent g.met (subst (λ (t : List Done). IsEnd cfg end step.near v.near t (told_before ++ step.entries)) (sym (append-nil h.trace)) near_quietly) tt
-            (subst (λ (t : List Done). PairsAreInOrder cfg end t met) (sym (append-nil h.trace)) pairs) more
+        joined = joined_of [] b reach g.far g.out g.back g.sent g.met (rw (append-nil h.trace) near_quietly) tt
+            (rw (append-nil h.trace) pairs) more
             (λ n. hears_more (λ (n m : ℕ). HasMet n m h.links.met) (λ (n m : ℕ). HasMet n m met) n (h.links.near.up n) (v.near.up n) (meets end n w.transcript) (found n)
             (meets end n (w.transcript ++ entered end step.entries)) (λ m has. more n m has) (meets_now n)
             (λ none. inl (up_same n ∙ none, none_met n standing (after_entries none_begun told_there) step.entries (mute_tell step.entries silent.mute).told)) (h.near_hears n));
-        down = more_then b handed g.down gave_none (subst (λ (l : List Came). AreSomeOf IsGiven l []) (sym bring_none) tt);
+        down = more_then b handed g.down gave_none (rw bring_none tt);
         far = g.far;
       }
 
@@ -480,7 +467,7 @@ module _ {since : Beginning} (cfg : Cfg) (end : Role) (w : World) (h : SessionsJ
           up = ap (all_read cfg) up;
           entries = sym (ap layer_entries all ∙ (silent_in begins.mute the_next).entered);
           told = sym (ap layer_notices all ∙ (silent_in begins.mute the_next).told);
-          beside = subst (λ (l : List Came). AreTold l (brought cfg (v.near.up the_next))) (sym (ap came_in all ∙ (silent_in begins.mute the_next).beside)) tt;
+          beside = rw (ap came_in all ∙ (silent_in begins.mute the_next).beside) tt;
         })
       where
         by_role : (end : Role) → as_read (restart (restart_cause end) 0 ∷ []) ≡ as_read (started (goes_up (layer_of cfg end))).given
@@ -489,6 +476,6 @@ module _ {since : Beginning} (cfg : Cfg) (end : Role) (w : World) (h : SessionsJ
 
     pub begins_session : SessionsReach since cfg end v → PairsAreInOrder cfg end h.trace met → ((n m : ℕ) → HasMet n m h.links.met → HasMet n m met) → Goes since cfg end h.links gave_none (after_step (settings_from end cfg) w (octets_of left) step)
     begins_session reach pairs more =
-        quietly the_next handed g (subst (λ (up : Bool). IsSilent standing (record { begun = the_next; stands = up }) step.entries) (sym still) begins) in_octets (omega arith) (omega arith)
+        quietly the_next handed g (rw still begins) in_octets (omega arith) (omega arith)
         (down_apart the_next handed g.down 0 (λ (is : 0 ≡ the_next). omega (arith, is))) (λ low. next_session)
         (λ up. (omega arith, subst (λ (e : layer.End). IsLayer e step.near) (sym own_afresh) (record { layer = sym layer_begins; out = refl }))) kept reach pairs more bring_none

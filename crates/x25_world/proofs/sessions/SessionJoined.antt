@@ -146,11 +146,8 @@ pairs_turned cfg end trace (p ∷ met) h = (
   pairs_turned cfg end trace met h.1,
 )
 
-pub hears_turned : (n : ℕ) (up : List (List ℕ)) (met : Option ℕ) (ms : List Meeting) → Hears (λ (n m : ℕ). HasMet n m ms) n up met → Hears (λ (n m : ℕ). HasMet m n (map turned ms)) n up met
-hears_turned n up met ms h = elim h [ inl none ↦ inl none | inr some ↦ inr (record { session = some.session; told = some.told; has_met = met_turned n some.session ms some.has_met; begun = some.begun }) ]
-
-pub hears_back : (n : ℕ) (up : List (List ℕ)) (met : Option ℕ) (ms : List Meeting) → Hears (λ (n m : ℕ). HasMet m n ms) n up met → Hears (λ (n m : ℕ). HasMet n m (map turned ms)) n up met
-hears_back n up met ms h = elim h [ inl none ↦ inl none | inr some ↦ inr (record { session = some.session; told = some.told; has_met = met_turned some.session n ms some.has_met; begun = some.begun }) ]
+pub hears_as : (Met Met₂ : ℕ → ℕ → Type 0) (n : ℕ) (up : List (List ℕ)) (met : Option ℕ) → ((m : ℕ) → Met n m → Met₂ n m) → Hears Met n up met → Hears Met₂ n up met
+hears_as Met Met₂ n up met turn h = elim h [ inl none ↦ inl none | inr some ↦ inr (record { session = some.session; told = some.told; has_met = turn some.session some.has_met; begun = some.begun }) ]
 
 pub twice : (end : Role) (P : Role → Type 0) → P end → P (other (other end))
 twice Dte P h = h
@@ -168,9 +165,9 @@ sessions_swapped cfg end w h = record {
   tap = h.tap;
   octets = h.octets;
   pairs = pairs_turned cfg end h.trace h.links.met h.pairs;
-  near_hears = λ n. hears_back n (h.links.far.up n) (meets (other end) n w.transcript) h.links.met (h.far_hears n);
+  near_hears = λ n. hears_as _ _ n (h.links.far.up n) (meets (other end) n w.transcript) (λ m. met_turned m n h.links.met) (h.far_hears n);
   far_hears = λ n. twice end (λ (e : Role). Hears (λ (n m : ℕ). HasMet m n (map turned h.links.met)) n (h.links.near.up n) (meets e n w.transcript))
-      (hears_turned n (h.links.near.up n) (meets end n w.transcript) h.links.met (h.near_hears n));
+      (hears_as _ _ n (h.links.near.up n) (meets end n w.transcript) (λ m. met_turned n m h.links.met) (h.near_hears n));
 }
 
 pub links_swapped : {since : Beginning} (cfg : Cfg) (end : Role) (w : World) (h : SessionsJoined since cfg end w) → (sessions_swapped cfg end w h).links ≡ links.swapped h.links

@@ -1,5 +1,5 @@
 -- What the laws of two links over set-up and re-set-up, and of two layers of which each end is by itself, say of the sessions of a world.
-use Rattle.std.proofs.Common.{◌≡◌, ℕ, ◌==◌, inl, inr, List, [], ◌∷◌, ◌++◌, Bool, true, false, if◌then◌else◌, sym, ap, ◌∙◌, subst}
+use Rattle.std.proofs.{Common.{◌≡◌, ℕ, ◌==◌, inl, inr, List, [], ◌∷◌, ◌++◌, sym, ap, ◌∙◌, subst}, lemmas.Bool.{cond_both}}
 use Rattle.x25_bits.specs.{declared.role.Role.{Role}, declared.role.Role.TheVariants.{Dte, Dce}}
 use Rattle.x25_link.specs.Hearing.{other}
 use Rattle.x25_line.specs.{laws.Sessions.{Meeting}, laws.SessionClaims.{SomeMet}}
@@ -26,7 +26,7 @@ some_map P Q f (m ∷ ms) h = elim h [ inl here ↦ inl (f m here) | inr there �
 pub met_in_order : (cfg : Cfg) (end : Role) (trace : List Done) (met : List Meeting) (n m : ℕ) → PairsAreInOrder cfg end trace met → HasMet n m met → PairIsInOrder cfg end trace n m
 met_in_order cfg end trace met n m pairs h =
     all_some (λ (p : Meeting). PairIsInOrder cfg end trace p.near p.far) (λ (p : Meeting). (p.near ≡ n) × (p.far ≡ m)) (PairIsInOrder cfg end trace n m)
-    (λ (p : Meeting) order is. subst (λ (a : ℕ). PairIsInOrder cfg end trace a m) is.0 (subst (λ (b : ℕ). PairIsInOrder cfg end trace p.near b) is.1 order)) met pairs h
+    (λ (p : Meeting) order is. rw (sym is.0) (subst (λ (b : ℕ). PairIsInOrder cfg end trace p.near b) is.1 order)) met pairs h
 
 -- ---- two sessions, each end by itself
 
@@ -59,7 +59,7 @@ module _ (laws : SessionLaws) (cfg : Cfg) where
       → (end : Role) (n m : ℕ) (trace : List Done) → PairIsInOrder cfg end trace n m → Holds end (own cfg end n trace) (own cfg (other end) m trace)
   of_either Holds always end n m trace order =
       subst (λ (e : layer.End). Holds end e (own cfg (other end) m trace)) (here_is end n m trace)
-      (subst (λ (f : layer.End). Holds end (here_in end (pair_ends cfg end n m trace)) f) (there_is end n m trace) (by end n m order))
+      (rw (sym (there_is end n m trace)) (by end n m order))
     where
       by : (end : Role) (n m : ℕ) → PairIsInOrder cfg end trace n m → Holds end (here_in end (pair_ends cfg end n m trace)) (here_in (other end) (pair_ends cfg end n m trace))
       by Dte n m order = (always (pair_at Dte n m trace) order).0
@@ -85,11 +85,9 @@ module _ (laws : SessionLaws) (cfg : Cfg) where
 
   pair_octets : (number : Role → ℕ) (trace : List Done) → traced.BringOctets cfg.wide trace → BringOctets cfg.wide (all_over_links (pair_in number trace))
   pair_octets number [] h = tt
-  pair_octets number (t ∷ trace) h = by (number t.at == t.session) (pair_octets number trace h.1)
-    where
-      by : (b : Bool) → BringOctets cfg.wide (all_over_links (pair_in number trace)) → BringOctets cfg.wide (all_over_links ((if b then event_of t.at t.what ∷ [] else []) ++ pair_in number trace))
-      by true rest = (h.0, rest)
-      by false rest = rest
+  pair_octets number (t ∷ trace) h =
+      let rest = pair_octets number trace h.1 in
+      cond_both (number t.at == t.session) (event_of t.at t.what ∷ []) [] (λ (es : List ApartEvent). BringOctets cfg.wide (all_over_links (es ++ pair_in number trace))) (λ _. (h.0, rest)) (λ _. rest)
 
   both_readable : IsConfigured cfg → (n m : ℕ) (trace : List Done) → PairIsInOrder cfg Dte trace n m → traced.BringOctets cfg.wide trace
       → AreReadable cfg.wide cfg.long_data (pair_ends cfg Dte n m trace).near.given × AreReadable cfg.wide cfg.long_data (pair_ends cfg Dte n m trace).far.given
@@ -102,7 +100,7 @@ module _ (laws : SessionLaws) (cfg : Cfg) where
   readable_here fine Dce n m trace order octets = (both_readable fine m n trace order octets).1
 
   pub own_readable : IsConfigured cfg → (end : Role) (n m : ℕ) (trace : List Done) → PairIsInOrder cfg end trace n m → traced.BringOctets cfg.wide trace → AreReadable cfg.wide cfg.long_data (own cfg end n trace).given
-  own_readable fine end n m trace order octets = subst (λ (e : layer.End). AreReadable cfg.wide cfg.long_data e.given) (here_is end n m trace) (readable_here fine end n m trace order octets)
+  own_readable fine end n m trace order octets = rw (sym (here_is end n m trace)) (readable_here fine end n m trace order octets)
 
 -- ---- each session is one of two in order
 

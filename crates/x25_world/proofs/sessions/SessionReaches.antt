@@ -37,7 +37,7 @@ run_flipped c d [] w = refl
 run_flipped c d (e ∷ es) w = ap (λ (x : Sessions). links.run d c (all_flipped es) x) (event_flipped c d e w) ∙ run_flipped c d es (links.happens c d e w)
 
 timely_at : (c d : LinkSettings) (e : line.Event) (w : Sessions) → IsTimelyAt c d e w → IsTimelyAt d c (flipped e) (links.swapped w)
-timely_at c d (line.Near act) w h = subst (λ (x : Sessions). IsTimely c d act x) (sym (twice w)) h
+timely_at c d (line.Near act) w h = rw (twice w) h
 timely_at c d (line.Far act) w h = h
 
 timely_flipped : (c d : LinkSettings) (es : List line.Event) (w : Sessions) → AreTimely c d es w → AreTimely d c (all_flipped es) (links.swapped w)
@@ -131,7 +131,7 @@ seen_acts cfg Dce act v = ap (λ (x : Sessions). links.swapped (links.acts (link
 
 seen_timely : (cfg : Cfg) (end : Role) (act : line.Act) (v : Sessions) → IsTimely (link_of cfg end) (link_of cfg (other end)) act v → IsTimelyAt (link_of cfg Dte) (link_of cfg Dce) (at_end end act) (seen_from end v)
 seen_timely cfg Dte act v h = h
-seen_timely cfg Dce act v h = subst (λ (x : Sessions). IsTimely (link_of cfg Dce) (link_of cfg Dte) act x) (sym (twice v)) h
+seen_timely cfg Dce act v h = rw (twice v) h
 
 grow : (cfg : Cfg) (end : Role) (act : line.Act) (v before : Sessions) (e : Event) → IsTimely (link_of cfg end) (link_of cfg (other end)) act v → (e.at ≡ end) × Asks e.act act → Grown cfg e end before v
     → Grown cfg e end before (links.acts (link_of cfg end) act v)
@@ -141,12 +141,11 @@ grow cfg end act v before e timely asks g =
     record {
       asked = g.asked ++ act ∷ [];
       may = asks_more e.act g.asked act g.may asks.1;
-      timely = subst (λ (es : List line.Event). AreTimely c d es before) (sym (all_more e.at g.asked act))
-          (timely_append c d (all_at e.at g.asked) (at_end e.at act ∷ []) before g.timely (
-            subst (λ (x : Sessions). IsTimelyAt c d (at_end e.at act) x) (sym g.run)
-                (subst (λ (at : Role). IsTimelyAt c d (at_end at act) (seen_from end v)) (sym asks.0) (seen_timely cfg end act v timely)),
-            tt,
-          ));
+      timely = rw (all_more e.at g.asked act) (timely_append c d (all_at e.at g.asked) (at_end e.at act ∷ []) before g.timely (
+        subst (λ (x : Sessions). IsTimelyAt c d (at_end e.at act) x) (sym g.run)
+            (subst (λ (at : Role). IsTimelyAt c d (at_end at act) (seen_from end v)) (sym asks.0) (seen_timely cfg end act v timely)),
+        tt,
+      ));
       run = ap (λ (es : List line.Event). links.run c d es before) (all_more e.at g.asked act)
           ∙ links_append c d (all_at e.at g.asked) (at_end e.at act ∷ []) before
           ∙ ap (links.happens c d (at_end e.at act)) g.run
@@ -162,7 +161,7 @@ sessions_act cfg end act v timely may asks h =
     let d = link_of cfg (other end) in
     record {
       events = h.events ++ line.Near act ∷ [];
-      timely = timely_append c d h.events (line.Near act ∷ []) from_nothing h.timely (subst (λ (x : Sessions). IsTimely c d act x) (sym h.run) timely, tt);
+      timely = timely_append c d h.events (line.Near act ∷ []) from_nothing h.timely (rw h.run timely, tt);
       run = links_append c d h.events (line.Near act ∷ []) from_nothing ∙ ap (λ (x : Sessions). links.acts c act x) h.run;
       one_link = λ asks is. one_acts asks cfg end act v (λ free. may (is ∙ ap set_up free)) (h.one_link asks is);
       grown = λ before e is. grow cfg end act v before e timely (asks before e is) (h.grown before e is);
@@ -180,5 +179,4 @@ joined_at cfg Dce fine = record { near_role = refl; far_role = refl; longest = r
 -- what always holds of two links
 pub known_sessions : {since : Beginning} (P : _) → Throughout P → (cfg : Cfg) → IsConfigured cfg → (end : Role) (v : Sessions) → SessionsReach since cfg end v → P (link_of cfg end) (link_of cfg (other end)) v
 known_sessions P law cfg fine end v h =
-    subst (λ (x : Sessions). P (link_of cfg end) (link_of cfg (other end)) x) h.run
-    (law (link_of cfg end) (link_of cfg (other end)) (joined_at cfg end fine) from_nothing (inl refl) h.events h.timely)
+    rw (sym h.run) (law (link_of cfg end) (link_of cfg (other end)) (joined_at cfg end fine) from_nothing (inl refl) h.events h.timely)

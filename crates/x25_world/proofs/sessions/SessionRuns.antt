@@ -25,10 +25,7 @@ back_after w (Happened next) = refl
 back_after w (Declined e) = refl
 
 pub not_set_up : {A : Type 0} (asks : Bool) → both_down ≡ set_up asks → A
-not_set_up asks is = absurd (never is)
-  where
-    never : both_down ≡ set_up asks → ⊥
-    never is = cc
+not_set_up asks is = absurd (cc)
 
 -- such runs aren't within an event
 abbrev pub IsAtNone : Beginning → Type 0
@@ -91,8 +88,7 @@ module _ (laws : SessionLaws) (cfg : Cfg) (fine : IsConfigured cfg) where
   far_goes since w h act o s = record {
     joined = sessions_swapped cfg Dce (after (swapped w) o) s.joined;
     near = λ n. none_more cfg (h.links.near.down n) (s.joined.links.far.down n) [] (ap (λ (k : SessionEnd). k.down n) s.far);
-    far = λ n. subst (λ (k : ℕ). MoreIs cfg (h.links.far.down n) (s.joined.links.near.down n) (gave_by (layer_of cfg Dce) w.far.layer (n == k) act (refusal_of (swapped_back o)))) (sym (ap begun_in h.far.progress))
-        (subst (λ (r : Option WorldError). MoreIs cfg (h.links.far.down n) (s.joined.links.near.down n) (gave_by (layer_of cfg Dce) w.far.layer (n == h.links.far.begun) act r)) (sym (refusal-swapped o)) (s.down n));
+    far = λ n. rw (ap begun_in h.far.progress) (subst (λ (r : Option WorldError). MoreIs cfg (h.links.far.down n) (s.joined.links.near.down n) (gave_by (layer_of cfg Dce) w.far.layer (n == h.links.far.begun) act r)) (sym (refusal-swapped o)) (s.down n));
   }
 
   pub event_joined : {since : Beginning} (at : Role) (act : Act) (w : World) → IsAt since at act → ActsInOctets act
@@ -104,7 +100,7 @@ module _ (laws : SessionLaws) (cfg : Cfg) (fine : IsConfigured cfg) where
       let s = acts_joined Dte w h act is_at octets none in
       record {
         joined = s.joined;
-        near = λ n. subst (λ (k : ℕ). MoreIs cfg (h.links.near.down n) (s.joined.links.near.down n) (gave_by (layer_of cfg Dte) w.near.layer (n == k) act (refusal_of o))) (sym (ap begun_in h.near.progress)) (s.down n);
+        near = λ n. rw (ap begun_in h.near.progress) (s.down n);
         far = λ n. none_more cfg (h.links.far.down n) (s.joined.links.far.down n) [] (ap (λ (k : SessionEnd). k.down n) s.far);
       }
   event_joined {since} Dce act w is_at octets none h =
@@ -136,7 +132,7 @@ module _ (laws : SessionLaws) (cfg : Cfg) (fine : IsConfigured cfg) where
     progress = refl;
     first = λ up. absurd (cc);
     before = (refl, refl);
-    sessions = λ n low high. absurd (none n low high);
+    sessions = λ n low high. absurd (omega (arith, low, high));
     octets = λ n. tt;
     confirmed = λ n k name. omega arith;
     later = λ n more. record { moves = refl; entries = refl };
@@ -145,9 +141,6 @@ module _ (laws : SessionLaws) (cfg : Cfg) (fine : IsConfigured cfg) where
     no_fault = tt;
     first_has_all = λ low. record { entries = refl; told = refl };
   }
-    where
-      none : (n : ℕ) → 1 ≤ n → n ≤ 0 → ⊥
-      none n low high = omega (arith, low, high)
 
   start_joined : SessionsJoined both_down cfg Dte start
   start_joined = record {

@@ -1,7 +1,7 @@
 -- What the layers of two stations did, in the order in which it happened, each move in a session of its end. The moves of one session
 -- of each end are those of two layers.
 use Rattle.std.proofs.Common.{◌≡◌, ℕ, ◌==◌, List, [], ◌∷◌, ◌++◌, Bool, true, false, if◌then◌else◌, refl, sym, ap, ap₂, ◌∙◌, append_assoc, append-nil}
-use Rattle.std.proofs.lemmas.Bool.{eqb-true, eq-eqb}
+use Rattle.std.proofs.lemmas.Bool.{eq-eqb, ne_eqb}
 use Rattle.x25_bits.specs.{declared.role.Role.{Role}, declared.role.Role.TheVariants.{Dte, Dce}}
 use Rattle.x25_link.specs.Hearing.{other}
 use Rattle.x25_layer.specs.{declared.ranges.Ranges.{Ranges}, Layer.{LayerSettings, goes_up, is_channel}, laws.TwoLayers.{started, pulled_in, moves_in}}
@@ -50,20 +50,13 @@ own_append end n (x ∷ xs) ys =
 pub same_number : (n : ℕ) → (n == n) ≡ true
 same_number n = eq-eqb n n refl
 
-pub other_number : (n m : ℕ) → (n ≡ m → ⊥) → (n == m) ≡ false
-other_number n m differs = by (n == m) refl
-  where
-    by : (b : Bool) → (n == m) ≡ b → b ≡ false
-    by true is = absurd (differs (eqb-true n m is))
-    by false is = refl
-
 one_here : (end : Role) (n : ℕ) (what : OwnMove) → own_one end n end n what ≡ what ∷ []
 one_here Dte n what = ap (λ (b : Bool). if b then what ∷ [] else []) (same_number n)
 one_here Dce n what = ap (λ (b : Bool). if b then what ∷ [] else []) (same_number n)
 
 one_elsewhere : (end : Role) (n m : ℕ) (what : OwnMove) → (n ≡ m → ⊥) → own_one end n end m what ≡ []
-one_elsewhere Dte n m what differs = ap (λ (b : Bool). if b then what ∷ [] else []) (other_number n m differs)
-one_elsewhere Dce n m what differs = ap (λ (b : Bool). if b then what ∷ [] else []) (other_number n m differs)
+one_elsewhere Dte n m what differs = ap (λ (b : Bool). if b then what ∷ [] else []) (ne_eqb n m differs)
+one_elsewhere Dce n m what differs = ap (λ (b : Bool). if b then what ∷ [] else []) (ne_eqb n m differs)
 
 one_there : (end : Role) (n m : ℕ) (what : OwnMove) → own_one (other end) n end m what ≡ []
 one_there Dte n m what = refl
@@ -155,7 +148,7 @@ module _ (number : Role → ℕ) (end : Role) where
 
   in_same : (session : ℕ) (trace : List Done) (moves : List OwnMove) → (number end ≡ session → ⊥) → pair_in number (trace ++ moved end session moves) ≡ pair_in number trace
   in_same session trace moves differs =
-      pair_append trace (moved end session moves) ∙ ap (λ (l : List ApartEvent). pair_in number trace ++ l) (pair_elsewhere session moves (other_number (number end) session differs)) ∙ append-nil (pair_in number trace)
+      pair_append trace (moved end session moves) ∙ ap (λ (l : List ApartEvent). pair_in number trace ++ l) (pair_elsewhere session moves (ne_eqb (number end) session differs)) ∙ append-nil (pair_in number trace)
 
 pub pair_more : (end : Role) (n m : ℕ) (trace : List Done) (moves : List OwnMove) → pair_at end n m (trace ++ moved end n moves) ≡ pair_at end n m trace ++ events_of end moves
 pair_more Dte n m trace moves = in_more (numbers n m) Dte trace moves

@@ -99,8 +99,7 @@ module _ (laws : SessionLaws) (law : StandingGoesAlong) (cfg : Cfg) (fine : IsCo
 
   stood : (events : List line.Event) (v : Sessions) (s : Standing) → AreTimely c d events from_nothing → links.run c d events from_nothing ≡ v → standing_run c d events from_nothing first ≡ s → EachUpStandsWith c d v s
   stood events v s timely runs stands =
-      subst (λ (z : Standing). EachUpStandsWith c d v z) stands
-      (subst (λ (x : Sessions). EachUpStandsWith c d x (standing_run c d events from_nothing first)) runs (law c d (joined_at cfg Dte fine) from_nothing (inl refl) events timely))
+      rw (sym stands) (subst (λ (x : Sessions). EachUpStandsWith c d x (standing_run c d events from_nothing first)) runs (law c d (joined_at cfg Dte fine) from_nothing (inl refl) events timely))
 
   -- some two links are behind each world of a run
   pub some_stand : (w : World) (h : SessionsJoined both_down cfg Dte w) → StandsInWindow cfg w h.links (standing_run c d h.reach.events from_nothing first)
@@ -121,7 +120,7 @@ module _ (laws : SessionLaws) (law : StandingGoesAlong) (cfg : Cfg) (fine : IsCo
       let behind : AreOf n.joined.links (line.run c d es seen) = subst (λ (x : Sessions). AreOf x (line.run c d es seen)) n.run (runs_alike IsOf IsOf ⊥ of_lasts of_lasts c d es h.links seen before) in
       let now : AreOf (links.run c d es v) (line.run c d es seen) = runs_alike IsOf IsOf ⊥ of_lasts of_lasts c d es v seen also in
       let timely : AreTimely c d (r.events ++ es) from_nothing =
-      timely_append c d r.events es from_nothing r.timely (subst (λ (x : Sessions). AreTimely c d es x) (sym r.run) (all_timely_same c d es h.links v seen before also n.timely)) in
+      timely_append c d r.events es from_nothing r.timely (rw r.run (all_timely_same c d es h.links v seen before also n.timely)) in
       let runs : links.run c d (r.events ++ es) from_nothing ≡ links.run c d es v = links_append c d r.events es from_nothing ∙ ap (links.run c d es) r.run in
       let stands : standing_run c d (r.events ++ es) from_nothing first ≡ standing_run c d es v s =
       standing_append (λ (z : Standing). z ≡ standing_run c d es v s) c d r.events es from_nothing first
@@ -141,7 +140,7 @@ module _ (laws : SessionLaws) (law : StandingGoesAlong) (cfg : Cfg) (fine : IsCo
 
   pub along : (here : World) (events : List Event) (w : World) → SessionsJoined both_down cfg Dte w → AreInOctets events → run cfg events w ≡ here → (v : Sessions) (s : Standing) → StandsInWindow cfg w v s
       → SessionsGoAlong cfg here events w v s
-  along here [] w h octets is v s st = subst (λ (x : World). StandsInWindow cfg x v s) is st
+  along here [] w h octets is v s st = rw (sym is) st
   along here (e ∷ events) w h octets is v s st =
       let n = next laws cfg fine w h e octets.0 in (
         st,

@@ -21,7 +21,7 @@ abbrev pub octets_held : ShownWorld → ℕ
 octets_held v = (station.octets_held v.dte + station.octets_held v.dce)
     + (4103 * 34 + step_octets + line_octets v)
 
--- with so many channels as its settings say
+-- with so many channels, and messages of so many octets, as its settings say
 abbrev pub FewOctets : Type 0
 FewOctets = (cfg : Cfg) (v : ShownWorld) (w : World) → FitsWorld cfg v w
-    → octets_held v ≤ 781330 + 1310700 * cfg.channels.count + line_octets v
+    → octets_held v ≤ 781330 + 2 * ((589815 + cfg.channels.message) * cfg.channels.count) + line_octets v

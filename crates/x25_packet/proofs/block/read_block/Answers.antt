@@ -2,7 +2,7 @@ use Rattle.std.proofs.Common.{arith, Result, Ok, Err, IfOk}
 use Rattle.x25_packet.specs.declared.block.Block.{Block}
 use Rattle.x25_packet.specs.declared.error.PacketError.{PacketError}
 use Rattle.x25_packet.specs.Block.{AreAddresses, plain_block}
-use Rattle.x25_packet.specs.WideReading.{Gives, block_of}
+use Rattle.x25_packet.specs.Grammar.{Gives, block_of}
 use Rattle.x25_packet.proofs.FoundLaws.{block_found}
 use Rattle.x25_packet.proofs.block.read_block.Goals as goal
 

@@ -7,6 +7,10 @@ use Rattle.x25_pipe.specs.code.Stream.{program}
 use Rattle.x25_pipe.proofs.PipeLemmas.{input_begins, mark_failed, stands_first}
 use Rattle.x25_pipe.proofs.running.station.Goals as goal
 
+pub returns-in_err-piece : goal.returns-in_err-piece
+returns-in_err-piece g c =
+    none_ran g.R.Source g.W.Sink (program (settings_from c.args.end c.args.cfg)) c.args.reader.now c.args.writer.now c.from_residual.result c.from_residual.ensures.1
+
 pub returns-in_err-held : goal.returns-in_err-held
 returns-in_err-held g c =
     none_ran g.R.Source g.W.Sink (program (settings_from c.args.end c.args.cfg)) c.args.reader.now c.args.writer.now c.from_residual-in_err-held.result c.from_residual-in_err-held.ensures.1

@@ -1,11 +1,16 @@
-use Rattle.std.proofs.Common.{arith}
+use Rattle.std.proofs.Common.{ℕ, ◌+◌, ◌*◌, ◌≤◌, arith}
 use Rattle.x25_bits.specs.declared.role.Role.TheVariants.{Dte, Dce}
 use Rattle.x25_station.specs.Config.{settings_from}
+use Rattle.x25_world.specs.laws.OctetLaw.{line_octets}
+use Rattle.x25_station.specs.laws.OctetLaw as station
 use Rattle.x25_world.proofs.law.worlds_hold_few.Goals as goal
+
+-- both stations hold no more than so many, and 236,539
+both : (n dte dce line : ℕ) → dte ≤ 236539 + n → dce ≤ 236539 + n → (dte + dce) + (4103 * 34 + (4103 * 25 + (65535 + 128 * 5)) + line) ≤ 781330 + 2 * n + line
+both n dte dce line first second = omega (arith, first, second)
 
 pub returns : goal.returns
 returns c = λ cfg v w fits.
     let few = c.stations_hold_few.ensures.octets_in_all in
-    let dte = few (settings_from Dte cfg) v.dte w.near fits.dte in
-    let dce = few (settings_from Dce cfg) v.dce w.far fits.dce in
-    omega (arith, dte, dce)
+    both ((589815 + cfg.channels.message) * cfg.channels.count) (station.octets_held v.dte) (station.octets_held v.dce) (line_octets v)
+    (few (settings_from Dte cfg) v.dte w.near fits.dte) (few (settings_from Dce cfg) v.dce w.far fits.dce)

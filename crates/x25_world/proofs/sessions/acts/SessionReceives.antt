@@ -1,6 +1,6 @@
 -- Octets come, over set-up and re-set-up: the link takes them, and the layer the packet that the link hands up, which is the next of those that
 -- the other end gave in its latest session.
-use Rattle.std.proofs.Common.{◌≡◌, ℕ, zero, suc, ◌≤◌, ◌<◌, inl, inr, List, [], ◌∷◌, ◌++◌, remove, Bool, true, false, if◌then◌else◌, Option, Some, None, Result, Ok, refl, sym, ap, ◌∙◌, subst, append_assoc, arith}
+use Rattle.std.proofs.{Common.{◌≡◌, ℕ, zero, suc, ◌≤◌, ◌<◌, inl, inr, List, [], ◌∷◌, ◌++◌, remove, Bool, true, false, if◌then◌else◌, Option, Some, None, Result, Ok, refl, sym, ap, ◌∙◌, subst, append_assoc, arith}, lemmas.Bool.{and_parts}}
 use Rattle.std.proofs.lemmas.List.{append_cancel_left, map-append}
 use Rattle.x25_bits.specs.{declared.role.Role.{Role}, declared.role.Role.TheVariants.{Dte, Dce}}
 use Rattle.x25_packet.specs.{Packet.{PlainPacket}, declared.error.PacketError.{PacketError}}
@@ -15,9 +15,9 @@ use Rattle.x25_layer.specs.laws.ApartLaw.{BeginsRestarted, IsToldFirst}
 use Rattle.x25_station.specs.{declared.config.Cfg.{Cfg}, Config.{Settings, settings_from, layer_settings}, Entry.{layer_notices}}
 use Rattle.x25_station.specs.{Step.{Step, follows, abandons, receives}, laws.JoinLaw.{station_with, IsJoined}, laws.KeepLaw.{IsKept}}
 use Rattle.x25_station.specs.laws.ReadLaw.{AreReadable}
-use Rattle.x25_world.specs.{World.{World, Receives, delivered, after, after_step}, laws.BesideClaims.{Came, IsGiven, AreSomeOf}}
+use Rattle.x25_world.specs.{World.{World, Receives, delivered, after, after_step}}
 use Rattle.x25_world.specs.{laws.ConfirmedClaims.{confirmed_in}, laws.Claims.{link_of}, laws.LawsBelow.{SessionLaws}}
-use Rattle.x25_world.proofs.{Known.{IsConfigured, both_true, true_false}, Growing.{read_by, all_read, is_read, as_read, first_read, FrontEntry, front_entry}}
+use Rattle.x25_world.proofs.{Known.{IsConfigured, true_false}, Growing.{read_by, all_read, is_read, as_read, first_read, FrontEntry, front_entry}}
 use Rattle.x25_world.proofs.sessions.SessionTrace.{layer_of, Done, moved, own, own_goes, events_of, nothing_goes, own_pulls, pulls_take_nothing, pulls_bring_octets, near_pulls, take_takes}
 use Rattle.x25_world.proofs.sessions.SessionCounts.{counted_at, counted_by, counted_in}
 use Rattle.x25_world.proofs.sessions.SessionReaches.{Beginning, SessionsReach, IsAt, may_ask, known_sessions, sessions_act}
@@ -54,12 +54,9 @@ met_again : (number : Meeting → ℕ) (m : Meeting) → ((p : Meeting) → (p.n
     → SomeMet (λ (p : Meeting). number p ≡ number m) ms → HasMet m.near m.far ms
 met_again number m lower [] all some = absurd some
 met_again number m lower (p ∷ ms) all some = elim some [
-  | inl here ↦ elim all.0 [ inl same ↦ inl (same.0, same.1) | inr less ↦ absurd (never (number p) (number m) here (lower p less)) ]
+  | inl here ↦ elim all.0 [ inl same ↦ inl (same.0, same.1) | inr less ↦ absurd (let lt = lower p less in omega (arith, here, lt)) ]
   | inr there ↦ inr (met_again number m lower ms all.1 there)
 ]
-  where
-    never : (a b : ℕ) → a ≡ b → a < b → ⊥
-    never a b e lt = omega (arith, e, lt)
 
 -- ---- packets
 
@@ -101,11 +98,11 @@ module _ {since : Beginning} (laws : SessionLaws) (cfg : Cfg) (fine : IsConfigur
     | inl now ↦ (let step = subst InStep now.met (known_sessions met.MeetInStep laws.step cfg fine end v reach) in
         record {
           pairs = subst (PairsAreInOrder cfg end h.trace) (sym now.met) (pair_now step, h.pairs);
-          more = λ n m has. subst (λ (ms : List Meeting). HasMet n m ms) (sym now.met) (inr has);
+          more = λ n m has. rw now.met (inr has);
         })
     | inr none ↦ record {
       pairs = subst (PairsAreInOrder cfg end h.trace) (sym none.met) h.pairs;
-      more = λ n m has. subst (λ (ms : List Meeting). HasMet n m ms) (sym none.met) has;
+      more = λ n m has. rw none.met has;
     }
   ]
 
@@ -123,7 +120,7 @@ module _ {since : Beginning} (laws : SessionLaws) (cfg : Cfg) (fine : IsConfigur
         → Goes since cfg end h.links gave_none (after_step (settings_from end cfg) w back (follows (settings_from end cfg) w.near.layer (abandon_step (link_of cfg end) w.near.link)))
     abandoned full kept =
         let c = link_of cfg end in
-        let up : is_up w.near.link.phase ≡ true = (both_true (is_up w.near.link.phase) (is_full (layer_settings (settings_from end cfg)) w.near.layer) full).0 in
+        let up : is_up w.near.link.phase ≡ true = (and_parts (is_up w.near.link.phase) (is_full (layer_settings (settings_from end cfg)) w.near.layer) full).0 in
         let k = abandon_step c w.near.link in
         subst (λ (os : List (List ℕ)). Goes since cfg end h.links gave_none (after_step (settings_from end cfg) w os (follows (settings_from end cfg) w.near.layer k))) (ap (λ (es : List links.Entry). octets_of (remove es 0)) came.is ∙ came.left)
         (follows_silent laws cfg fine end w h no_command (remove h.links.back 0) k gone h.links.met
@@ -241,14 +238,13 @@ module _ {since : Beginning} (laws : SessionLaws) (cfg : Cfg) (fine : IsConfigur
         pair_on =
             pair_goes laws cfg end h.trace here moves there paired
             (next_at cfg end (pair_ends cfg end here there h.trace) in_front.packet channels
-            (subst (λ (e : layer.End). IsPrefix (e.taken ++ in_front.packet ∷ []) (here_in (other end) (pair_ends cfg end here there h.trace)).given) (sym (here_is laws cfg end here there h.trace))
-            (subst (λ (e : layer.End). IsPrefix (own_here.taken ++ in_front.packet ∷ []) e.given) (sym (there_is laws cfg end here there h.trace)) begins_own)))
+            (rw (here_is laws cfg end here there h.trace) (subst (λ (e : layer.End). IsPrefix (own_here.taken ++ in_front.packet ∷ []) e.given) (sym (there_is laws cfg end here there h.trace)) begins_own)))
 
         others_on : (ms : List Meeting) → Each (IsNoEarlier now_met) ms → PairsAreInOrder cfg end h.trace ms → PairsAreInOrder cfg end trace_on ms
         others_on [] earlier pairs = tt
         others_on (p ∷ ms) earlier pairs = (
           elim earlier.0 [
-            | inl same ↦ subst (λ (n : ℕ). PairIsInOrder cfg end trace_on n p.far) (sym same.0) (subst (λ (m : ℕ). PairIsInOrder cfg end trace_on here m) (sym same.1) pair_on)
+            | inl same ↦ rw same.0 (subst (λ (m : ℕ). PairIsInOrder cfg end trace_on here m) (sym same.1) pair_on)
             | inr less ↦ pair_stays laws cfg end h.trace here moves p.near p.far (λ (e : p.near ≡ here). (let lt = less.0 in omega (arith, lt, e))) pairs.0
           ],
           others_on ms earlier.1 pairs.1,
@@ -325,16 +321,13 @@ module _ {since : Beginning} (laws : SessionLaws) (cfg : Cfg) (fine : IsConfigur
           joins laws cfg fine end w h step after_taken taken.side (world_on j.0) (moves j.0) j.1.packets (f.packet ∷ []) (f.packet ∷ []) (spelled j.1.packets) (packet_octets ∷ [])
           (ap (λ (r : Result PlainPacket PacketError). r ∷ []) f.reads) came.others goes_up_one up up_after (packets_put none) j.1.layer near takes (heard_plain (settings_from end cfg) w.near.layer taken packet_octets some quiet) kept (tt, pulls_bring_octets cfg.wide end here j.0) (there, pair_on j.0)
           (heard_beside cfg end w.near.layer taken packet_octets f.packet some quiet f.reads) gave_none
-          (subst (λ (l : List Came). AreSomeOf IsGiven l []) (sym (spelled_bring laws.stations cfg j.1.packets (joined_readable none))) tt) (counts_taken j.0 quiet)
-          (λ o. may_ask end Receives (line.Put o) is_at tt) reach_taken (λ nothing. absurd (not_empty f.packet nothing)) (pairs_on j.0) met_taken.more
+          (rw (spelled_bring laws.stations cfg j.1.packets (joined_readable none)) tt) (counts_taken j.0 quiet)
+          (λ o. may_ask end Receives (line.Put o) is_at tt) reach_taken (λ nothing. absurd (cc)) (pairs_on j.0) met_taken.more
           (λ first. inr (record {
-            has_met = subst (λ (ms : List Meeting). HasMet here there ms) (sym met_now) (inl (refl, refl));
+            has_met = rw met_now (inl (refl, refl));
             restarts = restarts j.0 (layer_notices step.entries) (ap (λ (e : layer.End). e.taken) all ∙ takes) (ap (λ (e : layer.End). e.told) all ∙ ap (λ (e : layer.End). e.told) (sym near) ∙ j.1.layer.told) first;
             begun = there_begun;
           }))
-        where
-          not_empty : (p : PlainPacket) → p ∷ [] ≡ [] → ⊥
-          not_empty p e = cc
 
     -- ---- what the layer puts
 
@@ -369,7 +362,7 @@ module _ {since : Beginning} (laws : SessionLaws) (cfg : Cfg) (fine : IsConfigur
 
         by : (b : Bool) → abandons (settings_from end cfg) w.near ≡ b → IsKept (step b).near → Goes since cfg end h.links gave_none (after_step (settings_from end cfg) w back (step b))
         by true is kept = abandoned is kept
-        by false is kept = subst (λ (os : List (List ℕ)). Goes since cfg end h.links gave_none (after_step (settings_from end cfg) w os (step false))) came.left (takes_joined is kept)
+        by false is kept = rw (sym came.left) (takes_joined is kept)
 
   pub receives_joined : Goes since cfg end h.links gave_none (after w (delivered (settings_from end cfg) w w.back))
   receives_joined = by w.back refl

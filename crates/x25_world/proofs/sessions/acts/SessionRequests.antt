@@ -1,5 +1,5 @@
 -- A command to the layer in a session, without or with something given: its own packet is put, and then what waits.
-use Rattle.std.proofs.Common.{◌≡◌, ℕ, suc, ◌==◌, ◌≤◌, ◌⊎◌, inl, inr, List, [], ◌∷◌, ◌++◌, Bool, true, Option, None, refl, sym, ap, ◌∙◌, subst, append-nil, arith, ◌&&◌}
+use Rattle.std.proofs.{Common.{◌≡◌, ℕ, suc, ◌==◌, ◌≤◌, ◌⊎◌, inl, inr, List, [], ◌∷◌, ◌++◌, Bool, true, Option, None, refl, sym, ap, ◌∙◌, subst, append-nil, arith, ◌&&◌}, lemmas.Bool.{and_parts}}
 use Rattle.std.proofs.lemmas.List.{append_cancel_left}
 use Rattle.x25_bits.specs.declared.role.Role.{Role}
 use Rattle.x25_packet.specs.Packet.{PlainPacket}
@@ -13,9 +13,9 @@ use Rattle.x25_station.specs.{declared.config.Cfg.{Cfg}, Config.{Settings, setti
 use Rattle.x25_station.specs.{Step.{Step, Outcome, Did, Refused, requests, gives}, laws.GivenLaw.{GivesOctets}, laws.JoinLaw.{station_with, MovesAs}}
 use Rattle.x25_station.specs.{laws.KeepLaw.{IsKept, KeptBy}, laws.ReadLaw.{AreReadable, RequestsOctets}}
 use Rattle.x25_world.specs.{declared.error.WorldError.{WorldError}, World.{World, Commands, of_station, refusal_of, after, after_step}}
-use Rattle.x25_world.specs.{laws.BesideClaims.{Came, came_in, Gave, channel_for, gave_where, IsGiven, AreSomeOf}, laws.ConfirmedClaims.{confirmed_in}}
+use Rattle.x25_world.specs.{laws.BesideClaims.{came_in, Gave, channel_for, gave_where, IsGiven, AreSomeOf}, laws.ConfirmedClaims.{confirmed_in}}
 use Rattle.x25_world.specs.{laws.Claims.{link_of}, laws.LawsBelow.{SessionLaws}}
-use Rattle.x25_world.proofs.{Known.{IsConfigured, both_true}, Growing.{all_read, as_read, back_read, back_octets}}
+use Rattle.x25_world.proofs.{Known.{IsConfigured}, Growing.{all_read, as_read, back_read, back_octets}}
 use Rattle.x25_world.proofs.sessions.SessionTrace.{layer_of, Done, moved, own, own_goes, same_number, pair_at, events_of, pair_more, pair_same, TakeNothing, nothing_goes, BringOctets, octets_append, own_pulls, pulls_take_nothing, pulls_bring_octets, near_pulls}
 use Rattle.x25_world.proofs.sessions.SessionCounts.{counted_in, CountNone}
 use Rattle.x25_world.proofs.sessions.SessionReaches.{Beginning, MayAsk, IsAt, may_ask, SessionsReach, puts_reach}
@@ -54,18 +54,16 @@ module _ (laws : SessionLaws) (cfg : Cfg) (end : Role) (trace : List Done) (sess
   -- two sessions that are in order stay so
   pub pair_goes : (m : ℕ) → PairIsInOrder cfg end trace session m → AreInOrder cfg.long_data cfg.channels (events_of end moves) (pair_ends cfg end session m trace) → PairIsInOrder cfg end trace_on session m
   pair_goes m order next =
-      subst (λ (es : List apart.ApartEvent). AreInOrder cfg.long_data cfg.channels es (apart_start cfg.long_data cfg.channels)) (sym (pair_more end session m trace moves))
-      ((laws.behind cfg.long_data cfg.channels (pair_at end session m trace) (events_of end moves) (apart_start cfg.long_data cfg.channels)).order order next)
+      rw (pair_more end session m trace moves) ((laws.behind cfg.long_data cfg.channels (pair_at end session m trace) (events_of end moves) (apart_start cfg.long_data cfg.channels)).order order next)
 
   pub pair_stays : (n m : ℕ) → (n ≡ session → ⊥) → PairIsInOrder cfg end trace n m → PairIsInOrder cfg end trace_on n m
   pair_stays n m differs order =
-      subst (λ (es : List apart.ApartEvent). AreInOrder cfg.long_data cfg.channels es (apart_start cfg.long_data cfg.channels)) (sym (pair_same end n m session trace moves differs)) order
+      rw (pair_same end n m session trace moves differs) order
 
   -- where nothing is taken all are
   pub pair_goes_quietly : TakeNothing moves → (n m : ℕ) → PairIsInOrder cfg end trace n m → PairIsInOrder cfg end trace_on n m
   pair_goes_quietly nothing n m order = same_or_not n session
-      (λ (is : n ≡ session). subst (λ (k : ℕ). PairIsInOrder cfg end trace_on k m) (sym is)
-      (pair_goes m (subst (λ (k : ℕ). PairIsInOrder cfg end trace k m) is order) (nothing_goes cfg.long_data cfg.channels end moves (pair_ends cfg end session m trace) nothing)))
+      (λ (is : n ≡ session). rw is (pair_goes m (subst (λ (k : ℕ). PairIsInOrder cfg end trace k m) is order) (nothing_goes cfg.long_data cfg.channels end moves (pair_ends cfg end session m trace) nothing)))
       (λ (differs : n ≡ session → ⊥). pair_stays n m differs order)
 
   pub pairs_go_quietly : TakeNothing moves → (met : List Meeting) → PairsAreInOrder cfg end trace met → PairsAreInOrder cfg end trace_on met
@@ -177,7 +175,7 @@ module _ {since : Beginning} (laws : SessionLaws) (cfg : Cfg) (fine : IsConfigur
         append_cancel_left own_now.told (layer_notices step.entries) [] (sym a.layer.told ∙ leaves.told ∙ sym (append-nil own_now.told)) in
         subst (λ (os : List (List ℕ)). Goes since cfg end h.links gave (after_step (settings_from end cfg) w os step)) h.back
         (joins step h.links (alone w.near.link) world_on moves a.packets [] [] a.handed [] refl h.links.back (stays_goes (link_of cfg end) h.links w.near.link h.near.link) a.up a.up (a.puts asked_readable) a.layer near_on (ap (λ (e : layer.End). e.taken) (sym near_on) ∙ leaves.taken ∙ sym (append-nil own_now.taken))
-        a.plain a.kept ((octets, a.may), pulls_bring_octets cfg.wide end session a.channels) pair_on (subst (λ (l : List Came). AreTold l []) (sym a.alone) tt) gave (a.gives asked_readable) (λ k name. (let none = a.uncounted k name in omega (arith, none)))
+        a.plain a.kept ((octets, a.may), pulls_bring_octets cfg.wide end session a.channels) pair_on (rw a.alone tt) gave (a.gives asked_readable) (λ k name. (let none = a.uncounted k name in omega (arith, none)))
         may h.reach (λ none. nothing) (pairs_go_quietly laws cfg end h.trace session moves nothing h.links.met h.pairs) (λ n m has. has) (λ none. inl (refl, untold)))
 
   -- ---- without anything given
@@ -199,7 +197,7 @@ module _ {since : Beginning} (laws : SessionLaws) (cfg : Cfg) (fine : IsConfigur
         plain = subst ArePlain (sym granted.entries) (outcome_plain (layer_settings c) w.near.layer request _);
         alone = ap came_in granted.entries ∙ outcome_beside (layer_settings c) w.near.layer request _;
         uncounted = λ k name. ap (confirmed_in k name) granted.entries ∙ outcome_counts (layer_settings c) w.near.layer request _ k name;
-        gives = λ readable. subst (λ (l : List Came). AreSomeOf IsGiven l []) (sym (spelled_bring laws.stations cfg j.2.packets readable)) tt;
+        gives = λ readable. rw (spelled_bring laws.stations cfg j.2.packets readable) tt;
         kept = subst KeptBy is (laws.stations.request_keeps c w.near request h.near.kept);
       }
 
@@ -226,8 +224,8 @@ module _ {since : Beginning} (laws : SessionLaws) (cfg : Cfg) (fine : IsConfigur
       let granted = gave_granted c w.near g request step is in
       let now = h.near.now granted.is_up in
       let j = laws.stations.given c g w.near.link (apart.alone own_now []) request step now.out h.near.kept.few (ap (λ (l : Layer). gives c (station_with w.near.link l) g request) now.layer ∙ is) in
-      let taken = both_true c.wide (may_give g && suits g request) granted.is_taken in
-      let may = both_true (may_give g) (suits g request) taken.1 in
+      let taken = and_parts c.wide (may_give g && suits g request) granted.is_taken in
+      let may = and_parts (may_give g) (suits g request) taken.1 in
       let first = subst (λ (l : Layer). FirstMayGo g (channel_for (layer_of cfg end) l request) j.2.packets) now.layer
       (own_goes_first (layer_of cfg end) g own_now (waits w.near.link.outgoing == 256) request j.0 j.2.packets now.out may.1 granted.next granted.own
       (ap (λ (l : Layer). layer_outcome (layer_of cfg end) (waits w.near.link.outgoing == 256) l request) now.layer ∙ granted.accepted) j.2.layer.given) in

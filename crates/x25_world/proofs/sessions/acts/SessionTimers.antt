@@ -1,6 +1,6 @@
 -- Timer T1 runs out, the link is polled, connected, disconnected and set up anew, and octets on the line to an end are lost or damaged, over set-up
 -- and re-set-up.
-use Rattle.std.proofs.Common.{◌≡◌, ℕ, ◌+◌, List, [], ◌∷◌, Bool, true, false, ◌&&◌, ◌||◌, if◌then◌else◌, Option, Some, None, Result, Ok, refl, sym, ap, ◌∙◌, subst, arith, length, remove, nat_lt, Err}
+use Rattle.std.proofs.{Common.{◌≡◌, ℕ, ◌+◌, List, [], ◌∷◌, Bool, true, false, ◌&&◌, if◌then◌else◌, Option, Some, None, Result, Ok, refl, sym, ap, ◌∙◌, subst, arith, length, remove, nat_lt, Err}, lemmas.Bool.{cond_both, or_parts}}
 use Rattle.std.specs.List.{list_any}
 use Rattle.x25_bits.specs.{declared.role.Role.{Role}, declared.role.Role.TheVariants.{Dte, Dce}}
 use Rattle.x25_frame.specs.{Frame.{PlainFrame, sabm, ua}, Reading.{frame_of}, declared.error.FrameError.{FrameError}}
@@ -14,9 +14,9 @@ use Rattle.x25_station.specs.Entry.{connect_asked, relink_asked}
 use Rattle.x25_station.specs.Step.{Step, follows, led_by, fires, connects, connects_asked, disconnects, probes, relinks, unless}
 use Rattle.x25_station.specs.laws.KeepLaw.{IsKept, KeptBy, ConnectKeeps}
 use Rattle.x25_world.specs.{SetUp.{is_a, reads_as, carries}, declared.set_up.SetUpFrame.{SetUpFrame}, declared.set_up.SetUpFrame.TheVariants.{Sabm, Ua}}
-use Rattle.x25_world.specs.World.{World, Declined, Commands, Fires, of_station, refusal_of, is_on_line, fired, after, after_step, Happened, Loses, Damages, on_line, lost, damaged}
+use Rattle.x25_world.specs.World.{World, WorldOutcome, Declined, Commands, Fires, of_station, refusal_of, is_on_line, fired, after, after_step, Happened, Loses, Damages, on_line, lost, damaged}
 use Rattle.x25_world.specs.{laws.Claims.{link_of, IsNoConnect}, laws.LawsBelow.{SessionLaws}}
-use Rattle.x25_world.proofs.Known.{IsConfigured, true_false, second_false}
+use Rattle.x25_world.proofs.Known.{IsConfigured, true_false}
 use Rattle.x25_world.proofs.sessions.SessionReaches.{Beginning, set_up, MayAct, MayAsk, IsAt, may_ask, sessions_act, SessionsReach}
 use Rattle.x25_world.proofs.sessions.SessionJoined.{SessionsJoined, Goes, gave_none, stays, relined}
 use Rattle.x25_world.proofs.sessions.SessionFollows.{Lead, no_command, connect, disconnect, relink, lead_of, follows_silent}
@@ -34,12 +34,10 @@ left_joined : {since : Beginning} (cfg : Cfg) (end : Role) (w : World) (h : Sess
 left_joined cfg end w h es left same reach = record { joined = relined cfg end w h es left same reach; down = λ n. none_more cfg (h.links.near.down n) (h.links.near.down n) [] refl; far = refl }
 
 pub lost_joined : {since : Beginning} (cfg : Cfg) (end : Role) (w : World) (h : SessionsJoined since cfg end w) (place : ℕ) → IsAt since end (Loses place) → Goes since cfg end h.links gave_none (after w (lost w place))
-lost_joined {since} cfg end w h place is_at = by (nat_lt place (length w.back))
-  where
-    by : (b : Bool) → Goes since cfg end h.links gave_none (after w (if b then Happened (on_line w (remove w.back place)) else Declined error.NoSuchFrame))
-    by true = left_joined cfg end w h (remove h.links.back place) (remove w.back place) (sym (octets_removed h.links.back place) ∙ ap (λ (l : List (List ℕ)). remove l place) h.back)
-        (sessions_act cfg end (line.Lose place) h.links tt (λ off s same. tt) (may_ask end (Loses place) (line.Lose place) is_at refl) h.reach)
-    by false = stays cfg end w h gave_none
+lost_joined {since} cfg end w h place is_at = cond_both (nat_lt place (length w.back)) (Happened (on_line w (remove w.back place))) (Declined error.NoSuchFrame) (λ (o : WorldOutcome). Goes since cfg end h.links gave_none (after w o))
+    (λ _. left_joined cfg end w h (remove h.links.back place) (remove w.back place) (sym (octets_removed h.links.back place) ∙ ap (λ (l : List (List ℕ)). remove l place) h.back)
+    (sessions_act cfg end (line.Lose place) h.links tt (λ off s same. tt) (may_ask end (Loses place) (line.Lose place) is_at refl) h.reach))
+    (λ _. stays cfg end w h gave_none)
 
 pub damaged_joined : {since : Beginning} (cfg : Cfg) (end : Role) (w : World) (h : SessionsJoined since cfg end w) (place : ℕ) (octets : List ℕ) → IsAt since end (Damages place octets) → Goes since cfg end h.links gave_none (after w (damaged w place octets))
 damaged_joined {since} cfg end w h place octets is_at =
@@ -55,10 +53,6 @@ damaged_joined {since} cfg end w h place octets is_at =
 
 -- ---- frames of a set-up on the line
 
-first_false : (a b : Bool) → (a || b) ≡ false → a ≡ false
-first_false true b e = true_false e
-first_false false b e = refl
-
 not_sabm : (read : Result PlainFrame FrameError) → is_a Sabm read ≡ false → sabm_in read ≡ 0
 not_sabm (Ok (sabm p)) e = true_false e
 not_sabm (Err Short) e = refl
@@ -73,8 +67,8 @@ none_of : (frame : SetUpFrame) (count : Result PlainFrame FrameError → ℕ) �
     → carries frame from (octets_of es) ≡ false → how_many count from longest_packet es ≡ 0
 none_of frame count none from [] e = refl
 none_of frame count none from (x ∷ es) e =
-    let here = none (frame_of from longest_packet x.octets) (first_false (reads_as frame from x.octets) (list_any (reads_as frame from) (octets_of es)) e) in
-    let rest = none_of frame count none from es (second_false (reads_as frame from x.octets) (list_any (reads_as frame from) (octets_of es)) e) in
+    let here = none (frame_of from longest_packet x.octets) (or_parts (reads_as frame from x.octets) (list_any (reads_as frame from) (octets_of es)) e).0 in
+    let rest = none_of frame count none from es (or_parts (reads_as frame from x.octets) (list_any (reads_as frame from) (octets_of es)) e).1 in
     omega (arith, here, rest)
 
 only_second : (a b : Bool) → (a && b) ≡ false → a ≡ true → b ≡ false
@@ -123,8 +117,8 @@ module _ {since : Beginning} (laws : SessionLaws) (cfg : Cfg) (fine : IsConfigur
   is_timely : (awaits_ua w.near.link.phase && is_on_line (settings_from end cfg) w) ≡ false → IsTimely (link_of cfg end) (link_of cfg (other end)) line.T1 h.links
   is_timely off waiting =
       let clear : is_on_line (settings_from end cfg) w ≡ false = only_second (awaits_ua w.near.link.phase) _ off (ap (λ (s : LinkStation). awaits_ua s.phase) (sym h.near.link) ∙ ap awaits_ua waiting) in
-      let sabms : carries Sabm end (octets_of h.links.out) ≡ false = ap (λ (os : List (List ℕ)). carries Sabm end os) h.out ∙ first_false (carries Sabm end w.out) _ clear in
-      let uas : carries Ua (bits.other end) (octets_of h.links.back) ≡ false = ap (λ (os : List (List ℕ)). carries Ua (bits.other end) os) h.back ∙ second_false (carries Sabm end w.out) _ clear in
+      let sabms : carries Sabm end (octets_of h.links.out) ≡ false = ap (λ (os : List (List ℕ)). carries Sabm end os) h.out ∙ (or_parts (carries Sabm end w.out) _ clear).0 in
+      let uas : carries Ua (bits.other end) (octets_of h.links.back) ≡ false = ap (λ (os : List (List ℕ)). carries Ua (bits.other end) os) h.back ∙ (or_parts (carries Sabm end w.out) _ clear).1 in
       let a = none_of Sabm sabm_in not_sabm end h.links.out sabms in
       let b = none_of Ua ua_in not_ua (bits.other end) h.links.back uas in
       by end (omega (arith, a, b))
@@ -193,8 +187,7 @@ module _ {since : Beginning} (laws : SessionLaws) (cfg : Cfg) (fine : IsConfigur
           → Goes since cfg end h.links gave_none (after w (of_station (settings_from end cfg) w (unless o step)))
       by (Some e) is none = stays cfg end w h gave_none
       by None is none =
-          subst (λ (os : List (List ℕ)). Goes since cfg end h.links gave_none (after_step (settings_from end cfg) w os step)) h.back
-          (follows_silent laws cfg fine end w h relink h.links.back k (links.acts c line.Connect (links.acts c line.Abandon h.links)) h.links.met
+          rw (sym h.back) (follows_silent laws cfg fine end w h relink h.links.back k (links.acts c line.Connect (links.acts c line.Abandon h.links)) h.links.met
           (sessions_act cfg end line.Connect (links.acts c line.Abandon h.links) tt (λ free x same. absurd (none free)) (may_ask end (Commands Relinks) line.Connect is_at tt)
           (sessions_act cfg end line.Abandon h.links tt (λ off x same. tt) (may_ask end (Commands Relinks) line.Abandon is_at tt) h.reach))
           h.pairs (λ n m has. has) (laws.stations.relink_tells c w.near.link) (relink_goes laws.stations.relinks c h.links w.near.link h.near.link (relinks_in_up w.near.link.phase is)) refl refl

@@ -1,6 +1,6 @@
 -- Where a stretch is open, the sessions of both ends that stand meet each other; and where the one end is idle, all arrived.
 use Rattle.std.proofs.Common.{◌≡◌, ℕ, ◌≤◌, inl, inr, List, [], length, Bool, true, false, Some, refl, sym, ap, ◌∙◌, subst, arith, Option, None, if◌then◌else◌, ◌+◌, ◌==◌, zero, suc, nat_le}
-use Rattle.std.proofs.lemmas.Bool.{eqb-true, eq-eqb, leb-true}
+use Rattle.std.proofs.lemmas.Bool.{eqb-true, eq-eqb, leb-true, and_parts, true_from_ne_false}
 use Rattle.x25_bits.specs.{declared.role.Role.{Role}, declared.role.Role.TheVariants.{Dte, Dce}}
 use Rattle.x25_link.specs.{Hearing.{other}, Station.{LinkStation, is_up}}
 use Rattle.x25_line.specs.{laws.Sessions.{Meeting}, laws.SessionClaims.{EachMeetsLatest, IdleHasArrived}}
@@ -11,7 +11,7 @@ use Rattle.x25_layer.specs.code.FitsLayer.{waits_up_to}
 use Rattle.x25_station.specs.{declared.config.Cfg.{Cfg}, Config.{settings_from}, Station.{Station}, laws.KeepLaw.{IsKept}, Station.Told.{is_idle, stretch}}
 use Rattle.x25_world.specs.{World.{World, swapped}, laws.Sessions.{Progress, last_session, handed_in, meets}, laws.SessionClaims.{OpenStretchesMeet, AllArrive}}
 use Rattle.x25_world.specs.laws.LawsBelow.{SessionLaws}
-use Rattle.x25_world.proofs.{Known.{IsConfigured, both_true, true_false}, Growing.{all_read, as_read, none_read, as_many}}
+use Rattle.x25_world.proofs.{Known.{IsConfigured, true_false}, Growing.{all_read, as_read, none_read, as_many}}
 use Rattle.x25_world.proofs.{sessions.SessionTrace.{layer_of, Done, own_in, own}, sessions.SessionReaches.{Beginning, known_sessions}}
 use Rattle.x25_world.proofs.sessions.SessionJoined.{HasMet, PairIsInOrder, SessionsJoined, sessions_swapped}
 use Rattle.x25_world.proofs.sessions.SessionKnown.{some_map, met_in_order, of_either}
@@ -62,16 +62,16 @@ none_waits circuits (suc n) k none low high =
 -- ---- an end that is idle
 
 link_idle : (cfg : Cfg) (end : Role) (s : Station) → is_idle (settings_from end cfg) s ≡ true → link.is_idle s.link ≡ true
-link_idle cfg end s idle = (both_true (link.is_idle s.link) (waits_up_to s.layer.circuits cfg.channels.count == 0) idle).0
+link_idle cfg end s idle = (and_parts (link.is_idle s.link) (waits_up_to s.layer.circuits cfg.channels.count == 0) idle).0
 
 -- between an idle end and the other one, where all that its link was handed down arrived, and the same stretch is open at both
 idle_between : (cfg : Cfg) (end : Role) (s t : Station) (giver taker : layer.End) (k : ℕ) (name : Name) → giver.layer ≡ s.layer → taker.layer ≡ t.layer → is_idle (settings_from end cfg) s ≡ true
     → stretch (settings_from end cfg) s k ≡ Some name → stretch (settings_from (other end) cfg) t k ≡ Some name → as_read taker.taken ≡ as_read giver.given → IsIdleTo k giver taker (length giver.given)
 idle_between cfg end s t giver taker k name of_giver of_taker idle here there all =
-    let both = both_true (link.is_idle s.link) (waits_up_to s.layer.circuits cfg.channels.count == 0) idle in
+    let both = and_parts (link.is_idle s.link) (waits_up_to s.layer.circuits cfg.channels.count == 0) idle in
     let opened = stretch_of cfg.channels s.layer k name here in
     let opened_there = stretch_of cfg.channels t.layer k name there in
-    let bounds = both_true (nat_le 1 k) (nat_le k cfg.channels.count) opened.channel in
+    let bounds = and_parts (nat_le 1 k) (nat_le k cfg.channels.count) opened.channel in
     let none : waits (s.layer.circuits k) ≡ 0 =
     none_waits s.layer.circuits cfg.channels.count k (eqb-true (waits_up_to s.layer.circuits cfg.channels.count) 0 both.1) (leb-true 1 k bounds.0) (leb-true k cfg.channels.count bounds.1) in
     let count : length taker.taken ≡ length giver.given = as_many taker.taken giver.given all in
@@ -92,14 +92,10 @@ not_both s free opened = absurd (cc)
 
 -- the link is up
 pub up_where_open : (s : Station) (k : ℕ) → IsKept s → is_open (s.layer.circuits k) ≡ true → is_up s.link.phase ≡ true
-up_where_open s k kept opened = by (is_up s.link.phase) refl
+up_where_open s k kept opened = true_from_ne_false (is_up s.link.phase) (λ off. rested_not (ap (λ (l : Layer). is_open (l.circuits k)) (sym (kept.rests off)) ∙ opened))
   where
     rested_not : is_open ((rested s.layer).circuits k) ≡ true → ⊥
     rested_not e = cc
-
-    by : (b : Bool) → is_up s.link.phase ≡ b → b ≡ true
-    by true is = refl
-    by false is = absurd (rested_not (ap (λ (l : Layer). is_open (l.circuits k)) (sym (kept.rests is)) ∙ opened))
 
 -- ---- of two layers in order
 
@@ -150,7 +146,7 @@ module _ (laws : SessionLaws) (cfg : Cfg) (fine : IsConfigured cfg) where
       standing m same told met low = record {
         up = up;
         told = told ∙ ap (λ (x : ℕ). Some x) same;
-        has_met = subst (λ (x : ℕ). HasMet n x h.links.met) same met;
+        has_met = rw (sym same) met;
         begun = (h.near.first up, subst (λ (x : ℕ). 1 ≤ x) same low);
       }
 
@@ -163,7 +159,7 @@ module _ (laws : SessionLaws) (cfg : Cfg) (fine : IsConfigured cfg) where
   latest_meet : {since : Beginning} (end : Role) (w : World) (h : SessionsJoined since cfg end w) (k : ℕ) (name : Name) → stretch (settings_from end cfg) w.near k ≡ Some name
       → meets end (last_session end w) w.transcript ≡ Some (last_session (other end) w)
   latest_meet end w h k name here =
-      subst (λ (n : ℕ). meets end n w.transcript ≡ Some (last_session (other end) w)) (latest_near end w h) ((meet_from end w h k name here).told ∙ ap (λ (m : ℕ). Some m) (latest_far end w h))
+      rw (sym (latest_near end w h)) ((meet_from end w h k name here).told ∙ ap (λ (m : ℕ). Some m) (latest_far end w h))
 
   pub open_stretches_meet : {since : Beginning} (w : World) → SessionsJoined since cfg Dte w → OpenStretchesMeet cfg w
   open_stretches_meet w h Dte channel there name name_there here at_other = latest_meet Dte w h channel name here
@@ -190,8 +186,7 @@ module _ (laws : SessionLaws) (cfg : Cfg) (fine : IsConfigured cfg) where
       let order = met_in_order cfg end h.trace h.links.met n m h.pairs stands.has_met in
       let has_all = own_arrives laws cfg end n m h.trace order k (length giver.given) (idle_between cfg end w.near w.far giver taker k name of_giver of_taker idle here there all) in
       subst (λ (x : ℕ). HasAllOf k name (handed_in end x w) (handed_in (other end) (last_session (other end) w) w)) (latest_near end w h)
-      (subst (λ (x : ℕ). HasAllOf k name (handed_in end n w) (handed_in (other end) x w)) (latest_far end w h)
-      (subst (λ (x : Name). HasAllOf k x (handed_in end n w) (handed_in (other end) m w)) named
+      (rw (sym (latest_far end w h)) (subst (λ (x : Name). HasAllOf k x (handed_in end n w) (handed_in (other end) m w)) named
       (subst (λ (es : List Entry). HasAllOf k (name_of giver.layer k) es (handed_in (other end) m w)) near_session.entries
       (subst (λ (es : List Entry). HasAllOf k (name_of giver.layer k) giver.entries es) far_session.entries has_all))))
 

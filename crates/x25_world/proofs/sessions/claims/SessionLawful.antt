@@ -24,7 +24,6 @@ use Rattle.x25_world.proofs.{sessions.claims.SessionMeets.{told_met, unmet_up, b
 use Rattle.x25_world.proofs.sessions.SessionBeside.{brought, brought_append, AreTold, MoreIs, some_begin, some_of_same, some_of_none}
 use Rattle.x25_world.proofs.{sessions.SessionRuns.{RunGoes, throughout_goes}, sessions.SessionCounts.{counted_in, none_counted}}
 use Rattle.x25_world.proofs.sessions.SessionConfirms.{up_of, confirms}
-use Rattle.x25_layer.specs.laws.TwoLayers as layer
 
 -- ---- which session
 
@@ -105,8 +104,7 @@ module _ (laws : SessionLaws) (cfg : Cfg) (fine : IsConfigured cfg) where
       let here = h.near.sessions n met.near.0 met.near.1 in
       let there = h.far.sessions m met.far.0 met.far.1 in
       subst (λ (e : List Entry). HandsUpLawfully e (handed_in (other end) m w)) here.entries
-      (subst (λ (f : List Entry). HandsUpLawfully (own cfg end n h.trace).entries f) there.entries
-      (own_lawful laws cfg end n m h.trace (met_in_order cfg end h.trace h.links.met n m h.pairs met.has_met)))
+      (rw (sym there.entries) (own_lawful laws cfg end n m h.trace (met_in_order cfg end h.trace h.links.met n m h.pairs met.has_met)))
 
   pub are_lawful : {since : Beginning} (w : World) → SessionsJoined since cfg Dte w → AreLawfulWhereMet cfg w
   are_lawful w h Dte n m told = lawful_from Dte w h n m told
@@ -157,18 +155,18 @@ begin_given : (cfg : Cfg) (told : List Came) (up down : List (List ℕ)) (gave :
 begin_given cfg told up down gave tells begins given =
     some_of_same IsGiven told (brought cfg up) gave tells
     (some_begin IsGiven (brought cfg up) (brought cfg begins.0) gave
-    (subst (λ (l : List Came). AreSomeOf IsGiven l gave) (brought_append cfg up begins.0) (subst (λ (os : List (List ℕ)). AreSomeOf IsGiven (brought cfg os) gave) (sym begins.1) given)))
+    (rw (sym (brought_append cfg up begins.0)) (subst (λ (os : List (List ℕ)). AreSomeOf IsGiven (brought cfg os) gave) (sym begins.1) given)))
 
 -- all that was handed down in a session that had nothing
 all_given : (cfg : Cfg) (down : List (List ℕ)) (gave : List Gave) → MoreIs cfg [] down gave → AreSomeOf IsGiven (brought cfg down) gave
-all_given cfg down gave m = subst (λ (os : List (List ℕ)). AreSomeOf IsGiven (brought cfg os) gave) (sym m.is) m.given
+all_given cfg down gave m = rw m.is m.given
 
 module _ (laws : SessionLaws) (cfg : Cfg) (fine : IsConfigured cfg) {since : Beginning} (end : Role) (w : World) (h : SessionsJoined since cfg end w) where
   given_from : (n m : ℕ) (gave : List Gave) → AreSomeOf IsGiven (brought cfg (h.links.far.down m)) gave → meets end n w.transcript ≡ Some m → AreSomeOf IsGiven (came_in (session_at end n w.transcript)) gave
   given_from n m gave given told =
       let met = meets_begun laws cfg fine end w h n m told in
       let begins = all_some (IsInOrder h.links.near h.links.far) (λ (p : Meeting). (p.near ≡ n) × (p.far ≡ m)) (IsPrefix (h.links.near.up n) (h.links.far.down m))
-      (λ (p : Meeting) order is. subst (λ (k : ℕ). IsPrefix (h.links.near.up k) (h.links.far.down m)) is.0 (subst (λ (k : ℕ). IsPrefix (h.links.near.up p.near) (h.links.far.down k)) is.1 order.back))
+      (λ (p : Meeting) order is. rw (sym is.0) (subst (λ (k : ℕ). IsPrefix (h.links.near.up p.near) (h.links.far.down k)) is.1 order.back))
       h.links.met (known_sessions MetAreInOrder laws.order cfg fine end h.links h.reach) met.has_met in
       begin_given cfg (came_in (session_at end n w.transcript)) (h.links.near.up n) (h.links.far.down m) gave (h.near.sessions n met.near.0 met.near.1).beside begins given
 
@@ -204,14 +202,12 @@ module _ (laws : SessionLaws) (cfg : Cfg) (k : ℕ) (name : Name) where
 
   pair_confirms : (end : Role) (n m : ℕ) (trace : List Done) → PairIsInOrder cfg end trace n m → counted_at_end end (own_in end n trace) ≤ up_of k name (here_in (other end) (pair_ends cfg end n m trace))
   pair_confirms Dte n m trace order =
-      subst (λ (l : List OwnMove). counted_at_end Dte l ≤ up_of k name (pair_ends cfg Dte n m trace).far) (moves_of_pair (numbers n m) Dte trace)
-      (confirms cfg.long_data cfg.channels laws.behind (laws.layers_acknowledged cfg.long_data cfg.channels) k name Dte (pair_at Dte n m trace) order)
+      rw (sym (moves_of_pair (numbers n m) Dte trace)) (confirms cfg.long_data cfg.channels laws.behind (laws.layers_acknowledged cfg.long_data cfg.channels) k name Dte (pair_at Dte n m trace) order)
   pair_confirms Dce n m trace order =
-      subst (λ (l : List OwnMove). counted_at_end Dce l ≤ up_of k name (pair_ends cfg Dce n m trace).near) (moves_of_pair (numbers m n) Dce trace)
-      (confirms cfg.long_data cfg.channels laws.behind (laws.layers_acknowledged cfg.long_data cfg.channels) k name Dce (pair_at Dce n m trace) order)
+      rw (sym (moves_of_pair (numbers m n) Dce trace)) (confirms cfg.long_data cfg.channels laws.behind (laws.layers_acknowledged cfg.long_data cfg.channels) k name Dce (pair_at Dce n m trace) order)
 
   own_confirms : (end : Role) (n m : ℕ) (trace : List Done) → PairIsInOrder cfg end trace n m → counted_at_end end (own_in end n trace) ≤ up_of k name (own cfg (other end) m trace)
-  own_confirms end n m trace order = subst (λ (e : layer.End). counted_at_end end (own_in end n trace) ≤ up_of k name e) (there_is laws cfg end n m trace) (pair_confirms end n m trace order)
+  own_confirms end n m trace order = rw (sym (there_is laws cfg end n m trace)) (pair_confirms end n m trace order)
 
 module _ (laws : SessionLaws) (cfg : Cfg) (fine : IsConfigured cfg) {since : Beginning} (end : Role) (w : World) (h : SessionsJoined since cfg end w) where
   confirmed_from : (n m : ℕ) → meets end n w.transcript ≡ Some m → (k : ℕ) (name : Name)

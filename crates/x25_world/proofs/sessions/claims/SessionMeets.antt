@@ -1,5 +1,5 @@
 -- Sessions that meet by the transcript meet in step, as those of the two links do.
-use Rattle.std.proofs.Common.{◌≡◌, ℕ, ◌≤◌, ◌<◌, ◌⊎◌, inl, inr, List, [], ◌∷◌, Option, Some, None, sym, ap, ◌∙◌, subst, arith}
+use Rattle.std.proofs.{Common.{◌≡◌, ℕ, ◌≤◌, ◌<◌, ◌⊎◌, inl, inr, List, [], ◌∷◌, Option, Some, None, sym, ap, ◌∙◌, arith}, lemmas.Option.{none-some}}
 use Rattle.x25_bits.specs.{declared.role.Role.{Role}, declared.role.Role.TheVariants.{Dte, Dce}}
 use Rattle.x25_link.specs.Hearing.{other}
 use Rattle.x25_line.specs.{laws.Sessions.{Meeting}, laws.SessionClaims.{Each, IsNoEarlier, InStep, OnlyBegunHaveLists}}
@@ -60,25 +60,19 @@ pub record MetBegun (Met : Type 0) (n m : ℕ) : Type 0 where
 
 -- nothing is handed up in a session that meets none
 pub unmet_up : (Met : ℕ → ℕ → Type 0) (n : ℕ) (up : List (List ℕ)) (met : Option ℕ) → Hears Met n up met → met ≡ None → up ≡ []
-unmet_up Met n up met h unmet = elim h [ inl none ↦ none.0 | inr one ↦ absurd (never one.session (sym unmet ∙ one.told)) ]
-  where
-    never : (m : ℕ) → None ≡ Some m → ⊥
-    never m e = cc
+unmet_up Met n up met h unmet = elim h [ inl none ↦ none.0 | inr one ↦ absurd (none-some one.session (sym unmet ∙ one.told)) ]
 
 pub told_met : (Met : ℕ → ℕ → Type 0) (n m : ℕ) (up : List (List ℕ)) (met : Option ℕ) → Hears Met n up met → met ≡ Some m → MetBegun (Met n m) n m
 told_met Met n m up met hears some = elim hears [
-  | inl none ↦ absurd (never (sym none.1 ∙ some))
+  | inl none ↦ absurd (none-some m (sym none.1 ∙ some))
   | inr one ↦ of_same one.session (some_is one.session m (sym one.told ∙ some)) (record { has_met = one.has_met; begun = one.begun })
 ]
   where
-    never : None ≡ Some m → ⊥
-    never e = cc
-
     some_is : (a b : ℕ) → Some a ≡ Some b → a ≡ b
     some_is a b e = cc
 
     of_same : (a : ℕ) → a ≡ m → MetBegun (Met n a) n a → MetBegun (Met n m) n m
-    of_same a same h = subst (λ (b : ℕ). MetBegun (Met n b) n b) same h
+    of_same a same h = rw (sym same) h
 
 module _ {since : Beginning} (laws : SessionLaws) (cfg : Cfg) (fine : IsConfigured cfg) (w : World) (h : SessionsJoined since cfg Dte w) where
   met_by_links : (end : Role) (n m : ℕ) → meets end n w.transcript ≡ Some m → MetBegun (HasMetAt end n m h.links.met) n m

@@ -1,11 +1,10 @@
 -- Over set-up and re-set-up no error of procedure is ever put on the line, or told to a user.
-use Rattle.std.proofs.Common.{◌≡◌, ℕ, zero, suc, List, [], ◌∷◌, Result, Ok, Contains, sym, subst, arith, ◌≤◌, ◌<◌, ◌⊎◌, inl, inr}
+use Rattle.std.proofs.Common.{◌≡◌, ℕ, zero, suc, List, [], ◌∷◌, Ok, Contains, sym, subst, arith, ◌≤◌, ◌<◌, ◌⊎◌, inl, inr}
 use Rattle.std.proofs.lemmas.List.Elements.{All-nil}
 use Rattle.x25_bits.specs.{declared.role.Role.{Role}, declared.role.Role.TheVariants.{Dte, Dce}}
 use Rattle.x25_frame.specs.{Frame.{PlainFrame, info, frmr}, Spelling.{spelling_of, information_of}, Reading.{frame_of}, laws.ReadingLaw.{ReadsSpelled}}
-use Rattle.x25_frame.specs.declared.error.FrameError.{FrameError}
-use Rattle.x25_packet.specs.{Packet.{PlainPacket}, declared.error.PacketError.{PacketError}}
-use Rattle.x25_line.specs.{laws.StationClaims.{NoFrmr, IsWhole, AreWhole}, laws.Sessions.{Sessions}}
+use Rattle.x25_packet.specs.{Packet.{PlainPacket}}
+use Rattle.x25_line.specs.{laws.StationClaims.{NoFrmr, IsWhole, AreWhole}}
 use Rattle.x25_line.specs.laws.SessionClaims.{OnlyBegunHaveLists, NoSessionSendsFrmr, AllSessionsSendWhole}
 use Rattle.x25_layer.specs.laws.Quiet.{AreQuiet, AreNoFaults}
 use Rattle.x25_station.specs.{Config.{longest_packet}, declared.config.Cfg.{Cfg}, Entry.{layer_notices}, laws.ReadLaw.{AreOctets}}
@@ -22,7 +21,7 @@ abbrev IsQuietOctets : Cfg → List ℕ → Type 0
 IsQuietOctets cfg octets = IsQuietRead cfg.channels (read_by cfg octets)
 
 quiet_one : (cfg : Cfg) (o : List ℕ) (down : List (List ℕ)) (p : PlainPacket) (ps : List PlainPacket) → AreQuiet cfg.channels (p ∷ ps) → all_read cfg (o ∷ down) ≡ as_read (p ∷ ps) → IsQuietOctets cfg o
-quiet_one cfg o down p ps quiet reads = subst (λ (r : Result PlainPacket PacketError). IsQuietRead cfg.channels r) (sym (first_read (read_by cfg o) (Ok p) (all_read cfg down) (as_read ps) reads)) quiet.0
+quiet_one cfg o down p ps quiet reads = rw (first_read (read_by cfg o) (Ok p) (all_read cfg down) (as_read ps) reads) quiet.0
 
 quiet_octets : (cfg : Cfg) (down : List (List ℕ)) (ps : List PlainPacket) → AreQuiet cfg.channels ps → all_read cfg down ≡ as_read ps → AllAreOctets down → (octets : List ℕ) → Contains down octets → IsQuietOctets cfg octets
 quiet_octets cfg [] ps quiet reads all octets (k, low, is) = absurd (omega (arith, low))
@@ -43,8 +42,7 @@ quiet_frame cfg given quiet f fs whole none = (tt, none)
 quiet_read : ReadsSpelled → (cfg : Cfg) (from : Role) (given : List (List ℕ)) (f : PlainFrame) (octets : List ℕ) → IsWhole longest_packet given f → octets ≡ spelling_of from f → IsQuietFrame cfg (Ok f)
     → IsQuietFrame cfg (frame_of from longest_packet octets)
 quiet_read reads cfg from given f octets whole is quiet =
-    subst (λ (r : Result PlainFrame FrameError). IsQuietFrame cfg r)
-    (sym (reads from longest_packet f octets (record { in_range = whole.in_range; carries = whole.carries; within = whole.within; spelling = is }))) quiet
+    rw (reads from longest_packet f octets (record { in_range = whole.in_range; carries = whole.carries; within = whole.within; spelling = is })) quiet
 
 quiet_tap : ReadsSpelled → (cfg : Cfg) (given : List (List ℕ)) → ((octets : List ℕ) → Contains given octets → IsQuietOctets cfg octets) → (tap : List OnTap) (fs : List PlainFrame) → AreOnTap tap fs
     → AreWhole longest_packet given fs → NoFrmr fs → IsQuietTap cfg tap
@@ -74,7 +72,7 @@ module _ (laws : SessionLaws) (cfg : Cfg) (fine : IsConfigured cfg) where
     where
       nothing_down : (n ≡ 0) ⊎ (h.links.near.begun < n) → h.links.near.down n ≡ []
       nothing_down never = elim never [
-        | inl zeroth ↦ subst (λ (k : ℕ). h.links.near.down k ≡ []) (sym zeroth) h.near.before.0
+        | inl zeroth ↦ rw zeroth h.near.before.0
         | inr later ↦ ((known_sessions OnlyBegunHaveLists laws.begun cfg fine end h.links h.reach).near n later).0
       ]
 
@@ -88,7 +86,7 @@ module _ (laws : SessionLaws) (cfg : Cfg) (fine : IsConfigured cfg) where
       → ((n : ℕ) × Contains (h.links.near.down n) octets) ⊎ ((n : ℕ) × Contains (h.links.far.down n) octets) → P octets
   held_of_given P holds w h octets down = elim down [
     | inl near ↦ held_from P holds Dte w h near.0 octets near.1
-    | inr far ↦ held_from P holds Dce (swapped w) (sessions_swapped cfg Dte w h) far.0 octets (subst (λ (v : Sessions). Contains (v.near.down far.0) octets) (sym (links_swapped cfg Dte w h)) far.1)
+    | inr far ↦ held_from P holds Dce (swapped w) (sessions_swapped cfg Dte w h) far.0 octets (rw (links_swapped cfg Dte w h) far.1)
   ]
 
   -- ---- of a world

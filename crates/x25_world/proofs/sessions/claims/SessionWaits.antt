@@ -1,6 +1,6 @@
 -- Where both links are idle, and a pull at the one end changes nothing, what waits in an open stretch there waits for the user at the other end.
 use Rattle.std.proofs.Common.{◌≡◌, ℕ, ◌+◌, ◌<◌, inr, List, [], ◌∷◌, ◌++◌, length, Bool, true, false, Some, None, if◌then◌else◌, ◌==◌, ◌&&◌, refl, sym, ap, subst, ◌∙◌, arith, length-append}
-use Rattle.std.proofs.lemmas.Bool.{eqb-true}
+use Rattle.std.proofs.lemmas.Bool.{eqb-true, and_parts}
 use Rattle.x25_bits.specs.{declared.role.Role.{Role}, declared.role.Role.TheVariants.{Dte, Dce}}
 use Rattle.x25_packet.specs.Packet.{PlainPacket}
 use Rattle.x25_link.specs.{Hearing.{other}, Link.{alone}, Station.{LinkStation, is_up}}
@@ -16,7 +16,7 @@ use Rattle.x25_station.specs.{Station.{Station, all_put, view_of}, Step.{did, re
 use Rattle.x25_world.specs.{World.{World, swapped, WorldOutcome, Happened, Declined, of_station, swapped_back, after}, laws.Sessions.{last_session, handed_in}}
 use Rattle.x25_world.specs.laws.WaitClaims.{WaitsForUser, Arrived, NotReady, MessagesWaitForUsers, ClosedKeepNone, PullsLeaveNone, UnpulledWaitForUsers}
 use Rattle.x25_world.specs.laws.LawsBelow.{SessionLaws}
-use Rattle.x25_world.proofs.{Known.{IsConfigured, both_true, true_false}, Growing.{all_read, as_read, as_many}, sessions.SessionTrace.{layer_of, Done, own}}
+use Rattle.x25_world.proofs.{Known.{IsConfigured, true_false}, Growing.{all_read, as_read, as_many}, sessions.SessionTrace.{layer_of, Done, own}}
 use Rattle.x25_world.proofs.{sessions.SessionReaches.{Beginning, known_sessions}, sessions.SessionJoined.{PairIsInOrder, SessionsJoined, sessions_swapped}}
 use Rattle.x25_world.proofs.{sessions.SessionKnown.{some_map, met_in_order, of_either}, sessions.acts.SessionRequests.{session_pair}}
 use Rattle.x25_world.proofs.sessions.claims.SessionArrives.{stretch_of, name_if, open_if, meet_from, latest_near, latest_far}
@@ -31,7 +31,7 @@ use Rattle.x25_layer.specs.laws.WaitLaw as wait
 -- a link that is idle has room
 idle_has_room : (s : LinkStation) → link.is_idle s ≡ true → outgoing.waits s.outgoing < 8
 idle_has_room s idle =
-    let none = eqb-true (outgoing.waits s.outgoing) 0 (both_true (outgoing.waits s.outgoing == 0) (s.outgoing.acked == s.outgoing.sent) (both_true (is_up s.phase) (outgoing.waits s.outgoing == 0 && s.outgoing.acked == s.outgoing.sent) idle).1).0 in
+    let none = eqb-true (outgoing.waits s.outgoing) 0 (and_parts (outgoing.waits s.outgoing == 0) (s.outgoing.acked == s.outgoing.sent) (and_parts (is_up s.phase) (outgoing.waits s.outgoing == 0 && s.outgoing.acked == s.outgoing.sent) idle).1).0 in
     omega (arith, none)
 
 abbrev layer_after : Layer → WorldOutcome → Layer
@@ -89,7 +89,7 @@ module _ (laws : SessionLaws) (waits_law : LayersWait) (cfg : Cfg) (fine : IsCon
       let stands = meet_from laws cfg fine end w h k name here in
       let shown = stretch_of cfg.channels w.near.layer k name here in
       let at = h.near.now stands.up in
-      let up_there = (both_true (is_up w.far.link.phase) (outgoing.waits w.far.link.outgoing == 0 && w.far.link.outgoing.acked == w.far.link.outgoing.sent) idle_there).0 in
+      let up_there = (and_parts (is_up w.far.link.phase) (outgoing.waits w.far.link.outgoing == 0 && w.far.link.outgoing.acked == w.far.link.outgoing.sent) idle_there).0 in
       let at_there = h.far.now up_there in
       let near_session = h.near.sessions n stands.begun.0 (omega arith) in
       let far_session = h.far.sessions m stands.begun.1 (omega arith) in
@@ -102,7 +102,7 @@ module _ (laws : SessionLaws) (waits_law : LayersWait) (cfg : Cfg) (fine : IsCon
       let all_back : as_read giver.taken ≡ as_read taker.given = sym near_session.up ∙ ap (all_read cfg) arrived_back ∙ far_session.down in
       let order = met_in_order cfg end h.trace h.links.met n m h.pairs stands.has_met in
       let what = own_waits laws waits_law cfg end n m h.trace order at.out at_there.out (as_many taker.taken giver.given all) (as_many giver.taken taker.given all_back)
-      (subst (λ (l : Layer). PullsNone (layer_of cfg end) l) (sym at.layer) none) k shown.channel in
+      (rw at.layer none) k shown.channel in
       shows at.layer at_there.layer shown.channel shown.opened shown.named what near_session.entries far_session.entries
     where
       n : ℕ
@@ -128,8 +128,7 @@ module _ (laws : SessionLaws) (waits_law : LayersWait) (cfg : Cfg) (fine : IsCon
       has_all : giver.layer ≡ w.near.layer → name_of w.near.layer k ≡ name → giver.entries ≡ handed_in end n w → taker.entries ≡ handed_in (other end) m w → HasAllOf k (name_of giver.layer k) giver.entries taker.entries
           → HasAllOf k name (handed_in end (last_session end w) w) (handed_in (other end) (last_session (other end) w) w)
       has_all of_giver named down up all =
-          subst (λ (x : ℕ). HasAllOf k name (handed_in end x w) (handed_in (other end) (last_session (other end) w) w)) (latest_near laws cfg fine end w h)
-          (subst (λ (x : ℕ). HasAllOf k name (handed_in end n w) (handed_in (other end) x w)) (latest_far laws cfg fine end w h)
+          rw (sym (latest_near laws cfg fine end w h)) (subst (λ (x : ℕ). HasAllOf k name (handed_in end n w) (handed_in (other end) x w)) (latest_far laws cfg fine end w h)
           (subst (λ (x : Name). HasAllOf k x (handed_in end n w) (handed_in (other end) m w)) (ap (λ (l : Layer). name_of l k) of_giver ∙ named)
           (subst (λ (es : List Entry). HasAllOf k (name_of giver.layer k) es (handed_in (other end) m w)) down
           (subst (λ (es : List Entry). HasAllOf k (name_of giver.layer k) giver.entries es) up all))))
@@ -233,7 +232,7 @@ near_left law c w idle ready = by_up _ (is_up w.near.link.phase) refl idle ready
         → Left entries (if b then went view (layer_settings c) (layer_outcome (layer_settings c) (view.waits [] == 256) w.near.layer PullsAll) else Refuses error.NotUp)
     by_up entries true up = by_ready entries w.near.layer.restarting refl
     by_up entries false down = λ idle ready.
-        absurd (true_false (sym (both_true (is_up w.near.link.phase) (outgoing.waits w.near.link.outgoing == 0 && w.near.link.outgoing.acked == w.near.link.outgoing.sent) idle).0 ∙ down))
+        absurd (true_false (sym (and_parts (is_up w.near.link.phase) (outgoing.waits w.near.link.outgoing == 0 && w.near.link.outgoing.acked == w.near.link.outgoing.sent) idle).0 ∙ down))
 
 pub pulls_leave_none : RoundsLeaveNone → PullsLeaveNone
 pulls_leave_none law cfg w Dte idle ready = near_left law (settings_from Dte cfg) w idle ready

@@ -1,5 +1,6 @@
 use Rattle.std.proofs.Common.{ap, sym, subst, ◌∙◌}
 use Rattle.x25_circuit.specs.Calling.{Pulled}
+use Rattle.x25_circuit.specs.code.PartialMessage.{ShownPartial}
 use Rattle.x25_circuit.specs.code.FitsCircuit.{FitsCircuit}
 use Rattle.x25_circuit.proofs.PullLemmas.{own_talk, pulls_empty, advances_next, advances_packet}
 use Rattle.x25_circuit.proofs.circuit.Circuit.advance.Goals as goal
@@ -10,6 +11,7 @@ returns-in-Open-clause-next c = λ d x fits.
     let window = c.outgoing-terms.ensures.window d x fits in
     let talk = own_talk d c.args.self.now x c.outgoing-terms.result fits size in
     advances_next d c.args.self.now x c.outgoing-terms.result c.advance.new.self _ c.advance.result fits c.in-Open.is window size (c.advance.ensures.some x.talk talk) (c.advance.ensures.none x.talk talk) (c.advance.ensures.held x.talk talk)
+    (ap (λ (p : ShownPartial). p.longest) c.advance.ensures.partial)
 
 pub returns-in-Open-clause-packet : goal.returns-in-Open-clause-packet
 returns-in-Open-clause-packet c = λ d x fits.

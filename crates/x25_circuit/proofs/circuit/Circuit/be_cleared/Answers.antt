@@ -8,6 +8,7 @@ returns c = record {
       record {
         role = now.role;
         long_data = now.long_data;
+        longest = now.longest;
         state = now.state;
         clears = add-one _ ∙ ap suc now.clears;
         resets = refl;

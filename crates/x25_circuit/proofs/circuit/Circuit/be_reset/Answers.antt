@@ -8,6 +8,7 @@ returns c = record {
       record {
         role = now.role;
         long_data = now.long_data;
+        longest = now.longest;
         state = now.state;
         clears = now.clears;
         resets = add-one _ ∙ ap suc now.resets;

@@ -57,7 +57,7 @@ returns-in_err-make c = record {
 pub returns : goal.returns
 returns c = record {
   outcome = λ d x fits.
-      let made = with_transfer d c.args.self.now x _ _ _ fits (c.make.ensures.fits (outgoing x).size x.talk fits.talk) in
+      let made = with_transfer d c.args.self.now x _ _ _ fits (c.make.ensures.fits (outgoing x).size x.talk fits.talk) c.make.ensures.longest in
       let said = c.in_ok-fields.ensures in
       let may = subst (λ (b : Bool). may_call b c.args.called.now c.args.calling.now c.args.user.now c.args.proposal.now.params ≡ true) fits.long_data
       (subst (λ (p : Params). may_call c.args.self.now.long_data c.args.called.now c.args.calling.now c.args.user.now p ≡ true) c.params.ensures said.may_call) in

@@ -1,4 +1,4 @@
-use Rattle.std.proofs.Common.{refl}
+use Rattle.std.proofs.Common.{refl, ◌∙◌}
 use Rattle.x25_circuit.specs.Circuit.{entered, outgoing}
 use Rattle.x25_circuit.proofs.circuit.Circuit.enter.Goals as goal
 
@@ -7,6 +7,7 @@ returns-clause-fits c = λ d x fits.
     record {
       role = fits.role;
       long_data = fits.long_data;
+      longest = c.clear.ensures.longest ∙ fits.longest;
       state = refl;
       clears = fits.clears;
       resets = fits.resets;

@@ -1,6 +1,6 @@
 use Rattle.std.proofs.Common.{rules, sym, ◌∙◌}
 use Rattle.x25_circuit.specs.Circuit.{outgoing}
-use Rattle.x25_circuit.proofs.TalkLemmas.{with_transfer, same_transfer, peer_fits}
+use Rattle.x25_circuit.proofs.TalkLemmas.{with_transfer, same_longest, same_transfer, peer_fits}
 use Rattle.x25_circuit.proofs.circuit.Circuit.hear_status.Goals as goal
 
 pub returns-then-not-ack : goal.returns-then-not-ack
@@ -15,7 +15,7 @@ pub returns : goal.returns
 returns c = record {
   next = λ d x fits.
       let acked = c.ack.ensures.fits (outgoing x).size x.talk fits.talk c.if-not-ack.false in
-      rw (sym (c.ack.ensures.valid (outgoing x).size x.talk fits.talk) ∙ c.if-not-ack.false) (with_transfer d c.args.self.now x _ _ _ fits (peer_fits (outgoing x).size c.ack.new.self _ c.args.is_ready acked));
+      rw (sym (c.ack.ensures.valid (outgoing x).size x.talk fits.talk) ∙ c.if-not-ack.false) (with_transfer d c.args.self.now x _ _ _ fits (peer_fits (outgoing x).size c.ack.new.self _ c.args.is_ready acked) (same_longest _ _ c.ack.ensures.partial));
   says = λ d x fits. rw (sym (c.ack.ensures.valid (outgoing x).size x.talk fits.talk) ∙ c.if-not-ack.false) c.nothing.ensures.says;
   range = search rules;
   handed = search rules;

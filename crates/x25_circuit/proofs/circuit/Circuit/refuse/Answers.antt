@@ -1,6 +1,6 @@
 use Rattle.std.proofs.Common.{rules, sym, ◌∙◌}
 use Rattle.x25_circuit.specs.Circuit.{outgoing}
-use Rattle.x25_circuit.proofs.TalkLemmas.{with_transfer, same_transfer}
+use Rattle.x25_circuit.proofs.TalkLemmas.{with_transfer, same_longest, same_transfer}
 use Rattle.x25_circuit.proofs.circuit.Circuit.refuse.Goals as goal
 
 pub returns-then-not-ack : goal.returns-then-not-ack
@@ -13,8 +13,8 @@ returns-then-not-ack c = record {
 
 pub returns : goal.returns
 returns c = record {
-  next = λ d x fits. c.reset_for-2.ensures.next d _ (with_transfer d c.args.self.now x _ _ _ fits (c.ack.ensures.fits (outgoing x).size x.talk fits.talk c.if-not-ack.false));
-  says = λ d x fits. rw (sym (c.ack.ensures.valid (outgoing x).size x.talk fits.talk) ∙ c.if-not-ack.false) (c.reset_for-2.ensures.says d _ (with_transfer d c.args.self.now x _ _ _ fits (c.ack.ensures.fits (outgoing x).size x.talk fits.talk c.if-not-ack.false)));
+  next = λ d x fits. c.reset_for-2.ensures.next d _ (with_transfer d c.args.self.now x _ _ _ fits (c.ack.ensures.fits (outgoing x).size x.talk fits.talk c.if-not-ack.false) (same_longest _ _ c.ack.ensures.partial));
+  says = λ d x fits. rw (sym (c.ack.ensures.valid (outgoing x).size x.talk fits.talk) ∙ c.if-not-ack.false) (c.reset_for-2.ensures.says d _ (with_transfer d c.args.self.now x _ _ _ fits (c.ack.ensures.fits (outgoing x).size x.talk fits.talk c.if-not-ack.false) (same_longest _ _ c.ack.ensures.partial)));
   range = search rules;
   handed = search rules;
 }

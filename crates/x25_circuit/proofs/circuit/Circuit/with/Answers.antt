@@ -1,10 +1,11 @@
-use Rattle.std.proofs.Common.{refl}
+use Rattle.std.proofs.Common.{refl, ◌∙◌}
 use Rattle.x25_circuit.proofs.circuit.Circuit.with.Goals as goal
 
 pub returns-clause-fits : goal.returns-clause-fits
 returns-clause-fits c = record {
   role = refl;
   long_data = refl;
+  longest = c.in_ok-transfer.ensures.longest ∙ c.from.ensures;
   state = refl;
   clears = refl;
   resets = refl;

@@ -8,6 +8,7 @@ returns c = record {
   layer = λ s l fits. record {
     role = fits.role;
     long_data = fits.long_data;
+    message = fits.message;
     ranges = fits.ranges;
     channels = c.forget_all.ensures.count ∙ fits.channels;
     restarting = refl;

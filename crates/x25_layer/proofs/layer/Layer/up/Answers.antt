@@ -10,6 +10,7 @@ pub returns-clause-layer : goal.returns-clause-layer
 returns-clause-layer c = λ s l fits. record {
   role = fits.role;
   long_data = fits.long_data;
+  message = fits.message;
   ranges = fits.ranges;
   channels = c.begin_all.ensures.count ∙ fits.channels;
   restarting = refl;

@@ -1,6 +1,6 @@
 //! Facility fields of all classes, ITU-T X.25 (10/96), section 7.
 ghost use Rattle.std.specs.Prelude.{◌≡◌, ◌≤◌, ◌<◌, MatchOption, drop, length, slice_index};
-ghost use Rattle.x25_packet.specs.WideFacilities.{are_facilities, none_own, own_in, size_of, with_facility};
+ghost use Rattle.x25_packet.specs.Classes.{are_facilities, none_own, own_in, size_of, with_facility};
 
 use crate::facilities::Directions;
 

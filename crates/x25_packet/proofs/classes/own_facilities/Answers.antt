@@ -1,7 +1,7 @@
 use Rattle.std.proofs.Common.{◌∙◌, ap}
-use Rattle.x25_packet.specs.WideFacilities.{own_in}
+use Rattle.x25_packet.specs.Classes.{own_in}
 use Rattle.x25_packet.proofs.FacilityLemmas.{own_stepped, own_ends, own_at_marker}
-use Rattle.x25_packet.proofs.wide_facilities.own_facilities.Goals as goal
+use Rattle.x25_packet.proofs.classes.own_facilities.Goals as goal
 
 pub returns-then-rest-eq-MARKER : goal.returns-then-rest-eq-MARKER
 returns-then-rest-eq-MARKER c = own_at_marker c.loop-behind.own c.loop-behind.rest.now c.in-Some.ensures.0 c.if-rest-eq-MARKER.true ∙ c.loop-behind.invariant

@@ -1,6 +1,6 @@
 use Rattle.std.proofs.Common.{◌≡◌, length}
-use Rattle.x25_packet.specs.WideFacilities.{are_facilities}
-use Rattle.x25_packet.proofs.wide_facilities.are_facilities.Given as goal
+use Rattle.x25_packet.specs.Classes.{are_facilities}
+use Rattle.x25_packet.proofs.classes.are_facilities.Given as goal
 
 -- what is left are facilities where the whole field is
 abbrev pub invariant-loop-behind : goal.invariant-loop-behind

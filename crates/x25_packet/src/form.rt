@@ -76,7 +76,7 @@ pub enum Kind<'a> {
 /// 4,095. `bit_8` of the first octet is the qualifier (Q) in DATA, and in CALL, ACCEPT, CLEAR and CLEAR CONFIRMATION
 /// the A bit: whether addresses have their types and plans. `d` is the delivery confirmation bit.
 #[derive(Clone, Copy, Debug)]
-pub struct WidePacket<'a> {
+pub struct Form<'a> {
     pub channel: u16,
     pub bit_8: bool,
     pub d: bool,

@@ -2,7 +2,7 @@
 use Rattle.std.specs.Prelude.{ℕ, zero, suc, ◌+◌, ◌/◌, ◌≤◌, ◌≡◌, ◌==◌, ◌||◌, nat_le, nat_lt, Bool, true, false, List, []}
 use Rattle.std.specs.Prelude.{◌∷◌, ◌++◌}
 use Rattle.std.specs.Prelude.{length, slice_index, if◌then◌else◌, Some, None}
-use Rattle.x25_packet.specs.declared.wide_facilities.Own.{Own}
+use Rattle.x25_packet.specs.declared.classes.Own.{Own}
 
 -- A facility: a code and its value. The two highest bits of the code are its class: in A, B and C the value is one, two
 -- and three octets, in D an octet says how many. Section 7.1.

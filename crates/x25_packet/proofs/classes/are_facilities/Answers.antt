@@ -1,6 +1,6 @@
 use Rattle.std.proofs.Common.{◌∙◌}
 use Rattle.x25_packet.proofs.FacilityLemmas.{stepped, stopped}
-use Rattle.x25_packet.proofs.wide_facilities.are_facilities.Goals as goal
+use Rattle.x25_packet.proofs.classes.are_facilities.Goals as goal
 
 pub loop-behind-preserved : goal.loop-behind-preserved
 loop-behind-preserved c = stepped c.loop-behind.rest.now c.in-Some.behind.now c.in-Some.ensures.0 c.in-Some.ensures.1 ∙ c.loop-behind.invariant

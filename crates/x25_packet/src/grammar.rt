@@ -3,21 +3,21 @@ ghost use Rattle.std.specs.Prelude.{◌≡◌, IfOk, IsOkAnd};
 ghost use Rattle.x25_packet.specs.Block.{plain_fields};
 ghost use Rattle.x25_packet.specs.Made.{Makes, Reads};
 ghost use Rattle.x25_packet.specs.Narrowing.{HasAddresses};
-ghost use Rattle.x25_packet.specs.WidePacket.{PlainWide, plain, plain_kind};
-ghost use Rattle.x25_packet.specs.WidePacket.Spelling.{Spells, may_have};
-ghost use Rattle.x25_packet.specs.WideReading.{Gives, accept_of, answer_most, answer_read, bare, call_of, cause_alone};
-ghost use Rattle.x25_packet.specs.WideReading.{channelled, clear_conf_of, clear_of, data_of, diagnostic_of};
-ghost use Rattle.x25_packet.specs.WideReading.{extended_of, has_format, interrupt_of, is_short, kind_of, named};
-ghost use Rattle.x25_packet.specs.WideReading.{read_of, reason_of, registered, rej_of, unchannelled, unwritten};
-ghost use Rattle.x25_packet.specs.WideReading.{wide_of};
-ghost use Rattle.x25_packet.specs.declared.wide_packet.Forms.TheVariants.{Any};
+ghost use Rattle.x25_packet.specs.Form.{PlainForm, plain, plain_kind};
+ghost use Rattle.x25_packet.specs.Form.Spelling.{Spells, may_have};
+ghost use Rattle.x25_packet.specs.Grammar.{Gives, accept_of, answer_most, answer_read, bare, call_of, cause_alone};
+ghost use Rattle.x25_packet.specs.Grammar.{channelled, clear_conf_of, clear_of, data_of, diagnostic_of};
+ghost use Rattle.x25_packet.specs.Grammar.{extended_of, has_format, interrupt_of, is_short, kind_of, named};
+ghost use Rattle.x25_packet.specs.Grammar.{read_of, reason_of, registered, rej_of, unchannelled, unwritten};
+ghost use Rattle.x25_packet.specs.Grammar.{form_in};
+ghost use Rattle.x25_packet.specs.declared.form.Forms.TheVariants.{Any};
 
 use crate::block::{read_block, read_optional_block};
 use crate::codes;
 use crate::error::PacketError;
 use crate::fields::Fields;
+use crate::form::{Form, Forms, Kind};
 use crate::made::{Head, Made};
-use crate::wide_packet::{Forms, Kind, WidePacket};
 use x25_bits::Seq;
 
 /// The most octets of user data in CALL, ACCEPT and CLEAR with fast select, section 6.16.
@@ -390,7 +390,7 @@ fn has_format(forms: Forms, first: u8, kind: u8) -> bool
 }
 
 /// What the octets are read to, as a packet of these forms.
-#[tactic(auto, unfolding(crate::specs::WideReading::read_of))]
+#[tactic(auto, unfolding(crate::specs::Grammar::read_of))]
 pub(crate) fn read<'a, M: Made<'a>>(
     forms: Forms,
     most: usize,
@@ -412,8 +412,8 @@ pub(crate) fn read<'a, M: Made<'a>>(
     kind(head, forms, most, *kind_octet, body)
 }
 
-fn read_any<'a>(most: usize, octets: &'a [u8]) -> Result<WidePacket<'a>, PacketError>
-    ensures { Gives plain result (wide_of most octets.now) }
+fn read_any<'a>(most: usize, octets: &'a [u8]) -> Result<Form<'a>, PacketError>
+    ensures { Gives plain result (form_in most octets.now) }
 {
     read(Forms::Any, most, octets)
 }
@@ -424,12 +424,12 @@ fn read_any<'a>(most: usize, octets: &'a [u8]) -> Result<WidePacket<'a>, PacketE
 /// general format identifier (21), the type on this channel (22), then the body from its front to its end: octets
 /// missing (20), digits and the half octet left over (24), a facility whose octets are missing (26), octets left over
 /// (23).
-pub fn decode<'a>(most: usize, octets: &'a [u8]) -> Result<WidePacket<'a>, PacketError>
-    ensures exact { Gives plain result (wide_of most octets.now) }
+pub fn decode<'a>(most: usize, octets: &'a [u8]) -> Result<Form<'a>, PacketError>
+    ensures exact { Gives plain result (form_in most octets.now) }
     // What is read is spelled so.
     ensures found { IfOk result (λ w. Spells Any most (plain w) octets.now) }
     // What is spelled so is read.
-    ensures only { (v : PlainWide) → Spells Any most v octets.now → IsOkAnd result (λ w. plain w ≡ v) }
+    ensures only { (v : PlainForm) → Spells Any most v octets.now → IsOkAnd result (λ w. plain w ≡ v) }
 {
     read_any(most, octets)
 }

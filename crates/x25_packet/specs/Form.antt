@@ -1,9 +1,9 @@
 -- A packet as a value alone, without where its octets lie. ITU-T X.25 (10/96), section 5.
 use Rattle.std.specs.Prelude.{ℕ, Bool, List, Option}
 use Rattle.x25_packet.specs.Block.{PlainBlock, plain_block, plain_optional}
-use Rattle.x25_packet.specs.declared.wide_packet.Kind.{Kind}
-use Rattle.x25_packet.specs.declared.wide_packet.Kind.TheVariants as code
-use Rattle.x25_packet.specs.declared.wide_packet.WidePacket.{WidePacket}
+use Rattle.x25_packet.specs.declared.form.Kind.{Kind}
+use Rattle.x25_packet.specs.declared.form.Kind.TheVariants as code
+use Rattle.x25_packet.specs.declared.form.Form.{Form}
 pub mod Spelling
 
 -- DATA has M, P(S), P(R) and the user data; causes go before diagnostics, and a diagnostic before its explanation.
@@ -48,11 +48,11 @@ plain_kind (code.Registration octets) = registration octets.now
 plain_kind (code.RegistrationConf octets) = registration_conf octets.now
 
 -- bit 8 of the first octet is Q in DATA, and A in call set-up and clearing packets
-pub record PlainWide : Type 0 where
+pub record PlainForm : Type 0 where
   pub channel : ℕ
   pub bit_8 : Bool
   pub d : Bool
   pub kind : PlainKind
 
-abbrev pub plain : WidePacket → PlainWide
+abbrev pub plain : Form → PlainForm
 plain w = record { channel = w.channel; bit_8 = w.bit_8; d = w.d; kind = plain_kind w.kind }

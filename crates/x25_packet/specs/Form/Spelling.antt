@@ -4,15 +4,15 @@ use Rattle.std.specs.Prelude.{max, ◌∷◌, length}
 use Rattle.std.specs.Prelude.{Option, Some, None}
 use Rattle.x25_bits.specs.Bits.{bit}
 use Rattle.x25_packet.specs.Block.{PlainBlock, PlainFields, block_octets, optional_octets, IsBlock, MayBeBlock, OfAny}
-use Rattle.x25_packet.specs.declared.wide_packet.Forms.{Forms}
-use Rattle.x25_packet.specs.declared.wide_packet.Forms.TheVariants.{Written, Any}
-use Rattle.x25_packet.specs.WideFacilities.{asks_fast_select}
-use Rattle.x25_packet.specs.WidePacket.{PlainKind, PlainWide, call, accept, clear, extended_clear, clear_conf}
-use Rattle.x25_packet.specs.WidePacket.{user_data, rr}
-use Rattle.x25_packet.specs.WidePacket.{rnr}
-use Rattle.x25_packet.specs.WidePacket.{rej, interrupt, interrupt_conf, reset, reset_conf, restart, restart_conf}
-use Rattle.x25_packet.specs.WidePacket.{diagnostic}
-use Rattle.x25_packet.specs.WidePacket.{registration, registration_conf}
+use Rattle.x25_packet.specs.declared.form.Forms.{Forms}
+use Rattle.x25_packet.specs.declared.form.Forms.TheVariants.{Written, Any}
+use Rattle.x25_packet.specs.Classes.{asks_fast_select}
+use Rattle.x25_packet.specs.Form.{PlainKind, PlainForm, call, accept, clear, extended_clear, clear_conf}
+use Rattle.x25_packet.specs.Form.{user_data, rr}
+use Rattle.x25_packet.specs.Form.{rnr}
+use Rattle.x25_packet.specs.Form.{rej, interrupt, interrupt_conf, reset, reset_conf, restart, restart_conf}
+use Rattle.x25_packet.specs.Form.{diagnostic}
+use Rattle.x25_packet.specs.Form.{registration, registration_conf}
 
 -- Table 5-2: the packet type identifier, which is the third octet. Bit 1 is 0 for DATA alone.
 abbrev pub type_of : PlainKind → ℕ
@@ -58,10 +58,10 @@ body_of a _ = []
 
 -- The first octet: the general format identifier (section 5.1.1) and the channel's group. Bits 5 and 6 are 01 for
 -- sequence numbers modulo 8, bit 7 is D, bit 8 is Q or A.
-abbrev pub first_of : PlainWide → ℕ
+abbrev pub first_of : PlainForm → ℕ
 first_of w = 128 * bit w.bit_8 + 64 * bit w.d + 16 + w.channel / 256
 
-abbrev pub spelling_of : PlainWide → List ℕ
+abbrev pub spelling_of : PlainForm → List ℕ
 spelling_of w = first_of w ∷ w.channel % 256 ∷ type_of w.kind ∷ body_of w.bit_8 w.kind
 
 -- ---- which values are packets
@@ -130,13 +130,13 @@ IsKind forms a most (registration octets) = OfAny forms (length octets ≤ 4096)
 IsKind forms a most (registration_conf octets) = OfAny forms (length octets ≤ 4096)
 IsKind forms a most _ = Unit {0}
 
-pub record IsPacket (forms : Forms) (most : ℕ) (w : PlainWide) : Type 0 where
+pub record IsPacket (forms : Forms) (most : ℕ) (w : PlainForm) : Type 0 where
   pub channel : w.channel ≤ 4095
   pub place : HasPlace w.channel w.kind
   pub marks : may_have forms w.bit_8 w.d (type_of w.kind) ≡ true
   pub kind : IsKind forms w.bit_8 most w.kind
 
 -- the octets spell the packet
-pub record Spells (forms : Forms) (most : ℕ) (w : PlainWide) (octets : List ℕ) : Type 0 where
+pub record Spells (forms : Forms) (most : ℕ) (w : PlainForm) (octets : List ℕ) : Type 0 where
   pub packet : IsPacket forms most w
   pub spelling : octets ≡ spelling_of w

@@ -1,6 +1,6 @@
 use Rattle.std.proofs.Common.{◌≡◌, length}
-use Rattle.x25_packet.specs.WideFacilities.{none_own, own_in}
-use Rattle.x25_packet.proofs.wide_facilities.own_facilities.Given as goal
+use Rattle.x25_packet.specs.Classes.{none_own, own_in}
+use Rattle.x25_packet.proofs.classes.own_facilities.Given as goal
 
 -- what is left says the rest
 abbrev pub invariant-loop-behind : goal.invariant-loop-behind

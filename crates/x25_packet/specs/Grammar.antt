@@ -8,16 +8,16 @@ use Rattle.x25_packet.specs.declared.error.PacketError.TheVariants.{TooShort, Ba
 use Rattle.x25_packet.specs.declared.error.PacketError.TheVariants.{BadDigit, BadParameter}
 use Rattle.x25_packet.specs.Block.{PlainBlock, PlainFields, hold_addresses}
 use Rattle.x25_packet.specs.Facilities.{facilities_of}
-use Rattle.x25_packet.specs.WideFacilities.{are_facilities, asks_fast_select}
-use Rattle.x25_packet.specs.WidePacket.{PlainKind, PlainWide, call, accept, clear, extended_clear, clear_conf}
-use Rattle.x25_packet.specs.WidePacket.{user_data, rr}
-use Rattle.x25_packet.specs.WidePacket.{rnr}
-use Rattle.x25_packet.specs.WidePacket.{rej, interrupt, interrupt_conf, reset, reset_conf, restart, restart_conf}
-use Rattle.x25_packet.specs.WidePacket.{diagnostic}
-use Rattle.x25_packet.specs.WidePacket.{registration, registration_conf}
-use Rattle.x25_packet.specs.WidePacket.Spelling.{may_have}
-use Rattle.x25_packet.specs.declared.wide_packet.Forms.{Forms}
-use Rattle.x25_packet.specs.declared.wide_packet.Forms.TheVariants.{Written, Any}
+use Rattle.x25_packet.specs.Classes.{are_facilities, asks_fast_select}
+use Rattle.x25_packet.specs.Form.{PlainKind, PlainForm, call, accept, clear, extended_clear, clear_conf}
+use Rattle.x25_packet.specs.Form.{user_data, rr}
+use Rattle.x25_packet.specs.Form.{rnr}
+use Rattle.x25_packet.specs.Form.{rej, interrupt, interrupt_conf, reset, reset_conf, restart, restart_conf}
+use Rattle.x25_packet.specs.Form.{diagnostic}
+use Rattle.x25_packet.specs.Form.{registration, registration_conf}
+use Rattle.x25_packet.specs.Form.Spelling.{may_have}
+use Rattle.x25_packet.specs.declared.form.Forms.{Forms}
+use Rattle.x25_packet.specs.declared.form.Forms.TheVariants.{Written, Any}
 
 -- an answer is what the octets read as
 abbrev pub Gives : {A B : Type 0} → (A → B) → Result A PacketError → Result B PacketError → Type 0
@@ -220,11 +220,11 @@ kind_of forms a most channel kind body =
 abbrev pub has_format : Forms → ℕ → ℕ → Bool
 has_format forms first kind = first / 16 % 4 == 1 && may_have forms (first / 128 == 1) (first / 64 % 2 == 1) kind
 
-abbrev pub with_head : ℕ → Bool → Bool → Result PlainKind PacketError → Result PlainWide PacketError
+abbrev pub with_head : ℕ → Bool → Bool → Result PlainKind PacketError → Result PlainForm PacketError
 with_head channel bit_8 d (Ok kind) = Ok (record { channel = channel; bit_8 = bit_8; d = d; kind = kind })
 with_head channel bit_8 d (Err e) = Err e
 
-unfoldable pub read_of : Forms → ℕ → List ℕ → Result PlainWide PacketError
+unfoldable pub read_of : Forms → ℕ → List ℕ → Result PlainForm PacketError
 read_of forms most [] = Err TooShort
 read_of forms most (first ∷ []) = Err TooShort
 read_of forms most (first ∷ second ∷ []) = Err TooShort
@@ -235,5 +235,5 @@ read_of forms most (first ∷ second ∷ kind ∷ body) =
     else Err BadFormat
 
 -- in any form
-abbrev pub wide_of : ℕ → List ℕ → Result PlainWide PacketError
-wide_of most octets = read_of Any most octets
+abbrev pub form_in : ℕ → List ℕ → Result PlainForm PacketError
+form_in most octets = read_of Any most octets
