@@ -118,12 +118,12 @@ meets_clears x c s t b m i y h = elim h.apart [
 meets_restarts : (x : Stretch) (e : ℕ) (chans : Channels) (k c s : ℕ) (t b : Terms) (m i : List CallRequest) (y : At Channels) → chans k ≡ live c (record { phase = Talking t b (live s x); made = m; indicated = i })
     → InEpochs AllChannels all_fresh all_fresh (live e chans) y → Meets x (name_at messages y k ≡ record { restarts = e; clears = c; resets = s }) (held_at messages y k).up
 meets_restarts x e chans k c s t b m i y is h = elim h.apart [
-  | inl same ↦ elim (meets_clears x c s t b m i (circuit_at y k) (subst (λ (a : At Connection). Channel a (circuit_at y k)) is (h.same same k))) [
+  | inl same ↦ elim (meets_clears x c s t b m i (circuit_at y k) (rw (sym is) (h.same same k))) [
     | inl meet ↦ inl (name_eq (name_at messages y k) (record { restarts = e; clears = c; resets = s }) (sym same) (sym meet.0.0) (sym meet.0.1), meet.1)
     | inr none ↦ inr none
   ]
   | inr apart ↦ elim apart [
-    | inl ahead ↦ elim (meets_clears x c s t b m i (all_fresh k) (subst (λ (a : At Connection). Channel a (all_fresh k)) is ((h.near_ahead ahead).0 k))) [ inl meet ↦ inr meet.1 | inr none ↦ inr none ]
+    | inl ahead ↦ elim (meets_clears x c s t b m i (all_fresh k) (rw (sym is) ((h.near_ahead ahead).0 k))) [ inl meet ↦ inr meet.1 | inr none ↦ inr none ]
     | inr later ↦ absurd (true≢false (sym (h.peer_ahead later).1))
   ]
 ]

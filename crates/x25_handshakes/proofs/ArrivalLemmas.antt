@@ -95,8 +95,7 @@ arrived r w k x y stands o p same none =
     let top : EndsRelated r (Live (live o.restarts o.channels)) [] w.back (Live (live o.restarts p.channels)) =
     subst (λ (rs : ℕ). EndsRelated r (Live (live o.restarts o.channels)) [] w.back (Live (live rs p.channels))) (sym (ap (λ (n : Name). n.restarts) same))
     (subst (λ (s : Side (At Channels)). EndsRelated r (Live (live o.restarts o.channels)) [] w.back s) p.end
-    (subst (λ (s : Side (At Channels)). EndsRelated r s [] w.back w.far) o.end
-    (subst (λ (l : List LayerPacket). EndsRelated r w.near l w.back w.far) none stands.top))) in
+    (rw (sym o.end) (subst (λ (l : List LayerPacket). EndsRelated r w.near l w.back w.far) none stands.top))) in
     let there : p.channels k ≡ live o.clears (record { phase = Talking p.sends p.takes (live o.resets y); made = p.made; indicated = p.indicated }) =
     p.circuit ∙ ap (λ (n : Name). live n.clears (record { phase = Talking p.sends p.takes (live n.resets y); made = p.made; indicated = p.indicated })) (sym same) in
     let got = open_stretch r o.sends o.takes p.sends p.takes o.restarts o.clears o.resets o.channels p.channels k o.made o.indicated p.made p.indicated x y w.back o.circuit there top in

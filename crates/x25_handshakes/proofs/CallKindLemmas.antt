@@ -21,15 +21,11 @@ answered_made a mine m i most q = cond_both (may_answer mine q) (goes (calling_t
 
 takes_made : (r : Role) (a : Phase) (m i : List CallRequest) (p : Packet) → (phase_takes r a m i p).next.made ≡ m
 takes_made r Unused m i (Call n) = refl
-takes_made r Unused m i other = refl
 takes_made Dte (Waiting mine) m i (Call n) = refl
 takes_made Dce (Waiting mine) m i (Call n) = refl
 takes_made r (Waiting mine) m i (Accept field most) = answered_made (Waiting mine) mine m i most (said_in mine field)
-takes_made r (Waiting mine) m i other = refl
-takes_made r (Offered theirs) m i p = refl
 takes_made r (Crossed mine) m i (Accept field most) = answered_made (Crossed mine) mine m i most (said_in mine field)
-takes_made r (Crossed mine) m i other = refl
-takes_made r (Talking t b x) m i p = refl
+takes_made r a m i p = refl
 
 call_taken : (r : Role) (e : ℕ) (c : Connection) (u : List Packet) (p : Packet) (v : List Packet) (y : Connection) → clear_mark p ≡ Inner → Seen r c u (p ∷ v) y
     → WithinCall calls (MayIndicate calls c y) e c (call_takes r c p).next
@@ -48,13 +44,9 @@ acted : (a : Phase) (m i : List CallRequest) (act : CallAct) → Acted m i (phas
 acted Unused m i (PlacesCall n) =
     cond_both (may_propose n.params) (goes (Waiting n.params) (m ++ n ∷ []) i (Call n ∷ [])) (goes Unused m i []) (λ (s : Step Connection Packet). Acted m i s)
     (λ _. ((n ∷ [], refl), refl)) (λ _. (alike m, refl))
-acted Unused m i other = (alike m, refl)
-acted (Waiting mine) m i act = (alike m, refl)
 acted (Offered theirs) m i (AcceptsCall answer most) = accepted theirs m i answer most
-acted (Offered theirs) m i other = (alike m, refl)
-acted (Crossed mine) m i act = (alike m, refl)
 acted (Talking t b x) m i (Talks a) = (alike m, refl)
-acted (Talking t b x) m i other = (alike m, refl)
+acted a m i act = (alike m, refl)
 
 pub calls_handled : IsHandled calls
 calls_handled = record { fresh = refl; takes = call_taken; acts = λ c a. (refl, (acted c.phase c.made c.indicated a).0, (acted c.phase c.made c.indicated a).1) }

@@ -33,10 +33,9 @@ pub TalksRelated-flip : (t b : Terms) (x : At Stretch) (u v : List Packet) (t₂
 TalksRelated-flip t b x u v t₂ b₂ y h = record {
   there = sym h.back;
   back = sym h.there;
-  sound = subst (λ (s : Terms). IsSound s) (sym h.back) h.sound_back;
-  sound_back = subst (λ (s : Terms). IsSound s) (sym h.there) h.sound;
-  related = subst (λ (s : Terms). TransfersRelated s b₂ y v u x) (sym h.back)
-      (subst (λ (s : Terms). TransfersRelated b s y v u x) (sym h.there) (TransfersRelated-flip t b x u v y h.related));
+  sound = rw h.back h.sound_back;
+  sound_back = rw h.there h.sound;
+  related = rw h.back (subst (λ (s : Terms). TransfersRelated b s y v u x) (sym h.there) (TransfersRelated-flip t b x u v y h.related));
 }
 
 -- our own end, with another of our own
@@ -81,5 +80,5 @@ quiet_free_b (Waiting p) ma ia mb ib v gone h = h.0
 quiet_free_b other ma ia mb ib v gone h = h
 
 pub Seen-free : (r : Role) (x y : Connection) (u : List Packet) → x.phase ≡ Unused → IsCalled y → Seen r x u [] y → ⊥
-Seen-free Dte x y u is gone h = quiet_free_a y.phase x.made x.indicated y.made y.indicated u gone (subst (λ (p : Phase). Joint p y.phase x.made x.indicated y.made y.indicated u []) is h)
-Seen-free Dce x y u is gone h = quiet_free_b y.phase y.made y.indicated x.made x.indicated u gone (subst (λ (p : Phase). Joint y.phase p y.made y.indicated x.made x.indicated [] u) is h)
+Seen-free Dte x y u is gone h = quiet_free_a y.phase x.made x.indicated y.made y.indicated u gone (rw (sym is) h)
+Seen-free Dce x y u is gone h = quiet_free_b y.phase y.made y.indicated x.made x.indicated u gone (rw (sym is) h)

@@ -1,5 +1,5 @@
 -- What follows for the user from the relation of two layers.
-use Rattle.std.proofs.Common.{◌≡◌, ℕ, List, [], ◌∷◌, refl, subst}
+use Rattle.std.proofs.Common.{◌≡◌, ℕ, List, [], ◌∷◌, refl, subst, sym}
 use Rattle.x25_handshakes.specs.{laws.Handshake.{Live, At, live}, laws.Stretch.{Packet, Stretch}, laws.Calls.{Phase, Waiting, Crossed, Talking, Connection}}
 use Rattle.x25_handshakes.specs.laws.Layers.{LayerPacket, Channels}
 use Rattle.x25_bits.specs.{declared.role.Role.{Role}, declared.role.Role.TheVariants.{Dte, Dce}}
@@ -26,7 +26,7 @@ open_stretch r t b t₂ b₂ rs cs ss x y h m i n j p q K is_x is_y top =
     let a : Connection = record { phase = Talking t b (live ss p); made = m; indicated = i } in
     let c : Connection = record { phase = Talking t₂ b₂ (live ss q); made = n; indicated = j } in
     let chan : ChannelRelated r (live cs a) [] v (live cs c) =
-    subst (λ (z : At Connection). ChannelRelated r (live cs a) [] v z) is_y (subst (λ (z : At Connection). ChannelRelated r z [] v (y h)) is_x (chans.each h)) in
+    subst (λ (z : At Connection). ChannelRelated r (live cs a) [] v z) is_y (rw (sym is_x) (chans.each h)) in
     let seen = both_live (connection_level r) cs a c [] v chan.hand in
     let p4 : TransfersRelated t b (live ss p) [] (before clear_mark v) (live ss q) = Seen-p4 r t b t₂ b₂ m i n j (live ss p) (live ss q) [] (before clear_mark v) seen in
     (before reset_mark (before clear_mark v), both_live (stretch_level t b) ss p q [] (before clear_mark v) p4.hand)

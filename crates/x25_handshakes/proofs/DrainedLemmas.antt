@@ -99,8 +99,7 @@ known r w k x stands o z up out back =
     let a : Connection = record { phase = Talking o.sends o.takes (live o.resets x); made = o.made; indicated = o.indicated } in
     let top : EndsRelated r (Live (live o.restarts o.channels)) [] [] (Live z) =
     subst (λ (s : Side (At Channels)). EndsRelated r (Live (live o.restarts o.channels)) [] [] s) up
-    (subst (λ (s : Side (At Channels)). EndsRelated r s [] [] w.far) o.end
-    (subst (λ (l : List LayerPacket). EndsRelated r w.near [] l w.far) back
+    (rw (sym o.end) (subst (λ (l : List LayerPacket). EndsRelated r w.near [] l w.far) back
     (subst (λ (l : List LayerPacket). EndsRelated r w.near l w.back w.far) out stands.top))) in
     let one : AtRest (channels_level r) o.restarts z.epoch o.channels z.side = at_rest (channels_level r) o.restarts z.epoch o.channels z.side top.hand in
     let y : Channels = one.state in

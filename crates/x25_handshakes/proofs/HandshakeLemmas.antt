@@ -19,7 +19,7 @@ each_map A B f (p ∷ u) h = (f p h.0, each_map A B f u h.1)
 -- behind the last marker of a line whose sender is in its epoch
 inner_ends : {P : Type 0} (mark : P → Mark) (o : List P) → AllInner mark o → Ends mark false o
 inner_ends mark [] all = refl
-inner_ends mark (p ∷ o) all = subst (λ (m : Mark). ends_at m false o (Ends mark false o)) (sym all.0) (inner_ends mark o all.1)
+inner_ends mark (p ∷ o) all = rw all.0 (inner_ends mark o all.1)
 
 -- more inner packets at the back
 ends_step : {P : Type 0} (m : Mark) (rest rest₂ : List P) (a b : Type 0) (left : Bool) → ends_at m false rest a → (a → b) → ends_at m left rest₂ b
@@ -33,7 +33,7 @@ ends_inner mark (p ∷ L) o all ends = ends_step (mark p) L (L ++ o) (Ends mark 
 
 -- a request at the back: its sender leaves
 ends_leave : {P : Type 0} (mark : P → Mark) (q : P) → mark q ≡ Request → (L : List P) → Ends mark false L → Ends mark true (L ++ q ∷ [])
-ends_leave {P} mark q is [] ends = subst (λ (m : Mark). ends_at {P = P} m true [] (true ≡ false)) (sym is) (refl, refl)
+ends_leave {P} mark q is [] ends = rw is (refl, refl)
 ends_leave mark q is (p ∷ L) ends = ends_step (mark p) L (L ++ q ∷ []) (Ends mark false L) (Ends mark true (L ++ q ∷ [])) true ends (λ e. ends_leave mark q is L e)
 
 -- what stands before the first marker is as it was, where more goes behind
@@ -42,7 +42,7 @@ before_step Inner p rest a later later₂ ends go = ap (λ l. p ∷ l) (go ends)
 before_step m p rest a later later₂ ends go = refl
 
 before_leave : {P : Type 0} (mark : P → Mark) (q : P) → mark q ≡ Request → (L : List P) → Ends mark false L → before mark (L ++ q ∷ []) ≡ before mark L
-before_leave {P} mark q is [] ends = subst (λ (m : Mark). kept_before {P = P} m q [] ≡ []) (sym is) refl
+before_leave {P} mark q is [] ends = rw is refl
 before_leave mark q is (p ∷ L) ends = before_step (mark p) p L (Ends mark false L) (before mark (L ++ q ∷ [])) (before mark L) ends (λ e. before_leave mark q is L e)
 
 -- an end stops: its state is kept, and what is on the way to it
@@ -57,7 +57,7 @@ behind_step Request rest a here later ends go = absurd (true≢false (sym ends.0
 behind_step Confirm rest a here later ends go = absurd ends
 
 behind_confirm : {P : Type 0} (mark : P → Mark) (c : P) → mark c ≡ Confirm → (L : List P) → Ends mark false L → Behind mark false (L ++ c ∷ [])
-behind_confirm mark c is [] ends = subst (λ (m : Mark). behind_at m (false ≡ false) ⊥) (sym is) refl
+behind_confirm mark c is [] ends = rw is refl
 behind_confirm mark c is (p ∷ L) ends = behind_step (mark p) L (Ends mark false L) (Ends mark false (L ++ c ∷ [])) (Behind mark false (L ++ c ∷ [])) ends (λ e. behind_confirm mark c is L e)
 
 past_step : {P : Type 0} (m : Mark) (rest rest₂ : List P) (a : Type 0) (later : List P) → ends_at m false rest a → (a → later ≡ []) → kept_past m rest₂ later ≡ []
@@ -66,7 +66,7 @@ past_step Request rest rest₂ a later ends go = absurd (true≢false (sym ends.
 past_step Confirm rest rest₂ a later ends go = absurd ends
 
 past_confirm : {P : Type 0} (mark : P → Mark) (c : P) → mark c ≡ Confirm → (L : List P) → Ends mark false L → past mark (L ++ c ∷ []) ≡ []
-past_confirm {P} mark c is [] ends = subst (λ (m : Mark). kept_past {P = P} m [] [] ≡ []) (sym is) refl
+past_confirm {P} mark c is [] ends = rw is refl
 past_confirm mark c is (p ∷ L) ends = past_step (mark p) L (L ++ c ∷ []) (Ends mark false L) (past mark (L ++ c ∷ [])) ends (λ e. past_confirm mark c is L e)
 
 pub cons≢nil : {P : Type 0} (p : P) (K : List P) → p ∷ K ≡ [] → ⊥
@@ -107,7 +107,7 @@ past_leave {P} mark q is (p ∷ L) b = past_map (λ l. before mark l) (λ l. bef
 -- inner packets at the back
 before_inner_all : {P : Type 0} (mark : P → Mark) (o : List P) → AllInner mark o → before mark o ≡ o
 before_inner_all mark [] all = refl
-before_inner_all {P} mark (p ∷ o) all = subst (λ (m : Mark). kept_before {P = P} m p (before mark o) ≡ p ∷ o) (sym all.0) (ap (λ l. p ∷ l) (before_inner_all mark o all.1))
+before_inner_all {P} mark (p ∷ o) all = rw all.0 (ap (λ l. p ∷ l) (before_inner_all mark o all.1))
 
 before_more_step : {P : Type 0} (m : Mark) (p : P) (o rest : List P) (a : Type 0) (later later₂ : List P) → ends_at m false rest a → (a → later ≡ later₂ ++ o) → kept_before m p later ≡ kept_before m p later₂ ++ o
 before_more_step Inner p o rest a later later₂ ends go = ap (λ l. p ∷ l) (go ends)
@@ -142,8 +142,7 @@ leave l q is ex ey x y L K gone (inl same) =
       epochs = same.epochs;
       there = ends_leave l.mark q is L same.there;
       back = same.back;
-      inner = subst (λ (u : List _). Extended l.gone l.gone_there l.related (Left x) u (before l.mark K) y) (sym (before_leave l.mark q is L same.there))
-          (stops l.gone l.gone_there l.related x (before l.mark L) (before l.mark K) y gone same.inner);
+      inner = rw (before_leave l.mark q is L same.there) (stops l.gone l.gone_there l.related x (before l.mark L) (before l.mark K) y gone same.inner);
     })
 leave l q is ex ey x y L K gone (inr (inl ahead)) =
     inr (inl (record {
@@ -151,8 +150,7 @@ leave l q is ex ey x y L K gone (inr (inl ahead)) =
       waits = ahead.waits;
       back = ahead.back;
       there = behind_leave l.mark q is L ahead.there;
-      inner = subst (λ (u : List _). Extended l.gone l.gone_there l.related (Left x) u [] (Live l.fresh_there)) (sym (past_leave l.mark q is L ahead.there))
-          (stops l.gone l.gone_there l.related x (before l.mark (past l.mark L)) [] (Live l.fresh_there) gone ahead.inner);
+      inner = rw (past_leave l.mark q is L ahead.there) (stops l.gone l.gone_there l.related x (before l.mark (past l.mark L)) [] (Live l.fresh_there) gone ahead.inner);
     }))
 leave l q is ex ey x y L K gone (inr (inr later)) = absurd (true≢false (sym later.waits))
 
@@ -165,8 +163,7 @@ inner_act l o all ex ey x x₂ y L K kept (inl same) =
       epochs = same.epochs;
       there = ends_inner l.mark L o all same.there;
       back = same.back;
-      inner = subst (λ (u : List _). Extended l.gone l.gone_there l.related (Live x₂) u (before l.mark K) y) (sym (before_inner l.mark L o all same.there))
-          (ext_step l.gone l.gone_there l.related x x₂ o (before l.mark L) (before l.mark K) (before l.mark K) y (λ w z r. kept w (before l.mark K) z r) same.inner);
+      inner = rw (before_inner l.mark L o all same.there) (ext_step l.gone l.gone_there l.related x x₂ o (before l.mark L) (before l.mark K) (before l.mark K) y (λ w z r. kept w (before l.mark K) z r) same.inner);
     })
 inner_act l o all ex ey x x₂ y L K kept (inr (inl ahead)) =
     inr (inl (record {
@@ -174,7 +171,7 @@ inner_act l o all ex ey x x₂ y L K kept (inr (inl ahead)) =
       waits = ahead.waits;
       back = ahead.back;
       there = behind_inner l.mark L o all ahead.there;
-      inner = subst (λ (u : List _). l.related x₂ u [] l.fresh_there) (sym (past_inner l.mark L o all ahead.there)) (kept (before l.mark (past l.mark L)) [] l.fresh_there ahead.inner);
+      inner = rw (past_inner l.mark L o all ahead.there) (kept (before l.mark (past l.mark L)) [] l.fresh_there ahead.inner);
     }))
 inner_act l o all ex ey x x₂ y L K kept (inr (inr later)) = absurd (true≢false (sym later.waits))
 
@@ -199,7 +196,7 @@ request_skips l empty c p j all is_c is_p ex ey x y L K (inl same) =
       waits = (skipped_ends l.mark j p K (has_left y) all is_p same.back).0;
       back = (skipped_ends l.mark j p K (has_left y) all is_p same.back).1;
       there = behind_confirm l.mark c is_c L same.there;
-      inner = subst (λ (u : List _). l.related l.fresh (before l.mark u) [] l.fresh_there) (sym (past_confirm l.mark c is_c L same.there)) empty;
+      inner = rw (past_confirm l.mark c is_c L same.there) empty;
     }))
 request_skips l empty c p j all is_c is_p ex ey x y L K (inr (inl ahead)) = absurd (some≢nil j p K ahead.back)
 request_skips l empty c p j all is_c is_p ex ey x y L K (inr (inr later)) = absurd (true≢false (sym later.waits))
@@ -214,7 +211,7 @@ before_front {P} mark p K is = ap (λ m. kept_before {P = P} m p (before mark K)
 -- a line with inner packets in front
 inner_more : {P : Type 0} (mark : P → Mark) (j K : List P) (left : Bool) → AllInner mark j → Ends mark left K → Ends mark left (j ++ K)
 inner_more mark [] K left all ends = ends
-inner_more mark (q ∷ j) K left all ends = subst (λ (m : Mark). ends_at m left (j ++ K) (Ends mark left (j ++ K))) (sym all.0) (inner_more mark j K left all.1 ends)
+inner_more mark (q ∷ j) K left all ends = rw all.0 (inner_more mark j K left all.1 ends)
 
 inner_fronts : {P : Type 0} (mark : P → Mark) (j K : List P) (left : Bool) → AllInner mark j → Ends mark left (j ++ K) → Ends mark left K
 inner_fronts mark [] K left all ends = ends
@@ -233,8 +230,7 @@ inner_take_behind l j p o front is all ex ey x x₂ y L K kept (inl same) =
       epochs = same.epochs;
       there = ends_inner l.mark L o all same.there;
       back = inner_more l.mark j K (has_left y) front (inner_front l.mark p K (has_left y) is (inner_fronts l.mark j (p ∷ K) (has_left y) front same.back));
-      inner = subst (λ (u : List _). Extended l.gone l.gone_there l.related (Live x₂) u (before l.mark (j ++ K)) y) (sym (before_inner l.mark L o all same.there))
-          (subst (λ (v : List _). Extended l.gone l.gone_there l.related (Live x₂) (before l.mark L ++ o) v y) (sym (before_fronts l.mark j K front))
+      inner = rw (before_inner l.mark L o all same.there) (subst (λ (v : List _). Extended l.gone l.gone_there l.related (Live x₂) (before l.mark L ++ o) v y) (sym (before_fronts l.mark j K front))
           (ext_step l.gone l.gone_there l.related x x₂ o (before l.mark L) (j ++ p ∷ before l.mark K) (j ++ before l.mark K) y (λ w z r. kept w (before l.mark K) z r)
           (subst (λ (v : List _). Extended l.gone l.gone_there l.related (Live x) (before l.mark L) v y) (before_fronts l.mark j (p ∷ K) front ∙ ap (λ v. j ++ v) (before_front l.mark p K is)) same.inner)));
     })
@@ -273,7 +269,7 @@ drops l p is ex ey x y L K (inr (inr later)) =
 -- the line of an end that has left ends in its request
 ends_behind_at : {P : Type 0} (mark : P → Mark) (m : Mark) (rest : List P) → ends_at m true rest (Ends mark true rest) → (Ends mark true rest → Behind mark false rest) → behind_at m (Ends mark false rest) (Behind mark false rest)
 ends_behind_at mark Inner rest e go = go e
-ends_behind_at mark Request rest e go = subst (λ (r : List _). Ends mark false r) (sym e.1) refl
+ends_behind_at mark Request rest e go = rw e.1 refl
 ends_behind_at mark Confirm rest e go = absurd e
 
 ends_behind : {P : Type 0} (mark : P → Mark) (L : List P) → Ends mark true L → Behind mark false L
@@ -312,16 +308,15 @@ marker_left l empty p never ex ey x y L K (inl same) =
       waits = (marker_same (l.mark p) K (has_left y) (Ends l.mark (has_left y) K) never same.back).0;
       back = (marker_same (l.mark p) K (has_left y) (Ends l.mark (has_left y) K) never same.back).1;
       there = ends_behind l.mark L same.there;
-      inner = subst (λ (u : List _). l.related l.fresh (before l.mark u) [] l.fresh_there) (sym (ends_past l.mark L same.there)) empty;
+      inner = rw (ends_past l.mark L same.there) empty;
     }))
 marker_left l empty p never ex ey x y L K (inr (inl ahead)) = absurd (cons≢nil p K ahead.back)
 marker_left l empty p never ex ey x y L K (inr (inr later)) =
     inl (record {
       epochs = sym later.epochs;
-      there = subst (λ (u : List _). Ends l.mark false u) (sym later.there) refl;
+      there = rw later.there refl;
       back = marker_behind (l.mark p) (Ends l.mark (has_left y) K) (Behind l.mark (has_left y) K) never later.back;
-      inner = subst (λ (u : List _). Extended l.gone l.gone_there l.related (Live l.fresh) (before l.mark u) (before l.mark K) y) (sym later.there)
-          (subst (λ (u : List _). Extended l.gone l.gone_there l.related (Live l.fresh) [] (before l.mark u) y) (marker_past (l.mark p) K (past l.mark K) never) later.inner);
+      inner = rw later.there (subst (λ (u : List _). Extended l.gone l.gone_there l.related (Live l.fresh) [] (before l.mark u) y) (marker_past (l.mark p) K (past l.mark K) never) later.inner);
     })
 
 -- The relation seen from the other end.
@@ -409,7 +404,7 @@ both_live l e x y L K (inr (inr later)) = absurd (true≢false (sym later.waits)
 -- ---- two ends, each in its epoch
 
 pub still : {S T P : Type 0} (l : Level S T P) (x : At S) (L K : List P) (y : At T) → Handshaken l x L K y → Handshaken l x (L ++ []) K y
-still l x L K y h = subst (λ (u : List _). Handshaken l x u K y) (sym (append-nil L)) h
+still l x L K y h = rw (append-nil L) h
 
 -- the same, seen from the second
 pub turned : {S T P : Type 0} (l : Level S T P) (x : At S) (L K : List P) (y : At T) → Handshaken l x L K y → Handshaken (flip l) y K L x

@@ -48,8 +48,7 @@ module _ {S T P : Type 0} (l : Level S T P) (Q : List P → Type 0) where
 
   silent : Q [] → (a next : At S) (out : List P) (error : Option ℕ) → Silent a next out error → (L K : List P) (y : At T) → Handshaken l a L K y → Good error next out L K y
   silent none a next out error s L K y h =
-      subst (λ (n : At S). Good error n out L K y) (sym s.0)
-      (subst (λ (o : List P). Good error a o L K y) (sym s.1) (record { quiet = s.2; kept = still l a L K y h }, none))
+      rw s.0 (subst (λ (o : List P). Good error a o L K y) (sym s.1) (record { quiet = s.2; kept = still l a L K y h }, none))
 
   -- it goes on in its epoch, of its own accord
   pub acts_inside : (e : ℕ) (x : S) (next : At S) (out : List P) (error : Option ℕ) → Inside e x [] next out error → (L K : List P) (y : At T) → Handshaken l (record { epoch = e; side = Live x }) L K y
@@ -86,7 +85,7 @@ module _ {S T P : Type 0} (l : Level S T P) (Q : List P → Type 0) where
           let some = request_gone l p is e y.epoch x y.side L K h in
           let quiet = a.quiet some.0 some.1 some.2 some.3 in
           let hand = request_live l empty a.confirm p a.is is e y.epoch x y.side L K h in
-          (subst (λ (n : At S). GoodStep l error n out L K y) (sym a.at) (subst (λ (o : List P). GoodStep l error (record { epoch = suc e; side = Live l.fresh }) o L K y) (sym a.sent) (record { quiet = quiet; kept = record { hand = hand } })), a.passes)
+          (rw a.at (subst (λ (o : List P). GoodStep l error (record { epoch = suc e; side = Live l.fresh }) o L K y) (sym a.sent) (record { quiet = quiet; kept = record { hand = hand } })), a.passes)
       by (Live x) Confirm is a h = absurd (confirm_never l p is e y.epoch x y.side L K h)
       by (Left x) Inner is a h = silent none (record { epoch = e; side = Left x }) next out error a L K y (record { hand = drops l p is e y.epoch x y.side L K h })
       by (Left x) Request is a h = silent none (record { epoch = suc e; side = Live l.fresh }) next out error a L K y (record { hand = marker_left l empty p (λ same. let no : Request ≡ Inner = sym is ∙ same in cc) e y.epoch x y.side L K h })

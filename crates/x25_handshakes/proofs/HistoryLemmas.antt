@@ -35,10 +35,10 @@ rewritten_kept {M} e f n l k later up down = record {
   later = λ m less. written_other e.history n l m (earlier-differs n m less) ∙ k.later m (later m less);
   later_there = k.later_there;
   begins = λ m. cond_both (same_name m n) l (e.history m) (λ (x : Lists M). IsPrefix x.up (f.history m).down)
-      (λ is. subst (λ (j : Name). IsPrefix l.up (f.history j).down) (sym (same_name-is m n is)) up)
+      (λ is. rw (same_name-is m n is) up)
       (λ is. k.begins m);
   begins_there = λ m. cond_both (same_name m n) l (e.history m) (λ (x : Lists M). IsPrefix (f.history m).up x.down)
-      (λ is. subst (λ (j : Name). IsPrefix (f.history j).up l.down) (sym (same_name-is m n is)) down)
+      (λ is. rw (same_name-is m n is) down)
       (λ is. k.begins_there m);
 }
 
@@ -54,24 +54,22 @@ MayHandUp n f up = (f.name ≡ n) × IsPrefix up f.held.down
 
 stays_up : {M : Type 0} (e f : ChannelView M) (n : Name) (l : Lists M) → n ≡ e.name → (l.up ≡ e.held.up) ⊎ MayHandUp e.name f l.up → IsLawful e f → IsPrefix l.up (f.history n).down
 stays_up {M} e f n l is (inl same) k =
-    subst (λ (j : Name). IsPrefix l.up (f.history j).down) (sym is)
-    (subst (λ (u : List M). IsPrefix u (f.history e.name).down) (ap (λ x. x.up) k.held ∙ sym same) (k.begins e.name))
+    rw is (subst (λ (u : List M). IsPrefix u (f.history e.name).down) (ap (λ x. x.up) k.held ∙ sym same) (k.begins e.name))
 stays_up {M} e f n l is (inr new) k =
-    subst (λ (j : Name). IsPrefix l.up (f.history j).down) (new.0 ∙ sym is)
-    (subst (λ (x : Lists M). IsPrefix l.up x.down) (sym k.held_there) new.1)
+    rw (sym (new.0 ∙ sym is)) (subst (λ (x : Lists M). IsPrefix l.up x.down) (sym k.held_there) new.1)
 
 stays : {M : Type 0} (e f : ChannelView M) (n : Name) (l : Lists M) → n ≡ e.name → IsPrefix e.held.down l.down → (l.up ≡ e.held.up) ⊎ MayHandUp e.name f l.up → IsLawful e f → IsLawful (rewritten e n l) f
 stays {M} e f n l name down up k =
-    rewritten_kept e f n l k (λ m less. subst (λ (j : Name). IsEarlier j m) name less) (stays_up e f n l name up k)
+    rewritten_kept e f n l k (λ m less. rw (sym name) less) (stays_up e f n l name up k)
     (IsPrefix-trans (f.history n).up e.held.down l.down
-    (subst (λ (j : Name). IsPrefix (f.history j).up e.held.down) (sym name) (subst (λ (x : Lists M). IsPrefix (f.history e.name).up x.down) k.held (k.begins_there e.name)))
+    (rw name (subst (λ (x : Lists M). IsPrefix (f.history e.name).up x.down) k.held (k.begins_there e.name)))
     down)
 
 grows : {M : Type 0} (e f : ChannelView M) (n : Name) (l : Lists M) → IsEarlier e.name n → l ≡ none → IsLawful e f → IsLawful (rewritten e n l) f
 grows {M} e f n l later empty k =
     rewritten_kept e f n l k (λ m less. earlier-trans e.name n m later less)
-    (subst (λ (x : Lists M). IsPrefix x.up (f.history n).down) (sym empty) ((f.history n).down, refl))
-    (subst (λ (x : Lists M). IsPrefix (f.history n).up x.down) (k.later n later ∙ sym empty) (k.begins_there n))
+    (rw empty ((f.history n).down, refl))
+    (rw (sym (k.later n later ∙ sym empty)) (k.begins_there n))
 
 pub lawful_turned : {M : Type 0} (e f : ChannelView M) → IsLawful e f → IsLawful f e
 lawful_turned e f k = record { held = k.held_there; held_there = k.held; later = k.later_there; later_there = k.later; begins = k.begins_there; begins_there = k.begins }

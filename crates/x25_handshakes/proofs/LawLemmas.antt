@@ -18,7 +18,7 @@ taken kind handled r e x k p L K far history top =
     (λ y q c is_x is_p side inner.
     let top_y : EndsRelated r (Live (live e y)) L (On k q ∷ K) far =
     subst (λ (z : LayerPacket). EndsRelated r (Live (live e y)) L (z ∷ K) far) is_p
-    (subst (λ (z : Side Channels). EndsRelated r (Live (record { epoch = e; side = z })) L (p ∷ K) far) is_x top) in
+    (rw (sym is_x) top) in
     subst (λ (z : Side Channels). WithinCall kind (MayHandUp (name_at kind (record { epoch = e; side = z }) k) (channel_view kind (state_of far) k history)) (y k).epoch c (call_takes r c q).next) (sym is_x)
     (taken_in_its_epoch kind handled r e y k c q L K far history inner side top_y))
 

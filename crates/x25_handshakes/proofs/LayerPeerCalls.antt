@@ -1,5 +1,5 @@
 -- What our own circuit does is what a peer may do: calls and their clearing.
-use Rattle.std.proofs.Common.{◌≡◌, ℕ, ◌≤◌, List, [], ◌∷◌, ◌++◌, Option, Some, None, Bool, true, false, if◌then◌else◌, refl, sym, ap, subst}
+use Rattle.std.proofs.Common.{◌≡◌, ℕ, ◌≤◌, List, [], ◌∷◌, ◌++◌, Option, Some, None, Bool, true, false, if◌then◌else◌, refl, ap}
 use Rattle.std.proofs.lemmas.Bool.{cond_both}
 use Rattle.x25_bits.specs.{declared.role.Role.{Role}, declared.role.Role.TheVariants.{Dte, Dce}}
 use Rattle.x25_circuit.specs.{declared.params.Params.{Params}, Params.{Proposal, may_propose, may_answer, field_for, said_in}, Notice.{CallRequest}}
@@ -44,11 +44,11 @@ places_did m i n =
 accepts_did : Laws → (theirs : Params) → may_propose theirs ≡ true → (m i : List CallRequest) (answer : Option Proposal) (most : ℕ) → Did_to (Offered theirs) m i (accepts theirs m i answer most)
 accepts_did laws theirs proposed m i None most =
     let same : said_in theirs [] ≡ theirs = laws.no_field theirs in
-    Something (peer.AcceptsCall [] most) (subst (λ (q : Params). may_answer theirs q ≡ true) (sym same) (laws.proposal theirs)) (ap (λ (q : Params). stands (called_in_data most q) m i) same) refl
+    Something (peer.AcceptsCall [] most) (rw same (laws.proposal theirs)) (ap (λ (q : Params). stands (called_in_data most q) m i) same) refl
 accepts_did laws theirs proposed m i (Some q) most =
     cond_both (may_answer theirs q.params) (goes (called_talk most q.params) m i (Accept (field_for theirs q) most ∷ [])) (goes (Offered theirs) m i []) (λ (s : Step Connection Packet). Did_to (Offered theirs) m i s)
     (λ may. let same : said_in theirs (field_for theirs q) ≡ q.params = answer_read laws theirs q proposed may in
-    Something (peer.AcceptsCall (field_for theirs q) most) (subst (λ (q : Params). may_answer theirs q ≡ true) (sym same) may) (ap (λ (q : Params). stands (called_in_data most q) m i) same) refl)
+    Something (peer.AcceptsCall (field_for theirs q) most) (rw same may) (ap (λ (q : Params). stands (called_in_data most q) m i) same) refl)
     (λ _. Nothing refl refl)
 
 pub call_did : Laws → (a : Phase) → IsKnown a → (m i : List CallRequest) (act : CallAct) → (phase_acts a m i act).error ≡ None → Did_to a m i (phase_acts a m i act)

@@ -3,18 +3,19 @@ use Rattle.std.proofs.Common.{◌≡◌, ℕ, ◌≤◌, List, [], ◌∷◌, �
 use Rattle.std.proofs.{lemmas.List.{append-nil}, lemmas.Bool.{eqb-true}, Math.Path.{fun_ext}}
 use Rattle.x25_bits.specs.{declared.role.Role.{Role}, declared.role.Role.TheVariants.{Dte, Dce}}
 use Rattle.x25_circuit.specs.{Params.{may_propose}, Notice.{CallRequest}}
-use Rattle.x25_handshakes.specs.{laws.Handshake.{Side, Live, Left, At, Step, PeerStep, live, left}, laws.Stretch.{Packet, Stretch, Clear}}
+use Rattle.x25_handshakes.specs.{laws.Handshake.{Side, Live, Left, At, Step, PeerStep, live, left}, laws.Stretch.{Packet, Stretch}}
 use Rattle.x25_handshakes.specs.{laws.Transfer.{fresh_transfer}, laws.Calls.{Phase, Waiting, Offered, Crossed, Talking, Connection}}
 use Rattle.x25_handshakes.specs.laws.Channel.{channel_takes, channel_acts}
 use Rattle.x25_handshakes.specs.laws.Layers.{LayerPacket, On, Restart, RestartConf, Channels, put, addressed, all_fresh, layer_side_takes, layer_takes, LayerAct, OnChannel, SendsRestart, layer_side_acts, layer_acts, Pair, Move, Acts, Takes, LinkDown, turned, pair_moves, Event, pair_happens, pair_run, pair_start}
-use Rattle.x25_handshakes.specs.{laws.PeerCalls.{PeerCall}, laws.PeerChannel.{MayDoChannel, does_channel, channel_packet_of, channel_taking}}
+use Rattle.x25_handshakes.specs.{laws.PeerCalls.{PeerCall}, laws.PeerChannel.{does_channel, channel_packet_of, channel_taking}}
 use Rattle.x25_handshakes.specs.laws.PeerLayer.{PeerChannels, put_peer, LayerDeed, InChannel, Restarts, MayDoLayer, does_layer, layer_packet_of, layer_taking}
-use Rattle.x25_handshakes.specs.laws.PeerLayers.{other_role, found, layer_found, IsReached}
+use Rattle.x25_handshakes.specs.laws.PeerLayers.{other_role, layer_found, IsReached}
 use Rattle.x25_handshakes.specs.{laws.LayerPeers.{as_side, as_at, as_peer_call, as_peer_channels, as_peer, IsPeerOf, LayersArePeers}, laws.LawsBelow.{Laws}}
 use Rattle.x25_handshakes.proofs.{HandshakeRelation.{Handshake}, HandshakeLemmas.{inner_live}, TransferRelation.{stretch_level}}
 use Rattle.x25_handshakes.proofs.{CallsRelation.{TalksRelated, Joint}, CallLemmas.{TalksRelated-flip}, OwnCallLemmas.{Accepted-some, CallAccepted-some}}
 use Rattle.x25_handshakes.proofs.{ChannelRelation.{Seen, connection_level}, LayersRelation.{on, channels_level, LayersRelated, EndsRelated}}
 use Rattle.x25_handshakes.proofs.LayerLemmas.{GoodLayer-takes, GoodLayer-acts, Stands, Stands-turned, Stands-moves, Stands-start}
+use Rattle.x25_handshakes.proofs.PeerLayerLemmas.{layer_found_none}
 use Rattle.x25_handshakes.proofs.LayerPeers.{Deeds, Did, Nothing, Something, Heard, at_once, IsFit}
 use Rattle.x25_handshakes.proofs.LayerPeerCalls.{IsKnown, IsKnownSide, ChannelDid, ChannelHeard, channel_did, channel_heard}
 use Rattle.x25_handshakes.specs.laws.PeerLayers as joined
@@ -115,7 +116,7 @@ behind_did e x h z c o (Nothing same none) = Nothing (put_as e x h z c same) (ap
 behind_did e x h z c o (Something d may next out) =
     let y : PeerChannels = put_peer (as_peer_channels x) h z in
     let at : y h ≡ z = there h z (as_at as_peer_call (x h)) in
-    Something (InChannel h d) (subst (λ (w : At PeerCall). MayDoChannel w.side d) (sym at) may)
+    Something (InChannel h d) (rw at may)
     (twice y at
     ∙ put_as e x h (does_channel z.epoch z.side d) c next)
     (ap (λ (w : At PeerCall). On h (channel_packet_of w.side d) ∷ []) at ∙ ap (addressed h) out)
@@ -151,8 +152,7 @@ layer_heard r e (Left x) p quiet = at_once layer_deeds _ _ _ _ refl refl
 reached_at : (r : Role) (x : At Channels) (y y₂ : At PeerChannels) (u u₂ v v₂ : List LayerPacket) (e e₂ : Option ℕ) → y ≡ y₂ → u ≡ u₂ → v ≡ v₂ → e ≡ e₂
     → IsReached r (record { near = x; peer = y; out = u; back = v; error = e }) → IsReached r (record { near = x; peer = y₂; out = u₂; back = v₂; error = e₂ })
 reached_at r x y y₂ u u₂ v v₂ e e₂ p q s t h =
-    subst (λ (a : At PeerChannels). IsReached r (record { near = x; peer = a; out = u₂; back = v₂; error = e₂ })) p
-    (subst (λ (a : List LayerPacket). IsReached r (record { near = x; peer = y; out = a; back = v₂; error = e₂ })) q
+    rw (sym p) (subst (λ (a : List LayerPacket). IsReached r (record { near = x; peer = y; out = a; back = v₂; error = e₂ })) q
     (subst (λ (a : List LayerPacket). IsReached r (record { near = x; peer = y; out = u; back = a; error = e₂ })) s
     (subst (λ (a : Option ℕ). IsReached r (record { near = x; peer = y; out = u; back = v; error = a })) t h)))
 
@@ -171,15 +171,7 @@ heard_reached r x y y₂ p u v o g h =
     (did_reached r x s.next y₂ u (v ++ s.out) g.rest g.did (joined.goes_on _ _ h (joined.Hears p u refl)))
 
 found_none : (p : LayerPacket) (e : Option ℕ) → e ≡ None → layer_found p e ≡ None
-found_none p e none = ap (λ f. layer_found p f) none ∙ at p
-  where
-    on_none : (p : Packet) → found p None ≡ None
-    on_none Clear = refl
-    on_none other = refl
-
-    at : (p : LayerPacket) → layer_found p None ≡ None
-    at (On h p) = on_none p
-    at p = refl
+found_none p e none = ap (λ f. layer_found p f) none ∙ layer_found_none p
 
 -- both directions: the first end has this role
 record Both (r : Role) (near far : Side (At Channels)) (out back : List LayerPacket) : Type 0 where

@@ -1,5 +1,5 @@
 -- What our own end does is what a peer may do.
-use Rattle.std.proofs.Common.{◌≡◌, ℕ, ◌+◌, ◌%◌, ◌≤◌, List, [], ◌∷◌, ◌++◌, length, Option, Some, None, Bool, true, false, nat_lt, nat_le, if◌then◌else◌, refl, sym, ap, subst, ◌∙◌, arith}
+use Rattle.std.proofs.Common.{◌≡◌, ℕ, ◌+◌, ◌%◌, ◌≤◌, List, [], ◌∷◌, ◌++◌, length, Option, Some, None, Bool, true, false, nat_lt, nat_le, if◌then◌else◌, refl, sym, ap, ◌∙◌, arith}
 use Rattle.std.proofs.{lemmas.List.{length_push, append-nil}, lemmas.Bool.{cond_both, ltb-true}}
 use Rattle.x25_packet.specs.declared.marks.Marks.{Marks}
 use Rattle.x25_circuit.specs.{Message.{Piece, no_part, cut, wholes, AreSound}}
@@ -61,7 +61,7 @@ does_pull t small x (p ∷ ps) is sound =
     (λ room. let open_room = ltb-true (length x.sent) (x.acked + t.window) room in
     Something (Sends p (length x.taken)) (
       record { rising = omega arith; taken = omega arith },
-      record { window = omega (arith, open_room); fits = (AreSound-back t.longest t.size no_part x.sent (p ∷ ps) (subst (λ (l : List Piece). AreSound t.longest t.size no_part (x.sent ++ l)) is sound)).0 },
+      record { window = omega (arith, open_room); fits = (AreSound-back t.longest t.size no_part x.sent (p ∷ ps) (rw (sym is) sound)).0 },
     )
     refl refl)
     (λ _. does_still t.longest t.size x))

@@ -37,7 +37,7 @@ number_map n None P Q f h = f n (omega arith) h
 number_map n (Some c) P Q f h = (h.0, f (n + 1) (omega arith) h.1)
 
 pub Numbered_push : (n : ℕ) (u : List Packet) (p : Packet) → Numbered n u → number_at (n + length (pieces u)) (numbering p) (λ m. Unit {0}) → Numbered n (u ++ p ∷ [])
-Numbered_push n [] p h is = subst (λ (k : ℕ). number_at k (numbering p) (λ m. Unit {0})) (let e : n + 0 ≡ n = omega arith in e) is
+Numbered_push n [] p h is = rw (sym (let e : n + 0 ≡ n = omega arith in e)) is
 Numbered_push n (q ∷ u) p h is =
     number_map n (numbering q) (λ m. Numbered m u) (λ m. Numbered m (u ++ p ∷ []))
     (λ m e k. Numbered_push m u p k (subst (λ (k : ℕ). number_at k (numbering p) (λ m. Unit {0}))

@@ -22,7 +22,7 @@ said m n mine one h =
     record { same = is.0; allowed = is.1 }
 
 pub proposes : (m : List CallRequest) (n : CallRequest) → m ≡ [] → may_propose n.params ≡ true → Proposes (m ++ n ∷ []) n.params
-proposes m n none allowed = subst (λ (l : List CallRequest). Proposes (l ++ n ∷ []) n.params) (sym none) (refl, allowed)
+proposes m n none allowed = rw none (refl, allowed)
 
 -- an answer that is allowed is read as it was meant, and the terms of both ends are sound
 pub record Agreed (mine answer : Params) (field : List ℕ) (most : ℕ) : Type 0 where
@@ -31,18 +31,17 @@ pub record Agreed (mine answer : Params) (field : List ℕ) (most : ℕ) : Type 
 
 pub agreed : Laws → (mine answer : Params) (field : List ℕ) (most : ℕ) → may_propose mine ≡ true → may_answer mine answer ≡ true → said_in mine field ≡ answer → Agreed mine answer field most
 agreed laws mine answer field most proposed allowed is = record {
-  fits = record { allowed = subst (λ (q : Params). may_answer mine q ≡ true) (sym is) allowed; called = ap (called_terms most) (sym is); calling = ap (calling_terms most) (sym is) };
+  fits = record { allowed = rw is allowed; called = ap (called_terms most) (sym is); calling = ap (calling_terms most) (sym is) };
   terms = answer_sound laws most mine answer proposed allowed;
 }
 
 as_proposed : Laws → (mine theirs : Params) (most : ℕ) → IsProposal mine theirs → Agreed mine theirs [] most
 as_proposed laws mine theirs most h =
-    subst (λ (p : Params). Agreed mine p [] most) (sym h.same) (agreed laws mine mine [] most h.allowed (laws.proposal mine) (laws.no_field mine))
+    rw h.same (agreed laws mine mine [] most h.allowed (laws.proposal mine) (laws.no_field mine))
 
 as_answered : Laws → (mine theirs : Params) (answer : Proposal) (most : ℕ) → IsProposal mine theirs → may_answer theirs answer.params ≡ true → Agreed mine answer.params (field_for theirs answer) most
 as_answered laws mine theirs answer most h =
-    subst (λ (p : Params). may_answer p answer.params ≡ true → Agreed mine answer.params (field_for p answer) most) (sym h.same)
-    (λ may. agreed laws mine answer.params (field_for mine answer) most h.allowed may (answer_read laws mine answer h.allowed may))
+    rw h.same (λ may. agreed laws mine answer.params (field_for mine answer) most h.allowed may (answer_read laws mine answer h.allowed may))
 
 pub nil_is : (u : List Packet) → Nil u → u ≡ []
 nil_is [] h = refl
@@ -132,15 +131,14 @@ module _ {S B : Type 0} (R : TalksOf S B) (s₀ : S) (y₀ : B) where
   DteIs a b ma ia mb ib u v = JointOf R s₀ y₀ a b ma ia mb ib u v
 
   pub dte_still : (a : Stage S) (b : Stage B) (ma ia mb ib : List CallRequest) (u v : List Packet) → DteIs a b ma ia mb ib u v → DteIs a b ma ia mb ib (u ++ []) v
-  dte_still a b ma ia mb ib u v h = subst (λ (w : List Packet). DteIs a b ma ia mb ib w v) (sym (append-nil u)) h
+  dte_still a b ma ia mb ib u v h = rw (append-nil u) h
 
   dte_answered : (p : Params) (field : List ℕ) (most : ℕ) (ma ia mb ib : List CallRequest) (u v : List Packet) (t b : Terms) (y : B) → IsAnswer p field most t b → Nil u
       → R b t s₀ [] v t b y → ia ≡ [] → ib ≡ ma → (let q = said_in p field in DteIs (Talking (calling_terms most q) (called_terms most q) s₀) (Talking t b y) ma ia mb ib (u ++ []) v)
   dte_answered p field most ma ia mb ib u v t b y answer none talk indicated there =
       let q : Params = said_in p field in
       dte_still (Talking (calling_terms most q) (called_terms most q) s₀) (Talking t b y) ma ia mb ib u v (
-        subst (λ (s : Terms). R s (called_terms most q) s₀ u v t b y) answer.calling (subst (λ (s : Terms). R b s s₀ u v t b y) answer.called
-            (subst (λ (w : List Packet). R b t s₀ w v t b y) (sym (nil_is u none)) talk)),
+        subst (λ (s : Terms). R s (called_terms most q) s₀ u v t b y) answer.calling (rw (sym answer.called) (subst (λ (w : List Packet). R b t s₀ w v t b y) (sym (nil_is u none)) talk)),
         inl (indicated, there),
       )
 
@@ -152,27 +150,22 @@ module _ {S B : Type 0} (R : TalksOf S B) (s₀ : S) (y₀ : B) where
     dte_taken Unused (Waiting q) ma ia mb ib u (Call n) v h =
         (tt, dte_still (Offered n.params) (Waiting q) ma (ia ++ n ∷ []) mb ib u v (h.0, h.1.1, push_first ia n mb h.3 h.1.0, h.4, said mb n q h.1.0 h.5))
     dte_taken Unused (Waiting q) ma ia mb ib u other v h = absurd h.1
-    dte_taken Unused other ma ia mb ib u p v h = absurd h
     dte_taken (Waiting mine) Unused ma ia mb ib u p v h = absurd h.1
     dte_taken (Waiting mine) (Waiting q) ma ia mb ib u (Call n) v h = (tt, dte_still (Crossed mine) (Waiting q) ma ia mb ib u v (h.0, h.1.1, h.2, h.3, h.4))
     dte_taken (Waiting mine) (Waiting q) ma ia mb ib u other v h = absurd h.1
     dte_taken (Waiting mine) (Offered q) ma ia mb ib u (Call n) v h = (tt, dte_still (Crossed mine) (Offered q) ma ia mb ib u v (h.0, h.1.1, h.2, h.3, h.4))
     dte_taken (Waiting mine) (Offered q) ma ia mb ib u other v h = absurd h.1
-    dte_taken (Waiting mine) (Crossed q) ma ia mb ib u p v h = absurd h
     dte_taken (Waiting mine) (Talking t b y) ma ia mb ib u (Call n) v h = (tt, dte_still (Crossed mine) (Talking t b y) ma ia mb ib u v (h.0, h.1.1, h.2, h.3))
     dte_taken (Waiting mine) (Talking t b y) ma ia mb ib u (Accept field most) v h = (h.1.1.allowed, dte_answered mine field most ma ia mb ib u v t b y h.1.1 h.0 h.1.2 h.2 h.3)
     dte_taken (Waiting mine) (Talking t b y) ma ia mb ib u other v h = absurd h.1
     dte_taken (Offered theirs) (Waiting q) ma ia mb ib u p v h = absurd h.1
-    dte_taken (Offered theirs) other ma ia mb ib u p v h = absurd h
-    dte_taken (Crossed mine) Unused ma ia mb ib u p v h = absurd h
     dte_taken (Crossed mine) (Waiting q) ma ia mb ib u p v h = absurd h.1
     dte_taken (Crossed mine) (Offered q) ma ia mb ib u p v h = absurd h.1
-    dte_taken (Crossed mine) (Crossed q) ma ia mb ib u p v h = absurd h
     dte_taken (Crossed mine) (Talking t b y) ma ia mb ib u (Accept field most) v h = (h.1.0.allowed, dte_answered mine field most ma ia mb ib u v t b y h.1.0 h.0 h.1.1 h.2 h.3)
     dte_taken (Crossed mine) (Talking t b y) ma ia mb ib u other v h = absurd h.1
     dte_taken (Talking t b x) (Waiting q) ma ia mb ib u p v h = absurd h.1
     dte_taken (Talking t b x) (Talking t₂ b₂ y) ma ia mb ib u p v h = (let k = takes t b x u p v t₂ b₂ y h.0 in (k.0, (k.1, h.1)))
-    dte_taken (Talking t b x) other ma ia mb ib u p v h = absurd h
+    dte_taken a b ma ia mb ib u p v h = absurd h
 
   -- it calls
   pub dte_calls : (b : Stage B) (n : CallRequest) (ma ia mb ib : List CallRequest) (u v : List Packet) → may_propose n.params ≡ true → DteIs Unused b ma ia mb ib u v → DteIs (Waiting n.params) b (ma ++ n ∷ []) ia mb ib (u ++ Call n ∷ []) v
@@ -215,15 +208,14 @@ module _ {A S : Type 0} (R : TalksOf A S) (x₀ : A) (s₀ : S) where
   DceIs a b ma ia mb ib u v = JointOf R x₀ s₀ a b ma ia mb ib u v
 
   pub dce_still : (a : Stage A) (b : Stage S) (ma ia mb ib : List CallRequest) (u v : List Packet) → DceIs a b ma ia mb ib u v → DceIs a b ma ia mb ib u (v ++ [])
-  dce_still a b ma ia mb ib u v h = subst (λ (w : List Packet). DceIs a b ma ia mb ib u w) (sym (append-nil v)) h
+  dce_still a b ma ia mb ib u v h = rw (append-nil v) h
 
   dce_answered : (q : Params) (field : List ℕ) (most : ℕ) (ma ia mb ib : List CallRequest) (u v : List Packet) (t b : Terms) (x : A) → IsAnswer q field most t b → Nil v
       → R t b x u [] b t s₀ → ia ≡ mb → ib ≡ [] → (let p = said_in q field in DceIs (Talking t b x) (Talking (calling_terms most p) (called_terms most p) s₀) ma ia mb ib u (v ++ []))
   dce_answered q field most ma ia mb ib u v t b x answer none talk there indicated =
       let p : Params = said_in q field in
       dce_still (Talking t b x) (Talking (calling_terms most p) (called_terms most p) s₀) ma ia mb ib u v (
-        subst (λ (s : Terms). R t b x u v s (called_terms most p) s₀) answer.calling (subst (λ (s : Terms). R t b x u v b s s₀) answer.called
-            (subst (λ (w : List Packet). R t b x u w b t s₀) (sym (nil_is v none)) talk)),
+        subst (λ (s : Terms). R t b x u v s (called_terms most p) s₀) answer.calling (rw (sym answer.called) (subst (λ (w : List Packet). R t b x u w b t s₀) (sym (nil_is v none)) talk)),
         inr (there, indicated),
       )
 
@@ -248,17 +240,12 @@ module _ {A S : Type 0} (R : TalksOf A S) (x₀ : A) (s₀ : S) where
     dce_taken (Talking t b x) (Talking t₂ b₂ y) ma ia mb ib u p v h = (let k = takes t b x u p v t₂ b₂ y h.0 in (k.0, (k.1, h.1)))
     dce_taken Unused Unused ma ia mb ib u p v h = absurd h.0
     dce_taken Unused (Waiting q) ma ia mb ib u p v h = absurd h.0
-    dce_taken Unused other ma ia mb ib u p v h = absurd h
     dce_taken (Waiting mine) (Offered q) ma ia mb ib u p v h = absurd h.0
-    dce_taken (Waiting mine) (Crossed q) ma ia mb ib u p v h = absurd h
     dce_taken (Waiting mine) (Talking t b y) ma ia mb ib u p v h = absurd h.0
     dce_taken (Offered theirs) (Waiting q) ma ia mb ib u p v h = absurd h.0
-    dce_taken (Offered theirs) other ma ia mb ib u p v h = absurd h
-    dce_taken (Crossed mine) Unused ma ia mb ib u p v h = absurd h
     dce_taken (Crossed mine) (Offered q) ma ia mb ib u p v h = absurd h.0
-    dce_taken (Crossed mine) (Crossed q) ma ia mb ib u p v h = absurd h
     dce_taken (Crossed mine) (Talking t b y) ma ia mb ib u p v h = absurd h.0
-    dce_taken (Talking t b x) other ma ia mb ib u p v h = absurd h
+    dce_taken a b ma ia mb ib u p v h = absurd h
 
   -- it calls
   pub dce_calls : (a : Stage A) (n : CallRequest) (ma ia mb ib : List CallRequest) (u v : List Packet) → may_propose n.params ≡ true → DceIs a Unused ma ia mb ib u v → DceIs a (Waiting n.params) ma ia (mb ++ n ∷ []) ib u (v ++ Call n ∷ [])
@@ -327,15 +314,12 @@ module _ (K : Stage (At Stretch) → List CallRequest → List CallRequest → L
 
   own_taken : (r : Role) (a : Phase) (p : Packet) → MayCome OwnFine a p → (let s = taken fresh_transfer own_next own_out r a m i p in K s.stage s.made s.indicated s.out) → IsGood K (phase_takes r a m i p)
   own_taken r Unused (Call n) may k = (refl, k)
-  own_taken r Unused other may k = absurd may
   own_taken Dte (Waiting mine) (Call n) may k = (refl, k)
   own_taken Dce (Waiting mine) (Call n) may k = (refl, k)
   own_taken r (Waiting mine) (Accept field most) may k = own_answered (Waiting mine) mine field most may k
-  own_taken r (Waiting mine) other may k = absurd may
-  own_taken r (Offered theirs) p may k = absurd may
   own_taken r (Crossed mine) (Accept field most) may k = own_answered (Crossed mine) mine field most may k
-  own_taken r (Crossed mine) other may k = absurd may
   own_taken r (Talking t b x) p may k = (may, k)
+  own_taken r a p may k = absurd may
 
   -- where it may stay, call, accept and go on so
   own_done : Laws → (a : Phase) (act : CallAct) → K a m i [] → (a ≡ Unused → (n : CallRequest) → may_propose n.params ≡ true → K (Waiting n.params) (m ++ n ∷ []) i (Call n ∷ []))
@@ -343,16 +327,12 @@ module _ (K : Stage (At Stretch) → List CallRequest → List CallRequest → L
       → ((t b : Terms) (x : At Stretch) → a ≡ Talking t b x → (act : TransferAct) → (let s = transfer_acts t x act in (s.error ≡ None) × K (Talking t b s.next) m i s.out)) → IsGood K (phase_acts a m i act)
   own_done laws Unused (PlacesCall n) stays calls answers moves =
       cond_both (may_propose n.params) (goes (Waiting n.params) (m ++ n ∷ []) i (Call n ∷ [])) (goes Unused m i []) (IsGood K) (λ may. (refl, calls refl n may)) (λ _. (refl, stays))
-  own_done laws Unused act stays calls answers moves = (refl, stays)
-  own_done laws (Waiting mine) act stays calls answers moves = (refl, stays)
   own_done laws (Offered theirs) (AcceptsCall None most) stays calls answers moves = (refl, answers theirs refl theirs [] most (λ mine is. as_proposed laws mine theirs most is))
   own_done laws (Offered theirs) (AcceptsCall (Some answer) most) stays calls answers moves =
       cond_both (may_answer theirs answer.params) (goes (called_talk most answer.params) m i (Accept (field_for theirs answer) most ∷ [])) (goes (Offered theirs) m i []) (IsGood K)
       (λ may. (refl, answers theirs refl answer.params (field_for theirs answer) most (λ mine is. as_answered laws mine theirs answer most is may))) (λ _. (refl, stays))
-  own_done laws (Offered theirs) act stays calls answers moves = (refl, stays)
-  own_done laws (Crossed mine) act stays calls answers moves = (refl, stays)
   own_done laws (Talking t b x) (Talks act) stays calls answers moves = moves t b x refl act
-  own_done laws (Talking t b x) act stays calls answers moves = (refl, stays)
+  own_done laws a act stays calls answers moves = (refl, stays)
 
 -- a step in p4 that is no error, and keeps what is kept there
 pub record OwnTalk {B : Type 0} (R : TalksOf (At Stretch) B) (t b : Terms) (s : Step (At Stretch) Packet) (u v : List Packet) (t₂ b₂ : Terms) (y : B) : Type 0 where

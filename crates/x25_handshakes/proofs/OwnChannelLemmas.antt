@@ -1,5 +1,5 @@
 -- What our own circuit does between two restarts keeps what is kept of it and the other end, whatever kind of end that is.
-use Rattle.std.proofs.Common.{◌≡◌, ℕ, List, [], ◌∷◌, ◌++◌, Option, None, refl, sym, subst, ◌∙◌}
+use Rattle.std.proofs.Common.{◌≡◌, ℕ, List, [], ◌∷◌, ◌++◌, Option, None, refl, sym, ◌∙◌}
 use Rattle.x25_handshakes.specs.{laws.Handshake.{Inner, Side, Live, Left, At, Step, live, left}, laws.Stretch.{Packet, Clear, ClearConf}}
 use Rattle.x25_handshakes.specs.laws.Calls.{Phase, Unused, Connection, call_takes, CallAct, call_acts, fresh_call}
 use Rattle.x25_handshakes.specs.laws.Channel.{lifted_call, in_p1, channel_side_takes, channel_takes, ChannelAct, Within, SendsClear, clears, channel_side_acts, channel_acts}
@@ -36,8 +36,7 @@ module _ {T : Type 0} (gone : Connection → Type 0) (gone_there : T → Type 0)
     where
       at : (u v : List Packet) (y : T) → GoodCall R s u v y → (let k = lifted_call e s s.error in Goes level Any e s.next k.next k.out (f k.error) u v y)
       at u v y g =
-          subst (λ (n : Option ℕ). let k = lifted_call e s n in Goes level Any e s.next k.next k.out (f k.error) u v y) (sym g.0)
-          (record { quiet = none; at = refl; inner = each_back (λ p. clear_mark p ≡ Inner) u s.out (own.quiet _ _ _ _ g.1).0; passes = tt; kept = g.1 })
+          rw g.0 (record { quiet = none; at = refl; inner = each_back (λ p. clear_mark p ≡ Inner) u s.out (own.quiet _ _ _ _ g.1).0; passes = tt; kept = g.1 })
 
   answers : (e : ℕ) (x : Side Connection) (p : Packet) → (let s = channel_side_takes r e x p in Answers level Any e x p (clear_mark p) s.next s.out (finds p s.error))
   answers e (Live x) Clear = record { confirm = ClearConf; is = refl; at = refl; sent = refl; passes = tt; quiet = λ w z gone h. own.clear x w z gone h }

@@ -40,11 +40,9 @@ put_kept {X} R x x₂ o L K M y h each others here k = at (k == h) refl
     at : (c : Bool) → (k == h) ≡ c → R (if k == h then x₂ else x k) (on k (L ++ addressed h o)) (on k K) (y k)
     at true is =
         subst (λ (j : ℕ). R (if j == h then x₂ else x j) (on j (L ++ addressed h o)) (on j K) (y j)) (sym (eqb-true k h is))
-        (subst (λ (a : Bool). R (if a then x₂ else x h) (on h (L ++ addressed h o)) (on h K) (y h)) (sym (eq-eqb h h refl))
-        (subst (λ (l : List Packet). R x₂ l (on h K) (y h)) (sym (on-append h L (addressed h o) ∙ ap (λ l. on h L ++ l) (on-same h o))) here))
+        (rw (eq-eqb h h refl) (subst (λ (l : List Packet). R x₂ l (on h K) (y h)) (sym (on-append h L (addressed h o) ∙ ap (λ l. on h L ++ l) (on-same h o))) here))
     at false is =
-        subst (λ (a : Bool). R (if a then x₂ else x k) (on k (L ++ addressed h o)) (on k K) (y k)) (sym is)
-        (subst (λ (l : List Packet). R (x k) l (on k K) (y k)) (sym (on-append k L (addressed h o) ∙ ap (λ l. on k L ++ l) (on-other k h o is) ∙ append-nil (on k L)))
+        rw is (subst (λ (l : List Packet). R (x k) l (on k K) (y k)) (sym (on-append k L (addressed h o) ∙ ap (λ l. on k L ++ l) (on-other k h o is) ∙ append-nil (on k L)))
         (subst (λ (l : List Packet). R (x k) (on k L) l (y k)) (others k is) (each k)))
 
 pub on-front : (h : ℕ) (p : Packet) (K : List LayerPacket) → on h (On h p ∷ K) ≡ p ∷ on h K
@@ -86,7 +84,7 @@ module _ {Z : Type 0} (R : At Connection → List Packet → List Packet → Z �
   answers : (e : ℕ) (x : Side Channels) (p : LayerPacket) → (let s = layer_side_takes r e x p in Answers level Any e x p (restart_mark p) s.next s.out (finds p s.error))
   answers e (Live x) (On h p) =
       inside e x h (channel_takes r (x h) p) (On h p ∷ []) _ (λ k K not. on-past k h p K not)
-      (λ L K y all. own.takes h (x h) (on h L) p (on h K) (y h) (subst (λ (l : List Packet). R (x h) (on h L) l (y h)) (on-front h p K) (all.each h)))
+      (λ L K y all. own.takes h (x h) (on h L) p (on h K) (y h) (rw (sym (on-front h p K)) (all.each h)))
   answers e (Live x) Restart = record { confirm = RestartConf; is = refl; at = refl; sent = refl; passes = tt; quiet = λ w z gone h. own.none Restart }
   answers e (Live x) RestartConf = tt
   answers e (Left x) Restart = (refl, refl, own.none Restart)

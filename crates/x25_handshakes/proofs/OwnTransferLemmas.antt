@@ -11,12 +11,9 @@ use Rattle.x25_handshakes.proofs.HandshakeSteps as hand
 use Rattle.x25_handshakes.specs.laws.Terms.{Terms}
 
 pub inner_mark : (p : Packet) → InFlowControl p → reset_mark p ≡ Inner
-inner_mark (Data s r p) is = refl
-inner_mark (Rr r) is = refl
-inner_mark (Rnr r) is = refl
-inner_mark (Int xs) is = refl
-inner_mark IntConf is = refl
-inner_mark p is = absurd is
+inner_mark Reset is = absurd is
+inner_mark ResetConf is = absurd is
+inner_mark other is = refl
 
 pub in_transfer : (p : Packet) → InFlowControl p → InTransfer p
 in_transfer (Data s r p) is = tt

@@ -25,14 +25,14 @@ Line-send sent taken u r p h = record {
 pub Line-push : (sent taken : List Piece) (u : List Packet) (q : Packet) → numbering q ≡ None → InFlowControl q → Line sent taken u → Line sent taken (u ++ q ∷ [])
 Line-push sent taken u q none is h = record {
   flow = h.flow ∙ ap (λ l. taken ++ l) (sym (pieces_push u q ∙ ap (λ c. pieces u ++ piece_of c) none ∙ append-nil (pieces u)));
-  numbers = Numbered_push (length taken) u q h.numbers (subst (λ (c : Option Numbering). number_at (length taken + length (pieces u)) c (λ m. Unit {0})) (sym none) tt);
+  numbers = Numbered_push (length taken) u q h.numbers (rw none tt);
   kinds = each_append InFlowControl u (q ∷ []) h.kinds (is, tt);
 }
 
 pub Line-take : (sent taken : List Piece) (u : List Packet) (s r : ℕ) (p : Piece) → Line sent taken (Data s r p ∷ u) → Line sent (taken ++ p ∷ []) u
 Line-take sent taken u s r p h = record {
   flow = h.flow ∙ sym (append_assoc taken (p ∷ []) (pieces u));
-  numbers = subst (λ (n : ℕ). Numbered n u) (sym (length_push taken p)) h.numbers.1;
+  numbers = rw (length_push taken p) h.numbers.1;
   kinds = h.kinds.1;
 }
 
@@ -123,8 +123,7 @@ Text-send longest size sent rest down q xs one small h =
     let e : (sent ++ rest) ++ cut size q xs ≡ sent ++ (rest ++ cut size q xs) = append_assoc sent rest (cut size q xs) in
     let far : length xs ≤ size + length xs = omega arith in
     record {
-      fits = subst (λ (l : List Piece). AreSound longest size no_part l) e
-          (AreSound-append longest size no_part (sent ++ rest) (cut size q xs) h.fits
+      fits = rw (sym e) (AreSound-append longest size no_part (sent ++ rest) (cut size q xs) h.fits
           (subst (λ j. AreSound longest size j (cut size q xs)) (sym h.whole) (AreSound-cut (length xs) longest size q xs no_part one far (omega arith) refl)));
       whole = ap (joining no_part) (sym e) ∙ joining-append no_part (sent ++ rest) (cut size q xs) ∙ joining-cut (length xs) size q xs (joining no_part (sent ++ rest));
       messages = ap (λ l. l ++ record { marks = q; user = xs } ∷ []) h.messages
@@ -137,7 +136,7 @@ pub Text-pull : (longest size : ℕ) (sent : List Piece) (p : Piece) (rest : Lis
 Text-pull longest size sent p rest down h =
     let e : sent ++ (p ∷ rest) ≡ (sent ++ p ∷ []) ++ rest = sym (append_assoc sent (p ∷ []) rest) in
     record {
-      fits = subst (λ (l : List Piece). AreSound longest size no_part l) e h.fits;
+      fits = rw (sym e) h.fits;
       whole = ap (joining no_part) (sym e) ∙ h.whole;
       messages = h.messages ∙ ap carried e;
     }

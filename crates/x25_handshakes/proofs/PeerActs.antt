@@ -2,11 +2,11 @@
 use Rattle.std.proofs.Common.{◌≡◌, ℕ, ◌+◌, ◌%◌, ◌<◌, ◌≤◌, List, [], ◌∷◌, ◌++◌, length, Option, Some, None, Bool, true, false, nat_lt, nat_le, if◌then◌else◌, refl, sym, ap, subst, eq-eqb, arith}
 use Rattle.std.proofs.{lemmas.List.{length_push, append-nil}, lemmas.Bool.{le-leb, leb-true, ltb-true, cond_both}}
 use Rattle.x25_packet.specs.declared.marks.Marks.{Marks}
-use Rattle.x25_circuit.specs.{Message.{Piece, no_part, joining, piece_ground, cut, wholes, AreSound}}
+use Rattle.x25_circuit.specs.Message.{Piece, no_part, joining, piece_ground, cut, wholes}
 use Rattle.x25_window.specs.code.Modulo.{resolved}
 use Rattle.x25_handshakes.specs.laws.Stretch.{Packet, Data, Rr, Rnr, Int, IntConf, Stretch, stretch_does, stretch_fails, StretchAct, Send, Pull, Ready, NotReady, Interrupt, status, sends, pulls, interrupts, stretch_acts, ack_ground, data_ground, by_ground, takes_data, takes_status, stretch_takes}
 use Rattle.x25_handshakes.specs.{laws.PeerStretch.{PeerStretch}, laws.Handshake.{Step}}
-use Rattle.x25_handshakes.proofs.StretchRelation.{numbering, ack_in, int_in, conf_in, InFlowControl, pieces, hears, heard, Ints, Text, GoodStretch}
+use Rattle.x25_handshakes.proofs.StretchRelation.{numbering, ack_in, int_in, conf_in, InFlowControl, pieces, hears, heard, GoodStretch}
 use Rattle.x25_handshakes.proofs.TextLemmas.{AreSound-back}
 use Rattle.x25_handshakes.proofs.PartLemmas.{Line-le, Line-send, Line-push, Line-take, Line-skip, Acks-push, Acks-pass, Acks-more, Acks-taken, Acks-hear, heard_below, Ints-there, Ints-back, Ints-send, Ints-take, Ints-confirm, Ints-past, Ints-skip, Ints-out, Ints-conf, Text-send, Text-pull, up-take}
 use Rattle.x25_handshakes.proofs.PeerRelation.{Theirs, Kept}
@@ -74,7 +74,7 @@ Kept-pull t longest size x u v y p ps is room h =
         line = Line-send x.sent y.taken u (length x.taken % 8) p h.there.line;
         acks = record { acks = Acks-more t.window x.acked (length x.sent) (length (x.sent ++ p ∷ [])) v y.told (omega arith) h.there.acks.acks; late = h.there.acks.late };
         ints = Ints-there x.int_out x.int_down y.int_up u v y.owed d refl h.there.ints;
-        text = Text-pull t.longest t.size x.sent p ps x.down (subst (λ (l : List Piece). Text t.longest t.size x.sent l x.down) is h.there.text);
+        text = Text-pull t.longest t.size x.sent p ps x.down (rw (sym is) h.there.text);
       };
       back = Theirs-told longest size x (x.sent ++ p ∷ []) ps u v y d refl refl h.back;
     }
@@ -95,7 +95,7 @@ Kept-interrupt t longest size x u v y xs is h = record {
   there = record {
     line = Line-push x.sent y.taken u (Int xs) refl tt h.there.line;
     acks = h.there.acks;
-    ints = Ints-send x.int_down y.int_up u v y.owed xs (subst (λ (o : Bool). Ints o x.int_down y.int_up u v y.owed) is h.there.ints);
+    ints = Ints-send x.int_down y.int_up u v y.owed xs (rw (sym is) h.there.ints);
     text = h.there.text;
   };
   back = record {
@@ -150,7 +150,7 @@ Good-take-data t longest size x u v y s r p h =
     let late : y.told ≤ length y.taken = h.there.acks.late in
     let low : resolved x.acked r ≤ length x.sent = heard_below x.acked (length x.sent) v r y.told (omega arith) h.there.acks.acks.acks in
     let wanted : s ≡ length x.taken % 8 = h.back.line.numbers.0 in
-    let ground : piece_ground longest size (joining no_part x.taken) p ≡ None = (AreSound-back longest size no_part x.taken (p ∷ pieces v) (subst (λ (l : List Piece). AreSound longest size no_part l) h.back.line.flow h.back.text.sound)).0 in
+    let ground : piece_ground longest size (joining no_part x.taken) p ≡ None = (AreSound-back longest size no_part x.taken (p ∷ pieces v) (rw (sym h.back.line.flow) h.back.text.sound)).0 in
     let none : data_ground longest size x s r p ≡ None = rw (le-leb (resolved x.acked r) (length x.sent) low) (rw (eq-eqb s (length x.taken % 8) wanted) ground) in
     subst (λ (g : Option ℕ). Good t longest size (by_ground g x (takes_data x r p)) u v y) (sym none)
     (record {
@@ -199,7 +199,7 @@ Kept-take-conf t longest size x u v y is h = record {
   there = record {
     line = h.there.line;
     acks = record { acks = record { room = h.there.acks.acks.room; acks = h.there.acks.acks.acks }; late = h.there.acks.late };
-    ints = Ints-conf x.int_down y.int_up u v y.owed (subst (λ (o : Bool). Ints o x.int_down y.int_up u (IntConf ∷ v) y.owed) is h.there.ints);
+    ints = Ints-conf x.int_down y.int_up u v y.owed (rw (sym is) h.there.ints);
     text = h.there.text;
   };
   back = record { line = Line-skip y.sent x.taken v IntConf refl h.back.line; acks = h.back.acks; ints = Ints-past y.int_out y.int_down x.int_up v u 0 IntConf refl h.back.ints; text = h.back.text };

@@ -44,7 +44,7 @@ talks_does : (t b : Terms) (x : At Stretch) (u v : List Packet) (t₂ b₂ : Ter
     → PeerTalks t b x u (v ++ transfer_packet_of y.side d ∷ []) t₂ b₂ (does_transfer y.epoch y.side d)
 talks_does t b x u v t₂ b₂ y d may h =
     PeerTalks-next t b x x u v u _ t₂ b₂ y _ h
-    (done_kept t b.longest b.size h.sound.window x u v y.epoch y.side d (subst (λ (s : Terms). MayDoTransfer s.longest s.size y.side d) h.back may) h.related)
+    (done_kept t b.longest b.size h.sound.window x u v y.epoch y.side d (rw (sym h.back) may) h.related)
 
 talks_takes : (t b : Terms) (x : At Stretch) (u : List Packet) (p : Packet) (v : List Packet) (t₂ b₂ : Terms) (y : At PeerStretch) → PeerTalks t b x (p ∷ u) v t₂ b₂ y
     → PeerTalks t b x u (v ++ (transfer_taking y.epoch y.side p).out) t₂ b₂ (transfer_taking y.epoch y.side p).next
@@ -53,7 +53,7 @@ talks_takes t b x u p v t₂ b₂ y h = PeerTalks-next t b x x _ v u _ t₂ b₂
 -- what the peer answers is read as it was meant
 as_said : Laws → (mine theirs : Params) (field : List ℕ) (most : ℕ) → IsProposal mine theirs → may_answer theirs (said_in theirs field) ≡ true → Agreed mine (said_in theirs field) field most
 as_said laws mine theirs field most h =
-    subst (λ (p : Params). may_answer p (said_in p field) ≡ true → Agreed mine (said_in p field) field most) (sym h.same) (λ may. agreed laws mine (said_in mine field) field most h.allowed may refl)
+    rw h.same (λ may. agreed laws mine (said_in mine field) field most h.allowed may refl)
 
 -- ---- what the peer makes of a packet, and what it does by itself
 
@@ -70,15 +70,11 @@ module _ (K : Stage (At PeerStretch) → List CallRequest → List CallRequest �
   peer_taken : (r : Role) (b : Stage (At PeerStretch)) (p : Packet) → (let s = taken fresh_peer_transfer peer_next peer_out r b m i p in K s.stage s.made s.indicated s.out)
       → (let s = call_taking r b m i p in K s.next.stage s.next.made s.next.indicated s.out)
   peer_taken r Unused (Call n) k = k
-  peer_taken r Unused other k = k
   peer_taken Dte (Waiting mine) (Call n) k = k
   peer_taken Dce (Waiting mine) (Call n) k = k
   peer_taken r (Waiting mine) (Accept field most) k = k
-  peer_taken r (Waiting mine) other k = k
-  peer_taken r (Offered theirs) p k = k
   peer_taken r (Crossed mine) (Accept field most) k = k
-  peer_taken r (Crossed mine) other k = k
-  peer_taken r (Talking t b y) p k = k
+  peer_taken r b p k = k
 
   -- where it may call, accept and go on so
   peer_done : Laws → (b : Stage (At PeerStretch)) (d : CallDeed) → MayDoCall b d → (b ≡ Unused → (n : CallRequest) → may_propose n.params ≡ true → K (Waiting n.params) (m ++ n ∷ []) i (Call n ∷ []))
@@ -86,13 +82,9 @@ module _ (K : Stage (At PeerStretch) → List CallRequest → List CallRequest �
       → ((t k : Terms) (y : At PeerStretch) → b ≡ Talking t k y → (d : TransferDeed) → MayDoTransfer t.longest t.size y.side d → K (Talking t k (does_transfer y.epoch y.side d)) m i (transfer_packet_of y.side d ∷ []))
       → (let c = does_call b m i d in K c.stage c.made c.indicated (call_packet_of b d ∷ []))
   peer_done laws Unused (PlacesCall n) may calls answers moves = calls refl n may
-  peer_done laws Unused d may calls answers moves = absurd may
-  peer_done laws (Waiting mine) d may calls answers moves = absurd may
   peer_done laws (Offered theirs) (AcceptsCall field most) may calls answers moves = answers theirs refl (said_in theirs field) field most (λ mine is. as_said laws mine theirs field most is may)
-  peer_done laws (Offered theirs) d may calls answers moves = absurd may
-  peer_done laws (Crossed mine) d may calls answers moves = absurd may
   peer_done laws (Talking t k y) (InTransfer d) may calls answers moves = moves t k y refl d may
-  peer_done laws (Talking t k y) d may calls answers moves = absurd may
+  peer_done laws b d may calls answers moves = absurd may
 
 -- ---- the two roles at once, seen from our end
 

@@ -1,11 +1,11 @@
 -- What the peer does keeps what is kept of our circuit and it.
-use Rattle.std.proofs.Common.{◌≡◌, ℕ, ◌+◌, ◌%◌, ◌≤◌, List, [], ◌∷◌, ◌++◌, length, Option, Some, None, Bool, true, false, refl, subst, arith}
+use Rattle.std.proofs.Common.{◌≡◌, ℕ, ◌+◌, ◌%◌, ◌≤◌, List, [], ◌∷◌, ◌++◌, length, Option, Some, None, Bool, true, false, refl, subst, arith, sym}
 use Rattle.std.proofs.lemmas.List.{length_push}
 use Rattle.x25_circuit.specs.{Message.{Piece, no_part}}
 use Rattle.x25_window.specs.code.Modulo.{resolved}
 use Rattle.x25_handshakes.specs.laws.Stretch.{Packet, Data, Rr, Rnr, Int, IntConf, Stretch}
 use Rattle.x25_handshakes.specs.laws.PeerStretch.{PeerStretch, Deed, Sends, Says, Interrupts, Confirms, MayAcknowledge, MayDo, does, packet_of, taking}
-use Rattle.x25_handshakes.proofs.{StretchRelation.{numbering, ack_in, int_in, conf_in, InFlowControl, pieces, hears, heard, Ints}, TextLemmas.{AreSound-append}}
+use Rattle.x25_handshakes.proofs.{StretchRelation.{numbering, ack_in, int_in, conf_in, InFlowControl, pieces, hears, heard}, TextLemmas.{AreSound-append}}
 use Rattle.x25_handshakes.proofs.PartLemmas.{Line-le, Line-send, Line-push, Line-take, Line-skip, Acks-pass, Acks-more, Acks-told, Acks-hear, Ints-there, Ints-back, Ints-send, Ints-take, Ints-confirm, Ints-past, Ints-skip, Ints-out, Ints-conf}
 use Rattle.x25_handshakes.proofs.PeerRelation.{Ours, Kept}
 use Rattle.x25_handshakes.specs.laws.Terms.{Terms}
@@ -57,7 +57,7 @@ does_kept t longest size small x u v y (Interrupts xs) may h = record {
   back = record {
     line = Line-push y.sent x.taken v (Int xs) refl tt h.back.line;
     acks = h.back.acks;
-    ints = Ints-send y.int_down x.int_up v u 0 xs (subst (λ (o : Bool). Ints o y.int_down x.int_up v u 0) may h.back.ints);
+    ints = Ints-send y.int_down x.int_up v u 0 xs (rw (sym may) h.back.ints);
     text = h.back.text;
   };
 }
@@ -125,7 +125,7 @@ taking_kept t longest size x IntConf u v y h =
       back = record {
         line = h.back.line;
         acks = record { room = h.back.acks.room; acks = h.back.acks.acks };
-        ints = Ints-conf y.int_down x.int_up v u 0 (subst (λ (o : Bool). Ints o y.int_down x.int_up v (IntConf ∷ u) 0) is h.back.ints);
+        ints = Ints-conf y.int_down x.int_up v u 0 (rw (sym is) h.back.ints);
         text = h.back.text;
       };
     }

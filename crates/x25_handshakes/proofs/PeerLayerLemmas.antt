@@ -32,7 +32,7 @@ PeerChannelsRelated-fresh r = record { each = λ h. PeerChannelRelated-fresh r }
 
 -- ---- our end
 
-layer_found_none : (p : LayerPacket) → layer_found p None ≡ None
+pub layer_found_none : (p : LayerPacket) → layer_found p None ≡ None
 layer_found_none (On h p) = found_none p
 layer_found_none p = refl
 
@@ -84,10 +84,10 @@ module _ (r : Role) where
       let front : on h (j ++ On h p ∷ L) ≡ p ∷ on h L = on-append h j (On h p ∷ L) ∙ ap (λ l. l ++ on h (On h p ∷ L)) none ∙ on-front h p L in
       let rest : on h (j ++ L) ≡ on h L = on-append h j L ∙ ap (λ l. l ++ on h L) none in
       let here : PeerChannelRelated r (x h) (on h L) (on h K ++ s.out) s.next =
-      taking_there r (x h) p (on h L) (on h K) (y h).epoch (y h).side (subst (λ (l : List Packet). PeerChannelRelated r (x h) l (on h K) (y h)) front (all.each h)) in
+      taking_there r (x h) p (on h L) (on h K) (y h).epoch (y h).side (rw (sym front) (all.each h)) in
       peer_put x (j ++ L) (j ++ On h p ∷ L) K y h s.next s.out all
       (λ k not. on-append k j (On h p ∷ L) ∙ ap (λ l. on k j ++ l) (on-past k h p L not) ∙ sym (on-append k j L))
-      (subst (λ (l : List Packet). PeerChannelRelated r (x h) l (on h K ++ s.out) s.next) (sym rest) here)
+      (rw rest here)
     where
       taking_there : (r : Role) (x : At _) (p : Packet) (L K : List Packet) (e : ℕ) (y : Side PeerCall) → PeerChannelRelated r x (p ∷ L) K (record { epoch = e; side = y })
           → PeerChannelRelated r x L (K ++ (channel_taking (other_role r) e y p).out) (channel_taking (other_role r) e y p).next
@@ -155,15 +155,14 @@ happens_holds : Laws → (r : Role) (w v : JoinedLayers) → Happens r w v → H
 happens_holds laws r w v (Acts act) h = stepped_holds r w w.back (layer_acts w.near act) (layer_acts w.near act).error h.quiet (layer_acts_kept laws r w.near w.out w.back w.peer act h.kept)
 happens_holds laws r w v (Takes p rest is) h =
     stepped_holds r w rest (layer_takes r w.near p) (layer_found p (layer_takes r w.near p).error) h.quiet
-    (layer_takes_kept laws r w.near w.out p rest w.peer (subst (λ (l : List LayerPacket). PeerLayersRelated r w.near w.out l w.peer) is h.kept))
+    (layer_takes_kept laws r w.near w.out p rest w.peer (rw (sym is) h.kept))
 happens_holds laws r w v (Does deed may) h = record { quiet = h.quiet; kept = does_kept r laws w.near w.out w.back w.peer.epoch w.peer.side deed may h.kept }
 happens_holds laws r w v (Hears p rest is) h =
-    record { quiet = h.quiet; kept = hears_kept r w.near p rest w.back w.peer.epoch w.peer.side (subst (λ (l : List LayerPacket). PeerLayersRelated r w.near l w.back w.peer) is h.kept) }
+    record { quiet = h.quiet; kept = hears_kept r w.near p rest w.back w.peer.epoch w.peer.side (rw (sym is) h.kept) }
 happens_holds laws r w v (HearsChannel y k passed p rest live apart is) h = record {
   quiet = h.quiet;
   kept = hears_channel_kept r w.near passed k p rest w.back w.peer.epoch y apart
-      (subst (λ (s : Side PeerChannels). PeerLayersRelated r w.near (passed ++ On k p ∷ rest) w.back (record { epoch = w.peer.epoch; side = s })) live
-      (subst (λ (l : List LayerPacket). PeerLayersRelated r w.near l w.back w.peer) is h.kept));
+      (rw (sym live) (subst (λ (l : List LayerPacket). PeerLayersRelated r w.near l w.back w.peer) is h.kept));
 }
 
 reached_holds : Laws → (r : Role) (w : JoinedLayers) → IsReached r w → Holds r w

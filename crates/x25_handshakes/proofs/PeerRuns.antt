@@ -1,5 +1,5 @@
 -- All that happens to a circuit of ours in p4 and a peer keeps what is kept of them.
-use Rattle.std.proofs.Common.{◌≡◌, ℕ, ◌≤◌, List, Option, None, refl, ap, subst, ◌∙◌}
+use Rattle.std.proofs.Common.{◌≡◌, ℕ, ◌≤◌, List, Option, None, refl, ap, ◌∙◌, sym}
 use Rattle.x25_handshakes.specs.{laws.Stretch.{Packet, Stretch}, laws.Transfer.{transfer_acts, transfer_takes}}
 use Rattle.x25_handshakes.specs.laws.PeerJoined.{Joined, Happens, Acts, Takes, Does, Hears, Skips, IsReached, at_start, goes_on}
 use Rattle.x25_handshakes.specs.{laws.PeerClaims.{WithAnyPeer, KeepsStretches, FindsNoError}, laws.Handshake.{Step, At, first_error, near_stepped}}
@@ -19,12 +19,12 @@ happens_holds : (t : Terms) (longest size : ℕ) → t.window ≤ 7 → 1 ≤ t.
 happens_holds t longest size small one w v (Acts act) h = stepped_holds t longest size w w.back (transfer_acts t w.near act) h.quiet (GoodTransfer-acts t longest size one w.near w.out w.back w.peer act h.kept)
 happens_holds t longest size small one w v (Takes packet rest is) h =
     stepped_holds t longest size w rest (transfer_takes longest size w.near packet) h.quiet
-    (GoodTransfer-takes t longest size one w.near w.out packet rest w.peer (subst (λ (l : List Packet). KeptTransfer t longest size w.near w.out l w.peer) is h.kept))
+    (GoodTransfer-takes t longest size one w.near w.out packet rest w.peer (rw (sym is) h.kept))
 happens_holds t longest size small one w v (Does deed may) h = record { quiet = h.quiet; kept = done_kept t longest size small w.near w.out w.back w.peer.epoch w.peer.side deed may h.kept }
 happens_holds t longest size small one w v (Hears packet rest is) h =
-    record { quiet = h.quiet; kept = takes_kept t longest size w.near packet rest w.back w.peer.epoch w.peer.side (subst (λ (l : List Packet). KeptTransfer t longest size w.near l w.back w.peer) is h.kept) }
+    record { quiet = h.quiet; kept = takes_kept t longest size w.near packet rest w.back w.peer.epoch w.peer.side (rw (sym is) h.kept) }
 happens_holds t longest size small one w v (Skips y dropped rest none live is) h =
-    record { quiet = h.quiet; kept = skips_kept t longest size w.near dropped rest w.back w.peer.epoch w.peer.side y none live (subst (λ (l : List Packet). KeptTransfer t longest size w.near l w.back w.peer) is h.kept) }
+    record { quiet = h.quiet; kept = skips_kept t longest size w.near dropped rest w.back w.peer.epoch w.peer.side y none live (rw (sym is) h.kept) }
 
 reached_holds : (t : Terms) (longest size : ℕ) → t.window ≤ 7 → 1 ≤ t.size → (w : Joined) → IsReached t longest size w → Holds t longest size w
 reached_holds t longest size small one w at_start = record { quiet = refl; kept = record { hand = both_fresh (peer_level t longest size) (Kept-start t longest size) 0; there = tt; back = tt } }

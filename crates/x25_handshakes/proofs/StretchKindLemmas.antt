@@ -5,8 +5,8 @@ use Rattle.x25_circuit.specs.{Message.{Piece, wholes}, declared.params.Params.{P
 use Rattle.x25_circuit.specs.Notice.{CallRequest}
 use Rattle.x25_bits.specs.{declared.role.Role.{Role}, declared.role.Role.TheVariants.{Dte, Dce}}
 use Rattle.x25_handshakes.proofs.{TermsLemmas.{IsSound}, HandshakeLemmas.{meets}, StretchRelation.{InFlowControl, StretchesRelated, FollowsFrom, GoodStretch}}
-use Rattle.x25_handshakes.proofs.{TransferRelation.{reset_mark, stretch_level, TransfersRelated}, ChannelRelation.{clear_mark, Seen}}
-use Rattle.x25_handshakes.proofs.{StretchLemmas.{GoodStretch-takes, FollowsFrom-from_Dir}, ClaimLemmas.{BothTalk, Seen-joint}}
+use Rattle.x25_handshakes.proofs.{TransferRelation.{stretch_level, TransfersRelated}, ChannelRelation.{clear_mark, Seen}}
+use Rattle.x25_handshakes.proofs.{OwnTransferLemmas.{inner_mark}, StretchLemmas.{GoodStretch-takes, FollowsFrom-from_Dir}, ClaimLemmas.{BothTalk, Seen-joint}}
 use Rattle.x25_handshakes.proofs.{HistoryLemmas.{Change, Stays, MoreResets, alike}, TurnLemmas.{MayIndicate, WithinCall, IsHandled}}
 use Rattle.x25_handshakes.specs.laws.Handshake.{Inner, Side, Live, Left, At, state_of, Step, live, left}
 use Rattle.x25_handshakes.specs.laws.Stretch.{Packet, Data, Rr, Rnr, IntConf, Reset, ResetConf, Call, Accept, Clear, ClearConf, Stretch, fresh, stretch_does, stretch_fails, StretchAct, Send, Pull, Interrupt, pulls, stretch_acts, by_ground, data_ground, ack_ground, takes_data, takes_status, stretch_takes}
@@ -55,16 +55,7 @@ transfer_taken down up k A longest size e s (Live x) ClearConf f = still down up
 transfer_taken down up k A longest size e s (Live x) other f = lifted_taken down up A e s x (stretch_takes longest size x other) (stretch_takes longest size x other).error (k.takes longest size x other) (f x refl tt)
 transfer_taken down up k A longest size e s (Left x) Reset f = MoreResets refl (omega arith) (held_fresh down up k)
 transfer_taken down up k A longest size e s (Left x) ResetConf f = MoreResets refl (omega arith) (held_fresh down up k)
-transfer_taken down up k A longest size e s (Left x) (Call i) f = still down up A e (left s x)
-transfer_taken down up k A longest size e s (Left x) (Accept field most) f = still down up A e (left s x)
-transfer_taken down up k A longest size e s (Left x) Clear f = still down up A e (left s x)
-transfer_taken down up k A longest size e s (Left x) ClearConf f = still down up A e (left s x)
 transfer_taken down up k A longest size e s (Left x) other f = still down up A e (left s x)
-
-reset_inner : (p : Packet) → InFlowControl p → reset_mark p ≡ Inner
-reset_inner Reset is = absurd is
-reset_inner ResetConf is = absurd is
-reset_inner other is = refl
 
 -- in p4: the packet is taken in the stretch in which the other end is, or which it left
 in_its_stretch : {M : Type 0} (down up : Stretch → List M) → IsKept down up → (t b : Terms) → IsSound b → (e : ℕ) (x : At Stretch) (u : List Packet) (p : Packet) (v : List Packet) (z : At Stretch)
@@ -73,7 +64,7 @@ in_its_stretch down up k t b sound e x u p v z h =
     transfer_taken down up k (λ l. (z.epoch ≡ x.epoch) × IsPrefix l (down (state_of z.side))) b.longest b.size e x.epoch x.side p
     (λ a is open_p.
     let hand = subst (λ (s : Side Stretch). TransfersRelated t b (record { epoch = x.epoch; side = s }) u (p ∷ v) z) is h in
-    let inside = meets (stretch_level t b) p (reset_inner p open_p) x.epoch z.epoch a z.side u v hand.hand in
+    let inside = meets (stretch_level t b) p (inner_mark p open_p) x.epoch z.epoch a z.side u v hand.hand in
     let good : GoodStretch (StretchesRelated t b) (stretch_takes b.longest b.size a p) inside.1 inside.2 (state_of z.side) = GoodStretch-takes t b sound a inside.1 p inside.2 (state_of z.side) inside.3 in (
       sym inside.0,
       k.begins (state_of z.side) inside.2 (stretch_takes b.longest b.size a p).next
@@ -93,7 +84,7 @@ answered : {M : Type 0} (down up : Stretch → List M) → IsKept down up → (A
 answered {M} down up k A e a mine m i most q resets held =
     cond_both (may_answer mine q) (goes (calling_talk most q) m i []) (unexpected a m i) (λ (s : Step Connection Packet). Change A e 0 none e (resets_in s.next.phase) (held_in down up s.next.phase))
     (λ _. connects down up k A e)
-    (λ _. subst (λ (n : ℕ). Change A e 0 none e n (held_in down up a)) (sym resets) (subst (λ (l : Lists M). Change A e 0 none e 0 l) (sym held) (idle down up A e)))
+    (λ _. rw resets (subst (λ (l : Lists M). Change A e 0 none e 0 l) (sym held) (idle down up A e)))
 
 -- the change by a packet within a call, where the other end is y
 phase_taken : {M : Type 0} (down up : Stretch → List M) → IsKept down up → (r : Role) (e : ℕ) (a : Phase) (m i : List CallRequest) (u : List Packet) (p : Packet) (v : List Packet) (y : Connection)

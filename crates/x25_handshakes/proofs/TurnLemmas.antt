@@ -80,8 +80,7 @@ pub turn_taken : {M : Type 0} (kind : Kind M) → IsHandled kind → (A : List M
 turn_taken kind handled A k r e (Live x) (On h q) f =
     Remained refl (put_changed kind A x h (channel_takes r (x h) q).next k
     (λ is. channel_taken kind handled A r (x h).epoch (x h).side q
-    (λ c side mark. subst (λ (j : ℕ). WithinCall kind A (x j).epoch c (call_takes r c q).next) is
-    (f x q c refl (ap (λ j. On j q) (sym is)) (ap (λ j. (x j).side) is ∙ side) mark))))
+    (λ c side mark. rw (sym is) (f x q c refl (ap (λ j. On j q) (sym is)) (ap (λ j. (x j).side) is ∙ side) mark))))
 turn_taken kind handled A k r e (Live x) RestartConf f = Remained refl (still kind A (x k))
 turn_taken kind handled A k r e (Left x) (On h q) f = Remained refl (still kind A (x k))
 turn_taken kind handled A k r e x p f = Restarted (omega arith) handled.fresh
@@ -109,7 +108,7 @@ taken_in_its_epoch kind handled r rs x k c p L K far history inner side top =
     let z : At Connection = circuit_at y k in
     let is_x : x k ≡ live (x k).epoch c = ap (λ (s : Side Connection). record { epoch = (x k).epoch; side = s }) side in
     let channel : ChannelRelated r (live (x k).epoch c) u (p ∷ v) z =
-    subst (λ (j : At Connection). ChannelRelated r j u (p ∷ v) z) is_x (subst (λ (l : List Packet). ChannelRelated r (x k) u l z) (on-front k p channels.2) (channels.3.each k)) in
+    subst (λ (j : At Connection). ChannelRelated r j u (p ∷ v) z) is_x (rw (sym (on-front k p channels.2)) (channels.3.each k)) in
     let call = meets (connection_level r) p inner (x k).epoch z.epoch c z.side u v channel.hand in
     let counted : kind.resets c ≡ kind.resets (state_of (x k).side) = ap (λ (s : Side Connection). kind.resets (state_of s)) (sym side) in
     let n : Connection = (call_takes r c p).next in

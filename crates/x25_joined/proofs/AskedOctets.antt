@@ -4,7 +4,7 @@ use Rattle.x25_bits.specs.declared.role.Role.{Role}
 use Rattle.x25_bits.specs.declared.role.Role.TheVariants.{Dte, Dce}
 use Rattle.x25_station.specs.laws.ReadLaw.{RequestsOctets}
 use Rattle.x25_station.specs.laws.TimerLaw.{Event, Asks, Fires}
-use Rattle.x25_script.specs.ScriptLine.{PlainCommand, call, accept, clear, send, interrupt, reset, ready, not_ready, restart, pull, connect, disconnect, probe, relink, with_given, PlainLine, command, t1, deliver, lose, damage, drain, heal, is_taken, taken}
+use Rattle.x25_script.specs.ScriptLine.{PlainCommand, call, clear, send, interrupt, reset, restart, with_given, PlainLine, command, t1, is_taken, taken}
 use Rattle.std.specs.Option.{unwrap_or}
 use Rattle.x25_script.specs.Reading.{line_in}
 use Rattle.x25_script.specs.laws.ReadingLaw.{IsOctet, PartInOctets, AsksInOctets, IsInOctets, ReadsOctets}
@@ -27,40 +27,19 @@ given (Some n) h = h
 part_handed : (asked : PlainCommand) → PartInOctets asked → RequestsOctets (part_asked asked)
 part_handed (call called calling user None) h = h
 part_handed (call called calling user (Some four)) h = h
-part_handed (accept channel None) h = tt
-part_handed (accept channel (Some four)) h = tt
 part_handed (clear channel g) h = (given g.cause h.0, given g.diagnostic h.1)
-part_handed (with_given facilities user d asked) h = tt
-part_handed (send channel q d user) h = tt
-part_handed (interrupt channel user) h = tt
-part_handed (reset channel g) h = tt
-part_handed (ready channel) h = tt
-part_handed (not_ready channel) h = tt
-part_handed (restart g) h = tt
-part_handed pull h = tt
-part_handed connect h = tt
-part_handed disconnect h = tt
-part_handed probe h = tt
-part_handed relink h = tt
+part_handed asked h = tt
 
 handed : (asked : PlainCommand) → AsksInOctets asked → CommandsOctets (command_asked asked)
 handed (call called calling user None) h = h
 handed (call called calling user (Some four)) h = h
-handed (accept channel None) h = tt
-handed (accept channel (Some four)) h = tt
 handed (clear channel g) h = (given g.cause h.0, given g.diagnostic h.1)
 handed (with_given facilities user d asked) h = ((h.0, h.1), part_handed asked h.2)
 handed (send channel q d user) h = h
 handed (interrupt channel user) h = h
 handed (reset channel g) h = (given g.cause h.0, given g.diagnostic h.1)
-handed (ready channel) h = tt
-handed (not_ready channel) h = tt
 handed (restart g) h = (given g.cause h.0, given g.diagnostic h.1)
-handed pull h = tt
-handed connect h = tt
-handed disconnect h = tt
-handed probe h = tt
-handed relink h = tt
+handed asked h = tt
 
 only_octets : (b : Bool) (event : Event) → AsksOctets (Some event) → AsksOctets (cond b (Some event) None)
 only_octets true event h = h
@@ -69,11 +48,7 @@ only_octets false event h = tt
 of_line : (end : Role) (line : PlainLine) → IsInOctets line → AsksOctets (script_event end line)
 of_line end (command at asked) h = only_octets (is_same end at) (Asks (command_asked asked)) (handed asked h)
 of_line end (t1 at) h = only_octets (is_same end at) Fires tt
-of_line end (deliver from) h = tt
-of_line end (lose from place) h = tt
-of_line end (damage from place octets) h = tt
-of_line end (drain count) h = tt
-of_line end heal h = tt
+of_line end line h = tt
 
 abbrev InOctets : Option PlainLine → Type 0
 InOctets None = Unit {0}
@@ -90,12 +65,7 @@ some_octets false line h = tt
 taken_octets : (wide : Bool) (read : Option PlainLine) → InOctets read → InOctets (taken wide read)
 taken_octets wide None h = tt
 taken_octets wide (Some (command end asked)) h = some_octets (is_taken wide asked) (command end asked) h
-taken_octets wide (Some (t1 end)) h = h
-taken_octets wide (Some (deliver from)) h = h
-taken_octets wide (Some (lose from place)) h = h
-taken_octets wide (Some (damage from place octets)) h = h
-taken_octets wide (Some (drain count)) h = h
-taken_octets wide (Some heal) h = h
+taken_octets wide (Some other) h = h
 
 of_read : (end : Role) (read : Option PlainLine) → InOctets read → AsksOctets (option_and_then (script_event end) read)
 of_read end None h = tt

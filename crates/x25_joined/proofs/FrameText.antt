@@ -1,5 +1,5 @@
 -- The line that tells of a frame reads as its octets at the other end.
-use Rattle.std.proofs.Common.{◌≡◌, ◌≢◌, ◌∙◌, ℕ, zero, suc, ◌+◌, ◌*◌, ◌/◌, ◌%◌, ◌<◌, nat_eq, nat_lt, nat_le, Bool, true, false, if◌then◌else◌, List, [], ◌∷◌, ◌++◌, length, flat_map, Some, None, option_map, Ok, ap, refl, arith}
+use Rattle.std.proofs.Common.{◌≡◌, ◌≢◌, ◌∙◌, ℕ, suc, ◌+◌, ◌*◌, ◌/◌, ◌%◌, ◌<◌, nat_eq, nat_lt, nat_le, Bool, true, false, if◌then◌else◌, List, [], ◌∷◌, ◌++◌, length, flat_map, Some, None, option_map, Ok, ap, refl, arith}
 use Rattle.std.specs.Fmt.{digit_glyph}
 use Rattle.std.proofs.lemmas.Bool.{ne_eqb, le-leb}
 use Rattle.std.proofs.lemmas.List.Elements.{All-head, All-tail}
@@ -26,23 +26,8 @@ abbrev IsOctet : ℕ → Type 0
 IsOctet octet = octet < 256
 
 digit_read : (d i : ℕ) → d < 16 → value_at (digit_glyph false d) i ≡ Ok d
-digit_read zero i low = refl
-digit_read (suc zero) i low = refl
-digit_read (suc (suc zero)) i low = refl
-digit_read (suc (suc (suc zero))) i low = refl
-digit_read (suc (suc (suc (suc zero)))) i low = refl
-digit_read (suc (suc (suc (suc (suc zero))))) i low = refl
-digit_read (suc (suc (suc (suc (suc (suc zero)))))) i low = refl
-digit_read (suc (suc (suc (suc (suc (suc (suc zero))))))) i low = refl
-digit_read (suc (suc (suc (suc (suc (suc (suc (suc zero)))))))) i low = refl
-digit_read (suc (suc (suc (suc (suc (suc (suc (suc (suc zero))))))))) i low = refl
-digit_read (suc (suc (suc (suc (suc (suc (suc (suc (suc (suc zero)))))))))) i low = refl
-digit_read (suc (suc (suc (suc (suc (suc (suc (suc (suc (suc (suc zero))))))))))) i low = refl
-digit_read (suc (suc (suc (suc (suc (suc (suc (suc (suc (suc (suc (suc zero)))))))))))) i low = refl
-digit_read (suc (suc (suc (suc (suc (suc (suc (suc (suc (suc (suc (suc (suc zero))))))))))))) i low = refl
-digit_read (suc (suc (suc (suc (suc (suc (suc (suc (suc (suc (suc (suc (suc (suc zero)))))))))))))) i low = refl
-digit_read (suc (suc (suc (suc (suc (suc (suc (suc (suc (suc (suc (suc (suc (suc (suc zero))))))))))))))) i low = refl
 digit_read (suc (suc (suc (suc (suc (suc (suc (suc (suc (suc (suc (suc (suc (suc (suc (suc d)))))))))))))))) i low = absurd (omega (arith, low))
+digit_read d i low = refl
 
 glyph_of : (b : Bool) (d : ℕ) → (if b then 48 + d else 87 + d) ≢ 10
 glyph_of true d e = omega (arith, e)

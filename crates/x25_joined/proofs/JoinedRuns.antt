@@ -24,6 +24,7 @@ use Rattle.x25_joined.specs.laws.JoinedClaims.{station_by, entries_by, frames_by
 use Rattle.x25_joined.proofs.LineText.{none_whole, first_said}
 use Rattle.x25_joined.proofs.JoinedShows.{IsEnd, Shows, Fits, Mirrors, stays, moves, pulls, all_pulled, act_shows}
 use Rattle.x25_joined.proofs.Turns.{first_is}
+use Rattle.x25_world.proofs.WorldLemmas.{run_append, accepted_append, octets_append}
 
 -- ---- as the other end sees it
 
@@ -34,18 +35,6 @@ shows_over : (cfg : Cfg) (j : Joined) (w : World) → Shows cfg Dte j w → Show
 shows_over cfg j w h = record { near = h.far; far = h.near; out = h.back; back = h.out }
 
 -- ---- one event behind others
-
-run-append : (cfg : Cfg) (events more : List Event) (w : World) → world.run cfg (events ++ more) w ≡ world.run cfg more (world.run cfg events w)
-run-append cfg [] more w = refl
-run-append cfg (e ∷ events) more w = run-append cfg events more (after w (happens cfg w e))
-
-accepted-append : (cfg : Cfg) (events more : List Event) (w : World) → AreAccepted cfg events w → AreAccepted cfg more (world.run cfg events w) → AreAccepted cfg (events ++ more) w
-accepted-append cfg [] more w h k = k
-accepted-append cfg (e ∷ events) more w h k = (h.0, accepted-append cfg events more (after w (happens cfg w e)) h.1 k)
-
-octets-append : (events more : List Event) → AreInOctets events → AreInOctets more → AreInOctets (events ++ more)
-octets-append [] more h k = k
-octets-append (e ∷ events) more h k = (h.0, octets-append events more h.1 k)
 
 -- ---- what is kept of a history
 
@@ -63,12 +52,12 @@ module _ (reads : ReadsOctets) (tapped : Throughout IsTapOfOctets) (cfg : Cfg) (
   moved : (j there : Joined) (k : Kept cfg j) (more : List Event) (next : World) → AreAccepted cfg more k.w → world.run cfg more k.w ≡ next → AreInOctets more → Shows cfg Dte there next
       → (AreInOctets (k.events ++ more) → world.run cfg (k.events ++ more) start ≡ next → Fits next) → Kept cfg there
   moved j there k more next accepted is octets shows fits =
-      let handed = octets-append k.events more k.octets octets in
-      let reached : world.run cfg (k.events ++ more) start ≡ next = run-append cfg k.events more start ∙ ap (world.run cfg more) k.reached ∙ is in
+      let handed = octets_append k.events more k.octets octets in
+      let reached : world.run cfg (k.events ++ more) start ≡ next = run_append cfg k.events more start ∙ ap (world.run cfg more) k.reached ∙ is in
       record {
         w = next;
         events = k.events ++ more;
-        accepted = accepted-append cfg k.events more start k.accepted (subst (AreAccepted cfg more) (sym k.reached) accepted);
+        accepted = accepted_append cfg k.events more start k.accepted (subst (AreAccepted cfg more) (sym k.reached) accepted);
         octets = handed;
         reached = reached;
         shows = shows;

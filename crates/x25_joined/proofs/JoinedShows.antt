@@ -24,7 +24,7 @@ use Rattle.x25_world.specs.declared.set_up.SetUpFrame.TheVariants.{Sabm, Ua}
 use Rattle.x25_world.specs.declared.error.WorldError.TheVariants as error
 use Rattle.x25_world.specs.World as world
 use Rattle.x25_world.specs.World.{OnTap, AtEnd, World, tapped, entered, after_step, Happened, Declined, of_station, delivered}
-use Rattle.x25_world.specs.laws.Claims.{ActsInOctets, entry_of_end, entries_at}
+use Rattle.x25_world.specs.laws.Claims.{ActsInOctets, entries_at}
 use Rattle.x25_world.specs.laws.TapOctets.{AreOfFrame, AreOfFrames}
 use Rattle.x25_joined.specs.laws.Joined.{Joined, written, station_of, entries_in, frames_in, reads, takes, on_line, Act, Reads, Takes, Loses, Damages, acts, IsNoFrame, is_on_line, IsInTime, IsPossible}
 use Rattle.x25_joined.specs.laws.JoinedClaims.{frame_of_end, put_by}
@@ -32,24 +32,9 @@ use Rattle.x25_joined.proofs.LineText.{AreWhole, more_whole, one_more, said_more
 use Rattle.x25_joined.proofs.FrameText.{frame_words, frame_text, frame_open, frame_comes}
 use Rattle.x25_joined.proofs.Turns.{entries-append, frames-append, TurnIs, line_did, line_refused, line_none}
 use Rattle.x25_joined.proofs.AskedOctets.{AsksOctets, asks_octets}
+use Rattle.x25_world.proofs.Growing.{entries_append, own_entries, no_entries}
 
 -- ---- transcript and tap, of each end
-
-entries_at-append : (end : Role) (xs ys : List AtEnd) → entries_at end (xs ++ ys) ≡ entries_at end xs ++ entries_at end ys
-entries_at-append end [] ys = refl
-entries_at-append end (x ∷ xs) ys =
-    ap (λ (es : List StationEntry). entry_of_end end x.at x.entry ++ es) (entries_at-append end xs ys)
-    ∙ sym (append_assoc (entry_of_end end x.at x.entry) (entries_at end xs) (entries_at end ys))
-
-own_entries : (end : Role) (es : List StationEntry) → entries_at end (entered end es) ≡ es
-own_entries end [] = refl
-own_entries Dte (e ∷ es) = ap (λ (xs : List StationEntry). e ∷ xs) (own_entries Dte es)
-own_entries Dce (e ∷ es) = ap (λ (xs : List StationEntry). e ∷ xs) (own_entries Dce es)
-
-no_entries : (end : Role) (es : List StationEntry) → entries_at (other end) (entered end es) ≡ []
-no_entries end [] = refl
-no_entries Dte (e ∷ es) = no_entries Dte es
-no_entries Dce (e ∷ es) = no_entries Dce es
 
 put_by-append : (end : Role) (xs ys : List OnTap) → put_by end (xs ++ ys) ≡ put_by end xs ++ put_by end ys
 put_by-append end [] ys = refl
@@ -156,7 +141,7 @@ module _ (cfg : Cfg) (end : Role) (w : World) (fits : Fits w) where
           near = record {
             whole = more_whole j.near line h.near.whole none;
             station = ap (λ t. t.next) (one_more c j.near line h.near.whole none) ∙ is.next;
-            entries = entries_at-append end w.transcript (entered end es) ∙ ap₂ (λ (xs ys : List StationEntry). xs ++ ys) h.near.entries (own_entries end es ∙ sym is.entries)
+            entries = entries_append end w.transcript (entered end es) ∙ ap₂ (λ (xs ys : List StationEntry). xs ++ ys) h.near.entries (own_entries end es ∙ sym is.entries)
                 ∙ sym (entries-append (written c j.near) more) ∙ ap entries_in (sym all);
             frames = put_by-append end w.tap (tapped end fs) ∙ ap₂ (λ (xs ys : List (List ℕ)). xs ++ ys) h.near.frames (own_frames end fs ∙ sym is.frames)
                 ∙ sym (frames-append (written c j.near) more) ∙ ap frames_in (sym all);
@@ -164,7 +149,7 @@ module _ (cfg : Cfg) (end : Role) (w : World) (fits : Fits w) where
           far = record {
             whole = h.far.whole;
             station = h.far.station;
-            entries = entries_at-append (other end) w.transcript (entered end es) ∙ ap (λ (xs : List StationEntry). entries_at (other end) w.transcript ++ xs) (no_entries end es)
+            entries = entries_append (other end) w.transcript (entered end es) ∙ ap (λ (xs : List StationEntry). entries_at (other end) w.transcript ++ xs) (no_entries end es)
                 ∙ append-nil (entries_at (other end) w.transcript) ∙ h.far.entries;
             frames = put_by-append (other end) w.tap (tapped end fs) ∙ ap (λ (xs : List (List ℕ)). put_by (other end) w.tap ++ xs) (no_frames end fs)
                 ∙ append-nil (put_by (other end) w.tap) ∙ h.far.frames;

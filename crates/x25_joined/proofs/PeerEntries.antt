@@ -1,6 +1,5 @@
 -- Of a step of a station: how often it tells of LinkUp, and what a command hands down.
 use Rattle.std.proofs.Common.{◌≡◌, ◌∙◌, ℕ, zero, suc, ◌+◌, ◌==◌, Bool, true, false, List, [], ◌∷◌, ◌++◌, Option, Some, None, ap, sym, subst, refl, arith}
-use Rattle.x25_circuit.specs.Calling as circuit
 use Rattle.x25_link.specs.declared.phase.Reason.{Reason}
 use Rattle.x25_link.specs.Station.{Side}
 use Rattle.x25_link.specs.Hearing.{Step as LinkStep}
@@ -8,7 +7,7 @@ use Rattle.x25_link.specs.Outgoing.{waits}
 use Rattle.x25_link.specs.Link.{alone}
 use Rattle.x25_line.specs.laws.Sessions.{begun_by}
 use Rattle.x25_given.specs.Given.{PlainGiven}
-use Rattle.x25_layer.specs.Layer.{LayerSettings, Layer, LayerNotice, LayerAnswer, on_channel, restarted, restart_done, layer_fault}
+use Rattle.x25_layer.specs.Layer.{LayerSettings, Layer, LayerNotice, LayerAnswer, on_channel}
 use Rattle.x25_layer.specs.Calls as asked
 use Rattle.x25_layer.specs.Calls.{LayerRequest, LayerOutcome, Accepted, Declined, layer_outcome}
 use Rattle.x25_station.specs.Confirming.{named_by}
@@ -19,12 +18,11 @@ use Rattle.x25_station.specs.declared.error.StationError.{StationError}
 use Rattle.x25_station.specs.declared.error.StationError.TheVariants as error
 use Rattle.x25_station.specs.Config.{Settings, layer_settings, link_settings}
 use Rattle.x25_station.specs.Command as command
-use Rattle.x25_station.specs.Beside.{PlainBeside, nothing, fields, diagnosed, beside_in}
+use Rattle.x25_station.specs.Beside.{PlainBeside, nothing, fields, beside_in}
 use Rattle.x25_station.specs.Entry.{StationEntry, link_up, bringing, entries_beside, entries_behind, station_told, of_channels, station_asked, entries_noted}
 use Rattle.x25_station.specs.Giving.{is_taken, view_given, not_taken}
 use Rattle.x25_station.specs.Station.{Station, view_of}
 use Rattle.x25_station.specs.Step.{Step, Outcome, Did, Refused, did, gave, where_asked, confirmed_by, entries_of_outcome, entries_heard, layer_answer, follows, requests, gives}
-use Rattle.x25_station.specs.laws.ReadLaw.{RequestsOctets}
 use Rattle.x25_world.specs.laws.Claims.{ups_in}
 
 pub ups_append : (xs ys : List StationEntry) → ups_in (xs ++ ys) ≡ ups_in xs + ups_in ys
@@ -38,8 +36,7 @@ ups_append (x ∷ xs) ys = by x (ups_append xs ys)
 ups_beside : (b : PlainBeside) (o : Option ℕ) → ups_in (entries_beside b o) ≡ 0
 ups_beside nothing o = refl
 ups_beside (fields facilities user) None = refl
-ups_beside (fields facilities user) (Some h) = refl
-ups_beside (diagnosed diagnostic) o = refl
+ups_beside b o = refl
 
 ups_behind : (l : Layer) (h count : ℕ) (es : List StationEntry) → ups_in es ≡ 0 → ups_in (entries_behind l h count es) ≡ 0
 ups_behind l h zero es none = none
@@ -48,9 +45,7 @@ ups_behind l h (suc count) es none = refl
 ups_told : (l : Layer) (ns : List LayerNotice) (es : List StationEntry) → ups_in es ≡ 0 → ups_in (station_told l ns ++ es) ≡ 0
 ups_told l [] es none = none
 ups_told l (on_channel h notice ∷ ns) es none = ups_told l ns es none
-ups_told l (restarted cause diagnostic ∷ ns) es none = ups_told l ns es none
-ups_told l (restart_done ∷ ns) es none = ups_told l ns es none
-ups_told l (layer_fault diagnostic ∷ ns) es none = ups_told l ns es none
+ups_told l (other ∷ ns) es none = ups_told l ns es none
 
 ups_channels : (es : List Entry) → ups_in (of_channels es) ≡ 0
 ups_channels [] = refl
@@ -59,8 +54,7 @@ ups_channels (e ∷ es) = ups_channels es
 ups_asked : (c : LayerSettings) (l next : Layer) (request : LayerRequest) → ups_in (station_asked c l next request) ≡ 0
 ups_asked c l next (asked.Asks h request) = ups_channels (entries_asked c l next (asked.Asks h request))
 ups_asked c l next (asked.Dials called calling user proposal) = ups_channels (entries_asked c l next (asked.Dials called calling user proposal))
-ups_asked c l next (asked.Restarts cause diagnostic) = refl
-ups_asked c l next asked.PullsAll = refl
+ups_asked c l next request = refl
 
 ups_outcome : (c : LayerSettings) (l : Layer) (request : LayerRequest) (o : LayerOutcome) → ups_in (entries_of_outcome c l request o) ≡ 0
 ups_outcome c l request (Accepted next packet) = ups_asked c l next request
@@ -125,17 +119,3 @@ gives_ups c s g request step is =
     let o : LayerOutcome = layer_outcome (layer_settings c) (waits s.link.outgoing == 256) s.layer request in
     ap ups_in (gave_entries c g (is_taken c g request) (alone s.link) (entries_of_outcome (layer_settings c) s.layer request o) (calls (view_given (link_settings c) g s.link) (layer_settings c) s.layer request) step is)
     ∙ ups_outcome (layer_settings c) s.layer request o
-
--- what calls and acceptances say changes no octet of the user
-pub said_octets : (says : Bool) (l : Layer) (request : LayerRequest) → RequestsOctets request → RequestsOctets (command.said_by says l request)
-said_octets says l (asked.Asks h (circuit.Calls called calling user proposal)) octets = octets
-said_octets says l (asked.Asks h (circuit.Accepts answer)) octets = octets
-said_octets says l (asked.Asks h (circuit.Clears cause diagnostic)) octets = octets
-said_octets says l (asked.Asks h (circuit.Sends q user)) octets = octets
-said_octets says l (asked.Asks h (circuit.Interrupts user)) octets = octets
-said_octets says l (asked.Asks h (circuit.Resets cause diagnostic)) octets = octets
-said_octets says l (asked.Asks h circuit.SaysReady) octets = octets
-said_octets says l (asked.Asks h circuit.SaysNotReady) octets = octets
-said_octets says l (asked.Dials called calling user proposal) octets = octets
-said_octets says l (asked.Restarts cause diagnostic) octets = octets
-said_octets says l asked.PullsAll octets = octets

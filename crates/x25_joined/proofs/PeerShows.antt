@@ -35,7 +35,8 @@ use Rattle.x25_joined.proofs.LineText.{AreWhole, none_whole, more_whole, one_mor
 use Rattle.x25_joined.proofs.FrameText.{frame_words, frame_text, frame_open, frame_comes}
 use Rattle.x25_joined.proofs.Turns.{entries-append, TurnIs, first_is, line_did, line_refused, line_none}
 use Rattle.x25_joined.proofs.AskedOctets.{AsksOctets, asks_octets}
-use Rattle.x25_joined.proofs.PeerEntries.{ups_append, follows_ups, refused_did, the_step, requests_ups, gives_ups, said_octets}
+use Rattle.x25_joined.proofs.PeerEntries.{ups_append, follows_ups, refused_did, the_step, requests_ups, gives_ups}
+use Rattle.x25_world.proofs.sessions.acts.SessionRequests.{said_octets}
 
 -- ---- the entries of sessions
 
@@ -287,15 +288,6 @@ module _ (c : Settings) (p : Program) (k : Kept c p) where
   }
 
   elsewhere : (v : BesideSessions) (h : beside.Happens c (bare c p) v) → IsElsewhere h → Kept c (record p { peer = v.peer; theirs = v.theirs; out = v.out; back = v.back; met = v.met })
-  elsewhere v (beside.Asks request step octets is) there = absurd there
-  elsewhere v (beside.AsksWith given request step of_given octets is) there = absurd there
-  elsewhere v (beside.Connects none) there = absurd there
-  elsewhere v (beside.Disconnects none) there = absurd there
-  elsewhere v (beside.Probes none) there = absurd there
-  elsewhere v (beside.Relinks none) there = absurd there
-  elsewhere v (beside.Fires none due) there = absurd there
-  elsewhere v (beside.Receives e rest front free) there = absurd there
-  elsewhere v (beside.Abandons e rest front full) there = absurd there
   elsewhere v (beside.Loses place) there = passes (record w { back = v.back }) (beside.Loses place) refl refl refl
   elsewhere v (beside.Damages place octets visible) there = passes (record w { back = v.back }) (beside.Damages place octets visible) refl refl refl
   elsewhere v (beside.Links links happens) there = passes (record w { peer = v.peer; out = v.out; back = v.back; met = v.met }) (beside.Links links happens) refl refl refl
@@ -305,6 +297,7 @@ module _ (c : Settings) (p : Program) (k : Kept c p) where
       passes (record w { theirs = v.theirs; peer = v.peer }) (beside.LayerHears packet read behind packets all stand reads waits answered read_all) refl refl refl
   elsewhere v (beside.LayerHearsChannel y packet read passed behind packets all stand live has apart reads waits answered read_all) there =
       passes (record w { theirs = v.theirs; peer = v.peer }) (beside.LayerHearsChannel y packet read passed behind packets all stand live has apart reads waits answered read_all) refl refl refl
+  elsewhere v h there = absurd there
 
 -- ---- all that happens
 
@@ -344,11 +337,7 @@ in_range cfg fine = by (nat_le 1 cfg.k) (nat_le cfg.k 7) (nat_le 1 cfg.n2) (nat_
   where
     by : (a b d e f g : Bool) → nat_le 1 cfg.k ≡ a → nat_le cfg.k 7 ≡ b → nat_le cfg.channels.count 4095 ≡ f → (if a && (b && (d && ((e && f) && g))) then None else Some error.BadConfig) ≡ None → InRange cfg.k cfg.channels.count
     by true true true true true g low high few is = record { low = leb-true 1 cfg.k low; high = leb-true cfg.k 7 high; few = leb-true cfg.channels.count 4095 few }
-    by true true true true false g low high few is = absurd (cc)
-    by true true true false f g low high few is = absurd (cc)
-    by true true false e f g low high few is = absurd (cc)
-    by true false d e f g low high few is = absurd (cc)
-    by false b d e f g low high few is = absurd (cc)
+    by a b d e f g low high few is = absurd (cc)
 
 pub of_program : (Holds : BesideSessions → Type 0) → ReadsOctets → over_sessions.WithAnyPeer Holds → OfProgram Holds
 of_program Holds octets law end cfg fine p reached =

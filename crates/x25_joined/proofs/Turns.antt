@@ -10,24 +10,18 @@ use Rattle.x25_station.specs.laws.TimerLaw.{Event}
 use Rattle.x25_station.specs.Timer.{standing}
 use Rattle.x25_station.specs.declared.timer.Timer.{Timer}
 use Rattle.x25_station.specs.declared.error.StationError.{StationError}
-use Rattle.x25_pipe.specs.Pipe.{Saying, enters, sends, reads_nothing, refuses, marks, Turn, marked, standing_turn, step_told, turn_of, pulling_turn, timer_with_pulls, with_pulls, event_in, event_turn, asked_turn, turn}
+use Rattle.x25_pipe.specs.Pipe.{Saying, enters, sends, reads_nothing, refuses, Turn, marked, standing_turn, step_told, turn_of, pulling_turn, timer_with_pulls, with_pulls, event_in, event_turn, asked_turn, turn}
 use Rattle.x25_joined.specs.laws.Joined.{entries_in, frames_in}
 
 pub entries-append : (xs ys : List Saying) → entries_in (xs ++ ys) ≡ entries_in xs ++ entries_in ys
 entries-append [] ys = refl
 entries-append (enters e ∷ xs) ys = ap (λ (es : List StationEntry). e ∷ es) (entries-append xs ys)
-entries-append (sends octets ∷ xs) ys = entries-append xs ys
-entries-append (reads_nothing ∷ xs) ys = entries-append xs ys
-entries-append (refuses error ∷ xs) ys = entries-append xs ys
-entries-append (marks t is_idle is_due ∷ xs) ys = entries-append xs ys
+entries-append (other ∷ xs) ys = entries-append xs ys
 
 pub frames-append : (xs ys : List Saying) → frames_in (xs ++ ys) ≡ frames_in xs ++ frames_in ys
 frames-append [] ys = refl
-frames-append (enters e ∷ xs) ys = frames-append xs ys
 frames-append (sends octets ∷ xs) ys = ap (λ (fs : List (List ℕ)). octets ∷ fs) (frames-append xs ys)
-frames-append (reads_nothing ∷ xs) ys = frames-append xs ys
-frames-append (refuses error ∷ xs) ys = frames-append xs ys
-frames-append (marks t is_idle is_due ∷ xs) ys = frames-append xs ys
+frames-append (other ∷ xs) ys = frames-append xs ys
 
 entries_entered : (es : List StationEntry) → entries_in (map enters es) ≡ es
 entries_entered [] = refl

@@ -50,20 +50,21 @@ pub record Took (n1 back low cost asks : ℕ) (s : LinkStation) (u : Side) : Typ
   pub by : GoesOn back low cost s u ⊎ Changes back low cost asks s u
 
 -- each frame weighs something, and a command with P=1 more
+ready_some : (back : ℕ) → 2 ≤ back → (command pf : Bool) → 1 ≤ ready_weight back command pf
+ready_some back some true true = omega arith
+ready_some back some false true = omega (arith, some)
+ready_some back some true false = omega arith
+ready_some back some false false = omega arith
+
+rej_some : (back : ℕ) → 2 ≤ back → (command pf : Bool) → 1 ≤ rej_weight back command pf
+rej_some back some command true = omega (arith, some)
+rej_some back some command false = omega (arith, some)
+
 weight_some : (back low : ℕ) → 2 ≤ back → (f : PlainFrame) → 1 ≤ weight back low f
 weight_some back low some (info ns nr p x) = omega arith
-weight_some back low some (rr true nr true) = omega arith
-weight_some back low some (rr false nr true) = omega (arith, some)
-weight_some back low some (rr true nr false) = omega arith
-weight_some back low some (rr false nr false) = omega arith
-weight_some back low some (rnr true nr true) = omega arith
-weight_some back low some (rnr false nr true) = omega (arith, some)
-weight_some back low some (rnr true nr false) = omega arith
-weight_some back low some (rnr false nr false) = omega arith
-weight_some back low some (rej true nr true) = omega (arith, some)
-weight_some back low some (rej false nr true) = omega (arith, some)
-weight_some back low some (rej true nr false) = omega (arith, some)
-weight_some back low some (rej false nr false) = omega (arith, some)
+weight_some back low some (rr command nr pf) = ready_some back some command pf
+weight_some back low some (rnr command nr pf) = ready_some back some command pf
+weight_some back low some (rej command nr pf) = rej_some back some command pf
 weight_some back low some f = omega arith
 
 pub read_weight_some : (back low : ℕ) → 2 ≤ back → (r : Result PlainFrame FrameError) → 1 ≤ read_weight back low r
@@ -78,18 +79,6 @@ asking_weight back low some (rej true nr true) e = omega (arith, some)
 asking_weight back low some (sabm p) e = omega arith
 asking_weight back low some (disc p) e = omega arith
 asking_weight back low some f e = true_false (sym e)
-
-ready_some : (back : ℕ) → 2 ≤ back → (command pf : Bool) → 1 ≤ ready_weight back command pf
-ready_some back some true true = omega arith
-ready_some back some false true = omega (arith, some)
-ready_some back some true false = omega arith
-ready_some back some false false = omega arith
-
-rej_some : (back : ℕ) → 2 ≤ back → (command pf : Bool) → 1 ≤ rej_weight back command pf
-rej_some back some true true = omega (arith, some)
-rej_some back some false true = omega (arith, some)
-rej_some back some true false = omega (arith, some)
-rej_some back some false false = omega (arith, some)
 
 module _ (c : Settings) (n1 back low : ℕ) (s : LinkStation) (small : c.window ≤ 7) (within : AllWithin n1 s.outgoing.given) (heavy : 4 * length s.outgoing.given + 2 ≤ back) (low_place : s.outgoing.acked ≤ s.outgoing.place) where
   some : 2 ≤ back

@@ -8,7 +8,8 @@ use Rattle.x25_link.specs.declared.phase.Phase.{Phase}
 use Rattle.x25_link.specs.Station.{LinkStation, Side, is_up, is_busy, wanted, with_near, sends, ready, next_frame, send_next, may_send, pumped, owes_ready, finished, ended}
 use Rattle.x25_link.specs.Hearing.{Step, is_taken, takes, answers, rejects_gap, passes_over, hears_info, peer_is, goes_back, polls}
 use Rattle.x25_link.proofs.EndLemmas.{open_is}
-use Rattle.x25_line.proofs.StationSends.{AllWithin}
+use Rattle.x25_line.specs.laws.StationClaims.{Each}
+use Rattle.x25_line.proofs.{Lists.{each_append}, StationSends.{AllWithin}}
 
 -- ---- what frames weigh
 
@@ -83,12 +84,10 @@ pub record IsSpelled (n1 : ℕ) (f : PlainFrame) : Type 0 where
   pub asks_not : asks_set_up f ≡ 0
 
 abbrev pub AreSpelled : ℕ → List PlainFrame → Type 0
-AreSpelled n1 [] = Unit {0}
-AreSpelled n1 (f ∷ fs) = IsSpelled n1 f × AreSpelled n1 fs
+AreSpelled n1 fs = Each (IsSpelled n1) fs
 
 spelled_more : (n1 : ℕ) (fs : List PlainFrame) (f : PlainFrame) → AreSpelled n1 fs → IsSpelled n1 f → AreSpelled n1 (fs ++ f ∷ [])
-spelled_more n1 [] f h g = (g, tt)
-spelled_more n1 (x ∷ fs) f h g = (h.0, spelled_more n1 fs f h.1 g)
+spelled_more n1 fs f h g = each_append (IsSpelled n1) fs (f ∷ []) h (g, tt)
 
 packet_within : (n1 : ℕ) (xs : List (List ℕ)) (n : ℕ) → AllWithin n1 xs → length (slice_index_or xs n []) ≤ n1
 packet_within n1 [] n h = omega arith

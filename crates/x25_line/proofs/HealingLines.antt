@@ -4,7 +4,8 @@ use Rattle.std.specs.Prelude.{◌&&◌, not}
 use Rattle.x25_bits.specs.declared.role.Role.{Role}
 use Rattle.x25_frame.specs.{Frame.{PlainFrame, info, rr, rnr, rej}, Spelling.{spelling_of}, Reading.{frame_of}, laws.ReadingLaw.{ReadsSpelled}}
 use Rattle.x25_link.specs.laws.AnswerLaw.{AreNext}
-use Rattle.x25_line.specs.{laws.StationClaims.{AreWhole}, laws.Sessions.{Entry, sent_in}}
+use Rattle.x25_line.specs.{laws.StationClaims.{Each, AreWhole}, laws.Sessions.{Entry, sent_in}}
+use Rattle.x25_line.proofs.Lists.{each_append}
 
 -- ---- what octets on a line read as
 
@@ -73,8 +74,7 @@ IsMild (rej command nr pf) = pf ≡ false
 IsMild f = ⊥
 
 abbrev pub Mild : List PlainFrame → Type 0
-Mild [] = Unit {0}
-Mild (f ∷ fs) = IsMild f × Mild fs
+Mild fs = Each IsMild fs
 
 pub mild_ahead : (n : ℕ) (fs : List PlainFrame) → Mild fs → Ahead n fs n
 mild_ahead n [] h = refl
@@ -84,8 +84,7 @@ mild_ahead n (rnr command nr pf ∷ fs) h = (h.0, mild_ahead n fs h.1)
 mild_ahead n (frame ∷ fs) h = absurd h.0
 
 pub mild_more : (fs es : List PlainFrame) → Mild fs → Mild es → Mild (fs ++ es)
-mild_more [] es h g = g
-mild_more (f ∷ fs) es h g = (h.0, mild_more fs es h.1 g)
+mild_more fs es h g = each_append IsMild fs es h g
 
 -- where V(S) stays, no I frame went
 pub held_mild : (r n : ℕ) (fs : List PlainFrame) (m : ℕ) → AreNext r n fs m → m ≤ n → Mild fs
@@ -102,12 +101,10 @@ IsNoFinal (rnr true n true) = Unit {0}
 IsNoFinal f = ⊥
 
 abbrev pub NoFinal : List PlainFrame → Type 0
-NoFinal [] = Unit {0}
-NoFinal (f ∷ fs) = IsNoFinal f × NoFinal fs
+NoFinal fs = Each IsNoFinal fs
 
 pub no_final_more : (fs es : List PlainFrame) → NoFinal fs → NoFinal es → NoFinal (fs ++ es)
-no_final_more [] es h g = g
-no_final_more (f ∷ fs) es h g = (h.0, no_final_more fs es h.1 g)
+no_final_more fs es h g = each_append IsNoFinal fs es h g
 
 -- what the sending rule sends is of this kind
 pub next_no_final : (r n : ℕ) (fs : List PlainFrame) (m : ℕ) → AreNext r n fs m → NoFinal fs

@@ -13,7 +13,7 @@ use Rattle.x25_link.specs.{laws.WindowLaw.{IsOut}, laws.RestLaw.{IsAtRest}, laws
 use Rattle.x25_link.proofs.EndLemmas.{none_open, not_open, pumped_stays}
 use Rattle.x25_line.specs.{laws.Stations.{Deliver, Event}, laws.Sessions.{Entry, Meeting, Sessions, begun_by, after_step, delivered, acts, swapped, run}}
 use Rattle.x25_line.specs.{laws.StationClaims.{AreJoined, IsWhole, AreWhole}, Healing.{IsDelivery}, laws.SessionClaims.{Each}, laws.LawsBelow.{HealingLaws}}
-use Rattle.x25_line.proofs.{DrainWeights.{below_eight}, StationSteps.{not_both, out_not_up}, StationRuns.{joined_swapped}, HealingLines.{Reads}}
+use Rattle.x25_line.proofs.{Lists.{each_append}, DrainWeights.{below_eight}, StationSteps.{not_both, out_not_up}, StationRuns.{joined_swapped}, HealingLines.{Reads}}
 use Rattle.x25_line.proofs.{HealingSteps.{IsDrained, deliveries_keep, reads_put}, StationAway.{up_takes_part, is_up_phase}}
 
 -- an end is at rest, or not Up
@@ -62,12 +62,10 @@ IsOfSetUp (rr command nr pf) = nr < 8
 IsOfSetUp frame = ⊥
 
 abbrev pub AreOfSetUp : List PlainFrame → Type 0
-AreOfSetUp [] = Unit {0}
-AreOfSetUp (f ∷ fs) = IsOfSetUp f × AreOfSetUp fs
+AreOfSetUp fs = Each IsOfSetUp fs
 
 set_up_more : (fs es : List PlainFrame) → AreOfSetUp fs → AreOfSetUp es → AreOfSetUp (fs ++ es)
-set_up_more [] es h g = g
-set_up_more (f ∷ fs) es h g = (h.0, set_up_more fs es h.1 g)
+set_up_more fs es h g = each_append IsOfSetUp fs es h g
 
 pub set_up_whole : (n1 : ℕ) (fs : List PlainFrame) → AreOfSetUp fs → AreWhole n1 [] fs
 set_up_whole n1 [] are = tt

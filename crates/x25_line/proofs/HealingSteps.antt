@@ -7,7 +7,7 @@ use Rattle.x25_link.specs.{Station.{Settings, LinkStation, is_up}, Hearing.{othe
 use Rattle.x25_link.specs.{laws.WindowMachine.{Window, Shows, ShowAll}, laws.WindowLaw.{IsSound}, laws.RestLaw.{HasSaidAll}, laws.AnswerLaw.{heard}}
 use Rattle.x25_line.specs.laws.StationClaims.{AreJoined, number_in, AreWhole}
 use Rattle.x25_line.specs.laws.Sessions.{Entry, SessionEnd, Sessions, sent_in, from_nothing, from_set_up, after_step, acts, swapped, happens, run, IsTimely, IsTimelyAt, AreTimely}
-use Rattle.x25_line.specs.{laws.SessionClaims.{Each, Throughout}, Healing.{IsDelivery}, laws.LawsBelow.{HealingLaws}, laws.Line.{Line, swapped as line_swapped}}
+use Rattle.x25_line.specs.{laws.SessionClaims.{Each, Throughout}, Healing.{IsDelivery}, laws.LawsBelow.{HealingLaws}, laws.Line.{Line, line_swapped}}
 use Rattle.x25_line.specs.laws.Stations.{Deliver, T1, Event, Near, Far}
 use Rattle.x25_line.proofs.{Kept.{Kept, Kept-swapped, Way, hears_valid, Way-acked, resolved_is}, Frames.{Acks-le}, StationLines.{front_of, consed}}
 use Rattle.x25_line.proofs.{StationSteps.{AsUp, not_both}, sessions.SessionLines.{numbers}, sessions.SessionActs.{in_session}}

@@ -5,7 +5,7 @@ use Rattle.std.proofs.lemmas.Option.{slice_get_within, get_or_from_slice_get}
 use Rattle.std.specs.List.{slice_get}
 use Rattle.x25_window.specs.{code.Modulo.{resolved}, laws.Window.{End, Frame, Numbered, Allows, after, frames_of, numbered}}
 use Rattle.x25_window.specs.laws.Window.Step.{HandDown, Send, Tell, Hear, Take}
-use Rattle.x25_line.specs.laws.Line.{Line, Move, MayTake, FrontMayBeTaken, AllowsMove, swapped, takes_item, front_arrived, moved}
+use Rattle.x25_line.specs.laws.Line.{Line, Move, MayTake, FrontMayBeTaken, AllowsMove, line_swapped, takes_item, front_arrived, moved}
 use Rattle.x25_line.specs.laws.Line.Move.{HandsDown, Sends, Tells, Arrives, Loses}
 use Rattle.x25_line.specs.laws.InWindow.{IsSentInWindow, IsNear, AllInWindow, Rising, WayInWindow, InWindow}
 use Rattle.x25_line.proofs.Frames.{Carries, Tops, Acks, slice_get-is, Tops-le, Tops-weaken, Tops-higher, Tops-grow, Tops-push, Tops-remove, Acks-le, Acks-higher, Acks-push, Acks-remove}
@@ -39,7 +39,7 @@ module _ {T : Type 0} where
   abbrev pub Kept : Line T → Type 0
   Kept w = BothWays w.near w.far (length w.near.taken) (length w.far.taken) w.out w.back
 
-  pub Kept-swapped : (w : Line T) → Kept w → Kept (swapped w)
+  pub Kept-swapped : (w : Line T) → Kept w → Kept (line_swapped w)
   Kept-swapped w h = record { from_near = h.from_far; from_far = h.from_near }
 
   -- a beginning stays one where the list grows

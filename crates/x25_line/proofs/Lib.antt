@@ -1,4 +1,5 @@
 pub mod Choices
+pub mod Lists
 pub mod Frames
 pub mod Kept
 pub mod StationLines
@@ -11,6 +12,7 @@ pub mod StationEvents
 pub mod StationActs
 pub mod Order
 pub mod StationSays
+pub mod StationHears
 pub mod StationPeers
 pub mod PeerOrder
 pub mod TapeLemmas

@@ -4,23 +4,22 @@ use Rattle.x25_bits.specs.declared.role.Role.{Role}
 use Rattle.x25_frame.specs.{Reading.{frame_of}, laws.ReadingLaw.{ReadsSpelled}}
 use Rattle.x25_window.specs.code.Modulo.{resolved}
 use Rattle.x25_link.specs.{Station.{Settings, fresh}, Hearing.{other}}
-use Rattle.x25_line.specs.laws.Stations.{StationEnd, Stations, Act, Near, replaced, is_visible, acts, swapped, run, start}
-use Rattle.x25_line.specs.{laws.StationClaims.{Always, BothInOrder, InOrder, HandsOne}, laws.LawsBelow.{Laws}}
+use Rattle.x25_line.specs.laws.Stations.{StationEnd, Act, Near, replaced, is_visible, acts}
+use Rattle.x25_line.specs.{laws.StationClaims.{Each, InOrder, HandsOne}, laws.LawsBelow.{Laws}}
 use Rattle.x25_line.specs.laws.PeerJoined.{Joined, our_end, with_peer, Happens, Ours, HandsDown, Sends, Hears, Loses, Damages, IsReached, at_start, goes_on}
-use Rattle.x25_line.specs.{laws.PeerClaims.{WithAnyPeer, WithAnyLapbPeer, KeepsOrder, FindsNoFault}, laws.StationPeers.{seen, IsPeer}}
-use Rattle.x25_line.specs.{laws.Said.{Said, Carried, Tells, Else, Odd as OddSaid, said}, laws.Peer.{Peer, fresh_peer, MaySay}}
-use Rattle.x25_line.proofs.{sessions.Letters.{visible_said}, Kept.{Way}}
+use Rattle.x25_line.specs.laws.PeerClaims.{WithAnyPeer, WithAnyLapbPeer, KeepsOrder, FindsNoFault}
+use Rattle.x25_line.specs.{laws.Said.{Said, Carried, Tells, Odd as OddSaid, said}, laws.Peer.{Peer, fresh_peer, MaySay}}
+use Rattle.x25_line.proofs.{Lists.{each_append, each_removed, each_replaced}, sessions.Letters.{visible_said, visible_fine}, Kept.{Way}}
 use Rattle.x25_line.proofs.Order.{Told, only, only_append, Left, left_front, left_deeper, Hold, starts, hold_turned, handed, says, left, makes, in_order as peers_in_order, valid_front, by_frmr, no_fault}
-use Rattle.x25_line.proofs.{StationRuns.{noted_before}, StationEvents.{each_hands_one}, StationClaimLemmas.{in_order}, StationActs.{MayAsk}}
-use Rattle.x25_line.proofs.{StationSays.{machine_of, MayDo}, StationPeers.{Seen, peer_acts, both_peers}}
+use Rattle.x25_line.proofs.{StationRuns.{noted_before}, StationEvents.{each_hands_one}, StationClaimLemmas.{in_order}}
+use Rattle.x25_line.proofs.{StationSays.{machine_of, MayDo}, StationPeers.{MayAsk, Seen, peer_acts}}
 use Rattle.x25_line.specs.laws.PeerJoined as joined
 
 -- ---- what is told on a line of octets
 
 -- nothing there is answered by FRMR
-abbrev pub NoneOdd : Role → ℕ → List (List ℕ) → Type 0
-NoneOdd from n1 [] = Unit {0}
-NoneOdd from n1 (o ∷ os) = (said (frame_of from n1 o) ≡ OddSaid → ⊥) × NoneOdd from n1 os
+abbrev IsFine : Role → ℕ → List ℕ → Type 0
+IsFine from n1 o = said (frame_of from n1 o) ≡ OddSaid → ⊥
 
 module _ (from : Role) (n1 : ℕ) where
   abbrev tolds : List (List ℕ) → List Told
@@ -42,31 +41,13 @@ module _ (from : Role) (n1 : ℕ) where
   tolds_replaced o visible (x ∷ os) zero = rw (visible_said from n1 o visible) (left_front (said (frame_of from n1 x)) (tolds os))
   tolds_replaced o visible (x ∷ os) (suc i) = left_deeper (said (frame_of from n1 x)) (tolds os) (tolds (replaced os i o)) (tolds_replaced o visible os i)
 
-  odd_push : (os : List (List ℕ)) (o : List ℕ) → NoneOdd from n1 os → (said (frame_of from n1 o) ≡ OddSaid → ⊥) → NoneOdd from n1 (os ++ o ∷ [])
-  odd_push [] o h never = (never, tt)
-  odd_push (x ∷ os) o h never = (h.0, odd_push os o h.1 never)
-
-  odd_removed : (os : List (List ℕ)) (i : ℕ) → NoneOdd from n1 os → NoneOdd from n1 (remove os i)
-  odd_removed [] zero h = tt
-  odd_removed [] (suc i) h = tt
-  odd_removed (o ∷ os) zero h = h.1
-  odd_removed (o ∷ os) (suc i) h = (h.0, odd_removed os i h.1)
-
-  odd_replaced : (o : List ℕ) → is_visible o ≡ true → (os : List (List ℕ)) (i : ℕ) → NoneOdd from n1 os → NoneOdd from n1 (replaced os i o)
-  odd_replaced o visible [] i h = tt
-  odd_replaced o visible (x ∷ os) zero h = (λ is. never (sym (visible_said from n1 o visible) ∙ is), h.1)
-    where
-      never : Else ≡ OddSaid → ⊥
-      never k = cc
-  odd_replaced o visible (x ∷ os) (suc i) h = (h.0, odd_replaced o visible os i h.1)
-
 -- ---- a station and a peer q
 
 module _ (Odd : Type 0) (c : Settings) (q : Peer) where
   -- the station is the peer p
   record IsWith (os : List (List ℕ)) (p : Peer) (out : List (List ℕ)) : Type 0 where
     pub hold : Hold p q (tolds c.role c.longest out) (tolds (other c.role) c.longest os)
-    pub lapb : (Odd → ⊥) → NoneOdd (other c.role) c.longest os
+    pub lapb : (Odd → ⊥) → Each (IsFine (other c.role) c.longest) os
 
   station_may : MayDo c (Odd → ⊥) IsWith
   station_may = record {
@@ -81,11 +62,11 @@ module _ (Odd : Type 0) (c : Settings) (q : Peer) where
     };
     loses = λ os p out i h. record {
       hold = left p q (tolds c.role c.longest out) (tolds (other c.role) c.longest os) (tolds (other c.role) c.longest (remove os i)) (tolds_removed (other c.role) c.longest os i) h.hold;
-      lapb = λ lapb. odd_removed (other c.role) c.longest os i (h.lapb lapb);
+      lapb = λ lapb. each_removed (IsFine (other c.role) c.longest) os i (h.lapb lapb);
     };
     damages = λ os p out i octets visible h. record {
       hold = left p q (tolds c.role c.longest out) (tolds (other c.role) c.longest os) (tolds (other c.role) c.longest (replaced os i octets)) (tolds_replaced (other c.role) c.longest octets visible os i) h.hold;
-      lapb = λ lapb. odd_replaced (other c.role) c.longest octets visible os i (h.lapb lapb);
+      lapb = λ lapb. each_replaced (IsFine (other c.role) c.longest) os i octets (visible_fine (other c.role) c.longest octets visible) (h.lapb lapb);
     };
     faultless = λ o os p out ending h lapb.
         (let none = no_fault (frame_of (other c.role) c.longest o) (machine_of c.window p) (h.lapb lapb).0 (λ carried nr is. valid o os p out h carried nr is) in
@@ -105,7 +86,7 @@ JoinedHolds Odd c w = Seen c (Odd → ⊥) (IsWith Odd c w.peer) (our_end w)
 
 -- once the peer is q, with these lines
 after : (Odd : Type 0) (c : Settings) (w : Joined) (h : JoinedHolds Odd c w) (q : Peer) (out back : List (List ℕ)) → Hold q h.peer (tolds (other c.role) c.longest back) (tolds c.role c.longest out)
-    → ((Odd → ⊥) → NoneOdd (other c.role) c.longest back) → JoinedHolds Odd c (record { near = w.near; peer = q; out = out; back = back })
+    → ((Odd → ⊥) → Each (IsFine (other c.role) c.longest) back) → JoinedHolds Odd c (record { near = w.near; peer = q; out = out; back = back })
 after Odd c w h q out back hold lapb =
     record {
       peer = h.peer;
@@ -146,7 +127,7 @@ module _ (Odd : Type 0) (c : Settings) (w : Joined) (h : JoinedHolds Odd c w) wh
   theirs v (Sends octets q may) once ours =
       after Odd c w h q w.out (w.back ++ octets ∷ [])
       (rw (tolds_push (other c.role) c.longest w.back octets) (says w.peer h.peer backs outs Odd (said (frame_of (other c.role) c.longest octets)) q may turned))
-      (λ lapb. odd_push (other c.role) c.longest w.back octets (h.reached.lapb lapb) (sends_odd Odd w.peer q (said (frame_of (other c.role) c.longest octets)) may lapb))
+      (λ lapb. each_append (IsFine (other c.role) c.longest) w.back (octets ∷ []) (h.reached.lapb lapb) (sends_odd Odd w.peer q (said (frame_of (other c.role) c.longest octets)) may lapb, tt))
   theirs v (Hears octets rest q is may) once ours =
       after Odd c w h q rest w.back
       (makes w.peer h.peer backs (said (frame_of c.role c.longest octets)) (tolds c.role c.longest rest) q may (subst (λ (os : List (List ℕ)). Hold w.peer h.peer backs (tolds c.role c.longest os)) is turned)) h.reached.lapb
@@ -212,21 +193,3 @@ module _ (reads : ReadsSpelled) (laws : Laws) where
 
   pub is_blameless : WithAnyLapbPeer FindsNoFault
   is_blameless c low high w reached once = (reached_holds ⊥ c high w reached once).fine (λ never. never)
-
-  -- ---- two stations, each of which is a peer of the other
-
-  -- what the far end was handed down is what its peer took
-  peer_in_order : (c : Settings) → c.window ≤ 7 → (w : Stations) → IsPeer c w → w.far.came_up ≡ false → InOrder w.far w.near
-  peer_in_order c high w is once =
-      let order = holds_claims ⊥ c high (seen is.peer w) (reached_holds ⊥ c high (seen is.peer w) is.reached once) in
-      record {
-        begins = rw (sym is.taken) order.there;
-        acked = rw (sym is.taken) order.acked;
-        idle = λ idle. sym is.taken ∙ order.idle idle;
-      }
-
-  pub stations_keep_order : Always BothInOrder
-  stations_keep_order c d joined events once =
-      let w = run c d events start in
-      let both = both_peers reads laws c d joined events once in
-      (peer_in_order c joined.near_high (swapped w) both.1 once.near, peer_in_order d joined.far_high w both.0 once.far)

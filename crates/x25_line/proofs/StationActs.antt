@@ -1,236 +1,182 @@
--- What each act of a station keeps, as long as it doesn't note LinkUp, where a few kinds of steps keep it.
+-- What follows of each act of a station that was set up once, where it is known of a few kinds of steps.
 use Rattle.std.proofs.Common.{◌≡◌, ℕ, suc, ◌≤◌, List, [], ◌∷◌, inl, inr, length, remove, Bool, true, false, if◌then◌else◌, Option, Some, None, Result, Ok, refl, sym, ap, ◌∙◌, subst}
 use Rattle.std.proofs.lemmas.Bool.{leb-true}
 use Rattle.std.specs.Prelude.{nat_le, nat_lt}
 use Rattle.x25_frame.specs.{Frame.{PlainFrame, sabm, disc}, Reading.{frame_of}, declared.error.FrameError.{FrameError}}
-use Rattle.x25_link.specs.{declared.phase.Phase.{Phase}, declared.phase.Phase.TheVariants.{Down, Waiting, Up, Closed}, declared.phase.Reason.{Reason}}
-use Rattle.x25_link.specs.{declared.phase.Reason.TheVariants.{Retries, FrmrSent, Reset, Local, Counts}}
+use Rattle.x25_link.specs.{declared.phase.Phase.{Phase}, declared.phase.Phase.TheVariants.{Down, Waiting, Up, Closed}, declared.phase.Reason.TheVariants.{Retries, Local, Counts}}
 use Rattle.x25_link.specs.{Station.{Settings, LinkStation, is_up, with_nothing}, Hearing.{Step, other}}
 use Rattle.x25_link.specs.Link.{take_step, put_step, put_refusal, timer_step, timer_refusal, timer_runs, connect_step, connect_refusal, disconnect_step, disconnect_refusal, abandon_step}
-use Rattle.x25_link.specs.{laws.NoteLaw.{IsQuiet}, laws.WindowMachine.{Window, nothing}, laws.SetUp.{Is, TakesPart}}
-use Rattle.x25_link.specs.laws.WindowLaw.{Stays, Ends, Follows, IsOut, sets_up, StaysOut}
+use Rattle.x25_link.specs.{laws.WindowMachine.{Window, nothing}, laws.SetUp.{Is, TakesPart}}
+use Rattle.x25_link.specs.laws.WindowLaw.{Stays, Follows, IsOut, StaysOut}
 use Rattle.x25_line.specs.laws.Stations.{Stations, Act, Put, Deliver, T1, Connect, Disconnect, Abandon, Probe, Lose, Damage, after_step, unless, delivered, replaced, is_visible, acts}
-use Rattle.x25_line.specs.{laws.LawsBelow.{Laws}, laws.PeerClaims.{IsNoFrmr}}
+use Rattle.x25_line.specs.{laws.WholeNumbers.{place_taken}, laws.Sessions.{sabm_in}, laws.LawsBelow.{Laws}}
 use Rattle.x25_line.proofs.{Choices.{unless_by, if_by}, StationLines.{AreParting}}
-use Rattle.x25_line.proofs.StationSteps.{MayBeAway, away_is_not_up, out_is_away, AsUp, IsAway, FitsEnd, not_both, Leaves, last_parting, last_away, empty_lists, declining_parting}
-use Rattle.x25_line.proofs.StationAway.{closed_takes, waits_on, waiting_parting, up_takes_part, connects_from, second_false}
+use Rattle.x25_line.proofs.StationSteps.{MayBeAway, away_is_not_up, out_is_away, AsUp, IsAway, FitsEnd, up_of, not_both, stays_out, in_vain, Parts, ends_parts, declining_parting}
+use Rattle.x25_line.proofs.StationHears.{sabm_or_not, sets_none_up}
+use Rattle.x25_line.proofs.StationAway.{closed_takes, waits_on, waiting_parting, quiet_by, up_takes_part, connects_from, second_false}
 
-abbrev pub MayAsk : Type 0
-MayAsk = Unit {0}
+-- a Connect that is accepted
+abbrev pub Connects : Act → Stations → Type 0
+Connects Connect w = connect_refusal w.near.station.phase ≡ None
+Connects act w = ⊥
 
--- no frame that sets the link up anew
-abbrev pub NoSabm : Result PlainFrame FrameError → Type 0
-NoSabm r = (pf : Bool) → r ≡ Ok (sabm pf) → ⊥
+-- What is known of the near end of w, whose machine's end is e, and of each kind of step: of a station that is Up, as octets come
+-- (`takes`), a packet is handed down (`puts`), or nothing is brought (`rests`); steps that part, with octets taken off the line
+-- (`passes`) or none (`parts`); what happens to the line to it; and nothing (`still`, and `none_comes` where no octets are there).
+-- Q is of the place at which octets are taken off the line, and of what comes of it.
+pub record OfSteps (MayAsk : Type 0) (c : Settings) (w : Stations) (e : Window) (Q : Option ℕ → Stations → Type 0) : Type 0 where
+  pub fits : FitsEnd MayAsk c w.near.station e
+  pub sabm : (o : List ℕ) (os : List (List ℕ)) → w.back ≡ o ∷ os → (pf : Bool) → frame_of (other c.role) c.longest o ≡ Ok (sabm pf) → MayAsk
+  pub still : Q None w
+  pub none_comes : w.back ≡ [] → Q (Some 0) w
+  pub takes : (o : List ℕ) (os : List (List ℕ)) → w.back ≡ o ∷ os → AsUp c w.near.station e → sabm_in (frame_of (other c.role) c.longest o) ≡ 0 → Q (Some 0) (after_step c w os [] (take_step c o w.near.station))
+  pub puts : (packet : List ℕ) → AsUp c w.near.station e → length packet ≤ c.longest → Q None (after_step c w w.back (packet ∷ []) (put_step c packet w.near.station))
+  pub rests : (step : Step) → AsUp c w.near.station e → Stays c.window nothing w.near.station step → Q None (after_step c w w.back [] step)
+  pub parts : (step : Step) → Parts MayAsk w.near.station step → Q None (after_step c w w.back [] step)
+  pub passes : (o : List ℕ) (os : List (List ℕ)) → w.back ≡ o ∷ os → (step : Step) → Parts MayAsk w.near.station step → Q (Some 0) (after_step c w os [] step)
+  pub loses : (i : ℕ) → Q (Some i) (record w { back = remove w.back i })
+  pub damages : (i : ℕ) (octets : List ℕ) → is_visible octets ≡ true → Q (Some i) (record w { back = replaced w.back i octets })
 
-abbrev pub NotesNoFrmr : Option Reason → Type 0
-NotesNoFrmr None = Unit {0}
-NotesNoFrmr (Some reason) = IsNoFrmr reason
+module _ (MayAsk : Type 0) (c : Settings) (laws : Laws) (w : Stations) (e : Window) (Q : Option ℕ → Stations → Type 0) (k : OfSteps MayAsk c w e Q) where
+  abbrev s : LinkStation
+  s = w.near.station
 
--- a step that sends nothing that has a number, behind which the station isn't Up
-pub record Parts (step : Step) : Type 0 where
-  pub frames : AreParting MayAsk step.side.out
-  pub away : IsAway MayAsk step.side.near
-  pub packet : step.packet ≡ None
-  pub noted : NotesNoFrmr step.notes.down
-
-leaves_no_frmr : (reason : Reason) → Leaves reason → NotesNoFrmr (Some reason)
-leaves_no_frmr FrmrSent l = absurd l
-leaves_no_frmr Reset l = absurd l
-leaves_no_frmr reason l = tt
-
-pub ends_parts : (reason : Reason) (step : Step) → Leaves reason → Ends reason step → Parts step
-ends_parts reason step leaves ends =
-    record {
-      frames = last_parting MayAsk reason step.side.out leaves ends.frames;
-      away = record { away = last_away MayAsk reason step.side.near.phase leaves ends.phase; empty = empty_lists step.side.near.outgoing step.side.near.taken ends.outgoing ends.taken };
-      packet = ends.packet;
-      noted = subst NotesNoFrmr (sym ends.noted) (leaves_no_frmr reason leaves);
-    }
-
--- The kinds of steps that keep P: of a station that is Up, as octets come (`takes`), a packet is handed down (`puts`), or nothing is brought
--- (`rests`); steps that part, with octets taken off the line (`passes`) or none (`parts`); and what happens to the line to it.
-pub record Lasts (c : Settings) (P : Stations → Type 0) : Type 0 where
-  pub machine : (w : Stations) → P w → Window
-  pub fits : (w : Stations) (h : P w) → FitsEnd MayAsk c w.near.station (machine w h)
-  pub takes : (w : Stations) (h : P w) (o : List ℕ) (os : List (List ℕ)) → w.back ≡ o ∷ os → AsUp c w.near.station (machine w h) → NoSabm (frame_of (other c.role) c.longest o)
-      → P (after_step c w os [] (take_step c o w.near.station))
-  pub puts : (w : Stations) (h : P w) (packet : List ℕ) → AsUp c w.near.station (machine w h) → length packet ≤ c.longest → P (after_step c w w.back (packet ∷ []) (put_step c packet w.near.station))
-  pub rests : (w : Stations) (h : P w) (step : Step) → AsUp c w.near.station (machine w h) → Stays c.window nothing w.near.station step → P (after_step c w w.back [] step)
-  pub parts : (w : Stations) → P w → (step : Step) → Parts step → P (after_step c w w.back [] step)
-  pub passes : (w : Stations) → P w → (o : List ℕ) (os : List (List ℕ)) → w.back ≡ o ∷ os → (step : Step) → Parts step → P (after_step c w os [] step)
-  pub loses : (w : Stations) → P w → (i : ℕ) → P (record w { back = remove w.back i })
-  pub damages : (w : Stations) → P w → (i : ℕ) (octets : List ℕ) → is_visible octets ≡ true → P (record w { back = replaced w.back i octets })
-
--- octets that set no link up
-sets_no_link_up : (r : Result PlainFrame FrameError) → NoSabm r → sets_up r ≡ false
-sets_no_link_up (Ok (sabm p)) h = absurd (h p refl)
-sets_no_link_up r h = refl
-
-quiet_no_frmr : (step : Step) → IsQuiet step → NotesNoFrmr step.notes.down
-quiet_no_frmr step quiet = rw quiet tt
-
-module _ (c : Settings) (P : Stations → Type 0) (laws : Laws) (keeps : Lasts c P) where
-  deliver_lasts : (w : Stations) (os : List (List ℕ)) → w.back ≡ os → P w → (delivered c os w).near.came_up ≡ false → P (delivered c os w)
-  deliver_lasts w [] is h once = h
-  deliver_lasts w (o ∷ os) is h once = go (keeps.fits w h)
+  deliver_step : (os : List (List ℕ)) → w.back ≡ os → (MayAsk → (delivered c os w).near.came_up ≡ false) → Q (Some 0) (delivered c os w)
+  deliver_step [] is once = k.none_comes is
+  deliver_step (o ∷ os) is once = go k.fits
     where
-      s : LinkStation
-      s = w.near.station
-
       r : Result PlainFrame FrameError
       r = frame_of (other c.role) c.longest o
 
       step : Step
       step = take_step c o s
 
-      not_up : step.notes.up ≡ false
-      not_up = second_false w.near.came_up step.notes.up once
+      not_up : MayAsk → step.notes.up ≡ false
+      not_up ask = second_false w.near.came_up step.notes.up (once ask)
 
-      no_sabm : TakesPart s.phase → NoSabm r
-      no_sabm part pf spelled = not_both step.notes.up (laws.set_up.sets_up c o s part pf spelled).up not_up
+      -- it would set the link up anew
+      no_sabm : TakesPart s.phase → sabm_in r ≡ 0
+      no_sabm part = elim (sabm_or_not r) [
+        | inl sets ↦ not_both step.notes.up (laws.set_up.sets_up c o s part sets.0 sets.1).up (not_up (k.sabm o os is sets.0 sets.1))
+        | inr none ↦ none
+      ]
 
-      stays : IsAway MayAsk s → StaysOut step → P (after_step c w os [] step)
+      stays : IsAway MayAsk s → StaysOut step → Q (Some 0) (after_step c w os [] step)
       stays away out =
           let off = away_is_not_up MayAsk s.phase away.away in
-          keeps.passes w h o os is step
+          k.passes o os is step
           (record {
             frames = declining_parting MayAsk step.side.out out.frames;
             away = record { away = out_is_away MayAsk step.side.near.phase out.out; empty = (laws.take_tells c o s).empty out.quiet off away.empty };
             packet = out.packet;
-            noted = quiet_no_frmr step out.quiet;
+            noted = stays_out off out.quiet;
           })
 
-      waits : IsAway MayAsk s → s.phase ≡ Waiting → P (after_step c w os [] step)
-      waits away waiting =
+      waits : IsAway MayAsk s → s.phase ≡ Waiting → MayAsk → Q (Some 0) (after_step c w os [] step)
+      waits away waiting ask =
           let i = laws.set_up.waits c o s waiting r refl in
-          keeps.passes w h o os is step
+          k.passes o os is step
           (record {
             frames = subst (AreParting MayAsk) (sym i.out) (waiting_parting MayAsk r);
-            away = subst (IsAway MayAsk) (sym (i.near ∙ waits_on r s (sym i.up ∙ not_up))) away;
+            away = subst (IsAway MayAsk) (sym (i.near ∙ waits_on r s (sym i.up ∙ not_up ask))) away;
             packet = i.packet;
-            noted = subst NotesNoFrmr (sym i.down) tt;
+            noted = stays_out (ap is_up waiting) (quiet_by step i.down (not_up ask));
           })
 
-      by_phase : (q : Phase) → s.phase ≡ q → IsAway MayAsk s → MayBeAway MayAsk q → P (after_step c w os [] step)
-      by_phase Down phase away may = stays away (laws.window.take_out c o s (subst IsOut (sym phase) tt) (sets_no_link_up r (no_sabm (subst TakesPart (sym phase) tt))))
-      by_phase Waiting phase away may = waits away phase
+      by_phase : (q : Phase) → s.phase ≡ q → IsAway MayAsk s → MayBeAway MayAsk q → Q (Some 0) (after_step c w os [] step)
+      by_phase Down phase away may = stays away (laws.window.take_out c o s (subst IsOut (sym phase) tt) (sets_none_up r (no_sabm (subst TakesPart (sym phase) tt))))
+      by_phase Waiting phase away may = waits away phase may
       by_phase Up phase away may = absurd may
       by_phase Closed phase away may = stays away (closed_takes c o s phase)
 
-      go : FitsEnd MayAsk c s (keeps.machine w h) → P (after_step c w os [] step)
-      go (inl u) = keeps.takes w h o os is u (no_sabm (up_takes_part s.phase u.up))
+      go : FitsEnd MayAsk c s e → Q (Some 0) (after_step c w os [] step)
+      go (inl u) = k.takes o os is u (no_sabm (up_takes_part s.phase u.up))
       go (inr away) = by_phase s.phase refl away away.away
 
-  put_lasts : (w : Stations) (packet : List ℕ) → P w → length packet ≤ c.longest → P (unless (put_refusal w.near.station) w (after_step c w w.back (packet ∷ []) (put_step c packet w.near.station)))
-  put_lasts w packet h short = go (keeps.fits w h)
+  put_by : (packet : List ℕ) → length packet ≤ c.longest → Q None (unless (put_refusal s) w (after_step c w w.back (packet ∷ []) (put_step c packet s)))
+  put_by packet short = go k.fits
     where
-      go : FitsEnd MayAsk c w.near.station (keeps.machine w h) → P (unless (put_refusal w.near.station) w (after_step c w w.back (packet ∷ []) (put_step c packet w.near.station)))
-      go (inl u) = unless_by P (put_refusal w.near.station) w _ h (λ _. keeps.puts w h packet u short)
-      go (inr away) = rw (away_is_not_up MayAsk w.near.station.phase away.away) h
+      go : FitsEnd MayAsk c s e → Q None (unless (put_refusal s) w (after_step c w w.back (packet ∷ []) (put_step c packet s)))
+      go (inl u) = unless_by (Q None) (put_refusal s) w _ k.still (λ _. k.puts packet u short)
+      go (inr away) = rw (away_is_not_up MayAsk s.phase away.away) k.still
 
-  -- timer T1 runs out
-  timer_by : (w : Stations) (h : P w) → AsUp c w.near.station (keeps.machine w h) → (b : Bool) (step : Step) → Follows (if b then None else Some Retries) c.window nothing w.near.station step
-      → P (after_step c w w.back [] step)
-  timer_by w h u true step stays = keeps.rests w h step u stays
-  timer_by w h u false step ends = keeps.parts w h step (ends_parts Retries step tt ends)
+  -- a station that isn't Up sends SABM or DISC, and notes nothing
+  asks_parts : (near : LinkStation) (frames : List PlainFrame) (step : Step) → is_up s.phase ≡ false → Is near frames None false step → AreParting MayAsk frames → IsAway MayAsk near → Parts MayAsk s step
+  asks_parts near frames step off i parting away =
+      record { frames = subst (AreParting MayAsk) (sym i.out) parting; away = subst (IsAway MayAsk) (sym i.near) away; packet = i.packet; noted = stays_out off (quiet_by step i.down i.up) }
 
-  -- a station that isn't Up sends SABM or DISC, or nothing
-  asks_parts : (near : LinkStation) (frames : List PlainFrame) (step : Step) → step.side.near ≡ near → step.side.out ≡ frames → step.packet ≡ None → AreParting MayAsk frames → IsAway MayAsk near
-      → NotesNoFrmr step.notes.down → Parts step
-  asks_parts near frames step is out none parting away noted =
-      record { frames = subst (AreParting MayAsk) (sym out) parting; away = subst (IsAway MayAsk) (sym is) away; packet = none; noted = noted }
-
-  waiting_timer : (w : Stations) → IsAway MayAsk w.near.station → (b : Bool) (step : Step)
-      → (let s = w.near.station in Is (if b then record s { tries = suc s.tries } else with_nothing Down s.tries) (if b then sabm true ∷ [] else []) (if b then None else Some Retries) false step)
-      → Parts step
-  waiting_timer w away true step i =
-      asks_parts (record w.near.station { tries = suc w.near.station.tries }) (sabm true ∷ []) step i.near i.out i.packet (tt, tt) (record { away = away.away; empty = away.empty }) (subst NotesNoFrmr (sym i.down) tt)
-  waiting_timer w away false step i =
-      asks_parts (with_nothing Down w.near.station.tries) [] step i.near i.out i.packet tt (record { away = tt; empty = refl }) (subst NotesNoFrmr (sym i.down) tt)
-
-  timer_lasts : (w : Stations) → P w → P (unless (timer_refusal w.near.station) w (after_step c w w.back [] (timer_step c w.near.station)))
-  timer_lasts w h = go (keeps.fits w h)
+  -- timer T1 runs out, in Up
+  timer_up : AsUp c s e → Q None (after_step c w w.back [] (timer_step c s))
+  timer_up u = by (nat_lt s.tries c.retries) (laws.window.timer c s (record { up = u.up; sound = u.sound }))
     where
-      s : LinkStation
-      s = w.near.station
+      by : (b : Bool) → Follows (if b then None else Some Retries) c.window nothing s (timer_step c s) → Q None (after_step c w w.back [] (timer_step c s))
+      by true stays = k.rests (timer_step c s) u stays
+      by false ends = k.parts (timer_step c s) (ends_parts MayAsk s Retries (timer_step c s) u.up tt (laws.timer_tells c s) ends)
 
-      by_phase : (q : Phase) → s.phase ≡ q → IsAway MayAsk s → MayBeAway MayAsk q → P (unless (timer_refusal s) w (after_step c w w.back [] (timer_step c s)))
-      by_phase Down phase away may = rw (ap (λ (q : Phase). timer_runs q s) phase) h
+  waiting_timer : IsAway MayAsk s → s.phase ≡ Waiting → MayAsk → (b : Bool) (step : Step)
+      → Is (if b then record s { tries = suc s.tries } else with_nothing Down s.tries) (if b then sabm true ∷ [] else []) (if b then None else Some Retries) false step → Parts MayAsk s step
+  waiting_timer away phase ask true step i =
+      asks_parts (record s { tries = suc s.tries }) (sabm true ∷ []) step (ap is_up phase) i (ask, tt) (record { away = away.away; empty = away.empty })
+  waiting_timer away phase ask false step i =
+      record { frames = subst (AreParting MayAsk) (sym i.out) tt; away = subst (IsAway MayAsk) (sym i.near) (record { away = tt; empty = refl }); packet = i.packet; noted = in_vain (ap is_up phase) ask i.down i.up }
+
+  timer_by : Q None (unless (timer_refusal s) w (after_step c w w.back [] (timer_step c s)))
+  timer_by = go k.fits
+    where
+      by_phase : (q : Phase) → s.phase ≡ q → IsAway MayAsk s → MayBeAway MayAsk q → Q None (unless (timer_refusal s) w (after_step c w w.back [] (timer_step c s)))
       by_phase Waiting phase away may =
-          unless_by P (timer_refusal s) w _ h (λ _. keeps.parts w h (timer_step c s) (waiting_timer w away (nat_lt s.tries c.retries) (timer_step c s) (laws.set_up.timer c s phase)))
+          unless_by (Q None) (timer_refusal s) w _ k.still (λ _. k.parts (timer_step c s) (waiting_timer away phase may (nat_lt s.tries c.retries) (timer_step c s) (laws.set_up.timer c s phase)))
       by_phase Up phase away may = absurd may
-      by_phase Closed phase away may = rw (ap (λ (q : Phase). timer_runs q s) phase) h
+      by_phase q phase away may = rw (ap (λ (q : Phase). timer_runs q s) phase) k.still
 
-      go : FitsEnd MayAsk c s (keeps.machine w h) → P (unless (timer_refusal s) w (after_step c w w.back [] (timer_step c s)))
-      go (inl u) = unless_by P (timer_refusal s) w _ h (λ _. timer_by w h u (nat_lt s.tries c.retries) (timer_step c s) (laws.window.timer c s (record { up = u.up; sound = u.sound })))
+      go : FitsEnd MayAsk c s e → Q None (unless (timer_refusal s) w (after_step c w w.back [] (timer_step c s)))
+      go (inl u) = unless_by (Q None) (timer_refusal s) w _ k.still (λ _. timer_up u)
       go (inr away) = by_phase s.phase refl away away.away
 
-  connect_lasts : (w : Stations) → P w → P (unless (connect_refusal w.near.station.phase) w (after_step c w w.back [] (connect_step c w.near.station)))
-  connect_lasts w h = unless_by P (connect_refusal w.near.station.phase) w _ h (λ accepted. go (connects_from w.near.station.phase accepted) (keeps.fits w h))
+  connect_by : MayAsk → s.phase ≡ Down → FitsEnd MayAsk c s e → Q None (after_step c w w.back [] (connect_step c s))
+  connect_by ask phase (inl u) = not_both (is_up s.phase) u.up (ap is_up phase)
+  connect_by ask phase (inr away) =
+      k.parts (connect_step c s)
+      (asks_parts (record s { phase = Waiting; tries = 0 }) (sabm true ∷ []) (connect_step c s) (ap is_up phase) (laws.set_up.connects c s phase) (ask, tt) (record { away = ask; empty = away.empty }))
+
+  disconnect_parts : FitsEnd MayAsk c s e → Parts MayAsk s (disconnect_step c s)
+  disconnect_parts (inl u) = ends_parts MayAsk s Local (disconnect_step c s) u.up tt (laws.disconnect_tells c s) (laws.window.disconnect c s (record { up = u.up; sound = u.sound }))
+  disconnect_parts (inr away) = by_phase s.phase refl away.away
     where
-      s : LinkStation
-      s = w.near.station
-
-      go : s.phase ≡ Down → FitsEnd MayAsk c s (keeps.machine w h) → P (after_step c w w.back [] (connect_step c s))
-      go phase (inl u) = not_both (is_up s.phase) u.up (ap is_up phase)
-      go phase (inr away) =
-          let i = laws.set_up.connects c s phase in
-          keeps.parts w h (connect_step c s)
-          (asks_parts (record s { phase = Waiting; tries = 0 }) (sabm true ∷ []) (connect_step c s) i.near i.out i.packet (tt, tt) (record { away = tt; empty = away.empty }) (subst NotesNoFrmr (sym i.down) tt))
-
-  disconnect_lasts : (w : Stations) → P w → P (unless (disconnect_refusal w.near.station.phase) w (after_step c w w.back [] (disconnect_step c w.near.station)))
-  disconnect_lasts w h = unless_by P (disconnect_refusal w.near.station.phase) w _ h (λ _. keeps.parts w h (disconnect_step c s) (go (keeps.fits w h)))
-    where
-      s : LinkStation
-      s = w.near.station
-
-      closes : IsOut s.phase → IsAway MayAsk s → Parts (disconnect_step c s)
-      closes out away =
+      closes : IsOut s.phase → Parts MayAsk s (disconnect_step c s)
+      closes out =
           let closed = laws.window.disconnect_out c s out in
           let off = away_is_not_up MayAsk s.phase away.away in
           record {
             frames = subst (AreParting MayAsk) (sym closed.frames) tt;
             away = record { away = subst (MayBeAway MayAsk) (sym closed.phase) tt; empty = (laws.disconnect_tells c s).empty closed.quiet off away.empty };
             packet = closed.packet;
-            noted = quiet_no_frmr (disconnect_step c s) closed.quiet;
+            noted = stays_out off closed.quiet;
           }
 
-      by_phase : (q : Phase) → s.phase ≡ q → IsAway MayAsk s → MayBeAway MayAsk q → Parts (disconnect_step c s)
-      by_phase Waiting phase away may =
-          let i = laws.set_up.disconnects c s phase in
-          asks_parts (with_nothing Closed s.tries) (disc true ∷ []) (disconnect_step c s) i.near i.out i.packet tt (record { away = tt; empty = refl }) (subst NotesNoFrmr (sym i.down) tt)
-      by_phase Up phase away may = absurd may
-      by_phase q phase away may = closes (subst IsOut (sym phase) tt) away
+      by_phase : (q : Phase) → s.phase ≡ q → MayBeAway MayAsk q → Parts MayAsk s (disconnect_step c s)
+      by_phase Waiting phase may =
+          asks_parts (with_nothing Closed s.tries) (disc true ∷ []) (disconnect_step c s) (ap is_up phase) (laws.set_up.disconnects c s phase) tt (record { away = tt; empty = refl })
+      by_phase Up phase may = absurd may
+      by_phase q phase may = closes (subst IsOut (sym phase) tt)
 
-      go : FitsEnd MayAsk c s (keeps.machine w h) → Parts (disconnect_step c s)
-      go (inl u) = ends_parts Local (disconnect_step c s) tt (laws.window.disconnect c s (record { up = u.up; sound = u.sound }))
-      go (inr away) = by_phase s.phase refl away away.away
+  abandon_by : is_up s.phase ≡ true → Q None (after_step c w w.back [] (abandon_step c s))
+  abandon_by up =
+      let u = up_of MayAsk c s e k.fits up in
+      k.parts (abandon_step c s) (ends_parts MayAsk s Counts (abandon_step c s) up tt (laws.abandon_tells c s) (laws.window.abandon c s (record { up = u.up; sound = u.sound })))
 
-  abandon_lasts : (w : Stations) → P w → is_up w.near.station.phase ≡ true → P (after_step c w w.back [] (abandon_step c w.near.station))
-  abandon_lasts w h up = go (keeps.fits w h)
+  pub of_act : (a : Act) → (MayAsk → (acts c a w).near.came_up ≡ false) → (Connects a w → MayAsk) → Q (place_taken a) (acts c a w)
+  of_act (Put packet) once may =
+      if_by (Q None) (nat_le (length packet) c.longest) w (unless (put_refusal s) w (after_step c w w.back (packet ∷ []) (put_step c packet s))) k.still (λ short. put_by packet (leb-true _ _ short))
+  of_act Deliver once may = deliver_step w.back refl once
+  of_act T1 once may = timer_by
+  of_act Connect once may = unless_by (Q None) (connect_refusal s.phase) w _ k.still (λ accepted. connect_by (may accepted) (connects_from s.phase accepted) k.fits)
+  of_act Disconnect once may = unless_by (Q None) (disconnect_refusal s.phase) w _ k.still (λ _. k.parts (disconnect_step c s) (disconnect_parts k.fits))
+  of_act Abandon once may = if_by (Q None) (is_up s.phase) w (after_step c w w.back [] (abandon_step c s)) k.still abandon_by
+  of_act Probe once may = if_by (Q None) (is_up s.phase) w (after_step c w w.back [] (timer_step c s)) k.still (λ up. timer_up (up_of MayAsk c s e k.fits up))
+  of_act (Lose i) once may = k.loses i
+  of_act (Damage i octets) once may = by (is_visible octets) refl
     where
-      go : FitsEnd MayAsk c w.near.station (keeps.machine w h) → P (after_step c w w.back [] (abandon_step c w.near.station))
-      go (inl u) = keeps.parts w h (abandon_step c w.near.station) (ends_parts Counts (abandon_step c w.near.station) tt (laws.window.abandon c w.near.station (record { up = u.up; sound = u.sound })))
-      go (inr away) = not_both (is_up w.near.station.phase) up (away_is_not_up MayAsk w.near.station.phase away.away)
-
-  probe_lasts : (w : Stations) → P w → is_up w.near.station.phase ≡ true → P (after_step c w w.back [] (timer_step c w.near.station))
-  probe_lasts w h up = go (keeps.fits w h)
-    where
-      s : LinkStation
-      s = w.near.station
-
-      go : FitsEnd MayAsk c s (keeps.machine w h) → P (after_step c w w.back [] (timer_step c s))
-      go (inl u) = timer_by w h u (nat_lt s.tries c.retries) (timer_step c s) (laws.window.timer c s (record { up = u.up; sound = u.sound }))
-      go (inr away) = not_both (is_up s.phase) up (away_is_not_up MayAsk s.phase away.away)
-
-  pub acts_last : (a : Act) (w : Stations) → P w → (acts c a w).near.came_up ≡ false → P (acts c a w)
-  acts_last (Put packet) w h once =
-      if_by P (nat_le (length packet) c.longest) w (unless (put_refusal w.near.station) w (after_step c w w.back (packet ∷ []) (put_step c packet w.near.station))) h (λ short. put_lasts w packet h (leb-true _ _ short))
-  acts_last Deliver w h once = deliver_lasts w w.back refl h once
-  acts_last T1 w h once = timer_lasts w h
-  acts_last Connect w h once = connect_lasts w h
-  acts_last Disconnect w h once = disconnect_lasts w h
-  acts_last Abandon w h once = if_by P (is_up w.near.station.phase) w (after_step c w w.back [] (abandon_step c w.near.station)) h (λ up. abandon_lasts w h up)
-  acts_last Probe w h once = if_by P (is_up w.near.station.phase) w (after_step c w w.back [] (timer_step c w.near.station)) h (λ up. probe_lasts w h up)
-  acts_last (Lose i) w h once = keeps.loses w h i
-  acts_last (Damage i octets) w h once = if_by P (is_visible octets) w (record w { back = replaced w.back i octets }) h (λ visible. keeps.damages w h i octets visible)
+      by : (b : Bool) → is_visible octets ≡ b → Q (if b then Some i else None) (if b then record w { back = replaced w.back i octets } else w)
+      by true visible = k.damages i octets visible
+      by false visible = k.still

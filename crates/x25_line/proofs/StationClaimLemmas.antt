@@ -10,7 +10,7 @@ use Rattle.x25_line.specs.{laws.InWindow.{IsPrefix}, laws.Line.{Line}, laws.Stat
 use Rattle.x25_line.specs.laws.WholeNumbers.{machine_run, machine_at_start, MachineGoesAlong}
 use Rattle.x25_line.specs.laws.StationClaims.{AreJoined, IsSetUpOnce, Always, InOrder, BothInOrder, HasItsLists, BothHaveTheirLists, NotesItsEnd, BothNoteTheirEnds, OneLinkUnlessConnected, IsBehind, AreInWindow, NoFrmrSent, AllSentAreWhole}
 use Rattle.x25_line.specs.laws.LawsBelow.{Laws}
-use Rattle.x25_line.proofs.{Kept.{Way, Way-acked, InWindow-from_Kept}, StationSteps.{away_is_not_up, AsUp, FitsEnd, NotesOnce, Joint, Holds, not_both}}
+use Rattle.x25_line.proofs.{Kept.{Way, Way-acked, InWindow-from_Kept}, StationSteps.{FitsEnd, up_of, NotesOnce, Joint, Holds, not_both}}
 use Rattle.x25_line.proofs.StationRuns.{run_once, run_unasked, start_machine}
 
 -- beginnings of one list, the shorter is one of the longer
@@ -32,11 +32,6 @@ idle_all s idle high =
     let none : length s.outgoing.given - s.outgoing.sent ≡ 0 = eqb-true (waits s.outgoing) 0 inner.0 in
     let all : s.outgoing.acked ≡ s.outgoing.sent = eqb-true s.outgoing.acked s.outgoing.sent inner.1 in
     omega (arith, none, all, high)
-
--- an end that is Up isn't away
-pub up_of : (MayAsk : Type 0) (c : Settings) (s : LinkStation) (e : End (List ℕ)) → FitsEnd MayAsk c s e → is_up s.phase ≡ true → AsUp c s e
-up_of MayAsk c s e (inl u) up = u
-up_of MayAsk c s e (inr away) up = not_both (is_up s.phase) up (away_is_not_up MayAsk s.phase away.away)
 
 pub in_order : (MayAsk : Type 0) (c : Settings) (giver taker : StationEnd) (e : End (List ℕ)) (taken : List (List ℕ)) (told : ℕ) (there back : List (Frame (List ℕ)))
     → FitsEnd MayAsk c giver.station e → Way e taken told there back → giver.down ≡ e.given → taker.up ≡ taken → InOrder giver taker
@@ -143,6 +138,9 @@ module _ (reads : ReadsSpelled) (laws : Laws) where
 
   reached : Always (Holds (Unit {0}))
   reached c d joined events once = (machine_run c d events start (machine_at_start c d), machine c d joined events once)
+
+  pub keeps_order : Always BothInOrder
+  keeps_order c d joined events once = holds_order (Unit {0}) c d (run c d events start) (reached c d joined events once)
 
   pub keeps_lists : Always BothHaveTheirLists
   keeps_lists c d joined events once = holds_lists (Unit {0}) c d (run c d events start) (reached c d joined events once)

@@ -3,7 +3,7 @@ use Rattle.std.proofs.Common.{◌≡◌, ℕ, List, [], ◌∷◌, length, Bool,
 use Rattle.std.specs.Prelude.{nat_le, nat_lt, ◌||◌}
 use Rattle.x25_link.specs.{declared.error.LinkError.{LinkError}, Station.{Settings, LinkStation, is_up}, Hearing.{Step}}
 use Rattle.x25_link.specs.Link.{put_step, put_refusal, timer_step, timer_refusal, connect_step, connect_refusal, disconnect_step, disconnect_refusal, abandon_step}
-use Rattle.x25_line.specs.laws.Stations.{Stations, Act, Put, Deliver, T1, Connect, Disconnect, Abandon, Probe, Lose, Damage, Near, Far, after_step, unless, delivered, replaced, is_visible, acts, swapped}
+use Rattle.x25_line.specs.laws.Stations.{Stations, Act, Put, Deliver, T1, Connect, Disconnect, Abandon, Probe, Lose, Damage, Near, Far, after_step, unless, own_act, delivered, replaced, is_visible, acts, swapped}
 use Rattle.x25_line.specs.laws.StationClaims.{HandsOne, EachEventHandsOne}
 use Rattle.x25_line.proofs.Choices.{unless_by, if_by}
 
@@ -25,12 +25,6 @@ step_hands_nothing : (c : Settings) (w : Stations) (back : List (List ℕ)) (ste
 step_hands_nothing c w back step none low =
     record { up = rw none (append-nil w.near.up); down = append-nil w.near.down; came_up = ap (λ (b : Bool). w.near.came_up || b) low ∙ or_false w.near.came_up; far = refl }
 
-nothing_unless : (o : Option LinkError) (w v : Stations) → HandsNothing w v → HandsNothing w (unless o w v)
-nothing_unless o w v h = unless_by (HandsNothing w) o w v (nothing_changes w) (λ _. h)
-
-nothing_if : (b : Bool) (w v : Stations) → HandsNothing w v → HandsNothing w (if b then v else w)
-nothing_if b w v h = if_by (HandsNothing w) b w v (nothing_changes w) (λ _. h)
-
 packet_if : (b : Bool) (x y : Step) → x.packet ≡ None → y.packet ≡ None → (if b then x else y).packet ≡ None
 packet_if true x y e f = e
 packet_if false x y e f = f
@@ -44,6 +38,18 @@ timer_packet c s = packet_if (nat_lt s.tries c.retries) _ _ refl refl
 
 pub timer_up : (c : Settings) (s : LinkStation) → (timer_step c s).notes.up ≡ false
 timer_up c s = up_if (nat_lt s.tries c.retries) _ _ refl refl
+
+-- ---- acts that take no octets and are given no packet, in any world
+
+pub own_by : {W : Type 0} (Q : W → Type 0) (c : Settings) (s : LinkStation) (w : W) (done : Step → W) → Q w → ((step : Step) → step.packet ≡ None → step.notes.up ≡ false → Q (done step)) → (a : Act) → Q (own_act c s w done a)
+own_by Q c s w done still goes T1 = unless_by Q (timer_refusal s) w _ still (λ _. goes (timer_step c s) (timer_packet c s) (timer_up c s))
+own_by Q c s w done still goes Connect = unless_by Q (connect_refusal s.phase) w _ still (λ _. goes (connect_step c s) refl refl)
+own_by Q c s w done still goes Disconnect = unless_by Q (disconnect_refusal s.phase) w _ still (λ _. goes (disconnect_step c s) refl refl)
+own_by Q c s w done still goes Abandon = if_by Q (is_up s.phase) w _ still (λ _. goes (abandon_step c s) refl refl)
+own_by Q c s w done still goes Probe = if_by Q (is_up s.phase) w _ still (λ _. goes (timer_step c s) (timer_packet c s) (timer_up c s))
+own_by Q c s w done still goes act = still
+
+-- ---- what one event hands up and down
 
 put_hands : (o : Option LinkError) (c : Settings) (packet : List ℕ) (w : Stations) → HandsOne (Put packet) w (unless o w (after_step c w w.back (packet ∷ []) (put_step c packet w.near.station)))
 put_hands (Some e) c packet w = record { up = refl; down = (false, refl); came_up = refl; far = refl }
@@ -62,24 +68,12 @@ acts_hands c (Put packet) w =
     put_by (nat_le (length packet) c.longest) c packet w (unless (put_refusal w.near.station) w (after_step c w w.back (packet ∷ []) (put_step c packet w.near.station)))
     (put_hands (put_refusal w.near.station) c packet w)
 acts_hands c Deliver w = deliver_hands c w.back w
-acts_hands c T1 w =
-    let h = nothing_unless (timer_refusal w.near.station) w _ (step_hands_nothing c w w.back (timer_step c w.near.station) (timer_packet c w.near.station) (timer_up c w.near.station)) in
-    record { up = h.up; down = h.down; came_up = h.came_up; far = h.far }
-acts_hands c Connect w =
-    let h = nothing_unless (connect_refusal w.near.station.phase) w _ (step_hands_nothing c w w.back (connect_step c w.near.station) refl refl) in
-    record { up = h.up; down = h.down; came_up = h.came_up; far = h.far }
-acts_hands c Disconnect w =
-    let h = nothing_unless (disconnect_refusal w.near.station.phase) w _ (step_hands_nothing c w w.back (disconnect_step c w.near.station) refl refl) in
-    record { up = h.up; down = h.down; came_up = h.came_up; far = h.far }
-acts_hands c Probe w =
-    let h = nothing_if (is_up w.near.station.phase) w _ (step_hands_nothing c w w.back (timer_step c w.near.station) (timer_packet c w.near.station) (timer_up c w.near.station)) in
-    record { up = h.up; down = h.down; came_up = h.came_up; far = h.far }
-acts_hands c Abandon w =
-    let h = nothing_if (is_up w.near.station.phase) w _ (step_hands_nothing c w w.back (abandon_step c w.near.station) refl refl) in
-    record { up = h.up; down = h.down; came_up = h.came_up; far = h.far }
 acts_hands c (Lose i) w = record { up = refl; down = refl; came_up = refl; far = refl }
 acts_hands c (Damage i octets) w =
-    let h = nothing_if (is_visible octets) w (record w { back = replaced w.back i octets }) (record { up = refl; down = refl; came_up = refl; far = refl }) in
+    let h = if_by (HandsNothing w) (is_visible octets) w (record w { back = replaced w.back i octets }) (nothing_changes w) (λ _. record { up = refl; down = refl; came_up = refl; far = refl }) in
+    record { up = h.up; down = h.down; came_up = h.came_up; far = h.far }
+acts_hands c act w =
+    let h = own_by (HandsNothing w) c w.near.station w (after_step c w w.back []) (nothing_changes w) (λ step none low. step_hands_nothing c w w.back step none low) act in
     record { up = h.up; down = h.down; came_up = h.came_up; far = h.far }
 
 pub each_hands_one : EachEventHandsOne

@@ -8,7 +8,7 @@ use Rattle.x25_frame.specs.{Reading.{frame_of, addressed_frame}, declared.error.
 use Rattle.x25_frame.specs.{declared.error.FrameError.TheVariants.{Short, BadFcs, Undefined, NoInfoAllowed, TooLong}, laws.ReadingLaw.{ReadsSpelled}}
 use Rattle.x25_window.specs.laws.Window.{Numbered, Frame}
 use Rattle.x25_link.specs.laws.WindowMachine.{ShowsItem, Shows, ShowAll}
-use Rattle.x25_line.specs.{laws.Stations.{replaced, is_visible}, laws.StationClaims.{number_in, numbered_on, NoFrmr, IsHandedDown, AreWhole}}
+use Rattle.x25_line.specs.{laws.Stations.{replaced, is_visible}, laws.StationClaims.{number_in, numbered_on, NoFrmr, Each, IsHandedDown, AreWhole}}
 use Rattle.x25_line.specs.laws.WholeNumbers.{first_of, one_more, behind, place_of, taken_out}
 
 -- ---- frames by frames
@@ -61,8 +61,7 @@ orderly_where A B (Err TooLong) more h = absurd h
 orderly_where A B r more h = tt
 
 abbrev pub AreOrderly : Type 0 → Role → ℕ → List (List ℕ) → Type 0
-AreOrderly MayAsk from n1 [] = Unit {0}
-AreOrderly MayAsk from n1 (o ∷ os) = IsOrderly MayAsk (frame_of from n1 o) × AreOrderly MayAsk from n1 os
+AreOrderly MayAsk from n1 os = Each (λ (o : List ℕ). IsOrderly MayAsk (frame_of from n1 o)) os
 
 -- the frames, with the first, where that has a number
 abbrev pub consed : Option PlainFrame → List PlainFrame → List PlainFrame
@@ -78,10 +77,6 @@ numbered_append from n1 (o ∷ xs) ys =
     ap (consed (number_in (frame_of from n1 o))) (numbered_append from n1 xs ys)
     ∙ consed_append (number_in (frame_of from n1 o)) (numbered_on from n1 xs) (numbered_on from n1 ys)
 
-pub orderly_append : (MayAsk : Type 0) (from : Role) (n1 : ℕ) (xs ys : List (List ℕ)) → AreOrderly MayAsk from n1 xs → AreOrderly MayAsk from n1 ys → AreOrderly MayAsk from n1 (xs ++ ys)
-orderly_append MayAsk from n1 [] ys f e = e
-orderly_append MayAsk from n1 (o ∷ xs) ys f e = (f.0, orderly_append MayAsk from n1 xs ys f.1 e)
-
 -- ---- what is put on a line
 
 -- it may be spelled, is numbered, and is no FRMR
@@ -93,12 +88,7 @@ pub record IsGood (n1 : ℕ) (f : PlainFrame) : Type 0 where
   pub orderly : IsOrderly ⊥ (Ok f)
 
 abbrev pub AllGood : ℕ → List PlainFrame → Type 0
-AllGood n1 [] = Unit {0}
-AllGood n1 (f ∷ fs) = IsGood n1 f × AllGood n1 fs
-
-pub good_append : (n1 : ℕ) (fs es : List PlainFrame) → AllGood n1 fs → AllGood n1 es → AllGood n1 (fs ++ es)
-good_append n1 [] es h g = g
-good_append n1 (f ∷ fs) es h g = (h.0, good_append n1 fs es h.1 g)
+AllGood n1 fs = Each (IsGood n1) fs
 
 -- frames that carry no number: UA, DM, DISC, and SABM where an end may ask for set-up
 abbrev pub AreParting : Type 0 → List PlainFrame → Type 0
@@ -109,37 +99,41 @@ AreParting MayAsk (ua f ∷ fs) = AreParting MayAsk fs
 AreParting MayAsk (dm f ∷ fs) = AreParting MayAsk fs
 AreParting MayAsk (f ∷ fs) = ⊥
 
-no_frmr_cons : (f : PlainFrame) (fs : List PlainFrame) → IsOrderly ⊥ (Ok f) → NoFrmr fs → NoFrmr (f ∷ fs)
-no_frmr_cons (sabm p) fs o h = absurd o
-no_frmr_cons (frmr f why) fs o h = absurd o
-no_frmr_cons f fs o h = h
+-- each of them may be spelled, and is no FRMR
+pub record IsPart (MayAsk : Type 0) (f : PlainFrame) : Type 0 where
+  pub in_range : IsInRange f
+  pub carries : MayCarry f (information_of f)
+  pub within : (n1 : ℕ) → IsWithin n1 f (information_of f)
+  pub none : number_in (Ok f) ≡ None
+  pub orderly : IsOrderly MayAsk (Ok f)
+  pub packet : (given : List (List ℕ)) → IsHandedDown given f
+
+pub parts_of : (MayAsk : Type 0) (fs : List PlainFrame) → AreParting MayAsk fs → Each (IsPart MayAsk) fs
+parts_of MayAsk [] h = tt
+parts_of MayAsk (sabm p ∷ fs) h = (record { in_range = tt; carries = refl; within = λ n1. tt; none = refl; orderly = h.0; packet = λ given. tt }, parts_of MayAsk fs h.1)
+parts_of MayAsk (disc p ∷ fs) h = (record { in_range = tt; carries = refl; within = λ n1. tt; none = refl; orderly = tt; packet = λ given. tt }, parts_of MayAsk fs h)
+parts_of MayAsk (ua f ∷ fs) h = (record { in_range = tt; carries = refl; within = λ n1. tt; none = refl; orderly = tt; packet = λ given. tt }, parts_of MayAsk fs h)
+parts_of MayAsk (dm f ∷ fs) h = (record { in_range = tt; carries = refl; within = λ n1. tt; none = refl; orderly = tt; packet = λ given. tt }, parts_of MayAsk fs h)
+parts_of MayAsk (frame ∷ fs) h = absurd h
 
 pub no_frmr_append : (fs es : List PlainFrame) → NoFrmr fs → NoFrmr es → NoFrmr (fs ++ es)
 no_frmr_append [] es f e = e
 no_frmr_append (frmr g why ∷ fs) es f e = absurd f
 no_frmr_append (frame ∷ fs) es f e = no_frmr_append fs es f e
 
+-- where none is out of order
+orderly_no_frmr : (A : Type 0) (f : PlainFrame) (fs : List PlainFrame) → IsOrderly A (Ok f) → NoFrmr fs → NoFrmr (f ∷ fs)
+orderly_no_frmr A (frmr f why) fs o h = absurd o
+orderly_no_frmr A f fs o h = h
+
 pub good_no_frmr : (n1 : ℕ) (fs : List PlainFrame) → AllGood n1 fs → NoFrmr fs
 good_no_frmr n1 [] h = tt
-good_no_frmr n1 (f ∷ fs) h = no_frmr_cons f fs h.0.orderly (good_no_frmr n1 fs h.1)
-
-pub parting_no_frmr : (MayAsk : Type 0) (fs : List PlainFrame) → AreParting MayAsk fs → NoFrmr fs
-parting_no_frmr MayAsk [] h = tt
-parting_no_frmr MayAsk (sabm p ∷ fs) h = parting_no_frmr MayAsk fs h.1
-parting_no_frmr MayAsk (disc p ∷ fs) h = parting_no_frmr MayAsk fs h
-parting_no_frmr MayAsk (ua f ∷ fs) h = parting_no_frmr MayAsk fs h
-parting_no_frmr MayAsk (dm f ∷ fs) h = parting_no_frmr MayAsk fs h
-parting_no_frmr MayAsk (frame ∷ fs) h = absurd h
+good_no_frmr n1 (f ∷ fs) h = orderly_no_frmr ⊥ f fs h.0.orderly (good_no_frmr n1 fs h.1)
 
 -- ---- whole frames
 
 abbrev pub AllHandedDown : List (List ℕ) → List PlainFrame → Type 0
-AllHandedDown given [] = Unit {0}
-AllHandedDown given (f ∷ fs) = IsHandedDown given f × AllHandedDown given fs
-
-pub handed_append : (given : List (List ℕ)) (fs es : List PlainFrame) → AllHandedDown given fs → AllHandedDown given es → AllHandedDown given (fs ++ es)
-handed_append given [] es h g = g
-handed_append given (f ∷ fs) es h g = (h.0, handed_append given fs es h.1 g)
+AllHandedDown given fs = Each (IsHandedDown given) fs
 
 handed_more : (xs ys : List (List ℕ)) → ((x : List ℕ) → Contains xs x → Contains ys x) → (f : PlainFrame) → IsHandedDown xs f → IsHandedDown ys f
 handed_more xs ys more (info ns nr p x) h = more x h
@@ -151,10 +145,6 @@ whole_more n1 xs ys more [] h = tt
 whole_more n1 xs ys more (f ∷ fs) h =
     (record { in_range = h.0.in_range; carries = h.0.carries; within = h.0.within; packet = handed_more xs ys more f h.0.packet }, whole_more n1 xs ys more fs h.1)
 
-pub whole_append : (n1 : ℕ) (given : List (List ℕ)) (fs es : List PlainFrame) → AreWhole n1 given fs → AreWhole n1 given es → AreWhole n1 given (fs ++ es)
-whole_append n1 given [] es h g = g
-whole_append n1 given (f ∷ fs) es h g = (h.0, whole_append n1 given fs es h.1 g)
-
 pub good_whole : (n1 : ℕ) (given more : List (List ℕ)) (fs : List PlainFrame) → AllGood n1 fs → AllHandedDown given fs → AreWhole n1 (given ++ more) fs
 good_whole n1 given more [] g h = tt
 good_whole n1 given more (f ∷ fs) g h = (
@@ -162,13 +152,15 @@ good_whole n1 given more (f ∷ fs) g h = (
   good_whole n1 given more fs g.1 h.1,
 )
 
-pub parting_whole : (MayAsk : Type 0) (n1 : ℕ) (given : List (List ℕ)) (fs : List PlainFrame) → AreParting MayAsk fs → AreWhole n1 given fs
-parting_whole MayAsk n1 given [] h = tt
-parting_whole MayAsk n1 given (sabm p ∷ fs) h = (record { in_range = tt; carries = refl; within = tt; packet = tt }, parting_whole MayAsk n1 given fs h.1)
-parting_whole MayAsk n1 given (disc p ∷ fs) h = (record { in_range = tt; carries = refl; within = tt; packet = tt }, parting_whole MayAsk n1 given fs h)
-parting_whole MayAsk n1 given (ua f ∷ fs) h = (record { in_range = tt; carries = refl; within = tt; packet = tt }, parting_whole MayAsk n1 given fs h)
-parting_whole MayAsk n1 given (dm f ∷ fs) h = (record { in_range = tt; carries = refl; within = tt; packet = tt }, parting_whole MayAsk n1 given fs h)
-parting_whole MayAsk n1 given (frame ∷ fs) h = absurd h
+module _ (MayAsk : Type 0) where
+  pub parting_no_frmr : (fs : List PlainFrame) → Each (IsPart MayAsk) fs → NoFrmr fs
+  parting_no_frmr [] h = tt
+  parting_no_frmr (f ∷ fs) h = orderly_no_frmr MayAsk f fs h.0.orderly (parting_no_frmr fs h.1)
+
+  pub parting_whole : (n1 : ℕ) (given : List (List ℕ)) (fs : List PlainFrame) → Each (IsPart MayAsk) fs → AreWhole n1 given fs
+  parting_whole n1 given [] h = tt
+  parting_whole n1 given (f ∷ fs) h =
+      (record { in_range = h.0.in_range; carries = h.0.carries; within = h.0.within n1; packet = h.0.packet given }, parting_whole n1 given fs h.1)
 
 -- what was handed down at either end, and then more at the first
 pub first_more : (xs ys more : List (List ℕ)) (x : List ℕ) → Contains (xs ++ ys) x → Contains ((xs ++ more) ++ ys) x
@@ -195,33 +187,16 @@ module _ (reads : ReadsSpelled) (from : Role) (n1 : ℕ) where
   good_orderly MayAsk [] h = tt
   good_orderly MayAsk (f ∷ fs) h = (rw (good_reads f h.0) (orderly_where ⊥ MayAsk (Ok f) (λ p is never. absurd never) h.0.orderly), good_orderly MayAsk fs h.1)
 
-  sabm_reads : (p : Bool) → frame_of from n1 (spelling_of from (sabm p)) ≡ Ok (sabm p)
-  sabm_reads p = reads from n1 (sabm p) _ (record { in_range = tt; carries = refl; within = tt; spelling = refl })
+  pub part_reads : (MayAsk : Type 0) (f : PlainFrame) → IsPart MayAsk f → frame_of from n1 (spelling_of from f) ≡ Ok f
+  part_reads MayAsk f h = reads from n1 f (spelling_of from f) (record { in_range = h.in_range; carries = h.carries; within = h.within n1; spelling = refl })
 
-  disc_reads : (p : Bool) → frame_of from n1 (spelling_of from (disc p)) ≡ Ok (disc p)
-  disc_reads p = reads from n1 (disc p) _ (record { in_range = tt; carries = refl; within = tt; spelling = refl })
-
-  ua_reads : (f : Bool) → frame_of from n1 (spelling_of from (ua f)) ≡ Ok (ua f)
-  ua_reads f = reads from n1 (ua f) _ (record { in_range = tt; carries = refl; within = tt; spelling = refl })
-
-  dm_reads : (f : Bool) → frame_of from n1 (spelling_of from (dm f)) ≡ Ok (dm f)
-  dm_reads f = reads from n1 (dm f) _ (record { in_range = tt; carries = refl; within = tt; spelling = refl })
-
-  pub parting_numbered : (MayAsk : Type 0) (fs : List PlainFrame) → AreParting MayAsk fs → numbered_on from n1 (map (spelling_of from) fs) ≡ []
+  pub parting_numbered : (MayAsk : Type 0) (fs : List PlainFrame) → Each (IsPart MayAsk) fs → numbered_on from n1 (map (spelling_of from) fs) ≡ []
   parting_numbered MayAsk [] h = refl
-  parting_numbered MayAsk (sabm p ∷ fs) h = rw (sabm_reads p) (parting_numbered MayAsk fs h.1)
-  parting_numbered MayAsk (disc p ∷ fs) h = rw (disc_reads p) (parting_numbered MayAsk fs h)
-  parting_numbered MayAsk (ua f ∷ fs) h = rw (ua_reads f) (parting_numbered MayAsk fs h)
-  parting_numbered MayAsk (dm f ∷ fs) h = rw (dm_reads f) (parting_numbered MayAsk fs h)
-  parting_numbered MayAsk (frame ∷ fs) h = absurd h
+  parting_numbered MayAsk (f ∷ fs) h = rw (part_reads MayAsk f h.0, h.0.none) (parting_numbered MayAsk fs h.1)
 
-  pub parting_orderly : (MayAsk : Type 0) (fs : List PlainFrame) → AreParting MayAsk fs → AreOrderly MayAsk from n1 (map (spelling_of from) fs)
+  pub parting_orderly : (MayAsk : Type 0) (fs : List PlainFrame) → Each (IsPart MayAsk) fs → AreOrderly MayAsk from n1 (map (spelling_of from) fs)
   parting_orderly MayAsk [] h = tt
-  parting_orderly MayAsk (sabm p ∷ fs) h = (rw (sabm_reads p) h.0, parting_orderly MayAsk fs h.1)
-  parting_orderly MayAsk (disc p ∷ fs) h = (rw (disc_reads p) tt, parting_orderly MayAsk fs h)
-  parting_orderly MayAsk (ua f ∷ fs) h = (rw (ua_reads f) tt, parting_orderly MayAsk fs h)
-  parting_orderly MayAsk (dm f ∷ fs) h = (rw (dm_reads f) tt, parting_orderly MayAsk fs h)
-  parting_orderly MayAsk (frame ∷ fs) h = absurd h
+  parting_orderly MayAsk (f ∷ fs) h = (rw (part_reads MayAsk f h.0) h.0.orderly, parting_orderly MayAsk fs h.1)
 
 -- ---- what is lost or damaged
 
@@ -256,17 +231,6 @@ shows_damaged from n1 octets none (o ∷ os) zero gs h = rw none (shows_first (n
 shows_damaged from n1 octets none (o ∷ os) (suc i) gs h =
     shows_behind (number_in (frame_of from n1 o)) (numbered_on from n1 os) (numbered_on from n1 (replaced os i octets)) (place_of from n1 os i) gs
     (λ hs k. shows_damaged from n1 octets none os i hs k) h
-
-pub orderly_lost : (MayAsk : Type 0) (from : Role) (n1 : ℕ) (os : List (List ℕ)) (i : ℕ) → AreOrderly MayAsk from n1 os → AreOrderly MayAsk from n1 (remove os i)
-orderly_lost MayAsk from n1 [] zero h = h
-orderly_lost MayAsk from n1 [] (suc i) h = h
-orderly_lost MayAsk from n1 (o ∷ os) zero h = h.1
-orderly_lost MayAsk from n1 (o ∷ os) (suc i) h = (h.0, orderly_lost MayAsk from n1 os i h.1)
-
-pub orderly_damaged : (MayAsk : Type 0) (from : Role) (n1 : ℕ) (octets : List ℕ) → IsOrderly MayAsk (frame_of from n1 octets) → (os : List (List ℕ)) (i : ℕ) → AreOrderly MayAsk from n1 os → AreOrderly MayAsk from n1 (replaced os i octets)
-orderly_damaged MayAsk from n1 octets e [] i h = h
-orderly_damaged MayAsk from n1 octets e (o ∷ os) zero h = (e, h.1)
-orderly_damaged MayAsk from n1 octets e (o ∷ os) (suc i) h = (h.0, orderly_damaged MayAsk from n1 octets e os i h.1)
 
 -- octets that are visibly damaged read as no frame
 pub visible_reads : (from : Role) (n1 : ℕ) (octets : List ℕ) → is_visible octets ≡ true → (frame_of from n1 octets ≡ Err Short) ⊎ (frame_of from n1 octets ≡ Err BadFcs)

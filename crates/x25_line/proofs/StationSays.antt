@@ -3,28 +3,17 @@ use Rattle.std.proofs.Common.{◌≡◌, ℕ, ◌+◌, ◌≤◌, List, [], ◌�
 use Rattle.std.proofs.lemmas.List.{map-append}
 use Rattle.std.specs.List.{slice_get}
 use Rattle.x25_bits.specs.declared.role.Role.{Role}
-use Rattle.x25_frame.specs.{Frame.{PlainFrame, info, rr, rnr, rej, sabm, disc, ua, dm, frmr}, Spelling.{spelling_of}, Reading.{frame_of}}
+use Rattle.x25_frame.specs.{Frame.{PlainFrame, info, rr, rnr, rej, frmr}, Spelling.{spelling_of}, Reading.{frame_of}}
 use Rattle.x25_frame.specs.laws.ReadingLaw.{ReadsSpelled}
 use Rattle.x25_link.specs.{Station.{Settings}, Hearing.{other}, declared.phase.Reason.TheVariants.{FrmrSent}, laws.WindowLaw.{ending_of}}
 use Rattle.x25_link.specs.laws.WindowMachine.{Window, ShowsItem, Shows, ShowAll, IsSent, Runs, rests, goes_on}
-use Rattle.x25_line.specs.{laws.Stations.{replaced, is_visible}, laws.StationClaims.{number_in}, laws.Peer.{Peer, MaySend, MayHear, numbered_to, told_to}}
-use Rattle.x25_line.proofs.{StationLines.{IsGood, AreParting, good_reads}, StationSends.{AllWithin, Item, item_at, tell_good, send_good, not_none}}
-use Rattle.x25_window.specs.{laws.Window.{Step, Frame, Allows, after, frame_of as machine_frame, frames_of, numbered}, laws.Window.Step.{Send, Tell}}
+use Rattle.x25_line.specs.{laws.Stations.{replaced, is_visible}, laws.StationClaims.{Each, number_in}, laws.Peer.{Peer, MaySend, MayHear, numbered_to, told_to}}
+use Rattle.x25_line.proofs.{StationLines.{IsGood, IsPart, good_reads, part_reads}, StationSends.{AllWithin, Item, item_at, single_of, tell_good, send_good, not_none}}
+use Rattle.x25_window.specs.{laws.Window.{Step, Allows, after, frame_of as machine_frame, frames_of, numbered}, laws.Window.Step.{Send, Tell}}
 
 -- the peer as an end of the window machine, with a station's k
 abbrev pub machine_of : ℕ → Peer → Window
 machine_of k p = record { window = k; given = p.given; acked = p.acked; sent = p.sent; taken = p.taken }
-
--- the frame of the machine is shown by one frame alone
-pub record Single (fs : List PlainFrame) (g : Frame (List ℕ)) : Type 0 where
-  pub frame : PlainFrame
-  pub is : fs ≡ frame ∷ []
-  pub shows : Shows frame g
-
-pub single_of : (fs : List PlainFrame) (g : Frame (List ℕ)) → ShowAll fs (g ∷ []) → Single fs g
-single_of [] g h = absurd h
-single_of (f ∷ []) g h = record { frame = f; is = refl; shows = h.0 }
-single_of (f ∷ e ∷ fs) g h = absurd h.1
 
 -- ---- frames with an N(R)
 
@@ -117,8 +106,7 @@ pub record IsFree (from : Role) (n1 : ℕ) (f : PlainFrame) : Type 0 where
   pub none : number_in (Ok f) ≡ None
 
 abbrev pub AllFree : Role → ℕ → List PlainFrame → Type 0
-AllFree from n1 [] = Unit {0}
-AllFree from n1 (f ∷ fs) = IsFree from n1 f × AllFree from n1 fs
+AllFree from n1 fs = Each (IsFree from n1) fs
 
 free_sent : (p : Peer) (f : PlainFrame) → number_in (Ok f) ≡ None → MaySend ⊥ p (Ok f) p
 free_sent p (info ns nr pf x) none = cc
@@ -127,17 +115,9 @@ free_sent p (rnr command nr pf) none = cc
 free_sent p (rej command nr pf) none = cc
 free_sent p f none = refl
 
-pub parting_free : ReadsSpelled → (from : Role) (n1 : ℕ) (MayAsk : Type 0) (fs : List PlainFrame) → AreParting MayAsk fs → AllFree from n1 fs
+pub parting_free : ReadsSpelled → (from : Role) (n1 : ℕ) (MayAsk : Type 0) (fs : List PlainFrame) → Each (IsPart MayAsk) fs → AllFree from n1 fs
 parting_free reads from n1 MayAsk [] h = tt
-parting_free reads from n1 MayAsk (sabm p ∷ fs) h =
-    (record { reads = reads from n1 (sabm p) _ (record { in_range = tt; carries = refl; within = tt; spelling = refl }); none = refl }, parting_free reads from n1 MayAsk fs h.1)
-parting_free reads from n1 MayAsk (disc p ∷ fs) h =
-    (record { reads = reads from n1 (disc p) _ (record { in_range = tt; carries = refl; within = tt; spelling = refl }); none = refl }, parting_free reads from n1 MayAsk fs h)
-parting_free reads from n1 MayAsk (ua p ∷ fs) h =
-    (record { reads = reads from n1 (ua p) _ (record { in_range = tt; carries = refl; within = tt; spelling = refl }); none = refl }, parting_free reads from n1 MayAsk fs h)
-parting_free reads from n1 MayAsk (dm p ∷ fs) h =
-    (record { reads = reads from n1 (dm p) _ (record { in_range = tt; carries = refl; within = tt; spelling = refl }); none = refl }, parting_free reads from n1 MayAsk fs h)
-parting_free reads from n1 MayAsk (frame ∷ fs) h = absurd h
+parting_free reads from n1 MayAsk (f ∷ fs) h = (record { reads = part_reads reads from n1 MayAsk f h.0; none = h.0.none }, parting_free reads from n1 MayAsk fs h.1)
 
 pub frmr_free : ReadsSpelled → (from : Role) (n1 : ℕ) (f : Bool) (why : List ℕ) → length why ≡ 3 → AllFree from n1 (frmr f why ∷ [])
 frmr_free reads from n1 f why three = (record { reads = reads from n1 (frmr f why) _ (record { in_range = tt; carries = three; within = tt; spelling = refl }); none = refl }, tt)

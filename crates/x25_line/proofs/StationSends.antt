@@ -6,19 +6,17 @@ use Rattle.x25_frame.specs.Frame.{PlainFrame, info, rr, rnr, rej}
 use Rattle.x25_window.specs.{code.Modulo.{resolved}, laws.Window.{Step, Numbered, Frame, Allows, after, frame_of, frames_of, numbered}}
 use Rattle.x25_window.specs.laws.Window.Step.{Send, Tell}
 use Rattle.x25_link.specs.laws.WindowMachine.{Window, ShowsItem, Shows, ShowAll, IsSent, Runs, rests, goes_on}
-use Rattle.x25_line.specs.{laws.Line.{Line, steps}, laws.Line.Move.{Sends, Tells}, laws.StationClaims.{IsReached, near_moves, IsHandedDown}}
+use Rattle.x25_line.specs.{laws.Line.{Line, steps}, laws.Line.Move.{Sends, Tells}, laws.StationClaims.{MachineReaches, near_moves, Each, IsHandedDown}}
 use Rattle.x25_line.specs.laws.WholeNumbers.{given}
-use Rattle.x25_line.proofs.{Kept.{Kept, Kept-moved, resolved_is}, StationLines.{shows_append, IsGood, AllGood, good_append, AllHandedDown, handed_append}}
+use Rattle.x25_line.proofs.{Kept.{Kept, Kept-moved, resolved_is}, Lists.{each_append}, StationLines.{shows_append, IsGood, AllGood, AllHandedDown}}
 
 -- ---- packets
 
 abbrev pub AllWithin : ℕ → List (List ℕ) → Type 0
-AllWithin n1 [] = Unit {0}
-AllWithin n1 (x ∷ xs) = (length x ≤ n1) × AllWithin n1 xs
+AllWithin n1 xs = Each (λ (x : List ℕ). length x ≤ n1) xs
 
 pub within_push : (n1 : ℕ) (xs : List (List ℕ)) (x : List ℕ) → AllWithin n1 xs → length x ≤ n1 → AllWithin n1 (xs ++ x ∷ [])
-within_push n1 [] x h le = (le, tt)
-within_push n1 (y ∷ xs) x h le = (h.0, within_push n1 xs x h.1 le)
+within_push n1 xs x h le = each_append (λ (y : List ℕ). length y ≤ n1) xs (x ∷ []) h (le, tt)
 
 -- the packet of a number that was handed down
 pub record Item (n1 : ℕ) (xs : List (List ℕ)) (n : ℕ) : Type 0 where
@@ -35,10 +33,16 @@ item_at n1 (x ∷ xs) (suc n) lt h =
 
 -- ---- frames
 
-pub single_good : (n1 : ℕ) (g : Frame (List ℕ)) → ((f : PlainFrame) → Shows f g → IsGood n1 f) → (fs : List PlainFrame) → ShowAll fs (g ∷ []) → AllGood n1 fs
-single_good n1 g good [] h = absurd h
-single_good n1 g good (f ∷ []) h = (good f h.0, tt)
-single_good n1 g good (f ∷ e ∷ fs) h = absurd h.1
+-- the frame of the machine is shown by one frame alone
+pub record Single (fs : List PlainFrame) (g : Frame (List ℕ)) : Type 0 where
+  pub frame : PlainFrame
+  pub is : fs ≡ frame ∷ []
+  pub shows : Shows frame g
+
+pub single_of : (fs : List PlainFrame) (g : Frame (List ℕ)) → ShowAll fs (g ∷ []) → Single fs g
+single_of [] g h = absurd h
+single_of (f ∷ []) g h = record { frame = f; is = refl; shows = h.0 }
+single_of (f ∷ e ∷ fs) g h = absurd h.1
 
 -- a number modulo 8 is in range
 below_eight : (a b : ℕ) → a ≡ b % 8 → a < 8
@@ -70,11 +74,6 @@ send_good n1 n w i f h = absurd h
 
 -- the packet that goes was handed down
 
-single_handed : (given : List (List ℕ)) (g : Frame (List ℕ)) → ((f : PlainFrame) → Shows f g → IsHandedDown given f) → (fs : List PlainFrame) → ShowAll fs (g ∷ []) → AllHandedDown given fs
-single_handed given g handed [] h = absurd h
-single_handed given g handed (f ∷ []) h = (handed f h.0, tt)
-single_handed given g handed (f ∷ e ∷ fs) h = absurd h.1
-
 tell_handed : (given : List (List ℕ)) (w : Window) (f : PlainFrame) → Shows f (frame_of w None) → IsHandedDown given f
 tell_handed given w (info ns nr p x) h = absurd h.0
 tell_handed given w f h = tt
@@ -90,12 +89,6 @@ send_handed n1 n w i f h = tt
 -- a frame of the machine is given to the one that shows it, behind which more are given
 abbrev Gives : ℕ → ℕ → ℕ → ℕ → PlainFrame → Frame (List ℕ) → Type 0
 Gives acked r m top f g = (es : List PlainFrame) → given acked r m (f ∷ es) ≡ g ∷ given acked r top es
-
-single_given : (acked r m top : ℕ) (g : Frame (List ℕ)) → ((f : PlainFrame) → Shows f g → Gives acked r m top f g) → (fs : List PlainFrame) → ShowAll fs (g ∷ [])
-    → (es : List PlainFrame) → given acked r m (fs ++ es) ≡ g ∷ given acked r top es
-single_given acked r m top g gives [] h es = absurd h
-single_given acked r m top g gives (f ∷ []) h es = gives f h.0 es
-single_given acked r m top g gives (f ∷ e ∷ fs) h es = absurd h.1
 
 tell_given : (acked : ℕ) (w : Window) (f : PlainFrame) → Shows f (frame_of w None) → Gives acked (length w.taken) w.sent w.sent f (frame_of w None)
 tell_given acked w (info ns nr p x) h es = absurd h.0
@@ -126,7 +119,7 @@ send_given n1 n w i high may f h es = absurd h
 -- the line once the frames of a run are on it
 pub record Sent (k j n1 : ℕ) (l : Line (List ℕ)) (from w : Window) (frames : List PlainFrame) : Type 0 where
   pub line : Line (List ℕ)
-  pub reached : IsReached k j line
+  pub reached : MachineReaches k j line
   pub kept : Kept line
   pub near : line.near ≡ w
   pub far : line.far ≡ l.far
@@ -149,7 +142,7 @@ sent_given k j n1 l from w frames h =
 
 -- one step more
 sent_more : (k j n1 : ℕ) (l : Line (List ℕ)) (from w : Window) (frames : List PlainFrame) (h : Sent k j n1 l from w frames) (s : Step (List ℕ)) (fs : List PlainFrame)
-    → IsReached k j (steps h.line s) → Kept (steps h.line s) → (after w s).given ≡ w.given → (after w s).taken ≡ w.taken → (after w s).acked ≡ w.acked → ShowAll fs (frames_of w s) → AllGood n1 fs
+    → MachineReaches k j (steps h.line s) → Kept (steps h.line s) → (after w s).given ≡ w.given → (after w s).taken ≡ w.taken → (after w s).acked ≡ w.acked → ShowAll fs (frames_of w s) → AllGood n1 fs
     → AllHandedDown from.given fs → ((es : List PlainFrame) → given w.acked (length w.taken) w.sent (fs ++ es) ≡ frames_of w s ++ given w.acked (length w.taken) (after w s).sent es)
     → Sent k j n1 l from (after w s) (frames ++ fs)
 sent_more k j n1 l from w frames h s fs reached kept handed_down taken acked shows good handed gives =
@@ -163,8 +156,8 @@ sent_more k j n1 l from w frames h s fs reached kept handed_down taken acked sho
       behind = h.behind ++ frames_of h.line.near s;
       out = ap (λ (gs : List (Frame (List ℕ))). gs ++ frames_of h.line.near s) h.out ∙ append_assoc l.out h.behind (frames_of h.line.near s);
       shows = shows_append frames fs h.behind (frames_of h.line.near s) h.shows (rw h.near shows);
-      good = good_append n1 frames fs h.good good;
-      handed = handed_append from.given frames fs h.handed handed;
+      good = each_append (IsGood n1) frames fs h.good good;
+      handed = each_append (IsHandedDown from.given) frames fs h.handed handed;
       given = handed_down ∙ h.given;
       taken = taken ∙ h.taken;
       acked = acked ∙ h.acked;
@@ -182,21 +175,21 @@ sent_more k j n1 l from w frames h s fs reached kept handed_down taken acked sho
 more : (k j n1 : ℕ) (l : Line (List ℕ)) (from w : Window) (frames : List PlainFrame) → AllWithin n1 from.given → (s : Step (List ℕ)) (fs : List PlainFrame)
     → IsSent s → Allows w s → ShowAll fs (frames_of w s) → Sent k j n1 l from w frames → Sent k j n1 l from (after w s) (frames ++ fs)
 more k j n1 l from w frames within Tell fs sends may shows h =
-    sent_more k j n1 l from w frames h Tell fs (near_moves h.line Tells h.reached tt) (Kept-moved Tells h.line tt h.kept) refl refl refl shows
-    (single_good n1 (frame_of w None) (tell_good n1 w) fs shows)
-    (single_handed from.given (frame_of w None) (tell_handed from.given w) fs shows)
-    (single_given w.acked (length w.taken) w.sent w.sent (frame_of w None) (tell_given w.acked w) fs shows)
+    let one = single_of fs (frame_of w None) shows in
+    subst (λ (es : List PlainFrame). Sent k j n1 l from w (frames ++ es)) (sym one.is)
+    (sent_more k j n1 l from w frames h Tell (one.frame ∷ []) (near_moves h.line Tells h.reached tt) (Kept-moved Tells h.line tt h.kept) refl refl refl (one.shows, tt)
+    (tell_good n1 w one.frame one.shows, tt) (tell_handed from.given w one.frame one.shows, tt) (tell_given w.acked w one.frame one.shows))
 more k j n1 l from w frames within (Send n) fs sends may shows h =
     let ok : Allows h.line.near (Send n) = subst (λ (z : Window). Allows z (Send n)) (sym h.near) may in
     let item = item_at n1 w.given n may.3 (subst (AllWithin n1) (sym h.given) within) in
-    sent_more k j n1 l from w frames h (Send n) fs (near_moves h.line (Sends n) h.reached ok) (Kept-moved (Sends n) h.line ok h.kept) refl refl refl shows
-    (single_good n1 (frame_of (after w (Send n)) (numbered n (slice_get w.given n))) (send_good n1 n w item) fs shows)
-    (rw (sym h.given) (single_handed w.given (frame_of (after w (Send n)) (numbered n (slice_get w.given n))) (send_handed n1 n w item) fs shows))
-    (single_given w.acked (length w.taken) w.sent (after w (Send n)).sent (frame_of (after w (Send n)) (numbered n (slice_get w.given n)))
-    (send_given n1 n w item (rw (sym h.near) h.kept.from_near.high) may) fs shows)
+    let one = single_of fs (frame_of (after w (Send n)) (numbered n (slice_get w.given n))) shows in
+    subst (λ (es : List PlainFrame). Sent k j n1 l from (after w (Send n)) (frames ++ es)) (sym one.is)
+    (sent_more k j n1 l from w frames h (Send n) (one.frame ∷ []) (near_moves h.line (Sends n) h.reached ok) (Kept-moved (Sends n) h.line ok h.kept) refl refl refl (one.shows, tt)
+    (send_good n1 n w item one.frame one.shows, tt) (rw (sym h.given) (send_handed n1 n w item one.frame one.shows, tt))
+    (send_given n1 n w item (rw (sym h.near) h.kept.from_near.high) may one.frame one.shows))
 more k j n1 l from w frames within s fs sends may shows h = absurd sends
 
-pub runs_sent : (k j n1 : ℕ) (l : Line (List ℕ)) (from : Window) → IsReached k j l → Kept l → l.near ≡ from → AllWithin n1 from.given
+pub runs_sent : (k j n1 : ℕ) (l : Line (List ℕ)) (from : Window) → MachineReaches k j l → Kept l → l.near ≡ from → AllWithin n1 from.given
     → (w : Window) (frames : List PlainFrame) → Runs from w frames → Sent k j n1 l from w frames
 runs_sent k j n1 l from reached kept near within w frames rests =
     record {

@@ -3,7 +3,7 @@ use Rattle.std.proofs.Common.{◌≡◌, ℕ, ◌+◌, ◌%◌, arith, List, [],
 use Rattle.std.proofs.{lemmas.Bool.{le-leb}, lemmas.List.{replicate_more}}
 use Rattle.std.specs.Prelude.{◌≤◌, option_to_list, replicate, drop, ◌||◌}
 use Rattle.x25_bits.specs.declared.role.Role.{Role}
-use Rattle.x25_frame.specs.{Frame.{PlainFrame, info, rr, rnr, rej, disc, ua, dm}, Spelling.{spelling_of}, laws.ReadingLaw.{ReadsSpelled}}
+use Rattle.x25_frame.specs.{Frame.{PlainFrame, info, rr, rnr, rej, disc, ua, dm}, Spelling.{spelling_of}, Reading.{frame_of}, laws.ReadingLaw.{ReadsSpelled}}
 use Rattle.x25_frame.specs.{declared.error.FrameError.{FrameError}, declared.error.FrameError.TheVariants.{Short, BadFcs, BadAddress}}
 use Rattle.x25_window.specs.{laws.Window.{End, Numbered, Frame, after}, laws.Window.Step.{Hear, Take}}
 use Rattle.x25_link.specs.{declared.phase.Phase.{Phase}, declared.phase.Phase.TheVariants.{Waiting, Up}, declared.phase.Reason.{Reason}}
@@ -13,10 +13,10 @@ use Rattle.x25_link.specs.{Hearing.{Step, other}, laws.WindowMachine.{Window, In
 use Rattle.x25_link.specs.laws.WindowLaw.{IsSound, window_of, brought_by, after_input, MayHandUp, if_valid, ending_of, ends_in, AreLast, Stays, Ends, Follows, IsOut, AreDeclining}
 use Rattle.x25_line.specs.{laws.Line.{Line, MayTake, FrontMayBeTaken, arrived, front_arrived, takes_item}, laws.Line.Move.{Arrives, Loses}}
 use Rattle.x25_line.specs.laws.Stations.{StationEnd, Stations, after_step}
-use Rattle.x25_line.specs.laws.StationClaims.{AreJoined, IsReached, near_moves, number_in, numbered_on, NoFrmr, AreWhole}
+use Rattle.x25_line.specs.laws.StationClaims.{AreJoined, MachineReaches, near_moves, number_in, numbered_on, Each, NoFrmr, IsWhole, AreWhole}
 use Rattle.x25_line.specs.laws.WholeNumbers.{given, first_of, taken_out, counted, machine_after}
-use Rattle.x25_line.proofs.Kept.{Kept, Way, Kept-moved, hears_valid}
-use Rattle.x25_line.proofs.StationLines.{shows_append, Front, front_of, carried_of, IsOrderly, AreOrderly, consed, numbered_append, orderly_append, AllGood, AreParting, no_frmr_append, good_no_frmr, parting_no_frmr, good_numbered, good_orderly, parting_numbered, parting_orderly, whole_more, whole_append, good_whole, parting_whole, first_more}
+use Rattle.x25_line.proofs.{Lists.{each_append}, Kept.{Kept, Way, Kept-moved, hears_valid}}
+use Rattle.x25_line.proofs.StationLines.{shows_append, Front, front_of, carried_of, IsOrderly, AreOrderly, consed, numbered_append, AreParting, IsPart, parts_of, no_frmr_append, good_no_frmr, parting_no_frmr, good_numbered, good_orderly, parting_numbered, parting_orderly, whole_more, good_whole, parting_whole, first_more}
 use Rattle.x25_line.proofs.StationSends.{AllWithin, Sent, sent_given, runs_sent}
 
 -- Down or Closed, and Waiting where an end may ask for set-up
@@ -61,6 +61,11 @@ pub record IsAway (MayAsk : Type 0) (s : LinkStation) : Type 0 where
 abbrev pub FitsEnd : Type 0 → Settings → LinkStation → End (List ℕ) → Type 0
 FitsEnd MayAsk c s e = AsUp c s e ⊎ IsAway MayAsk s
 
+-- an end that is Up isn't away
+pub up_of : (MayAsk : Type 0) (c : Settings) (s : LinkStation) (e : End (List ℕ)) → FitsEnd MayAsk c s e → is_up s.phase ≡ true → AsUp c s e
+up_of MayAsk c s e (inl u) up = u
+up_of MayAsk c s e (inr away) up = not_both (is_up s.phase) up (away_is_not_up MayAsk s.phase away.away)
+
 -- the LinkDown by which Up was left, and then one each time that an end asked in vain
 pub record AreEndings (MayAsk : Type 0) (reasons : List Reason) : Type 0 where
   pub reason : Reason
@@ -83,7 +88,7 @@ pub record Has (MayAsk : Type 0) (longest : ℕ) (e : StationEnd) (l : End (List
 
 -- `MayAsk` holds where an end may ask for set-up
 pub record Joint (MayAsk : Type 0) (c d : Settings) (w : Stations) (l : Line (List ℕ)) : Type 0 where
-  pub reached : IsReached c.window d.window l
+  pub reached : MachineReaches c.window d.window l
   pub kept : Kept l
   pub near : FitsEnd MayAsk c w.near.station l.near
   pub far : FitsEnd MayAsk d w.far.station l.far
@@ -181,39 +186,6 @@ not_afresh s step tells off = go step.notes.up refl
     go true e = not_both (is_up step.side.near.phase) (ap (λ (z : LinkStation). is_up z.phase) (tells.fresh_up e)) off
     go false e = e
 
--- a step that leaves Up
-leaving_notes : (MayAsk : Type 0) (c : Settings) (w : Stations) (back : List (List ℕ)) (step : Step) (reason : Reason) → NotesOnce MayAsk w.near → is_up w.near.station.phase ≡ true
-    → step.notes.down ≡ Some reason → step.notes.up ≡ false → is_up step.side.near.phase ≡ false → NotesOnce MayAsk (after_step c w back [] step).near
-leaving_notes MayAsk c w back step reason h up down not_up off =
-    record {
-      still_up = λ on. not_both (is_up step.side.near.phase) on off;
-      left = λ _. record {
-        reason = reason;
-        again = 0;
-        all = ap (λ (r : Option Reason). w.near.reasons ++ option_to_list r) down ∙ ap (λ (rs : List Reason). rs ++ reason ∷ []) (h.still_up up);
-        asked = λ never. absurd (omega arith);
-      };
-      once = ap (λ (b : Bool). w.near.came_up || b) not_up ∙ ap (λ (b : Bool). b || false) h.once;
-    }
-
--- an end that asked in vain
-pub vain_notes : (MayAsk : Type 0) (c : Settings) (w : Stations) (back : List (List ℕ)) (step : Step) → NotesOnce MayAsk w.near → is_up w.near.station.phase ≡ false → MayAsk
-    → step.notes.down ≡ Some Retries → step.notes.up ≡ false → is_up step.side.near.phase ≡ false → NotesOnce MayAsk (after_step c w back [] step).near
-vain_notes MayAsk c w back step h away ask down not_up off =
-    let l = h.left away in
-    record {
-      still_up = λ on. not_both (is_up step.side.near.phase) on off;
-      left = λ _. record {
-        reason = l.reason;
-        again = l.again + 1;
-        all = ap (λ (r : Option Reason). w.near.reasons ++ option_to_list r) down
-            ∙ ap (λ (rs : List Reason). rs ++ Retries ∷ []) l.all
-            ∙ ap (λ (rs : List Reason). l.reason ∷ rs) (replicate_more l.again Retries);
-        asked = λ _. ask;
-      };
-      once = ap (λ (b : Bool). w.near.came_up || b) not_up ∙ ap (λ (b : Bool). b || false) h.once;
-    }
-
 -- ---- steps that hand nothing up, and steps that leave
 
 -- nothing is handed up
@@ -247,10 +219,61 @@ declining_parting MayAsk [] h = tt
 declining_parting MayAsk (dm f ∷ fs) h = declining_parting MayAsk fs h
 declining_parting MayAsk (frame ∷ fs) h = absurd h
 
+-- what is noted by a step behind which the station isn't Up: it left Up, it goes on to be out, or it asked in vain
+pub data Noted (MayAsk : Type 0) (s : LinkStation) (step : Step) : Type 0 where
+  left_up : (reason : Reason) → Leaves reason → is_up s.phase ≡ true → step.notes.down ≡ Some reason → step.notes.up ≡ false → Noted MayAsk s step
+  stays_out : is_up s.phase ≡ false → IsQuiet step → Noted MayAsk s step
+  in_vain : is_up s.phase ≡ false → MayAsk → step.notes.down ≡ Some Retries → step.notes.up ≡ false → Noted MayAsk s step
+
+noted_once : (MayAsk : Type 0) (c : Settings) (w : Stations) (back : List (List ℕ)) (step : Step) → NotesOnce MayAsk w.near → is_up step.side.near.phase ≡ false → Noted MayAsk w.near.station step
+    → NotesOnce MayAsk (after_step c w back [] step).near
+noted_once MayAsk c w back step h off (stays_out out quiet) = quiet_notes MayAsk c w back [] step h quiet (off ∙ sym out)
+noted_once MayAsk c w back step h off (left_up reason leaves up down not_up) = record {
+  still_up = λ on. not_both (is_up step.side.near.phase) on off;
+  left = λ _. record {
+    reason = reason;
+    again = 0;
+    all = ap (λ (r : Option Reason). w.near.reasons ++ option_to_list r) down ∙ ap (λ (rs : List Reason). rs ++ reason ∷ []) (h.still_up up);
+    asked = λ never. absurd (omega arith);
+  };
+  once = ap (λ (b : Bool). w.near.came_up || b) not_up ∙ ap (λ (b : Bool). b || false) h.once;
+}
+noted_once MayAsk c w back step h off (in_vain out ask down not_up) =
+    let l = h.left out in
+    record {
+      still_up = λ on. not_both (is_up step.side.near.phase) on off;
+      left = λ _. record {
+        reason = l.reason;
+        again = l.again + 1;
+        all = ap (λ (r : Option Reason). w.near.reasons ++ option_to_list r) down
+            ∙ ap (λ (rs : List Reason). rs ++ Retries ∷ []) l.all
+            ∙ ap (λ (rs : List Reason). l.reason ∷ rs) (replicate_more l.again Retries);
+        asked = λ _. ask;
+      };
+      once = ap (λ (b : Bool). w.near.came_up || b) not_up ∙ ap (λ (b : Bool). b || false) h.once;
+    }
+
+-- a step that sends nothing that has a number, behind which the station isn't Up
+pub record Parts (MayAsk : Type 0) (s : LinkStation) (step : Step) : Type 0 where
+  pub frames : AreParting MayAsk step.side.out
+  pub away : IsAway MayAsk step.side.near
+  pub packet : step.packet ≡ None
+  pub noted : Noted MayAsk s step
+
+pub ends_parts : (MayAsk : Type 0) (s : LinkStation) (reason : Reason) (step : Step) → is_up s.phase ≡ true → Leaves reason → Tells s step → Ends reason step → Parts MayAsk s step
+ends_parts MayAsk s reason step up leaves tells ends =
+    let away = last_away MayAsk reason step.side.near.phase leaves ends.phase in
+    record {
+      frames = last_parting MayAsk reason step.side.out leaves ends.frames;
+      away = record { away = away; empty = empty_lists step.side.near.outgoing step.side.near.taken ends.outgoing ends.taken };
+      packet = ends.packet;
+      noted = left_up reason leaves up ends.noted (not_afresh s step tells (away_is_not_up MayAsk step.side.near.phase away));
+    }
+
 -- ---- a step of the near end, the machine's line being `l` once what comes has come
 
 pub record Stage (MayAsk : Type 0) (c d : Settings) (w : Stations) (start l : Line (List ℕ)) (back down : List (List ℕ)) (packet : Option (List ℕ)) (v : Window) : Type 0 where
-  pub reached : IsReached c.window d.window l
+  pub reached : MachineReaches c.window d.window l
   pub kept : Kept l
   pub near : l.near ≡ v
   pub far : l.far ≡ start.far
@@ -263,49 +286,29 @@ pub record Stage (MayAsk : Type 0) (c d : Settings) (w : Stations) (start l : Li
   pub same_sent : v.sent ≡ start.near.sent
 
 module _ (MayAsk : Type 0) (c d : Settings) (joined : AreJoined c d) (reads : ReadsSpelled) where
-  good_out : (out : List (List ℕ)) (fs : List PlainFrame) (gs hs : List (Frame (List ℕ))) → AllGood d.longest fs → ShowAll (numbered_on (other d.role) d.longest out) gs → ShowAll fs hs
+  -- what is put on the line, as the other end reads it
+  numbers_out : (out : List (List ℕ)) (fs es : List PlainFrame) (gs hs : List (Frame (List ℕ))) → numbered_on c.role d.longest (map (spelling_of c.role) fs) ≡ es → ShowAll (numbered_on (other d.role) d.longest out) gs → ShowAll es hs
       → ShowAll (numbered_on (other d.role) d.longest (out ++ map (spelling_of c.role) fs)) (gs ++ hs)
-  good_out out fs gs hs good f e =
-      let same : numbered_on (other d.role) d.longest (map (spelling_of c.role) fs) ≡ fs =
-      subst (λ (r : Role). numbered_on r d.longest (map (spelling_of c.role) fs) ≡ fs) (sym joined.near_role) (good_numbered reads c.role d.longest fs good) in
+  numbers_out out fs es gs hs is f e =
+      let same : numbered_on (other d.role) d.longest (map (spelling_of c.role) fs) ≡ es =
+      subst (λ (r : Role). numbered_on r d.longest (map (spelling_of c.role) fs) ≡ es) (sym joined.near_role) is in
       subst (λ (ps : List PlainFrame). ShowAll ps (gs ++ hs))
       (sym (numbered_append (other d.role) d.longest out (map (spelling_of c.role) fs) ∙ ap (λ (ps : List PlainFrame). numbered_on (other d.role) d.longest out ++ ps) same))
-      (shows_append (numbered_on (other d.role) d.longest out) fs gs hs f e)
+      (shows_append (numbered_on (other d.role) d.longest out) es gs hs f e)
 
-  good_out_orderly : (out : List (List ℕ)) (fs : List PlainFrame) → AllGood d.longest fs → AreOrderly MayAsk (other d.role) d.longest out
+  orderly_out : (out : List (List ℕ)) (fs : List PlainFrame) → AreOrderly MayAsk c.role d.longest (map (spelling_of c.role) fs) → AreOrderly MayAsk (other d.role) d.longest out
       → AreOrderly MayAsk (other d.role) d.longest (out ++ map (spelling_of c.role) fs)
-  good_out_orderly out fs good f =
-      orderly_append MayAsk (other d.role) d.longest out (map (spelling_of c.role) fs) f
-      (rw joined.near_role (good_orderly reads c.role d.longest MayAsk fs good))
+  orderly_out out fs more f = each_append (λ (o : List ℕ). IsOrderly MayAsk (frame_of (other d.role) d.longest o)) out (map (spelling_of c.role) fs) f (rw joined.near_role more)
 
-  parting_out : (out : List (List ℕ)) (fs : List PlainFrame) (gs : List (Frame (List ℕ))) → AreParting MayAsk fs → ShowAll (numbered_on (other d.role) d.longest out) gs
-      → ShowAll (numbered_on (other d.role) d.longest (out ++ map (spelling_of c.role) fs)) gs
-  parting_out out fs gs parting f =
-      let none : numbered_on (other d.role) d.longest (map (spelling_of c.role) fs) ≡ [] =
-      subst (λ (r : Role). numbered_on r d.longest (map (spelling_of c.role) fs) ≡ []) (sym joined.near_role) (parting_numbered reads c.role d.longest MayAsk fs parting) in
-      subst (λ (ps : List PlainFrame). ShowAll ps gs)
-      (sym (numbered_append (other d.role) d.longest out (map (spelling_of c.role) fs) ∙ ap (λ (ps : List PlainFrame). numbered_on (other d.role) d.longest out ++ ps) none ∙ append-nil _))
-      f
-
-  parting_out_orderly : (out : List (List ℕ)) (fs : List PlainFrame) → AreParting MayAsk fs → AreOrderly MayAsk (other d.role) d.longest out
-      → AreOrderly MayAsk (other d.role) d.longest (out ++ map (spelling_of c.role) fs)
-  parting_out_orderly out fs parting f =
-      orderly_append MayAsk (other d.role) d.longest out (map (spelling_of c.role) fs) f
-      (rw joined.near_role (parting_orderly reads c.role d.longest MayAsk fs parting))
-
-  -- what is put, as its own end reads it
-  good_put : (out : List (List ℕ)) (fs : List PlainFrame) → AllGood d.longest fs → numbered_on c.role c.longest (not_taken out (out ++ map (spelling_of c.role) fs)) ≡ fs
-  good_put out fs good =
-      ap (numbered_on c.role c.longest) (put_behind out (map (spelling_of c.role) fs)) ∙ good_numbered reads c.role c.longest fs (rw joined.longest good)
-
-  parting_put : (out : List (List ℕ)) (fs : List PlainFrame) → AreParting MayAsk fs → numbered_on c.role c.longest (not_taken out (out ++ map (spelling_of c.role) fs)) ≡ []
-  parting_put out fs parting = ap (numbered_on c.role c.longest) (put_behind out (map (spelling_of c.role) fs)) ∙ parting_numbered reads c.role c.longest MayAsk fs parting
+  -- and as its own end does
+  put_is : (out : List (List ℕ)) (fs es : List PlainFrame) → numbered_on c.role c.longest (map (spelling_of c.role) fs) ≡ es → numbered_on c.role c.longest (not_taken out (out ++ map (spelling_of c.role) fs)) ≡ es
+  put_is out fs es is = ap (numbered_on c.role c.longest) (put_behind out (map (spelling_of c.role) fs)) ∙ is
 
   -- a station that stays Up: what comes has come, and then it sends
-  pub J-stays : (w : Stations) (l m : Line (List ℕ)) (back down : List (List ℕ)) (input : Input) (step : Step) → Joint MayAsk c d w l → is_up w.near.station.phase ≡ true
+  pub stays_joint : (w : Stations) (l m : Line (List ℕ)) (back down : List (List ℕ)) (input : Input) (step : Step) → Joint MayAsk c d w l → is_up w.near.station.phase ≡ true
       → Stage MayAsk c d w l m back down step.packet (after_input input step.packet (window_of c.window w.near.station)) → Stays c.window input w.near.station step
       → Leads MayAsk c d w l m.back (after_step c w back down step)
-  J-stays w l m back down input step h was_up g stays =
+  stays_joint w l m back down input step h was_up g stays =
       let v : Window = after_input input step.packet (window_of c.window w.near.station) in
       let t = runs_sent c.window d.window d.longest m v g.reached g.kept g.near g.within (window_of c.window step.side.near) step.side.out stays.sends in
       let far = t.far ∙ g.far in (
@@ -315,9 +318,9 @@ module _ (MayAsk : Type 0) (c d : Settings) (joined : AreJoined c d) (reads : Re
           kept = t.kept;
           near = inl (record { up = stays.up; sound = stays.sound; same = sym t.near });
           far = rw far h.far;
-          out = rw (t.out ∙ ap (λ (gs : List (Frame (List ℕ))). gs ++ t.behind) g.out) (good_out w.out step.side.out l.out t.behind t.good h.out t.shows);
+          out = rw (t.out ∙ ap (λ (gs : List (Frame (List ℕ))). gs ++ t.behind) g.out) (numbers_out w.out step.side.out step.side.out l.out t.behind (good_numbered reads c.role d.longest step.side.out t.good) h.out t.shows);
           back = rw t.back g.left;
-          out_orderly = good_out_orderly w.out step.side.out t.good h.out_orderly;
+          out_orderly = orderly_out w.out step.side.out (good_orderly reads c.role d.longest MayAsk step.side.out t.good) h.out_orderly;
           back_orderly = g.orderly;
           near_has = record {
             down = g.given ∙ sym t.given ∙ ap (λ (z : Window). z.given) (sym t.near);
@@ -327,7 +330,7 @@ module _ (MayAsk : Type 0) (c d : Settings) (joined : AreJoined c d) (reads : Re
           };
           far_has = rw far h.far_has;
           no_frmr = no_frmr_append w.sent step.side.out h.no_frmr (good_no_frmr d.longest step.side.out t.good);
-          whole = whole_append d.longest ((w.near.down ++ down) ++ w.far.down) w.sent step.side.out
+          whole = each_append (IsWhole d.longest ((w.near.down ++ down) ++ w.far.down)) w.sent step.side.out
               (whole_more d.longest (w.near.down ++ w.far.down) ((w.near.down ++ down) ++ w.far.down) (first_more w.near.down w.far.down down) w.sent h.whole)
               (good_whole d.longest (w.near.down ++ down) w.far.down step.side.out t.good (rw g.given t.handed));
         },
@@ -335,7 +338,7 @@ module _ (MayAsk : Type 0) (c d : Settings) (joined : AreJoined c d) (reads : Re
           near = t.near ∙ sym (counted_up c.window step.side.near l.near stays.up);
           far = far;
           out = t.out ∙ ap (λ (gs : List (Frame (List ℕ))). gs ++ t.behind) g.out ∙ ap (λ (gs : List (Frame (List ℕ))). l.out ++ gs) (sends m v (window_of c.window step.side.near) step.side.out t (ap (λ (z : Window). z.sent) g.near ∙ g.same_sent) t.near)
-              ∙ ap (λ (fs : List PlainFrame). l.out ++ given t.line.near.acked (length t.line.near.taken) l.near.sent fs) (sym (good_put w.out step.side.out t.good));
+              ∙ ap (λ (fs : List PlainFrame). l.out ++ given t.line.near.acked (length t.line.near.taken) l.near.sent fs) (sym (put_is w.out step.side.out step.side.out (good_numbered reads c.role c.longest step.side.out (rw joined.longest t.good))));
           back = t.back;
         },
       )
@@ -429,7 +432,7 @@ module _ (MayAsk : Type 0) (c d : Settings) (joined : AreJoined c d) (reads : Re
       let valid = valid_at w l h u front.frame front.others front.is nr number in
       let stays : Stays c.window (receives f) w.near.station step = subst (λ (o : Option Reason). Follows o c.window (receives f) w.near.station step) valid follows in
       subst (λ (left : List (Frame (List ℕ))). Leads MayAsk c d w l left (after_step c w os [] step)) (sym (ap (λ (bs : List (Frame (List ℕ))). remove bs 0) front.is))
-      (J-stays w l (come l (is_some step.packet) front.frame front.others) os [] (receives f) step h u.up (stage step.packet stays.hands_up) stays)
+      (stays_joint w l (come l (is_some step.packet) front.frame front.others) os [] (receives f) step h u.up (stage step.packet stays.hands_up) stays)
 
   -- ---- steps that bring nothing, and steps that leave
 
@@ -455,50 +458,52 @@ module _ (MayAsk : Type 0) (c d : Settings) (joined : AreJoined c d) (reads : Re
       → ((y : List ℕ) → MayHandUp input (Some y) (window_of c.window w.near.station) → ⊥)
       → Stays c.window input w.near.station step → Leads MayAsk c d w l l.back (after_step c w os [] step)
   quiet_joint w l h u os orderly shows input step same never stays =
-      J-stays w l l os [] input step h u.up
+      stays_joint w l l os [] input step h u.up
       (rw same (quiet_stage w l h u os orderly shows step.packet (no_packet_of input step.packet (window_of c.window w.near.station) never stays.hands_up))) stays
 
   -- a station that leaves or is out: a numbered frame that comes to it is lost to the machine
   pub parts_joint : (w : Stations) (l : Line (List ℕ)) → Joint MayAsk c d w l → (gs : List (Frame (List ℕ))) (os : List (List ℕ)) (step : Step)
-      → Kept (record { near = l.near; far = l.far; out = l.out; back = gs }) → IsReached c.window d.window (record { near = l.near; far = l.far; out = l.out; back = gs })
+      → Kept (record { near = l.near; far = l.far; out = l.out; back = gs }) → MachineReaches c.window d.window (record { near = l.near; far = l.far; out = l.out; back = gs })
       → ShowAll (numbered_on (other c.role) c.longest os) gs → AreOrderly MayAsk (other c.role) c.longest os
-      → AreParting MayAsk step.side.out → IsAway MayAsk step.side.near → step.packet ≡ None → NotesOnce MayAsk (after_step c w os [] step).near
-      → Leads MayAsk c d w l gs (after_step c w os [] step)
-  parts_joint w l h gs os step kept reached shows orderly parting away none notes = (
+      → Parts MayAsk w.near.station step → Leads MayAsk c d w l gs (after_step c w os [] step)
+  parts_joint w l h gs os step kept reached shows orderly parts = (
     record { near = l.near; far = l.far; out = l.out; back = gs },
     record {
       reached = reached;
       kept = kept;
-      near = inr away;
+      near = inr parts.away;
       far = h.far;
-      out = parting_out w.out step.side.out l.out parting h.out;
+      out = subst (ShowAll (numbered_on (other d.role) d.longest (w.out ++ map (spelling_of c.role) step.side.out))) (append-nil l.out)
+          (numbers_out w.out step.side.out [] l.out [] (parting_numbered reads c.role d.longest MayAsk step.side.out each) h.out tt);
       back = shows;
-      out_orderly = parting_out_orderly w.out step.side.out parting h.out_orderly;
+      out_orderly = orderly_out w.out step.side.out (parting_orderly reads c.role d.longest MayAsk step.side.out each) h.out_orderly;
       back_orderly = orderly;
-      near_has = record { down = append-nil w.near.down ∙ h.near_has.down; up = rw none (append-nil w.near.up ∙ h.near_has.up); within = h.near_has.within; notes = notes };
+      near_has = record { down = append-nil w.near.down ∙ h.near_has.down; up = rw parts.packet (append-nil w.near.up ∙ h.near_has.up); within = h.near_has.within; notes = noted_once MayAsk c w os step h.near_has.notes off parts.noted };
       far_has = h.far_has;
-      no_frmr = no_frmr_append w.sent step.side.out h.no_frmr (parting_no_frmr MayAsk step.side.out parting);
-      whole = whole_append d.longest ((w.near.down ++ []) ++ w.far.down) w.sent step.side.out
+      no_frmr = no_frmr_append w.sent step.side.out h.no_frmr (parting_no_frmr MayAsk step.side.out each);
+      whole = each_append (IsWhole d.longest ((w.near.down ++ []) ++ w.far.down)) w.sent step.side.out
           (whole_more d.longest (w.near.down ++ w.far.down) ((w.near.down ++ []) ++ w.far.down) (first_more w.near.down w.far.down []) w.sent h.whole)
-          (parting_whole MayAsk d.longest ((w.near.down ++ []) ++ w.far.down) step.side.out parting);
+          (parting_whole MayAsk d.longest ((w.near.down ++ []) ++ w.far.down) step.side.out each);
     },
     record {
-      near = sym (counted_off c.window step.side.near l.near (away_is_not_up MayAsk step.side.near.phase away.away));
+      near = sym (counted_off c.window step.side.near l.near off);
       far = refl;
-      out = none_put l l.near.acked (length l.near.taken) (numbered_on c.role c.longest (not_taken w.out (w.out ++ map (spelling_of c.role) step.side.out))) (parting_put w.out step.side.out parting);
+      out = none_put l l.near.acked (length l.near.taken) (numbered_on c.role c.longest (not_taken w.out (w.out ++ map (spelling_of c.role) step.side.out))) (put_is w.out step.side.out [] (parting_numbered reads c.role c.longest MayAsk step.side.out each));
       back = refl;
     },
   )
+    where
+      off : is_up step.side.near.phase ≡ false
+      off = away_is_not_up MayAsk step.side.near.phase parts.away.away
+
+      each : Each (IsPart MayAsk) step.side.out
+      each = parts_of MayAsk step.side.out parts.frames
 
   pub ends_joint : (w : Stations) (l : Line (List ℕ)) → Joint MayAsk c d w l → is_up w.near.station.phase ≡ true → (os : List (List ℕ)) (step : Step) (reason : Reason) → Leaves reason
       → ShowAll (numbered_on (other c.role) c.longest os) l.back → AreOrderly MayAsk (other c.role) c.longest os
       → Tells w.near.station step → Ends reason step → Leads MayAsk c d w l l.back (after_step c w os [] step)
   ends_joint w l h up os step reason leaves shows orderly tells ends =
-      let away = last_away MayAsk reason step.side.near.phase leaves ends.phase in
-      let off = away_is_not_up MayAsk step.side.near.phase away in
-      parts_joint w l h l.back os step h.kept h.reached shows orderly (last_parting MayAsk reason step.side.out leaves ends.frames)
-      (record { away = away; empty = empty_lists step.side.near.outgoing step.side.near.taken ends.outgoing ends.taken }) ends.packet
-      (leaving_notes MayAsk c w os step reason h.near_has.notes up ends.noted (not_afresh w.near.station step tells off) off)
+      parts_joint w l h l.back os step h.kept h.reached shows orderly (ends_parts MayAsk w.near.station reason step up leaves tells ends)
 
   -- ---- what comes, by what it reads as
 
@@ -542,17 +547,13 @@ module _ (MayAsk : Type 0) (c d : Settings) (joined : AreJoined c d) (reads : Re
   -- ---- what comes to an end that isn't Up
 
   pub away_joint : (w : Stations) (l : Line (List ℕ)) → Joint MayAsk c d w l → (m : Option PlainFrame) (os : List (List ℕ)) (step : Step) → AreOrderly MayAsk (other c.role) c.longest os
-      → ShowAll (consed m (numbered_on (other c.role) c.longest os)) l.back → AreParting MayAsk step.side.out → IsAway MayAsk step.side.near → step.packet ≡ None → IsQuiet step
-      → is_up w.near.station.phase ≡ false → Leads MayAsk c d w l (taken_out (first_of m) l.back) (after_step c w os [] step)
-  away_joint w l h None os step orderly shows parting away none quiet was_away =
-      parts_joint w l h l.back os step h.kept h.reached shows orderly parting away none
-      (quiet_notes MayAsk c w os [] step h.near_has.notes quiet (away_is_not_up MayAsk step.side.near.phase away.away ∙ sym was_away))
-  away_joint w l h (Some f) os step orderly shows parting away none quiet was_away =
+      → ShowAll (consed m (numbered_on (other c.role) c.longest os)) l.back → Parts MayAsk w.near.station step → Leads MayAsk c d w l (taken_out (first_of m) l.back) (after_step c w os [] step)
+  away_joint w l h None os step orderly shows parts = parts_joint w l h l.back os step h.kept h.reached shows orderly parts
+  away_joint w l h (Some f) os step orderly shows parts =
       let front = front_of f (numbered_on (other c.role) c.longest os) l.back shows in
       let left : (List (Frame (List ℕ))) → Line (List ℕ) = λ bs. record { near = l.near; far = l.far; out = l.out; back = remove bs 0 } in
       subst (λ (gone : List (Frame (List ℕ))). Leads MayAsk c d w l gone (after_step c w os [] step)) (sym (ap (λ (bs : List (Frame (List ℕ))). remove bs 0) front.is))
       (parts_joint w l h front.others os step
       (subst (λ (bs : List (Frame (List ℕ))). Kept (left bs)) front.is (Kept-moved (Loses 0) l tt h.kept))
-      (subst (λ (bs : List (Frame (List ℕ))). IsReached c.window d.window (left bs)) front.is (near_moves l (Loses 0) h.reached tt))
-      front.rest_shows orderly parting away none
-      (quiet_notes MayAsk c w os [] step h.near_has.notes quiet (away_is_not_up MayAsk step.side.near.phase away.away ∙ sym was_away)))
+      (subst (λ (bs : List (Frame (List ℕ))). MachineReaches c.window d.window (left bs)) front.is (near_moves l (Loses 0) h.reached tt))
+      front.rest_shows orderly parts)

@@ -9,7 +9,7 @@ use Rattle.x25_line.specs.{laws.LawsBelow.{Laws}, laws.Peer.{Peer, MayNumber, Ma
 use Rattle.x25_line.specs.{laws.PeerJoined.{Joined, Ours, HandsDown, Sends, Hears, IsReached, at_start, goes_on}, laws.Said.{Said, Carried, Tells, Odd, said}}
 use Rattle.x25_line.specs.laws.Tape.{same_octets, is_item, judges_ack, then_ack, judges_item, judges_number, judges_said, notes, notes_said, IsSilent, Begins, Acts, Shows, Comes}
 use Rattle.x25_line.specs.laws.PeerClaims.{KeepsOrder, OnAnySilentTape}
-use Rattle.x25_line.proofs.{StationPeers.{low_resolved}, Frames.{slice_get-last}, PeerOrder.{keeps_order}}
+use Rattle.x25_line.proofs.{StationHears.{low_resolved}, Frames.{slice_get-last}, PeerOrder.{keeps_order}}
 
 -- ---- packets that are the same
 

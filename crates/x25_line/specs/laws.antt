@@ -4,7 +4,6 @@ pub mod LawsBelow
 pub mod Ends
 pub mod EndClaims
 pub mod StationClaims
-pub mod StationPeers
 pub mod SessionClaims
 pub mod HealingPuts
 pub mod Line

@@ -9,7 +9,6 @@ ghost use Rattle.x25_line.specs.laws.StationClaims.{NoFrmrSent, AllSentAreWhole,
 ghost use Rattle.x25_line.specs.laws.StationClaims.{EachEventHandsOne};
 ghost use Rattle.x25_line.specs.laws.PeerClaims.{WithAnyPeer, WithAnyLapbPeer, OnAnySilentTape};
 ghost use Rattle.x25_line.specs.laws.PeerClaims.{KeepsOrder, FindsNoFault};
-ghost use Rattle.x25_line.specs.laws.StationPeers.{AreBothPeers};
 ghost use Rattle.x25_line.specs.laws.WholeNumbers.{MachineGoesAlong, OnceStaysOnce};
 ghost use Rattle.x25_line.specs.laws.SessionClaims.{Throughout, MeetInStep, MetAreInOrder, UnmetHandNothingUp};
 ghost use Rattle.x25_line.specs.laws.SessionClaims.{OnlyBegunHaveLists, EachUpStands, EachHearsLatest, EachMeetsLatest};
@@ -18,7 +17,7 @@ ghost use Rattle.x25_line.specs.laws.SessionClaims.{SessionsAreStations, SetUpIs
 ghost use Rattle.x25_line.specs.laws.SessionNumbers.{StandingGoesAlong};
 ghost use Rattle.x25_line.specs.laws.SessionEvents.{EachEventHandsInSession, EachEventMeetsLatest};
 ghost use Rattle.x25_line.specs.rows.PeerRows.{OddPeerMoves, SilentTapeMoves, TapeTells};
-ghost use Rattle.x25_line.specs.rows.SessionRows.{SetsUpFromNothing, SetsUpAgain, UntimelyIsOutOfStep};
+ghost use Rattle.x25_line.specs.rows.SessionRows.{SetsUpFromNothing, SetsUpAgain};
 ghost use Rattle.x25_line.specs.rows.StationRows.{PacketGoes, PacketsCross, LostComesAgain, DamagedComesAgain};
 ghost use Rattle.x25_line.specs.rows.StationRows.{DisconnectEnds, AbandonEnds, ConnectSetsUp, ConnectIsDeclined};
 
@@ -92,15 +91,6 @@ pub fn silent_tape_keeps_order()
     laws_below();
 }
 
-/// Our own station keeps the rules of a peer. Of two link stations, as `links_keep_order` has them, after each list of
-/// events each is a peer of the other, which was handed down what that station was, took what it handed up, and sent
-/// nothing that is answered by FRMR. So they keep order as a station does with any peer.
-pub fn stations_are_peers()
-    ensures { Always AreBothPeers }
-{
-    laws_below();
-}
-
 /// Worked rows: a peer says nothing where our own station would answer, and then polls by an I frame that acknowledges
 /// none, which is handed up. A tape with that I frame and what answers it, of which nothing is told. What is told of a
 /// peer that sends another packet under a number that went already, an eighth packet that isn't acknowledged, or an
@@ -156,12 +146,10 @@ pub fn sessions_are_links()
 {}
 
 /// Worked rows: a SABM is lost and goes again, and a packet is handed up in the first session of each end; set up
-/// again, a packet that was on the line is still one of the first sessions, and the next is one of the second. Where
-/// timer T1 runs out while the SABM is on the line, the sessions may get out of step.
+/// again, a packet that was on the line is still one of the first sessions, and the next is one of the second.
 pub fn sessions_move()
     ensures first { SetsUpFromNothing }
     ensures second { SetsUpAgain }
-    ensures untimely { UntimelyIsOutOfStep }
 {
     reads_what_is_spelled();
 }

@@ -10,10 +10,9 @@ use Rattle.x25_sim.specs.Stage.{Turn, quiet, and_then, pulled, unless_empty, emp
 
 -- whether there is none, by whether there is some
 pub none_by_some : {A B : Type 0} (f : A → B) (o : Option A) (b : Bool) → is_some o ≡ not b → b ≡ is_none (option_map f o)
-none_by_some f None true e = refl
 none_by_some f None false e = absurd (cc)
 none_by_some f (Some x) true e = absurd (cc)
-none_by_some f (Some x) false e = refl
+none_by_some f o b e = refl
 
 -- one less is left
 pub one_less : (all done : ℕ) → done < all → all - done ≡ suc (all - (done + 1))

@@ -11,22 +11,23 @@ use Rattle.x25_station.specs.declared.config.Cfg.{Cfg}
 use Rattle.x25_station.specs.Config.{Settings, settings_from}
 use Rattle.x25_station.specs.laws.ReadLaw.{RequestsOctets}
 use Rattle.x25_station.specs.Step.{Outcome, Did, Refused, fires, commands}
-use Rattle.x25_script.specs.ScriptLine.{PlainCommand, call, accept, clear, send, interrupt, reset, ready, not_ready, restart, pull, connect, disconnect, probe, relink, with_given, PlainLine, command, t1, deliver, lose, damage, drain, heal, is_taken, taken}
+use Rattle.x25_script.specs.ScriptLine.{PlainCommand, call, clear, send, interrupt, reset, restart, pull, connect, relink, with_given, PlainLine, command, drain, heal, is_taken, taken}
 use Rattle.std.specs.Option.{unwrap_or}
 use Rattle.x25_script.specs.Reading.{line_in}
 use Rattle.x25_script.specs.laws.ReadingLaw.{IsOctet, PartInOctets, AsksInOctets, IsInOctets, ReadsOctets}
 use Rattle.x25_io.specs.Lines.{lines_of}
 use Rattle.x25_world.specs.World.{World, OnTap, AtEnd, swapped, Act, Commands, Receives, Fires, Loses, Damages, Event, WorldOutcome, Happened, Declined, of_station, delivered, on_line, is_on_line, acts, swapped_back, acts_at, happens, refusal_of, after, run, AreAccepted, start, connected, established}
 use Rattle.x25_world.specs.declared.error.WorldError.{WorldError}
-use Rattle.x25_world.specs.laws.Claims.{ActsInOctets, AreInOctets, IsUpOnce, IsUpAtMostOnce, IsBeginning, IsNoConnect, NoneConnects, UpOnceUnlessConnected, Always, UntilSecondUp}
+use Rattle.x25_world.specs.laws.Claims.{ActsInOctets, AreInOctets, IsUpOnce, IsUpAtMostOnce, IsBeginning, IsNoConnect, NoneConnects, UpOnceUnlessConnected, UntilSecondUp}
 use Rattle.x25_world.specs.laws.SessionClaims.{Throughout, ThroughoutAlong}
-use Rattle.x25_sim.specs.Telling.{Saying, enters, taps, reads_nothing, refuses, marks}
+use Rattle.x25_sim.specs.Telling.{Saying, enters, taps, reads_nothing, refuses}
 use Rattle.x25_console.specs.Commands.{command_asked, part_asked}
 use Rattle.x25_io.specs.HeldLine.{most_line}
 use Rattle.x25_world.specs.Healing.{next_end}
 use Rattle.x25_sim.specs.Stage.{Turn, and_then, frames_if, frames_told, marks_if, marked, step_told, told_between, turn_of, event_turn, delivered_to, drained, tried_of, tried, both_tried, most_times, fired, pulled, unless_empty, emptied, healed, line_turn, asked_in, asked_turn, turn, turns, connecting, set_up, opened, simulated}
 use Rattle.x25_sim.specs.declared.stage.Shown.{Shown}
-use Rattle.x25_sim.specs.laws.RunLaw.{entries_in, frames_in, begins, IsNoConnectLine, NoneAsks, IsRun, ScriptsAreRuns, OfScripts, OfScriptsSetUp, OfAllScripts, UpOnceUnlessAsked, ScriptsAreTold, ScriptsAreTapped}
+use Rattle.x25_sim.specs.laws.RunLaw.{entries_in, frames_in, begins, IsNoConnectLine, NoneAsks, IsRun, ScriptsAreRuns, OfScripts, OfAllScripts, UpOnceUnlessAsked, ScriptsAreTold, ScriptsAreTapped}
+use Rattle.x25_world.proofs.WorldLemmas.{run_append, accepted_append, octets_append}
 
 -- ---- a world only grows
 
@@ -76,18 +77,12 @@ by_event cfg w Dce act = from_back w (acts (settings_from Dce cfg) (swapped w) a
 entries-append : (xs ys : List Saying) → entries_in (xs ++ ys) ≡ entries_in xs ++ entries_in ys
 entries-append [] ys = refl
 entries-append (enters e ∷ xs) ys = ap (λ es. e ∷ es) (entries-append xs ys)
-entries-append (taps f ∷ xs) ys = entries-append xs ys
-entries-append (reads_nothing ∷ xs) ys = entries-append xs ys
-entries-append (refuses error ∷ xs) ys = entries-append xs ys
-entries-append (marks event ∷ xs) ys = entries-append xs ys
+entries-append (other ∷ xs) ys = entries-append xs ys
 
 frames-append : (xs ys : List Saying) → frames_in (xs ++ ys) ≡ frames_in xs ++ frames_in ys
 frames-append [] ys = refl
-frames-append (enters e ∷ xs) ys = frames-append xs ys
 frames-append (taps f ∷ xs) ys = ap (λ fs. f ∷ fs) (frames-append xs ys)
-frames-append (reads_nothing ∷ xs) ys = frames-append xs ys
-frames-append (refuses error ∷ xs) ys = frames-append xs ys
-frames-append (marks event ∷ xs) ys = frames-append xs ys
+frames-append (other ∷ xs) ys = frames-append xs ys
 
 entries_of_enters : (es : List AtEnd) → entries_in (map enters es) ≡ es
 entries_of_enters [] = refl
@@ -135,40 +130,19 @@ given (Some n) h = h
 part_handed : (asked : PlainCommand) → PartInOctets asked → RequestsOctets (part_asked asked)
 part_handed (call called calling user None) h = h
 part_handed (call called calling user (Some four)) h = h
-part_handed (accept channel None) h = tt
-part_handed (accept channel (Some four)) h = tt
 part_handed (clear channel g) h = (given g.cause h.0, given g.diagnostic h.1)
-part_handed (with_given facilities user d asked) h = tt
-part_handed (send channel q d user) h = tt
-part_handed (interrupt channel user) h = tt
-part_handed (reset channel g) h = tt
-part_handed (ready channel) h = tt
-part_handed (not_ready channel) h = tt
-part_handed (restart g) h = tt
-part_handed pull h = tt
-part_handed connect h = tt
-part_handed disconnect h = tt
-part_handed probe h = tt
-part_handed relink h = tt
+part_handed asked h = tt
 
 handed : (asked : PlainCommand) → AsksInOctets asked → ActsInOctets (Commands (command_asked asked))
 handed (call called calling user None) h = h
 handed (call called calling user (Some four)) h = h
-handed (accept channel None) h = tt
-handed (accept channel (Some four)) h = tt
 handed (clear channel g) h = (given g.cause h.0, given g.diagnostic h.1)
 handed (with_given facilities user d asked) h = ((h.0, h.1), part_handed asked h.2)
 handed (send channel q d user) h = h
 handed (interrupt channel user) h = h
 handed (reset channel g) h = (given g.cause h.0, given g.diagnostic h.1)
-handed (ready channel) h = tt
-handed (not_ready channel) h = tt
 handed (restart g) h = (given g.cause h.0, given g.diagnostic h.1)
-handed pull h = tt
-handed connect h = tt
-handed disconnect h = tt
-handed probe h = tt
-handed relink h = tt
+handed asked h = tt
 
 abbrev AskedInOctets : Option PlainLine → Type 0
 AskedInOctets None = Unit {0}
@@ -186,28 +160,12 @@ asked_octets : ReadsOctets → (text : List ℕ) → AskedInOctets (asked_in tex
 unfolding asked_in
 asked_octets reads text = short_octets (nat_le (length text) most_line) (line_in text) (read_octets reads text (line_in text) refl)
 
-octets-append : (events more : List Event) → AreInOctets events → AreInOctets more → AreInOctets (events ++ more)
-octets-append [] more h k = k
-octets-append (e ∷ events) more h k = (h.0, octets-append events more h.1 k)
-
 -- ---- where no line asks for it, no event connects
 
 other_asked : (end : Role) (asked : PlainCommand) (refusal : Option WorldError) → IsNoConnectLine (Some (command end asked)) → IsNoConnect (Commands (command_asked asked)) refusal
-other_asked end (call called calling user params) refusal h = tt
-other_asked end (accept channel params) refusal h = tt
-other_asked end (clear channel given) refusal h = tt
-other_asked end (with_given facilities user d asked) refusal h = tt
-other_asked end (send channel q d user) refusal h = tt
-other_asked end (interrupt channel user) refusal h = tt
-other_asked end (reset channel given) refusal h = tt
-other_asked end (ready channel) refusal h = tt
-other_asked end (not_ready channel) refusal h = tt
-other_asked end (restart given) refusal h = tt
-other_asked end pull refusal h = tt
 other_asked end connect refusal h = absurd h
-other_asked end disconnect refusal h = tt
-other_asked end probe refusal h = tt
 other_asked end relink refusal h = absurd h
+other_asked end asked refusal h = tt
 
 -- ---- turns are runs
 
@@ -245,14 +203,6 @@ moves P cfg shown w e (Happened next) is g octets other = record {
 }
 moves P cfg shown w e (Declined error) is g octets other = stays P cfg shown w (refuses error ∷ []) refl refl
 
-run-append : (cfg : Cfg) (events more : List Event) (w : World) → run cfg (events ++ more) w ≡ run cfg more (run cfg events w)
-run-append cfg [] more w = refl
-run-append cfg (e ∷ events) more w = run-append cfg events more (after w (happens cfg w e))
-
-accepted-append : (cfg : Cfg) (events more : List Event) (w : World) → AreAccepted cfg events w → AreAccepted cfg more (run cfg events w) → AreAccepted cfg (events ++ more) w
-accepted-append cfg [] more w h k = k
-accepted-append cfg (e ∷ events) more w h k = (h.0, accepted-append cfg events more (after w (happens cfg w e)) h.1 k)
-
 none-append : (cfg : Cfg) (events more : List Event) (w : World) → NoneConnects cfg events w → NoneConnects cfg more (run cfg events w) → NoneConnects cfg (events ++ more) w
 none-append cfg [] more w h k = k
 none-append cfg (e ∷ events) more w h k = (h.0, none-append cfg events more (after w (happens cfg w e)) h.1 k)
@@ -261,9 +211,9 @@ both_run : (P : Type 0) (cfg : Cfg) (shown : Shown) (w : World) (t : Turn) (rest
 both_run P cfg shown w t rest first second =
     let then = second t.next in record {
       events = first.events ++ then.events;
-      accepted = accepted-append cfg first.events then.events w first.accepted (subst (AreAccepted cfg then.events) first.next then.accepted);
-      octets = octets-append first.events then.events first.octets then.octets;
-      next = then.next ∙ ap (run cfg then.events) first.next ∙ sym (run-append cfg first.events then.events w);
+      accepted = accepted_append cfg first.events then.events w first.accepted (subst (AreAccepted cfg then.events) first.next then.accepted);
+      octets = octets_append first.events then.events first.octets then.octets;
+      next = then.next ∙ ap (run cfg then.events) first.next ∙ sym (run_append cfg first.events then.events w);
       entries = then.entries ∙ ap (λ xs. xs ++ entries_in (rest t.next).sayings) first.entries ∙ append_assoc w.transcript (entries_in t.sayings) (entries_in (rest t.next).sayings)
           ∙ ap (λ xs. w.transcript ++ xs) (sym (entries-append t.sayings (rest t.next).sayings));
       frames = λ asked. then.frames asked ∙ ap (λ xs. xs ++ frames_in (rest t.next).sayings) (first.frames asked) ∙ append_assoc w.tap (frames_in t.sayings) (frames_in (rest t.next).sayings)
@@ -335,12 +285,9 @@ healed_runs P cfg shown w = both_run P cfg shown w _ (emptied cfg shown most_tim
 line_runs : (P : Type 0) (cfg : Cfg) (shown : Shown) (line : PlainLine) (w : World) → IsInOctets line → (P → IsNoConnectLine (Some line)) → Runs P cfg shown w (line_turn cfg shown line w)
 unfolding line_turn
 line_runs P cfg shown (command end asked) w h other = event_runs P cfg shown _ w (handed asked h) (λ p refusal. other_asked end asked refusal (other p))
-line_runs P cfg shown (t1 end) w h other = event_runs P cfg shown _ w tt (λ p refusal. tt)
-line_runs P cfg shown (deliver from) w h other = event_runs P cfg shown _ w tt (λ p refusal. tt)
-line_runs P cfg shown (lose from place) w h other = event_runs P cfg shown _ w tt (λ p refusal. tt)
-line_runs P cfg shown (damage from place octets) w h other = event_runs P cfg shown _ w tt (λ p refusal. tt)
 line_runs P cfg shown (drain count) w h other = drain_runs P cfg shown count w
 line_runs P cfg shown heal w h other = healed_runs P cfg shown w
+line_runs P cfg shown line w h other = event_runs P cfg shown _ w tt (λ p refusal. tt)
 
 asked_runs : (P : Type 0) (cfg : Cfg) (shown : Shown) (w : World) (asked : Option PlainLine) → AskedInOctets asked → (P → IsNoConnectLine asked) → Runs P cfg shown w (asked_turn cfg shown w asked)
 asked_runs P cfg shown w None h other = stays P cfg shown w (reads_nothing ∷ []) refl refl
@@ -353,26 +300,15 @@ taken_some false line h = tt
 taken_octets : (wide : Bool) (read : Option PlainLine) → AskedInOctets read → AskedInOctets (taken wide read)
 taken_octets wide None h = tt
 taken_octets wide (Some (command end asked)) h = taken_some (is_taken wide asked) (command end asked) h
-taken_octets wide (Some (t1 end)) h = h
-taken_octets wide (Some (deliver from)) h = h
-taken_octets wide (Some (lose from place)) h = h
-taken_octets wide (Some (damage from place octets)) h = h
-taken_octets wide (Some (drain count)) h = h
-taken_octets wide (Some heal) h = h
+taken_octets wide (Some other) h = h
 
 taken_no_connect : (b : Bool) (line : PlainLine) → IsNoConnectLine (Some line) → IsNoConnectLine (cond b (Some line) None)
 taken_no_connect true line h = h
 taken_no_connect false line h = tt
 
 taken_none : (wide : Bool) (read : Option PlainLine) → IsNoConnectLine read → IsNoConnectLine (taken wide read)
-taken_none wide None h = tt
 taken_none wide (Some (command end asked)) h = taken_no_connect (is_taken wide asked) (command end asked) h
-taken_none wide (Some (t1 end)) h = tt
-taken_none wide (Some (deliver from)) h = tt
-taken_none wide (Some (lose from place)) h = tt
-taken_none wide (Some (damage from place octets)) h = tt
-taken_none wide (Some (drain count)) h = tt
-taken_none wide (Some heal) h = tt
+taken_none wide read h = tt
 
 turn_runs : (P : Type 0) → ReadsOctets → (cfg : Cfg) (shown : Shown) (line : List ℕ) (w : World) → (P → IsNoConnectLine (asked_in line)) → Runs P cfg shown w (turn cfg shown line w)
 unfolding turn
@@ -463,11 +399,6 @@ begins_there cfg false = inr (inr refl)
 pub of_script : (Holds : Cfg → World → Type 0) → UntilSecondUp Holds → ScriptsAreRuns → OfScripts Holds
 of_script Holds until runs = λ cfg range down shown script once. let r = runs cfg down shown script in
     subst (Holds cfg) (sym r.next) (until cfg range (begins cfg down) (begins_there cfg down) r.events r.octets (subst (IsUpAtMostOnce cfg) r.next once))
-
-pub of_script_set_up : (Holds : Cfg → List Event → World → Type 0) → Always Holds → ScriptsAreRuns
-    → OfScriptsSetUp (λ (cfg : Cfg) (w : World). (events : List Event) × (run cfg events (established cfg) ≡ w) × Holds cfg events w)
-of_script_set_up Holds always runs = λ cfg range shown script once. let r = runs cfg false shown script in
-    (r.events, sym r.next, subst (Holds cfg r.events) (sym r.next) (always cfg range r.events r.octets (subst (IsUpOnce cfg) r.next once)))
 
 pub of_all_scripts : (Holds : Cfg → World → Type 0) → Throughout Holds → ScriptsAreRuns → OfAllScripts Holds
 of_all_scripts Holds throughout runs = λ cfg range down shown script. let r = runs cfg down shown script in

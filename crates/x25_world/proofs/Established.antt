@@ -4,15 +4,28 @@ use Rattle.x25_bits.specs.{declared.role.Role.{Role}, declared.role.Role.TheVari
 use Rattle.x25_frame.specs.{Frame.{PlainFrame, sabm, ua}, Spelling.{spelling_of}, Reading.{frame_of}}
 use Rattle.x25_link.specs.{declared.phase.Phase.TheVariants.{Down, Waiting}, declared.phase.Reason.{Reason}, laws.SetUp.{Is}}
 use Rattle.x25_link.specs.{Station.{LinkStation, with_nothing, fresh, is_up, pumped}, Hearing.{Step as LinkStep}, Link.{take_step, put_step}}
-use Rattle.x25_layer.specs.Layer.{at_rest, goes_up}
+use Rattle.x25_layer.specs.Layer.{at_rest, goes_up, restart_cause}
 use Rattle.x25_station.specs.{declared.config.Cfg.{Cfg}, Config.{settings_from, longest_packet}, Entry.{StationEntry, link_up, entries_noted}}
 use Rattle.x25_station.specs.{Station.{Station, new_station}, Step.{Step, follows, receives}, laws.KeepLaw.{IsKept}}
 use Rattle.x25_world.specs.World.{World, swapped, entered, tapped, after_step, delivered, after, Event, Receives, happens, refusal_of, AreAccepted, connected, established}
-use Rattle.x25_world.specs.{laws.Claims.{link_of}, laws.WindowGoes.{restart_of, two_links}, laws.LawsBelow.{Laws}}
+use Rattle.x25_packet.specs.Packet.{restart}
+use Rattle.x25_world.specs.{laws.Claims.{link_of}, laws.LawsBelow.{Laws}}
 use Rattle.x25_world.proofs.sessions.SessionTrace.{layer_of}
 use Rattle.x25_peer.proofs.sessions.LinkSteps.{handed_up}
+use Rattle.x25_packet.specs.Spelling as packet
+use Rattle.x25_line.specs.laws.Stations as line
 
 -- ---- an end that comes up
+
+-- as the link comes up, each end is handed down RESTART, which is its I frame 0
+abbrev pub restart_of : Role → List ℕ
+restart_of end = packet.spelling_of (restart (restart_cause end) 0)
+
+abbrev pub both_put : List line.Event
+both_put = line.Far (line.Put (restart_of Dce)) ∷ line.Near (line.Put (restart_of Dte)) ∷ []
+
+abbrev pub two_links : Cfg → line.Stations
+two_links cfg = line.run (link_of cfg Dte) (link_of cfg Dce) both_put line.start
 
 -- the link's step as RESTART is put
 abbrev restarted : Cfg → Role → LinkStep

@@ -71,12 +71,12 @@ entries_append end (x ∷ xs) ys =
     ap (λ (es : List StationEntry). entry_of_end end x.at x.entry ++ es) (entries_append end xs ys)
     ∙ sym (append_assoc (entry_of_end end x.at x.entry) (entries_at end xs) (entries_at end ys))
 
-own_entries : (end : Role) (entries : List StationEntry) → entries_at end (entered end entries) ≡ entries
+pub own_entries : (end : Role) (entries : List StationEntry) → entries_at end (entered end entries) ≡ entries
 own_entries end [] = refl
 own_entries Dte (e ∷ entries) = ap (λ (es : List StationEntry). e ∷ es) (own_entries Dte entries)
 own_entries Dce (e ∷ entries) = ap (λ (es : List StationEntry). e ∷ es) (own_entries Dce entries)
 
-no_entries : (end : Role) (entries : List StationEntry) → entries_at (other end) (entered end entries) ≡ []
+pub no_entries : (end : Role) (entries : List StationEntry) → entries_at (other end) (entered end entries) ≡ []
 no_entries end [] = refl
 no_entries Dte (e ∷ entries) = no_entries Dte entries
 no_entries Dce (e ∷ entries) = no_entries Dce entries

@@ -12,13 +12,13 @@ use Rattle.x25_layer.specs.{code.FitsLayer.{waits_up_to}, laws.Law.{HasAllOf}}
 use Rattle.x25_handshakes.specs.laws.Names.{Name}
 use Rattle.x25_station.specs.{declared.config.Cfg.{Cfg}, Config.{Settings, settings_from, link_settings, layer_settings}, Station.{all_put, view_of}}
 use Rattle.x25_station.specs.{Step.{follows, layer_at, unless, fires}, laws.KeepLaw.{ConnectKeeps}, Station.Told.{stretch}}
-use Rattle.x25_world.specs.World.{World, swapped, WorldOutcome, Happened, Declined, swapped_back, Receives, acts, delivered, fired, of_station, is_on_line, after, after_step, happens, refusal_of, run, AreAccepted}
+use Rattle.x25_world.specs.World.{World, swapped, Declined, Receives, acts, delivered, fired, of_station, is_on_line, after, after_step, happens, refusal_of, run, AreAccepted}
 use Rattle.x25_world.specs.{laws.Claims.{link_of, station_at}, laws.LawsBelow.{SessionLaws}, laws.SessionClaims.{Throughout, AllArrive}}
-use Rattle.x25_world.specs.{laws.WindowGoes.{at_end}, laws.Sessions.{last_session, handed_in}}
+use Rattle.x25_world.specs.{laws.SessionWindow.{at_end}, laws.Sessions.{last_session, handed_in}}
 use Rattle.x25_world.specs.Healing.{IsDrained, receipt, all_received, firing, AreLinksOf, StopsAtRest, RestShows, PutsNothing, PutsNothingAt, NonePut, Heals, MayHeal, HealsWhereNonePut, DrainsWhereNonePut}
 use Rattle.x25_world.proofs.{Known.{true_false, IsConfigured, is_configured}, WorldLemmas.{refusal-swapped}}
 use Rattle.x25_world.proofs.{sessions.SessionReaches.{joined_at, both_down, known_sessions, links_append, timely_append}, sessions.SessionJoined.{SessionsJoined}}
-use Rattle.x25_world.proofs.{Growing.{octets_put}, sessions.SessionFollows.{silent}, sessions.SessionRuns.{throughout_joined}}
+use Rattle.x25_world.proofs.{Growing.{octets_put}, sessions.SessionFollows.{silent}, sessions.SessionRuns.{back_after, throughout_joined}}
 use Rattle.x25_peer.proofs.Granted.{timer_silent}
 use Rattle.x25_link.specs.{declared.error.LinkError.{LinkError}, Station.{Settings as LinkSettings, LinkStation, is_up, awaits_ua}}
 use Rattle.x25_link.specs.{Hearing.{Step as LinkStep, other}, Link.{take_step, timer_step, timer_refusal, timer_runs, abandon_step}, laws.RestLaw.{IsAtRest}}
@@ -38,10 +38,6 @@ pub record Alike (w : World) (v : Sessions) : Type 0 where
 
 pub turned : (w : World) (v : Sessions) → Alike w v → Alike (swapped w) (links.swapped v)
 turned w v h = record { near = h.far; far = h.near; out = h.back; back = h.out }
-
-pub back_after : (w : World) (o : WorldOutcome) → after w (swapped_back o) ≡ swapped (after (swapped w) o)
-back_after w (Happened next) = refl
-back_after w (Declined e) = refl
 
 -- ---- timer T1 hands nothing up and notes no LinkUp, so the layer puts nothing
 

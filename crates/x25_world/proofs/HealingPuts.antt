@@ -12,13 +12,13 @@ use Rattle.x25_station.specs.{declared.config.Cfg.{Cfg}, Config.{Settings, setti
 use Rattle.x25_station.specs.{laws.GivenLaw.{GivesOctets}, laws.KeepLaw.{ConnectKeeps}, laws.ReadLaw.{RequestsOctets}}
 use Rattle.x25_world.specs.World.{World, swapped, Act, Commands, Receives, Fires, Event, acts, delivered, of_station, happens, after, after_step, run}
 use Rattle.x25_world.specs.{laws.Claims.{ActsInOctets, AreInOctets, link_of}, laws.LawsBelow.{SessionLaws}, laws.SessionClaims.{Throughout}}
-use Rattle.x25_world.specs.laws.WindowGoes.{all_at}
+use Rattle.x25_world.specs.laws.SessionWindow.{all_at}
 use Rattle.x25_world.specs.Healing.{firing, IsReceiptOrRequest, AreReceiptsAndRequests, ComeFreely, ActsFreely, FreeAt, FreeThroughout, HealsWithPuts}
 use Rattle.x25_world.proofs.{Known.{IsConfigured, is_configured, true_false}, sessions.SessionReaches.{both_down, twice, known_sessions, links_append}}
 use Rattle.x25_world.proofs.{sessions.SessionJoined.{SessionsJoined, sessions_swapped}, Growing.{octets_put, front_entry}}
-use Rattle.x25_world.proofs.sessions.SessionRuns.{event_joined, throughout_joined, down_at_none, not_set_up}
+use Rattle.x25_world.proofs.sessions.SessionRuns.{back_after, event_joined, throughout_joined, down_at_none, not_set_up}
 use Rattle.x25_world.proofs.{sessions.acts.SessionRequests.{request_puts, given_puts, said_octets}, sessions.acts.SessionReceives.{taken_puts}}
-use Rattle.x25_world.proofs.HealingLemmas.{Alike, turned, back_after, c_of, d_of, both_alike, none_of, joined_alike, links_are, fired_then, gone_are}
+use Rattle.x25_world.proofs.HealingLemmas.{Alike, turned, c_of, d_of, both_alike, none_of, joined_alike, links_are, fired_then, gone_are}
 use Rattle.x25_peer.proofs.sessions.LinkSteps.{SessionGoes, StepGoes, stays_goes, deliver_goes, puts_of, all_act, puts_go, HasPut}
 use Rattle.x25_link.specs.{Station.{Settings as LinkSettings, LinkStation, Side, is_up, is_busy, awaits_ua}, Link.{alone, take_step, abandon_step}}
 use Rattle.x25_line.specs.laws.Stations as line
@@ -194,7 +194,7 @@ all_asked laws cfg fine (e ∷ events) w h v like are octets free =
     let next = after w (happens cfg w e) in
     let a = event_asked laws cfg fine e.at e.act w h v like are.0 octets.0 free.0 in
     let first = all_at e.at (asked_of a.comes a.handed) in
-    let joined = (event_joined laws cfg fine e.at e.act w (λ before x is. absurd (down_at_none before x is)) octets.0 (λ off. not_set_up false off) h).joined in
+    let joined = (event_joined laws cfg fine e.at e.act w (λ before x is. absurd (down_at_none before x is)) octets.0 (λ off. not_set_up off) h).joined in
     let r = all_asked laws cfg fine events next joined (links.run c d first v) a.alike are.1 octets.1 free.1 in
     record {
       asked = first ++ r.asked;
@@ -257,7 +257,7 @@ module _ (laws : SessionLaws) (keeps : ConnectKeeps) where
 
       -- both fire
       fire : (at : Role) (x : World) → SessionsJoined both_down cfg Dte x → SessionsJoined both_down cfg Dte (after x (happens cfg x (firing at)))
-      fire at x joined = (event_joined laws cfg configured at Fires x (λ before e same. absurd (down_at_none before e same)) tt (λ off. not_set_up false off) joined).joined
+      fire at x joined = (event_joined laws cfg configured at Fires x (λ before e same. absurd (down_at_none before e same)) tt (λ off. not_set_up off) joined).joined
 
       both : World
       both = run cfg (firing Dte ∷ firing Dce ∷ []) w

@@ -23,30 +23,27 @@ begun_more p (link_up ∷ es) = let rest = begun_more (after_entry p link_up) es
 begun_more p (link_down reason ∷ es) = begun_more (after_entry p (link_down reason)) es
 begun_more p (other ∷ es) = begun_more p es
 
-pub ups_are_begun : {cfg : Cfg} {end : Role} {s : Station} {k : SessionEnd} {trace : List Done} {es : List StationEntry} → IsEnd cfg end s k trace es → ups_in es ≡ k.begun
+ups_are_begun : {cfg : Cfg} {end : Role} {s : Station} {k : SessionEnd} {trace : List Done} {es : List StationEntry} → IsEnd cfg end s k trace es → ups_in es ≡ k.begun
 ups_are_begun {es = es} h =
     let all = begun_more none_begun es in
     let told = ap (λ (p : Progress). p.begun) h.progress in
     omega (arith, all, told)
 
--- an end that began its first session alone didn't come up anew, and the other way round
-
-pub not_anew : (came_up : Bool) (begun : ℕ) → IsAnew came_up begun → begun ≡ 1 → came_up ≡ false
-not_anew came_up begun h first = elim h [ inl once ↦ once.0 | inr again ↦ (let more = again.1 in absurd (omega (arith, more, first))) ]
+-- an end that didn't come up anew began its first session alone
 
 first_alone : (came_up : Bool) (begun : ℕ) → IsAnew came_up begun → came_up ≡ false → begun ≡ 1
 first_alone came_up begun h not_up = elim h [ inl once ↦ once.1 | inr again ↦ true_false (sym again.0 ∙ not_up) ]
 
 -- ---- where none asks for set-up
 
-pub is_up_once : OneLinkUnlessConnected → (cfg : Cfg) → IsConfigured cfg → (w : World) → SessionsJoined (set_up false) cfg Dte w → IsUpOnce cfg w
+pub is_up_once : OneLinkUnlessConnected → (cfg : Cfg) → IsConfigured cfg → (w : World) → SessionsJoined set_up cfg Dte w → IsUpOnce cfg w
 is_up_once law cfg fine w h = by
   where
-    one : OneLink false cfg Dte h.links
-    one = h.reach.one_link false refl
+    one : OneLink cfg Dte h.links
+    one = h.reach.one_link refl
 
     still : IsSetUpOnce one.stations
-    still = subst IsSetUpOnce one.reach.run (law (link_of cfg Dte) (link_of cfg Dce) (joined_at cfg Dte fine) one.reach.events (one.reach.unasked refl)).once
+    still = subst IsSetUpOnce one.reach.run (law (link_of cfg Dte) (link_of cfg Dce) (joined_at cfg Dte fine) one.reach.events one.reach.unasked).once
 
     by : (end : Role) → ups_in (entries_at end w.transcript) ≡ 1
     by Dte = ups_are_begun h.near ∙ first_alone one.stations.near.came_up h.links.near.begun one.alike.near.anew still.near

@@ -10,11 +10,11 @@ use Rattle.x25_station.specs.{declared.config.Cfg.{Cfg}, declared.error.StationE
 use Rattle.x25_station.specs.{Config.{Settings, settings_from, config_refusal}, Step.{Step, Outcome, Did, Refused, commands, fires, receives}}
 use Rattle.x25_world.specs.declared.error.WorldError.{WorldError}
 use Rattle.x25_world.specs.World.{World, swapped, Event, Act, Commands, Receives, Fires, Loses, Damages, WorldOutcome, Happened, Declined, after_step, of_station, delivered, on_line, is_on_line, acts, acts_at, tapped, entered, swapped_back, AtEnd, happens, after, refusal_of, run, AreAccepted, connected, established, start}
-use Rattle.x25_world.specs.laws.Claims.{ActsInOctets, AreInOctets, IsUpOnce, IsUpAtMostOnce, IsBeginning, UpOnceUnlessConnected, Always, UntilSecondUp, IsLawful, IsNamed, ArrivesAll, HasNoProcedureError}
+use Rattle.x25_world.specs.laws.Claims.{ActsInOctets, AreInOctets, IsUpOnce, IsUpAtMostOnce, IsBeginning, NoneConnects, UpOnceUnlessConnected, UntilSecondUp, IsLawful, IsNamed, ArrivesAll, HasNoProcedureError}
 use Rattle.x25_world.specs.laws.SessionClaims.{Throughout, ThroughoutAlong, MeetInStep, AreLawfulWhereMet, AreNamedInSessions, AllArrive, UnmetAreToldNothing, OpenStretchesMeet, SessionsKeepOrder}
-use Rattle.x25_world.specs.{laws.BesideClaims.{BesideIsGiven}, laws.SessionWindow.{SessionsStayInWindow}, laws.WindowGoes.{StaysInWindow}}
+use Rattle.x25_world.specs.{laws.BesideClaims.{BesideIsGiven}, laws.SessionWindow.{SessionsStayInWindow}}
 use Rattle.x25_world.specs.{code.ShownLine.{ShownLine}, code.ShownWorld.{ShownWorld, shown_with, line_from}}
-use Rattle.x25_world.specs.code.FitsWorld.{FitsWorld, FitsRun, Claims, ClaimsOfNew, ClaimsOfSetUp, and_then, HasHappened, HasActed, HasActedAt, RefusesConfig}
+use Rattle.x25_world.specs.code.FitsWorld.{FitsWorld, FitsRun, RunHolds, Claims, ClaimsOfNew, and_then, HasHappened, HasActed, HasActedAt, RefusesConfig}
 use Rattle.x25_world.proofs.Established.{connected_tells}
 use Rattle.x25_station.specs.declared.station.Station as code
 use Rattle.x25_world.specs.declared.error.WorldError.TheVariants as error
@@ -241,40 +241,28 @@ all_of_sessions step lawful named arrives unmet stand quiet window cfg fine from
   window = (from, begins, events, refl, window cfg fine from begins events octets);
 }
 
--- by the laws on two stations the claims hold of each call that goes on with the run
-module _ (lawful : UntilSecondUp IsLawful) (named : UntilSecondUp IsNamed) (arrives : UntilSecondUp ArrivesAll) (quiet : UntilSecondUp HasNoProcedureError) (window : Always StaysInWindow) (up_once : UpOnceUnlessConnected) (sessions : Throughout SessionsKeepOrder) (links : ThroughoutAlong SessionsStayInWindow)
+-- by the laws on two stations the claims hold of each run
+module _ (lawful : UntilSecondUp IsLawful) (named : UntilSecondUp IsNamed) (arrives : UntilSecondUp ArrivesAll) (up_once : UpOnceUnlessConnected) (sessions : Throughout SessionsKeepOrder) (links : ThroughoutAlong SessionsStayInWindow)
     (beside : ThroughoutAlong BesideIsGiven) where
+  run_holds : (cfg : Cfg) (from : World) (v : ShownWorld) (events : List Event) → IsBeginning cfg from → FitsRun cfg from v events → RunHolds cfg from v events
+  run_holds cfg from v events begins h = record {
+    fits = h;
+    lawful = lawful cfg h.settings from begins events h.octets;
+    named = named cfg h.settings from begins events h.octets;
+    arrives = arrives cfg h.settings from begins events h.octets;
+    up_once = λ is none. rw is (up_once cfg h.settings events h.octets (subst (NoneConnects cfg events) is none));
+    sessions = sessions cfg h.settings from begins events h.octets;
+    links = links cfg h.settings from begins events h.octets;
+    beside = beside cfg h.settings from begins events h.octets;
+  }
+
   pub claims_hold : (old new : ShownWorld) (more : List Event → List Event)
       → ((cfg : Cfg) (from : World) (past : List Event) → FitsRun cfg from old past → FitsRun cfg from new (more past)) → Claims old new more
-  claims_hold old new more runs = record {
-    run = runs;
-    lawful = λ cfg from past begins h once. let r = runs cfg from past h in record { fits = r; holds = lawful cfg r.settings from begins (more past) r.octets once };
-    named = λ cfg from past begins h once. let r = runs cfg from past h in record { fits = r; holds = named cfg r.settings from begins (more past) r.octets once };
-    arrives = λ cfg from past begins h once. let r = runs cfg from past h in record { fits = r; holds = arrives cfg r.settings from begins (more past) r.octets once };
-    quiet = λ cfg from past begins h once. let r = runs cfg from past h in record { fits = r; holds = quiet cfg r.settings from begins (more past) r.octets once };
-    window = λ cfg past h once. let r = runs cfg (established cfg) past h in record { fits = r; holds = window cfg r.settings (more past) r.octets once };
-    up_once = λ cfg past h none. let r = runs cfg (established cfg) past h in record { fits = r; holds = up_once cfg r.settings (more past) r.octets none };
-    sessions = λ cfg from past begins h. let r = runs cfg from past h in record { fits = r; holds = sessions cfg r.settings from begins (more past) r.octets };
-    links = λ cfg from past begins h. let r = runs cfg from past h in record { fits = r; holds = links cfg r.settings from begins (more past) r.octets };
-    beside = λ cfg from past begins h. let r = runs cfg from past h in record { fits = r; holds = beside cfg r.settings from begins (more past) r.octets };
-  }
+  claims_hold old new more runs = record { run = runs; holds = λ cfg from past begins h. run_holds cfg from new (more past) begins (runs cfg from past h) }
 
   -- they hold of a world that was just made
   pub claims_of_new : (cfg : Cfg) (from : World) (v : ShownWorld) → IsBeginning cfg from → IsUpAtMostOnce cfg from → FitsRun cfg from v [] → ClaimsOfNew cfg from v
-  claims_of_new cfg from v begins once h = record {
-    run = h;
-    lawful = lawful cfg h.settings from begins [] tt once;
-    named = named cfg h.settings from begins [] tt once;
-    arrives = arrives cfg h.settings from begins [] tt once;
-    quiet = quiet cfg h.settings from begins [] tt once;
-    sessions = sessions cfg h.settings from begins [] tt;
-    links = links cfg h.settings from begins [] tt;
-    beside = beside cfg h.settings from begins [] tt;
-  }
-
-  -- they hold of one whose link was just set up
-  pub claims_of_set_up : (cfg : Cfg) → config_refusal cfg ≡ None → ClaimsOfSetUp cfg
-  claims_of_set_up cfg fine = let once = up_once cfg fine [] tt tt in record { window = window cfg fine [] tt once; up_once = once }
+  claims_of_new cfg from v begins once h = record { once = once; holds = run_holds cfg from v [] begins h }
 
   pub established_up : (cfg : Cfg) → config_refusal cfg ≡ None → IsUpAtMostOnce cfg (established cfg)
   established_up cfg fine = once_at_most cfg (established cfg) (up_once cfg fine [] tt tt)

@@ -9,4 +9,3 @@ pub mod WaitClaims
 pub mod SessionWindow
 pub mod Sessions
 pub mod TapOctets
-pub mod WindowGoes

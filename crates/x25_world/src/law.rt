@@ -14,10 +14,9 @@ ghost use Rattle.x25_world.specs.laws.WaitClaims.{PullsLeaveNone, UnpulledWaitFo
 ghost use Rattle.x25_world.specs.laws.WaitClaims.{MessagesWaitForUsers};
 ghost use Rattle.x25_world.specs.laws.LawsBelow.{SessionLaws};
 ghost use Rattle.x25_world.specs.laws.OctetLaw.{FewOctets};
-ghost use Rattle.x25_world.specs.laws.Claims.{ActsInOctets, CommandsOctets, Always, UntilSecondUp, IsSetUp};
+ghost use Rattle.x25_world.specs.laws.Claims.{ActsInOctets, CommandsOctets, UntilSecondUp, IsSetUp};
 ghost use Rattle.x25_world.specs.laws.Claims.{IsLawful, IsNamed};
 ghost use Rattle.x25_world.specs.laws.Claims.{ArrivesAll, HasNoProcedureError, UpOnceUnlessConnected};
-ghost use Rattle.x25_world.specs.laws.WindowGoes.{StaysInWindow};
 ghost use Rattle.x25_world.specs.laws.SessionWindow.{SessionsStayInWindow};
 ghost use Rattle.x25_world.specs.laws.TapOctets.{IsTapOfOctets};
 ghost use Rattle.x25_world.specs.laws.BesideClaims.{BesideIsGiven};
@@ -57,9 +56,9 @@ pub(crate) fn laws_below()
 /// Two stations joined by a line of octets that keeps order and may lose or visibly damage any frame, from both links
 /// down and nothing on the line, from the DTE's SABM on the line, or from a link just set up: what holds after each
 /// list of commands, deliveries, losses, damage and firings of timer T1, wherever an event is refused, up to the moment
-/// at which an end tells of LinkUp a second time. `window` is said from a link just set up alone. By `up_once` no end
-/// goes up again from there where no `connect` of the list is accepted, so that a list without `connect` has no other
-/// premise than those below.
+/// at which an end tells of LinkUp a second time. By `up_once` no end goes up again from a link just set
+/// up where no `connect` of the list is accepted, so that a list without `connect` has no other premise than those
+/// below.
 ///
 /// - `set_up`: SABM is there to be delivered, and then UA.
 /// - `lawful`: on each channel and under each name of a stretch, the messages, interrupts and calls that an end hands
@@ -70,12 +69,6 @@ pub(crate) fn laws_below()
 /// - `arrives`: what is handed up is all of the messages and interrupts of a stretch, where the end that gives is idle
 /// and both ends have that stretch
 ///   open.
-/// - `quiet`: no FRMR, no CLEAR, RESET or RESTART with a cause of an error was ever put on the line, and no fault was
-/// reported to a user.
-/// - `window`: from a link just set up there are two links and one window machine behind them, which go on from event
-/// to event as the end of the event
-/// asks, and are behind each world of the run: an I frame and an N(R) on the line keep the unbounded numbers that they
-/// were given as they were put, and these are in the window.
 /// - `up_once`: from a link just set up, where no `connect` is accepted, each end tells of LinkUp once, in set-up.
 ///
 /// Premises: k is 1 to 7, N2 1 to 255, channels 1 to 4,095, and the users hand down octets.
@@ -84,8 +77,6 @@ pub fn two_stations_keep_order()
     ensures lawful { UntilSecondUp IsLawful }
     ensures named { UntilSecondUp IsNamed }
     ensures arrives { UntilSecondUp ArrivesAll }
-    ensures quiet { UntilSecondUp HasNoProcedureError }
-    ensures window { Always StaysInWindow }
     ensures up_once { UpOnceUnlessConnected }
 {
     laws_below();

@@ -13,8 +13,9 @@ ghost use Rattle.x25_world.specs.BitDamage.{bit_damage};
 ghost use Rattle.x25_world.specs.code.PlainTold.{plain_entered};
 ghost use Rattle.x25_world.specs.code.ShownWorld.{line_from, line_of, station_of, TakesFewPlaces};
 ghost use Rattle.x25_world.specs.code.FitsHealing.{Tells, telling};
-ghost use Rattle.x25_world.specs.code.FitsWorld.{FitsWorld, Claims, ClaimsOfNew, ClaimsOfSetUp, and_then, IsRefusal};
+ghost use Rattle.x25_world.specs.code.FitsWorld.{FitsWorld, Claims, ClaimsOfNew, and_then, IsRefusal};
 ghost use Rattle.x25_world.specs.code.FitsWorld.{IsStepOfAct, HasActedAt, DamagesBits, RefusesConfig};
+ghost use Rattle.x25_world.specs.laws.Claims.{IsUpOnce};
 ghost use Rattle.x25_world.specs.World as definition;
 ghost use Rattle.x25_world.specs.World.{AtEnd, entered, tapped, event_of, happens, after, refusal_of, start};
 ghost use Rattle.x25_world.specs.World.{connected, established, Commands};
@@ -140,7 +141,7 @@ impl World {
         ensures fits { IfOk result (λ v. FitsWorld cfg v (established cfg)) }
         ensures refused { RefusesConfig result (config_refusal cfg) }
         ensures claims { IfOk result (ClaimsOfNew cfg (established cfg)) }
-        ensures set_up { IfOk result (λ v. ClaimsOfSetUp cfg) }
+        ensures up_once { IfOk result (λ v. IsUpOnce cfg (established cfg)) }
     {
         two_stations_keep_order();
         stations_meet_in_sessions();

@@ -1,6 +1,7 @@
 -- The lines between two ends over sessions, and what is said of them.
 use Rattle.std.proofs.Common.{◌≡◌, ◌≤◌, ◌<◌, ◌+◌, ◌⊎◌, inl, inr, ℕ, zero, suc, List, [], ◌∷◌, ◌++◌, remove, refl, sym, subst, arith}
-use Rattle.x25_line.specs.{laws.Said.{sabm_of, ua_of, Said, Tells, Sabm, Else}, laws.Ends.{Letter, letter, spoilt, how_many, OfSabm, OfTells, AreOf}}
+use Rattle.x25_line.proofs.Lists.{each_append}
+use Rattle.x25_line.specs.{laws.Said.{sabm_of, ua_of, Said, Tells, Sabm, Else}, laws.Ends.{Letter, letter, spoilt, how_many, OfSabm, OfTells, AreOf}, laws.StationClaims.{Each}}
 
 -- one or the other
 abbrev pub choose : ℕ → Type 0 → Type 0 → Type 0
@@ -41,36 +42,33 @@ count_less k quiet es fs (deeper e xs ys h) = (let rest = count_less k quiet xs 
 
 -- each with an N(R) is of such a session
 abbrev pub AllTold : (ℕ → Type 0) → List Letter → Type 0
-AllTold P [] = Unit {0}
-AllTold P (e ∷ es) = OfTells e.said (P e.session) × AllTold P es
+AllTold P es = Each (λ (e : Letter). OfTells e.said (P e.session)) es
 
 abbrev pub AllTags : ℕ → List Letter → Type 0
-AllTags b [] = Unit {0}
-AllTags b (e ∷ es) = (e.session ≤ b) × AllTags b es
+AllTags b es = Each (λ (e : Letter). e.session ≤ b) es
+
+-- what holds of each, where it holds of one that is damaged
+less_each : (P : Letter → Type 0) → ((e : Letter) → P e → P (letter e.session Else)) → (es fs : List Letter) → Less es fs → Each P es → Each P fs
+less_each P hurts es fs (whole xs) h = h
+less_each P hurts es fs (gone e xs) h = h.1
+less_each P hurts es fs (hurt e xs) h = (hurts e h.0, h.1)
+less_each P hurts es fs (deeper e xs ys l) h = (h.0, less_each P hurts xs ys l h.1)
 
 pub tags_push : (b : ℕ) (es : List Letter) (e : Letter) → AllTags b es → e.session ≤ b → AllTags b (es ++ e ∷ [])
-tags_push b [] e h k = (k, tt)
-tags_push b (x ∷ es) e h k = (h.0, tags_push b es e h.1 k)
+tags_push b es e h k = each_append (λ (x : Letter). x.session ≤ b) es (e ∷ []) h (k, tt)
 
 pub tags_more : (b c : ℕ) (es : List Letter) → b ≤ c → AllTags b es → AllTags c es
 tags_more b c [] le h = tt
 tags_more b c (x ∷ es) le h = (let here = h.0 in (omega (arith, le, here), tags_more b c es le h.1))
 
 pub tags_less : (b : ℕ) (es fs : List Letter) → Less es fs → AllTags b es → AllTags b fs
-tags_less b es fs (whole xs) h = h
-tags_less b es fs (gone e xs) h = h.1
-tags_less b es fs (hurt e xs) h = h
-tags_less b es fs (deeper e xs ys l) h = (h.0, tags_less b xs ys l h.1)
+tags_less b es fs l h = less_each (λ (e : Letter). e.session ≤ b) (λ e k. k) es fs l h
 
 pub told_push : (P : ℕ → Type 0) (es : List Letter) (e : Letter) → AllTold P es → OfTells e.said (P e.session) → AllTold P (es ++ e ∷ [])
-told_push P [] e h k = (k, tt)
-told_push P (x ∷ es) e h k = (h.0, told_push P es e h.1 k)
+told_push P es e h k = each_append (λ (x : Letter). OfTells x.said (P x.session)) es (e ∷ []) h (k, tt)
 
 pub told_less : (P : ℕ → Type 0) (es fs : List Letter) → Less es fs → AllTold P es → AllTold P fs
-told_less P es fs (whole xs) h = h
-told_less P es fs (gone e xs) h = h.1
-told_less P es fs (hurt e xs) h = (tt, h.1)
-told_less P es fs (deeper e xs ys l) h = (h.0, told_less P xs ys l h.1)
+told_less P es fs l h = less_each (λ (e : Letter). OfTells e.said (P e.session)) (λ e k. tt) es fs l h
 
 pub of_tells : (s : Said) (P Q : Type 0) → (P → Q) → OfTells s P → OfTells s Q
 of_tells (Tells c n) P Q f h = f h
@@ -99,14 +97,10 @@ are_none b [] h = tt
 are_none b (e ∷ es) h = (sabm_free e.said (e.session ≡ b) (omega (arith, h)), are_none b es (omega (arith, h)))
 
 pub are_push : (b : ℕ) (es : List Letter) (e : Letter) → AreOf b es → OfSabm e.said (e.session ≡ b) → AreOf b (es ++ e ∷ [])
-are_push b [] e h k = (k, tt)
-are_push b (x ∷ es) e h k = (h.0, are_push b es e h.1 k)
+are_push b es e h k = each_append (λ (x : Letter). OfSabm x.said (x.session ≡ b)) es (e ∷ []) h (k, tt)
 
 pub are_less : (b : ℕ) (es fs : List Letter) → Less es fs → AreOf b es → AreOf b fs
-are_less b es fs (whole xs) h = h
-are_less b es fs (gone e xs) h = h.1
-are_less b es fs (hurt e xs) h = (tt, h.1)
-are_less b es fs (deeper e xs ys l) h = (h.0, are_less b xs ys l h.1)
+are_less b es fs l h = less_each (λ (e : Letter). OfSabm e.said (e.session ≡ b)) (λ e k. tt) es fs l h
 
 -- ---- behind the first UA
 

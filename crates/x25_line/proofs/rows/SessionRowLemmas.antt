@@ -1,12 +1,12 @@
 -- The worked rows of sessions, by computing: what comes is what the frame is that was spelled.
-use Rattle.std.proofs.Common.{◌≡◌, ℕ, ◌+◌, List, [], ◌∷◌, inl, inr, true, false, Result, Ok, arith, refl, sym, ap, ◌∙◌, subst}
+use Rattle.std.proofs.Common.{◌≡◌, ℕ, List, [], ◌∷◌, true, false, Result, Ok, arith, refl, sym, ap, ◌∙◌, subst}
 use Rattle.x25_bits.specs.{declared.role.Role.{Role}, declared.role.Role.TheVariants.{Dte, Dce}}
 use Rattle.x25_frame.specs.{Frame.{PlainFrame, rr, sabm, ua}, Spelling.{spelling_of}, Reading.{frame_of}, laws.ReadingLaw.{ReadsSpelled}}
 use Rattle.x25_frame.specs.declared.error.FrameError.{FrameError}
 use Rattle.x25_link.specs.{Station.{Settings, is_up, pumped}, Hearing.{other}, Link.{alone, closed_by, hears}}
 use Rattle.x25_line.specs.{laws.Stations.{Put, Deliver, T1, Connect, Abandon, Lose, Near, Far}, rows.StationRows.{dte, dce}, laws.StationClaims.{number_in}}
-use Rattle.x25_line.specs.laws.Sessions.{Entry, Sessions, after_step, heard, delivered, swapped, acts, happens, run, from_nothing, from_set_up, AreTimely, sabm_in, how_many}
-use Rattle.x25_line.specs.rows.SessionRows.{IsFirst, SetsUpFromNothing, IsSecond, SetsUpAgain, untimely, IsOutOfStep, UntimelyIsOutOfStep}
+use Rattle.x25_line.specs.laws.Sessions.{Entry, Sessions, after_step, heard, delivered, swapped, acts, happens, run, from_nothing, from_set_up}
+use Rattle.x25_line.specs.rows.SessionRows.{IsFirst, SetsUpFromNothing, IsSecond, SetsUpAgain}
 use Rattle.x25_line.proofs.rows.StationRowLemmas.{packet_frame, crossing_frame, packet_reads, crossing_reads, sabm_reads, ua_reads}
 
 -- the two stations once octets that read as this have come to the near end
@@ -73,43 +73,4 @@ module _ (reads : ReadsSpelled) where
             ∙ ap (run dte dce (Near (Put (7 ∷ [])) ∷ Far Deliver ∷ [])) fourth
             ∙ fifth))
             (refl, refl, refl, refl, refl),
-      )
-
-  -- the first SABM is on the line as T1 runs out
-  untimely_by : AreTimely dte dce untimely from_nothing → ⊥
-  unfolding pumped
-  untimely_by timely = absurd (omega (arith, none, some))
-    where
-      none : how_many sabm_in Dte 128 (sent 0 Dte (sabm true) ∷ []) + 0 ≡ 0
-      none = timely.1.0 refl
-
-      some : how_many sabm_in Dte 128 (sent 0 Dte (sabm true) ∷ []) ≡ 1 + 0
-      some = ap (λ (z : Result PlainFrame FrameError). sabm_in z + 0) (sabm_reads reads Dte)
-
-  pub untimely_is_out_of_step : UntimelyIsOutOfStep
-  unfolding pumped
-  untimely_is_out_of_step =
-      let w = happens dte dce (Near T1) (happens dte dce (Near Connect) from_nothing) in
-      let v = swapped (taken_as dce (Ok (sabm true)) (sent 0 Dte (sabm true)) (sent 0 Dte (sabm true) ∷ []) (swapped w)) in
-      let u = taken_as dte (Ok (ua true)) (sent 1 Dce (ua true)) [] v in
-      let t = happens dte dce (Far (Put (5 ∷ []))) u in
-      let s = swapped (taken_as dce (Ok (sabm true)) (sent 0 Dte (sabm true)) [] (swapped t)) in
-      let r = taken_as dte (Ok packet_frame) (sent 1 Dce packet_frame) (sent 2 Dce (ua true) ∷ []) s in
-      let q = taken_as dte (Ok (ua true)) (sent 2 Dce (ua true)) [] r in
-      let p = happens dte dce (Far (Put (7 ∷ []))) q in
-      let first = far_takes (sabm true) 0 (sent 0 Dte (sabm true) ∷ []) w (sabm_reads reads Dte) refl in
-      let second = near_takes (ua true) 1 [] v (ua_reads reads Dce) refl in
-      let third = far_takes (sabm true) 0 [] t (sabm_reads reads Dte) refl in
-      let fourth = near_takes packet_frame 1 (sent 2 Dce (ua true) ∷ []) s (packet_reads reads Dce) refl in
-      let fifth = near_takes (ua true) 2 [] r (ua_reads reads Dce) refl in
-      let sixth = near_takes crossing_frame 2 [] p (crossing_reads reads Dce) refl in (
-        untimely_by,
-        subst IsOutOfStep
-            (sym (ap (run dte dce (Near Deliver ∷ Far (Put (5 ∷ [])) ∷ Far Deliver ∷ Near Deliver ∷ Near Deliver ∷ Far (Put (7 ∷ [])) ∷ Near Deliver ∷ [])) first
-            ∙ ap (run dte dce (Far (Put (5 ∷ [])) ∷ Far Deliver ∷ Near Deliver ∷ Near Deliver ∷ Far (Put (7 ∷ [])) ∷ Near Deliver ∷ [])) second
-            ∙ ap (run dte dce (Near Deliver ∷ Near Deliver ∷ Far (Put (7 ∷ [])) ∷ Near Deliver ∷ [])) third
-            ∙ ap (run dte dce (Near Deliver ∷ Far (Put (7 ∷ [])) ∷ Near Deliver ∷ [])) fourth
-            ∙ ap (run dte dce (Far (Put (7 ∷ [])) ∷ Near Deliver ∷ [])) fifth
-            ∙ sixth))
-            (record { near = refl; far = refl; met = refl; up = refl; out = λ k. elim k.0 [ inl same ↦ absurd (omega (arith, same.1)) | inr less ↦ absurd (omega (arith, less.0)) ] }),
       )

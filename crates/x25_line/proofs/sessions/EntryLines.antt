@@ -3,7 +3,7 @@ use Rattle.std.proofs.Common.{◌≡◌, ◌≤◌, ℕ, zero, suc, List, [], �
 use Rattle.x25_bits.specs.declared.role.Role.{Role}
 use Rattle.x25_frame.specs.{Frame.{PlainFrame}, Reading.{frame_of}, declared.error.FrameError.{FrameError}}
 use Rattle.x25_frame.specs.declared.error.FrameError.TheVariants.{Short, BadFcs}
-use Rattle.x25_line.specs.{laws.Stations.{is_visible}, laws.Sessions.{Entry, sabm_in, how_many, replaced}, laws.PeerSessions.{AllAskedIn}}
+use Rattle.x25_line.specs.{laws.Stations.{is_visible}, laws.Sessions.{Entry, sabm_in, how_many, replaced}, laws.PeerSessions.{IsAskedIn, AllAskedIn}, laws.StationClaims.{Each}}
 use Rattle.x25_line.proofs.StationLines.{visible_reads}
 
 -- one entry at most is lost or damaged
@@ -52,9 +52,14 @@ many_less kind short bad from n1 es fs (hurt e xs o visible) =
     omega (arith, none)
 many_less kind short bad from n1 es fs (deeper e xs ys l) = (let rest = many_less kind short bad from n1 xs ys l in omega (arith, rest))
 
+-- what holds of each, where it holds of what is damaged
+pub each_less : (P : Entry → Type 0) → ((e : Entry) (o : List ℕ) → is_visible o ≡ true → P (record { session = e.session; octets = o })) → (es fs : List Entry) → Less es fs → Each P es → Each P fs
+each_less P hurts es fs (whole xs) h = h
+each_less P hurts es fs (gone e xs) h = h.1
+each_less P hurts es fs (hurt e xs o visible) h = (hurts e o visible, h.1)
+each_less P hurts es fs (deeper e xs ys l) h = (h.0, each_less P hurts xs ys l h.1)
+
 -- a SABM that is lost or damaged is none
 pub asked_fewer : (from : Role) (n1 b : ℕ) (es fs : List Entry) → Less es fs → AllAskedIn from n1 b es → AllAskedIn from n1 b fs
-asked_fewer from n1 b es fs (whole xs) h = h
-asked_fewer from n1 b es fs (gone e xs) h = h.1
-asked_fewer from n1 b es fs (hurt e xs o visible) h = (elim (visible_reads from n1 o visible) [ inl short ↦ inl (ap sabm_in short) | inr bad ↦ inl (ap sabm_in bad) ], h.1)
-asked_fewer from n1 b es fs (deeper e xs ys l) h = (h.0, asked_fewer from n1 b xs ys l h.1)
+asked_fewer from n1 b es fs l h =
+    each_less (IsAskedIn from n1 b) (λ e o visible. elim (visible_reads from n1 o visible) [ inl short ↦ inl (ap sabm_in short) | inr bad ↦ inl (ap sabm_in bad) ]) es fs l h

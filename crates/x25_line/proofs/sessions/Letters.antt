@@ -38,6 +38,13 @@ module _ (from : Role) (n1 : ℕ) where
   pub visible_said : (o : List ℕ) → is_visible o ≡ true → said (frame_of from n1 o) ≡ Else
   visible_said o visible = elim (visible_reads from n1 o visible) [ inl short ↦ ap said short | inr bad ↦ ap said bad ]
 
+  -- so it is answered by no FRMR
+  pub visible_fine : (o : List ℕ) → is_visible o ≡ true → said (frame_of from n1 o) ≡ OddSaid → ⊥
+  visible_fine o visible odd = never (sym (visible_said o visible) ∙ odd)
+    where
+      never : Else ≡ OddSaid → ⊥
+      never k = cc
+
   pub letters_replaced : (o : List ℕ) → is_visible o ≡ true → (es : List Entry) (i : ℕ) → letters from n1 (replaced es i o) ≡ spoilt (letters from n1 es) i
   letters_replaced o visible [] i = refl
   letters_replaced o visible (e ∷ es) zero = ap (λ (s : Said). letter e.session s ∷ letters from n1 es) (visible_said o visible)

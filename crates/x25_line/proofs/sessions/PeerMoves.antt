@@ -1,13 +1,12 @@
 -- A station over sessions and a peer are two ends that keep the rules, whatever the peer does within these and the line to it loses.
 use Rattle.std.proofs.Common.{◌≡◌, ◌⊎◌, inl, inr, ℕ, suc, ◌+◌, List, [], ◌∷◌, ◌++◌, refl, sym, subst, arith}
-use Rattle.x25_bits.specs.declared.role.Role.{Role}
 use Rattle.x25_frame.specs.Reading.{frame_of}
 use Rattle.x25_link.specs.{declared.phase.Phase.{Phase}, declared.phase.Phase.TheVariants.{Waiting, Closed}, Station.{Settings}, Hearing.{other}}
 use Rattle.x25_line.specs.{laws.Stations.{Act}, laws.Sessions.{Entry, acts}, laws.Peer.{Peer}, laws.PeerSessionClaims.{frmr_in}}
 use Rattle.x25_line.specs.laws.Said.{Said, Tells, Sabm, Disc, Ua, Else, Odd as OddSaid, said, sabm_of, ua_of, disc_of}
 use Rattle.x25_line.specs.laws.Ends.{Letter, letter, how_many, AreOf, OfSabm, Two, Moves, free, odd, asks, closes, leaves, hears, takes_ua, takes_sabm, waits_on, takes_disc, loses, damages, Ends, ends_swapped, Does, sends, listens, moves, IsReached, far_handed, far_does}
 use Rattle.x25_line.specs.laws.PeerSessions.{PeerSessions, IsLeft, untouched, without, damaged, Puts, nothing, put, seen_by_peer, now, with_now, Happens, Ours, HandsDown, Theirs, IsTimely, stand_of, both_ends, with_peer}
-use Rattle.x25_line.proofs.{sessions.SessionHeld.{Owes, owes_less}, sessions.Letters.{asked_letters}, sessions.SessionSeen.{Seen}}
+use Rattle.x25_line.proofs.{Lists.{each_append}, sessions.SessionHeld.{Owes, owes_less}, sessions.Letters.{asked_letters}, sessions.SessionSeen.{Seen}}
 use Rattle.x25_line.proofs.{sessions.EntryLines.{Less as LessEntries, whole as all_entries, less_removes as entry_removes, less_replaces as entry_replaces, many_less, asked_fewer}}
 use Rattle.x25_line.proofs.sessions.SessionWith.{NoneOdd, Where, where_map, outs, backs, Kept, at, IsWith}
 use Rattle.x25_line.proofs.ends.Lines.{count_push, count_less, Less, less_removes, less_spoils, are_push, are_none}
@@ -74,13 +73,9 @@ less_left {es} untouched = all_entries es
 less_left {es} (without i) = entry_removes es i
 less_left {es} (damaged i o visible) = entry_replaces o visible es i
 
-odd_push : (from : Role) (n1 : ℕ) (es : List Entry) (e : Entry) → NoneOdd from n1 es → (said (frame_of from n1 e.octets) ≡ OddSaid → ⊥) → NoneOdd from n1 (es ++ e ∷ [])
-odd_push from n1 [] e h never = (never, tt)
-odd_push from n1 (x ∷ es) e h never = (h.0, odd_push from n1 es e h.1 never)
-
 none_odd : {Odd : Type 0} {c : Settings} {es fs : List Entry} → Puts Odd c es fs → (Odd → ⊥) → NoneOdd (other c.role) c.longest es → NoneOdd (other c.role) c.longest fs
 none_odd nothing never h = h
-none_odd {Odd} {c} {es} (put e may) never h = odd_push (other c.role) c.longest es e h (λ is. never (may is))
+none_odd {Odd} {c} {es} (put e may) never h = each_append (λ (x : Entry). said (frame_of (other c.role) c.longest x.octets) ≡ OddSaid → ⊥) es (e ∷ []) h (λ is. never (may is), tt)
 
 module _ (Odd : Type 0) (c : Settings) (w : PeerSessions) (h : Seen c (IsWith Odd c w.peer) (both_ends w)) where
   abbrev before : Ends

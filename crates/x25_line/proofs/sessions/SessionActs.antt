@@ -9,12 +9,11 @@ use Rattle.x25_link.specs.{Hearing.{Step, other}, Link.{put_step, timer_step, co
 use Rattle.x25_link.specs.{laws.WindowMachine.{hands_down, nothing}, laws.NoteLaw.{Tells}, laws.WindowLaw.{IsRunning, IsSound, IsOut, Ends}}
 use Rattle.x25_line.specs.{laws.StationClaims.{AreJoined}, laws.SessionNumbers.{Standing}}
 use Rattle.x25_line.specs.{laws.Sessions.{Entry, Meeting, Sessions, sabm_in, ua_in, how_many, begun_by, after_step}, laws.LawsBelow.{Laws}}
-use Rattle.x25_line.proofs.{sessions.SessionSeenActs.{by_disc, by_reset, by_neither}, StationLines.{AreParting}, StationSteps.{AsUp, Leaves, ends_joint}}
-use Rattle.x25_line.proofs.{StationRuns.{put_up, timer_by}, StationClaimLemmas.{up_of}, sessions.SessionLines.{count}}
+use Rattle.x25_line.proofs.{StationHears.{by_disc, by_reset}, sessions.SessionSeenActs.{by_neither}, StationLines.{AreParting}, StationSteps.{AsUp, up_of, Leaves, ends_joint}}
+use Rattle.x25_line.proofs.{StationRuns.{put_up, timer_by}, sessions.SessionLines.{count}}
 use Rattle.x25_line.proofs.{sessions.SessionHeld.{IsOf, Owes, OnLine, Held, is_out}, sessions.SessionSteps.{waiting_is_closed, stepped, went_by, apart_held}}
 use Rattle.x25_line.proofs.sessions.SessionUp.{stays_answers, follows_answers, live_goes_on}
 use Rattle.x25_link.specs.declared.error.LinkError.TheVariants as error
-use Rattle.x25_line.specs.laws.Stations as one
 
 -- what holds of a step in which no LinkUp is noted
 pub quiet_held : {stand : Standing} (c d : Settings) (w : Sessions) (es : List Entry) (met : List Meeting) (down : List (List ℕ)) (step : Step) → step.notes.up ≡ false

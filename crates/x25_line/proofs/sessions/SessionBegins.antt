@@ -4,7 +4,7 @@ use Rattle.x25_frame.specs.{Frame.{PlainFrame, ua}, Spelling.{spelling_of}, Read
 use Rattle.x25_link.specs.{Station.{Settings, fresh, is_up}, Hearing.{Step, other}}
 use Rattle.x25_line.specs.{laws.Stations.{start}, laws.StationClaims.{AreJoined}, laws.Sessions.{Entry, Meeting, Sessions, sabm_in, ua_in, how_many, sent_in}}
 use Rattle.x25_line.specs.{laws.SessionNumbers.{Standing, anew}, laws.SessionClaims.{AllOf}}
-use Rattle.x25_line.proofs.{StationLines.{AreParting, no_frmr_append, parting_whole}, StationRuns.{start_machine}}
+use Rattle.x25_line.proofs.{StationLines.{AreParting, parts_of, no_frmr_append, parting_whole}, StationRuns.{start_machine}}
 use Rattle.x25_line.proofs.sessions.SessionLines.{Read, numbers, behind_ua, behind_last}
 use Rattle.x25_line.proofs.sessions.SessionHeld.{IsThere, EndIsThere, is_soon, is_out, OnLine, HasLists, SameLists, Held, whole_apart}
 use Rattle.x25_line.proofs.sessions.SessionSteps.{end_after, stepped, nothing_handed, waiting_is_closed, asked_by, many_out}
@@ -37,7 +37,7 @@ module _ (c d : Settings) (joined : AreJoined c d) (reads : ReadsSpelled) where
 
       ua_reads : ua_in (frame_of (other d.role) d.longest (spelling_of c.role (ua f))) ≡ 1
       ua_reads =
-          let one_ua = many_out c d joined reads ua_in n [] (ua f ∷ []) (parting_whole (Unit {0}) d.longest [] (ua f ∷ []) tt) in
+          let one_ua = many_out c d joined reads ua_in n [] (ua f ∷ []) (parting_whole (Unit {0}) d.longest [] (ua f ∷ []) (parts_of (Unit {0}) (ua f ∷ []) tt)) in
           omega (arith, one_ua)
 
       -- the UA is the last on the line

@@ -5,15 +5,15 @@ use Rattle.x25_frame.specs.{Frame.{PlainFrame, info, rr, rnr, rej}, laws.Reading
 use Rattle.x25_link.specs.{declared.error.LinkError.{LinkError}, declared.phase.Notes.{Notes}, declared.phase.Reason.{Reason}}
 use Rattle.x25_link.specs.{declared.phase.Reason.TheVariants.{FrmrSent}, laws.NoteLaw.{Tells, HandsUp, TakeHandsUp}, Station.{Settings, LinkStation, is_up}}
 use Rattle.x25_link.specs.Hearing.{Step, other}
-use Rattle.x25_link.specs.Link.{take_step, put_step, put_refusal, timer_step, timer_refusal, connect_step, connect_refusal, disconnect_step, disconnect_refusal, abandon_step}
+use Rattle.x25_link.specs.Link.{take_step, put_step, put_refusal}
 use Rattle.x25_link.specs.{laws.WindowMachine.{Window, Input}, laws.WindowLaw.{window_of, brought_by, ending_of, Follows}}
-use Rattle.x25_line.specs.laws.Stations.{Act, Put, Deliver, T1, Connect, Disconnect, Abandon, Probe, Lose, Damage, Near, Far, is_visible}
+use Rattle.x25_line.specs.laws.Stations.{Act, Put, Deliver, Lose, Damage, Near, Far, is_visible}
 use Rattle.x25_line.specs.laws.StationClaims.{AreJoined, number_in}
 use Rattle.x25_line.specs.laws.Sessions.{Entry, SessionEnd, Meeting, Sessions, turned, swapped, begun_by, after_step, unless, heard, delivered, replaced, acts}
 use Rattle.x25_line.specs.laws.SessionClaims.{Throughout, AllOf}
 use Rattle.x25_line.specs.laws.SessionEvents.{NextBegins, GoesOn, HandsInSession, EachEventHandsInSession, latest, BeginsAfresh, MeetsNone, MeetsOne, EachEventMeetsLatest}
 use Rattle.x25_line.specs.laws.LawsBelow.{SessionLaws}
-use Rattle.x25_line.proofs.{StationSteps.{not_both, not_afresh}, StationEvents.{timer_packet, timer_up}, sessions.SessionLines.{Read, none_is_some}}
+use Rattle.x25_line.proofs.{StationSteps.{not_both, not_afresh}, StationEvents.{own_by}, sessions.SessionLines.{Read, none_is_some}}
 use Rattle.x25_line.proofs.{sessions.SessionHeld.{extended_same, extended_other}, sessions.SessionSteps.{end_after, nothing_handed}}
 use Rattle.x25_line.proofs.{sessions.SessionUp.{follows_no_packet}, sessions.SessionTakes.{read_of}, sessions.SessionSeenRuns.{Both, both_swapped}}
 use Rattle.x25_line.proofs.{sessions.TwoSessions.{hears_latest, running, throughout_of}, ends.Meetings.{twice_turned}, Choices.{unless_by, if_by}}
@@ -99,23 +99,9 @@ acts_hands hands_up c (Put packet) w =
     put_by (nat_le (length packet) c.longest) packet w (unless (put_refusal w.near.station) w (after_step c w w.back w.met (packet ∷ []) (put_step c packet w.near.station)))
     (put_hands (put_refusal w.near.station) c packet w)
 acts_hands hands_up c Deliver w = deliver_hands hands_up c w.back w
-acts_hands hands_up c T1 w =
-    let step = timer_step c w.near.station in
-    unless_by (HandsNothing w) (timer_refusal w.near.station) w (after_step c w w.back w.met [] step) (as_it_was w) (λ _. (quiet_goes w.near step (timer_packet c w.near.station) (timer_up c w.near.station), refl))
-acts_hands hands_up c Connect w =
-    let step = connect_step c w.near.station in
-    unless_by (HandsNothing w) (connect_refusal w.near.station.phase) w (after_step c w w.back w.met [] step) (as_it_was w) (λ _. (quiet_goes w.near step refl refl, refl))
-acts_hands hands_up c Disconnect w =
-    let step = disconnect_step c w.near.station in
-    unless_by (HandsNothing w) (disconnect_refusal w.near.station.phase) w (after_step c w w.back w.met [] step) (as_it_was w) (λ _. (quiet_goes w.near step refl refl, refl))
-acts_hands hands_up c Probe w =
-    let step = timer_step c w.near.station in
-    if_by (HandsNothing w) (is_up w.near.station.phase) w (after_step c w w.back w.met [] step) (as_it_was w) (λ _. (quiet_goes w.near step (timer_packet c w.near.station) (timer_up c w.near.station), refl))
-acts_hands hands_up c Abandon w =
-    let step = abandon_step c w.near.station in
-    if_by (HandsNothing w) (is_up w.near.station.phase) w (after_step c w w.back w.met [] step) (as_it_was w) (λ _. (quiet_goes w.near step refl refl, refl))
 acts_hands hands_up c (Lose i) w = (stays w.near, refl)
 acts_hands hands_up c (Damage i octets) w = if_by (HandsNothing w) (is_visible octets) w (record w { back = replaced w.back i octets }) (as_it_was w) (λ _. (stays w.near, refl))
+acts_hands hands_up c act w = own_by (HandsNothing w) c w.near.station w (after_step c w w.back w.met []) (as_it_was w) (λ step none low. (quiet_goes w.near step none low, refl)) act
 
 pub each_hands_in_session : TakeHandsUp → EachEventHandsInSession
 each_hands_in_session hands_up c d (Near act) w = acts_hands hands_up c act w
@@ -207,13 +193,9 @@ module _ (reads : ReadsSpelled) (rests : SessionLaws) (hands_up : TakeHandsUp) w
       let done = after_step c w w.back w.met (packet ∷ []) (put_step c packet w.near.station) in
       if_by (SameMet w) (nat_le (length packet) c.longest) w (unless (put_refusal w.near.station) w done) refl (λ _. unless_by (SameMet w) (put_refusal w.near.station) w done refl (λ _. refl))
   acts_meet c d near_joined far_joined Deliver w h = deliver_meets c d near_joined far_joined w h w.back refl
-  acts_meet c d near_joined far_joined T1 w h = unless_by (SameMet w) (timer_refusal w.near.station) w (after_step c w w.back w.met [] (timer_step c w.near.station)) refl (λ _. refl)
-  acts_meet c d near_joined far_joined Connect w h = unless_by (SameMet w) (connect_refusal w.near.station.phase) w (after_step c w w.back w.met [] (connect_step c w.near.station)) refl (λ _. refl)
-  acts_meet c d near_joined far_joined Disconnect w h = unless_by (SameMet w) (disconnect_refusal w.near.station.phase) w (after_step c w w.back w.met [] (disconnect_step c w.near.station)) refl (λ _. refl)
-  acts_meet c d near_joined far_joined Abandon w h = if_by (SameMet w) (is_up w.near.station.phase) w (after_step c w w.back w.met [] (abandon_step c w.near.station)) refl (λ _. refl)
-  acts_meet c d near_joined far_joined Probe w h = if_by (SameMet w) (is_up w.near.station.phase) w (after_step c w w.back w.met [] (timer_step c w.near.station)) refl (λ _. refl)
   acts_meet c d near_joined far_joined (Lose i) w h = refl
   acts_meet c d near_joined far_joined (Damage i octets) w h = if_by (SameMet w) (is_visible octets) w (record w { back = replaced w.back i octets }) refl (λ _. refl)
+  acts_meet c d near_joined far_joined act w h = own_by (SameMet w) c w.near.station w (after_step c w w.back w.met []) refl (λ step none low. refl) act
 
   -- ---- the other end
 
@@ -222,12 +204,10 @@ module _ (reads : ReadsSpelled) (rests : SessionLaws) (hands_up : TakeHandsUp) w
 
   meets_turned : (a : Act) (pair : Meeting) (old new : SessionEnd) (before now : List Meeting) → MeetsOne a pair old new (map turned before) now
       → MeetsOne a (turned pair) old new before (map turned now)
-  meets_turned (Put packet) pair old new before now h = turned_back now before h
   meets_turned Deliver pair old new before now h = elim h [
     | inl m ↦ inl (record { met = ap (map turned) m.met ∙ ap (λ (xs : List Meeting). turned pair ∷ xs) (twice_turned before); packet = m.packet; goes_on = m.goes_on })
     | inr m ↦ inr (record { met = turned_back now before m.met; nothing_up = m.nothing_up })
   ]
-  meets_turned T1 pair old new before now h = turned_back now before h
   meets_turned a pair old new before now h = turned_back now before h
 
   -- ---- the claim

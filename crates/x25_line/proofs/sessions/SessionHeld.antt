@@ -7,11 +7,11 @@ use Rattle.x25_frame.specs.{Frame.{PlainFrame}, Reading.{frame_of}}
 use Rattle.x25_window.specs.laws.Window.{End}
 use Rattle.x25_link.specs.{declared.phase.Phase.{Phase}, declared.phase.Phase.TheVariants.{Waiting, Closed}, Station.{Settings, LinkStation, is_up, fresh}}
 use Rattle.x25_link.specs.Hearing.{other}
-use Rattle.x25_line.specs.{laws.Stations.{StationEnd, Stations}, laws.StationClaims.{NoFrmr, AreWhole, numbered_on}}
+use Rattle.x25_line.specs.{laws.Stations.{StationEnd, Stations}, laws.StationClaims.{NoFrmr, IsWhole, AreWhole, numbered_on}}
 use Rattle.x25_line.specs.{laws.Sessions.{Entry, SessionEnd, Sessions, sabm_in, ua_in, disc_in, how_many, extended}, laws.Line.{Line}}
 use Rattle.x25_line.specs.{laws.WholeNumbers.{given, taken_out, counted}, laws.SessionNumbers.{Standing, standing_after}}
 use Rattle.x25_line.specs.laws.SessionClaims.{AllOf, AreWholeIn}
-use Rattle.x25_line.proofs.StationLines.{numbered_append, AreParting, whole_more, whole_append, parting_whole, IsOrderly}
+use Rattle.x25_line.proofs.{Lists.{each_append}, StationLines.{numbered_append, AreParting, parts_of, whole_more, parting_whole, IsOrderly}}
 use Rattle.x25_line.proofs.StationSteps.{Joint, FitsEnd, machine_is, counted_off, counted_fits, none_put, not_both}
 use Rattle.x25_line.proofs.sessions.SessionLines.{numbers, numbers_append, of_append, many_append, by_first, behind_ua, behind_append}
 
@@ -140,14 +140,14 @@ whole_on n1 e f far more fs es grows of whole h =
         | inl old ↦ elim (h.handed_down x old) [ inl near ↦ inl (near.0, grows near.0 x near.1) | inr other_end ↦ inr other_end ]
         | inr new ↦ of x new
       ];
-      whole = whole_append n1 (h.given ++ more) fs es (whole_more n1 h.given (h.given ++ more) (λ x old. Contains-append_left h.given more x old) fs h.whole)
+      whole = each_append (IsWhole n1 (h.given ++ more)) fs es (whole_more n1 h.given (h.given ++ more) (λ x old. Contains-append_left h.given more x old) fs h.whole)
           (whole_more n1 more (h.given ++ more) (λ x new. Contains-append_right h.given more x new) es whole);
     }
 
 -- none of them carries a packet
 pub whole_apart : (n1 : ℕ) (e f far : SessionEnd) (fs es : List PlainFrame) → SameLists e f → AreParting (Unit {0}) es → AreWholeIn n1 e far fs → AreWholeIn n1 f far (fs ++ es)
 whole_apart n1 e f far fs es same parting h =
-    whole_on n1 e f far [] fs es (λ n x old. rw (same.down n) old) (λ x new. absurd (omega (arith, new.1))) (parting_whole (Unit {0}) n1 [] es parting) h
+    whole_on n1 e f far [] fs es (λ n x old. rw (same.down n) old) (λ x new. absurd (omega (arith, new.1))) (parting_whole (Unit {0}) n1 [] es (parts_of (Unit {0}) es parting)) h
 
 -- ---- by the phase
 

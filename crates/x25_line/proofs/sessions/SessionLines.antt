@@ -7,7 +7,7 @@ use Rattle.x25_frame.specs.{Frame.{PlainFrame, info, rr, rnr, rej, sabm, frmr}, 
 use Rattle.x25_frame.specs.declared.error.FrameError.{FrameError}
 use Rattle.x25_window.specs.laws.Window.{Frame}
 use Rattle.x25_link.specs.laws.WindowMachine.{ShowAll}
-use Rattle.x25_line.specs.{laws.Stations.{is_visible}, laws.StationClaims.{number_in, numbered_on, AreWhole}}
+use Rattle.x25_line.specs.{laws.Stations.{is_visible}, laws.StationClaims.{Each, number_in, numbered_on, AreWhole}}
 use Rattle.x25_line.specs.{laws.Sessions.{Entry, sabm_in, ua_in, disc_in, how_many, sent_in}, laws.SessionClaims.{octets_of, AllOf}}
 use Rattle.x25_line.specs.{laws.WholeNumbers.{place_of, taken_out}, laws.SessionNumbers.{by_answers, place_behind_ua}}
 use Rattle.x25_line.proofs.sessions.EntryLines.{LessAt, nothing, gone_at, hurt_at, deeper_at}
@@ -45,8 +45,7 @@ count kind [] = 0
 count kind (f ∷ fs) = kind (Ok f) + count kind fs
 
 abbrev pub AllNumbered : List PlainFrame → Type 0
-AllNumbered [] = Unit {0}
-AllNumbered (f ∷ fs) = (number_in (Ok f) ≡ Some f) × AllNumbered fs
+AllNumbered fs = Each (λ (f : PlainFrame). number_in (Ok f) ≡ Some f) fs
 
 pub numbered_no_ua : (fs : List PlainFrame) → AllNumbered fs → count ua_in fs ≡ 0
 numbered_no_ua [] h = refl

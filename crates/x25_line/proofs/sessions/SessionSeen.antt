@@ -6,16 +6,12 @@ use Rattle.x25_bits.specs.declared.role.Role.{Role}
 use Rattle.x25_frame.specs.{Frame.{PlainFrame}, Reading.{frame_of}, laws.ReadingLaw.{ReadsSpelled}}
 use Rattle.x25_link.specs.{declared.phase.Phase.{Phase}, declared.phase.Phase.TheVariants.{Up}, declared.phase.Notes.{Notes}}
 use Rattle.x25_link.specs.{Station.{Settings, LinkStation, is_up, with_nothing, fresh}, Hearing.{Step}, laws.WindowMachine.{Window, Input}}
-use Rattle.x25_link.specs.laws.WindowLaw.{window_of, after_input, Stays, IsSound}
+use Rattle.x25_link.specs.laws.WindowLaw.{window_of, after_input, Stays}
 use Rattle.x25_line.specs.laws.Sessions.{Entry, SessionEnd, start_with, Meeting, Sessions, sabm_in, how_many, sent_in, begun_by, extended, after_step}
-use Rattle.x25_line.specs.{laws.Peer.{Peer, fresh_peer}, laws.Ends.{put_for}, laws.PeerSessions.{AllAskedIn}}
-use Rattle.x25_line.proofs.{StationSays.{machine_of}, StationSends.{AllWithin}, StationSteps.{not_both}, StationAway.{is_up_phase}}
+use Rattle.x25_line.specs.{laws.Peer.{Peer, fresh_peer}, laws.Ends.{put_for}, laws.PeerSessions.{IsAskedIn, AllAskedIn}}
+use Rattle.x25_line.proofs.{Lists.{each_append}, StationSays.{machine_of}, StationHears.{UpFacts}, StationSends.{AllWithin}, StationSteps.{not_both}, StationAway.{is_up_phase}}
 use Rattle.x25_line.proofs.{sessions.SessionHeld.{extended_nil, extended_same, extended_other}, sessions.SessionSteps.{stepped}, sessions.SessionMay.{MayDo}}
 use Rattle.x25_line.proofs.{sessions.SessionSays.{runs_said}, ends.Puts.{same_or_other, put_same, put_apart}}
-
-asked_append : (from : Role) (n1 b : ℕ) (xs ys : List Entry) → AllAskedIn from n1 b xs → AllAskedIn from n1 b ys → AllAskedIn from n1 b (xs ++ ys)
-asked_append from n1 b [] ys f g = g
-asked_append from n1 b (e ∷ xs) ys f g = (f.0, asked_append from n1 b xs ys f.1 g)
 
 asked_sent : (from : Role) (n1 b : ℕ) (role : Role) (fs : List PlainFrame) → AllAskedIn from n1 b (sent_in b role fs)
 asked_sent from n1 b role [] = tt
@@ -34,15 +30,6 @@ put_packets b r all lists more f grows same n = elim (same_or_other n b) [
   | inl is ↦ ap f (put_same b n r all is) ∙ grows ∙ ap (λ (xs : List (List ℕ)). xs ++ more) (same b) ∙ sym (extended_same lists b more) ∙ ap (extended lists b more) (sym is)
   | inr not ↦ ap f (put_apart b n r all not) ∙ same n ∙ sym (extended_other lists b n more (λ (is : n ≡ b). not_both (n == b) (eq-eqb n b is) not))
 ]
-
-module _ (d : Settings) where
-  -- a station that is Up, and what is known of it as a peer
-  pub record UpFacts (s : LinkStation) (p : Peer) : Type 0 where
-    pub same : machine_of d.window p ≡ window_of d.window s
-    pub sound : IsSound d.window s.outgoing
-    pub room : p.sent ≤ p.acked + d.window
-    pub told : p.told ≤ length p.taken
-    pub within : AllWithin d.longest p.given
 
 module _ (d : Settings) (R : List Entry → List Meeting → Phase → ℕ → (ℕ → Peer) → List Entry → Type 0) where
   -- the near end, with settings d
@@ -88,7 +75,7 @@ module _ (d : Settings) (high : d.window ≤ 7) (reads : ReadsSpelled) (Due : Li
           extended_other w.near.down w.near.begun n down (λ (is : n ≡ w.near.begun). omega (arith, is, less)) ∙ old.0,
           extended_other w.near.up w.near.begun n (option_to_list step.packet) (λ (is : n ≡ w.near.begun). omega (arith, is, less)) ∙ old.1,
         ));
-        tags = asked_append d.role d.longest w.near.begun w.out (sent_in w.near.begun d.role step.side.out) h.tags (asked_sent d.role d.longest w.near.begun d.role step.side.out);
+        tags = each_append (IsAskedIn d.role d.longest w.near.begun) w.out (sent_in w.near.begun d.role step.side.out) h.tags (asked_sent d.role d.longest w.near.begun d.role step.side.out);
       })
 
   -- nothing is handed down or up
@@ -114,7 +101,7 @@ module _ (d : Settings) (high : d.window ≤ 7) (reads : ReadsSpelled) (Due : Li
           extended_other w.near.down b n [] (λ (is : n ≡ b). omega (arith, is, less)) ∙ old.0,
           extended_other w.near.up b n (option_to_list step.packet) (λ (is : n ≡ b). omega (arith, is, less)) ∙ old.1,
         ));
-        tags = asked_append d.role d.longest b w.out (sent_in b d.role step.side.out) (asked_never d.role d.longest b w.out unasked) (asked_sent d.role d.longest b d.role step.side.out);
+        tags = each_append (IsAskedIn d.role d.longest b) w.out (sent_in b d.role step.side.out) (asked_never d.role d.longest b w.out unasked) (asked_sent d.role d.longest b d.role step.side.out);
       })
     where
       b : ℕ

@@ -1,5 +1,5 @@
 -- Each event at a station over sessions is what an end that keeps the rules may do.
-use Rattle.std.proofs.Common.{Err, ◌≡◌, ◌≤◌, ℕ, suc, ◌+◌, List, [], ◌∷◌, ◌++◌, ◌⊎◌, inl, inr, length, remove, Bool, true, false, not, if◌then◌else◌, Option, Some, None, Ok, refl, sym, ap, ◌∙◌, subst, arith, append-nil}
+use Rattle.std.proofs.Common.{◌≡◌, ◌≤◌, ℕ, suc, ◌+◌, List, [], ◌∷◌, ◌++◌, ◌⊎◌, inl, inr, length, remove, Bool, true, false, not, if◌then◌else◌, Option, Some, None, Ok, refl, sym, ap, ◌∙◌, subst, arith, append-nil}
 use Rattle.std.proofs.lemmas.Bool.{leb-true}
 use Rattle.std.specs.Prelude.{nat_le, nat_lt, option_to_list}
 use Rattle.x25_frame.specs.{Frame.{PlainFrame, sabm, disc, ua}, laws.ReadingLaw.{ReadsSpelled}}
@@ -8,32 +8,22 @@ use Rattle.x25_link.specs.{declared.phase.Notes.{Notes}, declared.phase.Reason.T
 use Rattle.x25_link.specs.Hearing.{Step, other}
 use Rattle.x25_link.specs.Link.{put_step, put_refusal, timer_step, timer_refusal, timer_runs, connect_step, connect_refusal, disconnect_step, disconnect_refusal, abandon_step}
 use Rattle.x25_link.specs.{laws.SetUp.{Is, TakesPart, waiting_up}, laws.WindowMachine.{Window, hands_down, nothing}}
-use Rattle.x25_link.specs.laws.WindowLaw.{window_of, Follows, IsOut, sets_up}
+use Rattle.x25_link.specs.laws.WindowLaw.{window_of, Follows, IsOut}
 use Rattle.x25_window.specs.{laws.Window.{after}, laws.Window.Step.{HandDown}}
 use Rattle.x25_line.specs.laws.Stations.{Act, Put, Deliver, T1, Connect, Disconnect, Abandon, Probe, Lose, Damage, is_visible}
 use Rattle.x25_line.specs.laws.Sessions.{Entry, Meeting, Sessions, sabm_in, ua_in, disc_in, how_many, sent_in, after_step, unless, delivered, replaced, acts}
 use Rattle.x25_line.specs.{laws.LawsBelow.{SessionLaws}, laws.Peer.{Peer}}
-use Rattle.x25_line.proofs.{StationSends.{within_push}, StationSteps.{no_packet_of, not_afresh}, StationAway.{connects_from, closed_takes}}
+use Rattle.x25_line.proofs.{StationHears.{sabm_or_not, sets_none_up}, StationSends.{within_push}, StationSteps.{no_packet_of, not_afresh}, StationAway.{connects_from, closed_takes}}
 use Rattle.x25_line.proofs.{sessions.SessionLines.{Read}, sessions.SessionHeld.{Owes}, sessions.SessionMay.{hears_read, IsClear, MayDo}}
 use Rattle.x25_line.proofs.sessions.SessionSeen.{Seen, build_quiet, stays_seen, reached_in, unchanged, changed}
 use Rattle.x25_line.proofs.sessions.SessionSeenActs.{put_none, put_asks, put_closes, sets_up_seen, up_seen, out_seen, answer_seen, waiting_seen}
 use Rattle.x25_line.proofs.Choices.{unless_by, if_by}
 use Rattle.x25_link.specs.declared.error.LinkError.TheVariants as error
-use Rattle.x25_frame.specs.declared.error.FrameError.TheVariants.{Short}
 
 -- the UA that is awaited, or none such
 pub is_answer : (r : Read) → (r ≡ Ok (ua true)) ⊎ (waiting_up r ≡ false)
 is_answer (Ok (ua true)) = inl refl
 is_answer r = inr refl
-
-pub sabm_or_not : (r : Read) → ((p : Bool) × (r ≡ Ok (sabm p))) ⊎ (sabm_in r ≡ 0)
-sabm_or_not (Ok (sabm p)) = inl (p, refl)
-sabm_or_not (Err Short) = inr refl
-sabm_or_not r = inr refl
-
-pub sets_none_up : (r : Read) → sabm_in r ≡ 0 → sets_up r ≡ false
-sets_none_up (Ok (sabm p)) h = absurd (omega (arith, h))
-sets_none_up r h = refl
 
 -- a packet is accepted in Up alone
 pub put_accepted : (s : LinkStation) → put_refusal s ≡ None → is_up s.phase ≡ true

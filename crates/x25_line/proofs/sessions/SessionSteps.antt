@@ -9,7 +9,7 @@ use Rattle.x25_link.specs.{declared.phase.Phase.{Phase}, declared.phase.Phase.Th
 use Rattle.x25_line.specs.{laws.Stations.{Stations}, laws.StationClaims.{AreJoined, NoFrmr, AreWhole, numbered_on}}
 use Rattle.x25_line.specs.{laws.Sessions.{Entry, SessionEnd, Meeting, Sessions, ua_in, how_many, sent_in, extended}, laws.WholeNumbers.{given, taken_out}}
 use Rattle.x25_line.specs.{laws.SessionNumbers.{Standing, standing_after}, laws.SessionClaims.{AllOf}}
-use Rattle.x25_line.proofs.StationLines.{AreParting, no_frmr_append, parting_no_frmr, parting_numbered, parting_whole}
+use Rattle.x25_line.proofs.StationLines.{AreParting, parts_of, no_frmr_append, parting_no_frmr, parting_numbered, parting_whole}
 use Rattle.x25_line.proofs.StationSteps.{MayBeAway, away_is_not_up, Leads, put_behind, FitsEnd}
 use Rattle.x25_line.proofs.sessions.SessionLines.{Read, octets_sent, count, numbers, quiet_of, of_sent, many_sent}
 use Rattle.x25_line.proofs.sessions.SessionHeld.{IsThere, Owes, HasLists, SameLists, lists_same, Held, with_machine, standing_after_is, stays_on, extended_nil, extended_same, extended_more, whole_on, whole_apart, is_there, is_out, there_more, counted_there}
@@ -157,7 +157,7 @@ module _ (c d : Settings) (joined : AreJoined c d) (reads : ReadsSpelled) where
         far = rw (sym (append-nil h.alone.out)) (there_more more [] quiet (quiet_of (other d.role) d.longest stand.near more quiet) (λ waiting. many ua_in ∙ no_ua) h.far);
         near_lists = lists_same w.near (end_after w.near n [] step) stand.near h.alone.near same h.near_lists;
         far_lists = h.far_lists;
-        no_frmr = no_frmr_append w.sent fs h.no_frmr (parting_no_frmr (Unit {0}) fs parting);
+        no_frmr = no_frmr_append w.sent fs h.no_frmr (parting_no_frmr (Unit {0}) fs (parts_of (Unit {0}) fs parting));
         whole = whole_apart d.longest w.near (end_after w.near n [] step) w.far w.sent fs same parting h.whole;
       })
     where
@@ -170,12 +170,12 @@ module _ (c d : Settings) (joined : AreJoined c d) (reads : ReadsSpelled) where
       quiet : numbers (other d.role) d.longest more ≡ []
       quiet =
           ap (numbered_on (other d.role) d.longest) (octets_sent n c.role step.side.out)
-          ∙ subst (λ (r : Role). numbered_on r d.longest (map (spelling_of c.role) step.side.out) ≡ []) (sym joined.near_role) (parting_numbered reads c.role d.longest (Unit {0}) step.side.out parting)
+          ∙ subst (λ (r : Role). numbered_on r d.longest (map (spelling_of c.role) step.side.out) ≡ []) (sym joined.near_role) (parting_numbered reads c.role d.longest (Unit {0}) step.side.out (parts_of (Unit {0}) step.side.out parting))
 
       many : (kind : Read → ℕ) → how_many kind (other d.role) d.longest more ≡ count kind step.side.out
-      many kind = many_out kind n [] step.side.out (parting_whole (Unit {0}) d.longest [] step.side.out parting)
+      many kind = many_out kind n [] step.side.out (parting_whole (Unit {0}) d.longest [] step.side.out (parts_of (Unit {0}) step.side.out parting))
 
       is_on : stand ≡ went_by c step None stand
       is_on =
           stays_on c step.side.near (map (spelling_of c.role) fs) stand (counted_there c (end_after w.near n [] step) h.alone.near.station stand.machine.near there h.holds.near)
-          (rw joined.longest (parting_numbered reads c.role d.longest (Unit {0}) fs parting))
+          (rw joined.longest (parting_numbered reads c.role d.longest (Unit {0}) fs (parts_of (Unit {0}) fs parting)))

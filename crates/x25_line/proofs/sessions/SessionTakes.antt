@@ -12,8 +12,8 @@ use Rattle.x25_line.proofs.StationAway.{closed_takes, waits_on, waiting_parting}
 use Rattle.x25_line.proofs.sessions.SessionLines.{Read, count, numbers, quiet_of, carried, carried_numbers, carried_orderly, by_first, behind_ua, behind_quiet}
 use Rattle.x25_line.proofs.sessions.SessionHeld.{IsOf, EndIsThere, Owes, OnLine, Held, is_soon, is_there, is_out, there_passes}
 use Rattle.x25_line.proofs.{sessions.SessionSteps.{stepped, went_by, Answers, apart_held}, sessions.SessionBegins.{begins_held}}
-use Rattle.x25_line.proofs.{sessions.SessionUp.{follows_answers, live_goes_on}, sessions.SessionSeenActs.{left_by}}
-use Rattle.x25_line.proofs.sessions.SessionSeenSteps.{is_answer, sabm_or_not, sets_none_up}
+use Rattle.x25_line.proofs.{sessions.SessionUp.{follows_answers, live_goes_on}, StationHears.{left_by, sabm_or_not, sets_none_up}}
+use Rattle.x25_line.proofs.sessions.SessionSeenSteps.{is_answer}
 use Rattle.x25_line.proofs.sessions.SessionActs.{InSession, quiet_held, in_session, waiting_owes}
 use Rattle.x25_line.specs.laws.Stations as one
 

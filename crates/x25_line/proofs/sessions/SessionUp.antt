@@ -1,5 +1,5 @@
 -- What an end does that is Up, over sessions, and what it sends.
-use Rattle.std.proofs.Common.{◌≡◌, ℕ, List, [], ◌∷◌, ◌++◌, inl, inr, Bool, false, Option, Some, None, Ok, refl, sym, ap, arith}
+use Rattle.std.proofs.Common.{◌≡◌, ℕ, List, [], ◌∷◌, inl, inr, Bool, false, Option, Some, None, Ok, refl, sym, ap, arith}
 use Rattle.x25_frame.specs.{Frame.{PlainFrame, info, rr, rnr, rej}, laws.ReadingLaw.{ReadsSpelled}}
 use Rattle.x25_window.specs.laws.Window.{Frame, frames_of}
 use Rattle.x25_link.specs.{declared.phase.Phase.TheVariants.{Closed}, declared.phase.Reason.{Reason}, declared.phase.Reason.TheVariants.{Disc, FrmrSent, Reset}}
@@ -7,9 +7,9 @@ use Rattle.x25_link.specs.{Station.{Settings, LinkStation}, Hearing.{Step, other
 use Rattle.x25_link.specs.laws.WindowLaw.{brought_by, MayHandUp, InputMayHandUp, Stays, Follows}
 use Rattle.x25_line.specs.{laws.Stations.{Stations}, laws.StationClaims.{AreJoined, number_in, numbered_on}, laws.SessionClaims.{AllOf}}
 use Rattle.x25_line.specs.{laws.Sessions.{Entry, Meeting, Sessions, ua_in, begun_by, after_step}, laws.SessionNumbers.{Standing}, laws.WholeNumbers.{taken_out}}
-use Rattle.x25_line.proofs.{sessions.SessionSeenActs.{by_disc, by_reset}, StationSteps.{Holds, Leads}, StationAway.{second_false}}
+use Rattle.x25_line.proofs.{StationHears.{by_disc, by_reset}, StationSteps.{Holds, Leads}, StationAway.{second_false}}
 use Rattle.x25_line.proofs.{sessions.SessionLines.{Read, none_is_some, count, AllNumbered, numbered_no_ua, numbers}, sessions.SessionHeld.{Held}}
-use Rattle.x25_line.proofs.sessions.SessionSteps.{went_by, Answers, live_held}
+use Rattle.x25_line.proofs.{Lists.{each_append}, sessions.SessionSteps.{went_by, Answers, live_held}}
 use Rattle.x25_line.specs.laws.Stations as one
 
 -- ---- a run that only sends, sends frames that carry a number
@@ -26,13 +26,9 @@ shown_numbered [] gs h = tt
 shown_numbered (f ∷ fs) [] h = absurd h
 shown_numbered (f ∷ fs) (g ∷ gs) h = (shown_number f g h.0, shown_numbered fs gs h.1)
 
-numbered_append : (fs es : List PlainFrame) → AllNumbered fs → AllNumbered es → AllNumbered (fs ++ es)
-numbered_append [] es f g = g
-numbered_append (x ∷ fs) es f g = (f.0, numbered_append fs es f.1 g)
-
 runs_numbered : (v z : Window) (fs : List PlainFrame) → Runs v z fs → AllNumbered fs
 runs_numbered v z fs rests = tt
-runs_numbered v z fs (goes_on w before step frames runs sent allowed shows) = numbered_append before frames (runs_numbered v w before runs) (shown_numbered frames (frames_of w step) shows)
+runs_numbered v z fs (goes_on w before step frames runs sent allowed shows) = each_append (λ (f : PlainFrame). number_in (Ok f) ≡ Some f) before frames (runs_numbered v w before runs) (shown_numbered frames (frames_of w step) shows)
 
 -- ---- what is sent where Up is left
 

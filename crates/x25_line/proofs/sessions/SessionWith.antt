@@ -1,5 +1,5 @@
 -- A station over sessions and a peer are two ends that keep the rules, whatever the station does.
-use Rattle.std.proofs.Common.{◌≡◌, ℕ, suc, ◌+◌, List, [], ◌∷◌, ◌++◌, inl, inr, remove, true, Some, None, Ok, refl, sym, ap, ◌∙◌, arith}
+use Rattle.std.proofs.Common.{◌≡◌, ℕ, suc, ◌+◌, List, [], ◌∷◌, ◌++◌, remove, true, Some, None, Ok, refl, ap, arith}
 use Rattle.x25_bits.specs.declared.role.Role.{Role}
 use Rattle.x25_frame.specs.{Frame.{PlainFrame, info, rr, rnr, rej, sabm, disc, ua, dm, frmr}, Reading.{frame_of}}
 use Rattle.x25_link.specs.{declared.phase.Phase.{Phase}, declared.phase.Phase.TheVariants.{Down, Waiting, Up}, Station.{Settings}, Hearing.{other}}
@@ -7,11 +7,11 @@ use Rattle.x25_link.specs.laws.SetUp.{TakesPart}
 use Rattle.x25_line.specs.{laws.Sessions.{Entry, Meeting, ua_in, how_many as count, replaced}, laws.Peer.{Peer, MaySay}}
 use Rattle.x25_line.specs.{laws.PeerSessions.{PeerEnd, stand_of, letters}, laws.PeerSessionClaims.{frmr_in}}
 use Rattle.x25_line.specs.laws.Ends.{Stand, In, Asking, Letter, letter, how_many, AreOf, free, asks, closes, leaves, hears, takes_ua, takes_sabm, waits_on, takes_disc, loses, damages, Ends, near_now, with_near, Does, sends, listens, moves, IsReached, near_handed, near_does}
-use Rattle.x25_line.specs.{laws.StationClaims.{number_in}, laws.Said.{Sabm, Ua, Else, Odd as OddSaid, said, sabm_of, ua_of, disc_of}}
-use Rattle.x25_line.proofs.{Order.{by_frmr, no_fault}, StationLines.{visible_reads}, StationSays.{machine_of}}
+use Rattle.x25_line.specs.{laws.StationClaims.{Each, number_in}, laws.Said.{Sabm, Ua, Else, Odd as OddSaid, said, sabm_of, ua_of, disc_of}}
+use Rattle.x25_line.proofs.{Order.{by_frmr, no_fault}, StationSays.{machine_of}}
 use Rattle.x25_line.proofs.{sessions.SessionLines.{Read, none_is_some, number_kinds, many_append}, sessions.SessionHeld.{Owes, owes_less}}
-use Rattle.x25_line.proofs.sessions.EntryLines.{Less as LessEntries, whole as all_entries, gone as entry_gone, hurt as entry_hurt, deeper as entries_deeper, less_removes as entry_removes, less_replaces as entry_replaces}
-use Rattle.x25_line.proofs.sessions.Letters.{heard_said, letters_push, letters_removed, letters_replaced, sabms, uas, discs}
+use Rattle.x25_line.proofs.sessions.EntryLines.{each_less, Less as LessEntries, less_removes as entry_removes, less_replaces as entry_replaces}
+use Rattle.x25_line.proofs.sessions.Letters.{visible_fine, heard_said, letters_push, letters_removed, letters_replaced, sabms, uas, discs}
 use Rattle.x25_line.proofs.sessions.SessionMay.{sends_read, hears_read, entry, heard_in, MayAsk, MayDo}
 use Rattle.x25_line.proofs.{ends.Lines.{count_push, count_less, Less, gone, less_removes, less_spoils, are_less}, ends.Sessions.{reached_all, ua_present, valid}}
 
@@ -23,17 +23,10 @@ number_frmr r f is = refl
 
 -- nothing there is answered by FRMR
 abbrev pub NoneOdd : Role → ℕ → List Entry → Type 0
-NoneOdd from n1 [] = Unit {0}
-NoneOdd from n1 (e ∷ es) = (said (frame_of from n1 e.octets) ≡ OddSaid → ⊥) × NoneOdd from n1 es
+NoneOdd from n1 es = Each (λ (e : Entry). said (frame_of from n1 e.octets) ≡ OddSaid → ⊥) es
 
-odd_less : (from : Role) (n1 : ℕ) (es fs : List Entry) → LessEntries es fs → NoneOdd from n1 es → NoneOdd from n1 fs
-odd_less from n1 es fs (all_entries xs) h = h
-odd_less from n1 es fs (entry_gone e xs) h = h.1
-odd_less from n1 es fs (entry_hurt e xs o visible) h = (λ is. elim (visible_reads from n1 o visible) [ inl short ↦ never (sym (ap said short) ∙ is) | inr bad ↦ never (sym (ap said bad) ∙ is) ], h.1)
-  where
-    never : Else ≡ OddSaid → ⊥
-    never k = cc
-odd_less from n1 es fs (entries_deeper e xs ys l) h = (h.0, odd_less from n1 xs ys l h.1)
+odd_less : (c : Settings) (es fs : List Entry) → LessEntries es fs → NoneOdd (other c.role) c.longest es → NoneOdd (other c.role) c.longest fs
+odd_less c es fs l h = each_less (λ (e : Entry). said (frame_of (other c.role) c.longest e.octets) ≡ OddSaid → ⊥) (λ e o visible. visible_fine (other c.role) c.longest o visible) es fs l h
 
 -- of a station that isn't about to ask once more, nor Closed
 abbrev pub Where : Phase → Type 0 → Type 0
@@ -233,10 +226,10 @@ module _ (Odd : Type 0) (c : Settings) (peer : PeerEnd) where
     };
     loses = λ es met p b all out i h. record {
       ends = rw (letters_removed (other c.role) c.longest es i) (record { reached = near_does _ _ h.ends.reached (moves _ (loses i)); kept = kept_less (less_removes (backs c es) i) h.ends.kept });
-      octets = record { frmr = h.octets.frmr; lapb = λ ok. odd_less (other c.role) c.longest es (remove es i) (entry_removes es i) (h.octets.lapb ok) };
+      octets = record { frmr = h.octets.frmr; lapb = λ ok. odd_less c es (remove es i) (entry_removes es i) (h.octets.lapb ok) };
     };
     damages = λ es met p b all out i octets visible h. record {
       ends = rw (letters_replaced (other c.role) c.longest octets visible es i) (record { reached = near_does _ _ h.ends.reached (moves _ (damages i)); kept = kept_less (less_spoils (backs c es) i) h.ends.kept });
-      octets = record { frmr = h.octets.frmr; lapb = λ ok. odd_less (other c.role) c.longest es (replaced es i octets) (entry_replaces octets visible es i) (h.octets.lapb ok) };
+      octets = record { frmr = h.octets.frmr; lapb = λ ok. odd_less c es (replaced es i octets) (entry_replaces octets visible es i) (h.octets.lapb ok) };
     };
   }

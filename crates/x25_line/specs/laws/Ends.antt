@@ -4,7 +4,8 @@
 use Rattle.std.specs.Prelude.{◌≡◌, ◌+◌, ◌==◌, ℕ, zero, suc, Bool, true, false, if◌then◌else◌, List, [], ◌∷◌, ◌++◌, map}
 use Rattle.std.specs.Prelude.{remove, Option}
 use Rattle.x25_line.specs.laws.Said.{Said, Carried, Tells, Sabm, Disc, Ua, Else, Odd, sabm_of, ua_of, disc_of}
-use Rattle.x25_line.specs.{laws.Sessions.{Meeting, turned}, laws.Peer.{Peer, fresh_peer, MaySay, MayMake}}
+use Rattle.x25_line.specs.{laws.Sessions.{Meeting, turned}, laws.StationClaims.{Each}}
+use Rattle.x25_line.specs.laws.Peer.{Peer, fresh_peer, MaySay, MayMake}
 
 -- An end is out of a session, or awaits the UA to its SABM, or is in a session.
 pub data Stand : Type 0 where
@@ -51,8 +52,7 @@ OfTells said P = Unit {0}
 
 -- each SABM on the line was sent in this session, or since it ended
 abbrev pub AreOf : ℕ → List Letter → Type 0
-AreOf session [] = Unit {0}
-AreOf session (e ∷ es) = OfSabm e.said (e.session ≡ session) × AreOf session es
+AreOf session es = Each (λ (e : Letter). OfSabm e.said (e.session ≡ session)) es
 
 -- an end that is in a session meets the one in which the N(R) that it hears was sent
 abbrev pub meets : Said → Meeting → List Meeting → List Meeting

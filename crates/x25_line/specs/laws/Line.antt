@@ -11,8 +11,8 @@ pub record Line (T : Type 0) : Type 0 where
   pub out : List (Frame T)
   pub back : List (Frame T)
 
-abbrev pub swapped : {T : Type 0} → Line T → Line T
-swapped w = record { near = w.far; far = w.near; out = w.back; back = w.out }
+abbrev pub line_swapped : {T : Type 0} → Line T → Line T
+line_swapped w = record { near = w.far; far = w.near; out = w.back; back = w.out }
 
 pub data Move (T : Type 0) : Type 0 where
   -- an item is handed down

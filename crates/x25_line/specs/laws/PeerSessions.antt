@@ -58,9 +58,11 @@ with_peer p v = record { near = v.near; peer = p; out = v.out; back = v.back; me
 -- ---- timer T1 of the station while it awaits UA
 
 -- each SABM was sent in this session, or since it ended
+abbrev pub IsAskedIn : Role → ℕ → ℕ → Entry → Type 0
+IsAskedIn from n1 session e = (sabm_in (frame_of from n1 e.octets) ≡ 0) ⊎ (e.session ≡ session)
+
 abbrev pub AllAskedIn : Role → ℕ → ℕ → List Entry → Type 0
-AllAskedIn from n1 session es =
-    Each (λ (e : Entry). (sabm_in (frame_of from n1 e.octets) ≡ 0) ⊎ (e.session ≡ session)) es
+AllAskedIn from n1 session es = Each (IsAskedIn from n1 session) es
 
 -- T1 is longer than SABM and its UA are on the line, so that the line has brought too what the peer sent before it
 -- answered: none of its SABMs is of an earlier session.

@@ -8,6 +8,7 @@ use Rattle.x25_line.specs.laws.InWindow.{IsPrefix}
 use Rattle.x25_line.specs.laws.Stations.{StationEnd, Stations, Event, start, run as run_alone}
 use Rattle.x25_line.specs.laws.StationClaims.{AreJoined, BothInOrder, BothHaveTheirLists, AreInWindow, NoFrmr}
 use Rattle.x25_line.specs.laws.StationClaims.{NoFrmrSent, AreWhole, AllSentAreWhole, number_in, numbered_on}
+pub use Rattle.x25_line.specs.laws.StationClaims.{Each}
 use Rattle.x25_line.specs.laws.Sessions.{Entry, SessionEnd, Meeting, Sessions, run, from_nothing, from_set_up}
 use Rattle.x25_line.specs.laws.Sessions.{AreTimely, swapped}
 
@@ -16,10 +17,6 @@ abbrev pub Throughout : (Settings → Settings → Sessions → Type 0) → Type
 Throughout Holds =
     (c d : Settings) → AreJoined c d → (begin : Sessions) → (begin ≡ from_nothing) ⊎ (begin ≡ from_set_up)
     → (events : List Event) → AreTimely c d events begin → Holds c d (run c d events begin)
-
-abbrev pub Each : {T : Type 0} → (T → Type 0) → List T → Type 0
-Each P [] = Unit {0}
-Each P (x ∷ xs) = P x × Each P xs
 
 abbrev pub SomeMet : (Meeting → Type 0) → List Meeting → Type 0
 SomeMet P [] = ⊥

@@ -7,7 +7,7 @@ use Rattle.x25_bits.specs.declared.role.Role.{Role}
 use Rattle.x25_frame.specs.{Frame.{PlainFrame, sabm}, Reading.{frame_of}, declared.error.FrameError.{FrameError}}
 use Rattle.x25_link.specs.{declared.phase.Phase.{Phase}, declared.phase.Phase.TheVariants.{Waiting, Up, Closed}}
 use Rattle.x25_link.specs.{Station.{Settings, LinkStation, is_up}, Hearing.{other}}
-use Rattle.x25_line.specs.{laws.Line.{Line, swapped as line_swapped}, laws.Stations.{Act, Deliver, Event, Near, Far}}
+use Rattle.x25_line.specs.{laws.Line.{Line, line_swapped}, laws.Stations.{Act, Deliver, Event, Near, Far}}
 use Rattle.x25_line.specs.laws.StationClaims.{AreJoined, IsBehind}
 use Rattle.x25_line.specs.laws.WholeNumbers.{place_of, place_taken, machine_after, machine_at_start}
 use Rattle.x25_line.specs.laws.Sessions.{Entry, Sessions, ua_in, acts, happens, run, swapped, from_nothing, from_set_up}

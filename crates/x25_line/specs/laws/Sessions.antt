@@ -9,10 +9,8 @@ use Rattle.x25_frame.specs.declared.error.FrameError.{FrameError}
 use Rattle.x25_link.specs.{declared.phase.Phase.{Phase}}
 use Rattle.x25_link.specs.declared.phase.Phase.TheVariants.{Down, Up, Waiting}
 use Rattle.x25_link.specs.{Station.{Settings, LinkStation, is_up, with_nothing}, Hearing.{Step, other}}
-use Rattle.x25_link.specs.Link.{take_step, put_step, put_refusal, timer_step, timer_refusal, connect_step}
-use Rattle.x25_link.specs.Link.{connect_refusal, disconnect_step, disconnect_refusal, abandon_step}
-use Rattle.x25_line.specs.laws.Stations.{Act, Put, Deliver, T1, Connect, Disconnect, Abandon, Probe, Lose, Damage}
-use Rattle.x25_line.specs.{laws.Stations.{Event, Near}, laws.Stations.{Far, is_visible}}
+use Rattle.x25_link.specs.Link.{take_step, put_step, put_refusal}
+use Rattle.x25_line.specs.laws.Stations.{Act, Put, Deliver, T1, Lose, Damage, own_act, Event, Near, Far, is_visible}
 pub use Rattle.x25_line.specs.laws.Stations.{unless}
 use Rattle.x25_line.specs.{laws.StationClaims.{number_in}, laws.Said.{said, sabm_of, ua_of, disc_of}}
 
@@ -108,17 +106,9 @@ acts c (Put packet) w =
     then unless (put_refusal w.near.station) w
     (after_step c w w.back w.met (packet ∷ []) (put_step c packet w.near.station)) else w
 acts c Deliver w = delivered c w.back w
-acts c T1 w = unless (timer_refusal w.near.station) w (after_step c w w.back w.met [] (timer_step c w.near.station))
-acts c Connect w = unless (connect_refusal w.near.station.phase) w
-    (after_step c w w.back w.met [] (connect_step c w.near.station))
-acts c Disconnect w = unless (disconnect_refusal w.near.station.phase) w
-    (after_step c w w.back w.met [] (disconnect_step c w.near.station))
-acts c Abandon w = if is_up w.near.station.phase then after_step c w w.back w.met [] (abandon_step c w.near.station)
-    else w
-acts c Probe w = if is_up w.near.station.phase then after_step c w w.back w.met [] (timer_step c w.near.station)
-    else w
 acts c (Lose i) w = record w { back = remove w.back i }
 acts c (Damage i octets) w = if is_visible octets then record w { back = replaced w.back i octets } else w
+acts c act w = own_act c w.near.station w (after_step c w w.back w.met []) act
 
 -- ---- runs
 

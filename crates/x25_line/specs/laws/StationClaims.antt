@@ -11,7 +11,7 @@ use Rattle.x25_link.specs.{declared.phase.Reason.{Reason}, declared.phase.Reason
 use Rattle.x25_link.specs.{Station.{Settings, is_up, lists_of, no_packets}, Hearing.{other}}
 use Rattle.x25_link.specs.{Link.{connect_refusal, is_idle}, laws.WindowMachine.{ShowAll}, laws.WindowLaw.{window_of}}
 use Rattle.x25_line.specs.laws.InWindow.{InWindow, IsPrefix}
-use Rattle.x25_line.specs.laws.Line.{Line, Move, AllowsMove, moved, swapped as line_swapped}
+use Rattle.x25_line.specs.laws.Line.{Line, Move, AllowsMove, moved, line_swapped}
 use Rattle.x25_line.specs.laws.Stations.{StationEnd, Stations, Act, Put, Deliver, Connect, Event, Near, Far, happens}
 use Rattle.x25_line.specs.laws.Stations.{run, start, swapped}
 
@@ -35,6 +35,10 @@ pub record IsSetUpOnce (w : Stations) : Type 0 where
 abbrev pub Always : (Settings → Settings → Stations → Type 0) → Type 0
 Always Holds = (c d : Settings) → AreJoined c d → (events : List Event) → IsSetUpOnce (run c d events start)
     → Holds c d (run c d events start)
+
+abbrev pub Each : {T : Type 0} → (T → Type 0) → List T → Type 0
+Each P [] = Unit {0}
+Each P (x ∷ xs) = P x × Each P xs
 
 -- ---- order
 
@@ -110,12 +114,12 @@ numbered_on from n1 [] = []
 numbered_on from n1 (octets ∷ line) = option_to_list (number_in (frame_of from n1 octets)) ++ numbered_on from n1 line
 
 -- what the window machine reaches from the link just set up, by moves of either end that it allows
-pub data IsReached (k j : ℕ) : Line (List ℕ) → Type 0 where
-  at_start : IsReached k j (record { near = fresh_end k; far = fresh_end j; out = []; back = [] })
-  near_moves : (l : Line (List ℕ)) (move : Move (List ℕ)) → IsReached k j l → AllowsMove l move
-      → IsReached k j (moved move l)
-  far_moves : (l : Line (List ℕ)) (move : Move (List ℕ)) → IsReached k j l → AllowsMove (line_swapped l) move
-      → IsReached k j (line_swapped (moved move (line_swapped l)))
+pub data MachineReaches (k j : ℕ) : Line (List ℕ) → Type 0 where
+  at_start : MachineReaches k j (record { near = fresh_end k; far = fresh_end j; out = []; back = [] })
+  near_moves : (l : Line (List ℕ)) (move : Move (List ℕ)) → MachineReaches k j l → AllowsMove l move
+      → MachineReaches k j (moved move l)
+  far_moves : (l : Line (List ℕ)) (move : Move (List ℕ)) → MachineReaches k j l → AllowsMove (line_swapped l) move
+      → MachineReaches k j (line_swapped (moved move (line_swapped l)))
 
 -- an end of the window machine has the lists of a station, and its numbers where that is Up
 pub record IsEndOf (k : ℕ) (e : StationEnd) (machine : End (List ℕ)) : Type 0 where
@@ -125,7 +129,7 @@ pub record IsEndOf (k : ℕ) (e : StationEnd) (machine : End (List ℕ)) : Type 
 
 -- the window machine with the whole numbers behind the N(S)s and N(R)s on the line, and its window
 pub record IsBehind (c d : Settings) (w : Stations) (l : Line (List ℕ)) : Type 0 where
-  pub reached : IsReached c.window d.window l
+  pub reached : MachineReaches c.window d.window l
   pub near : IsEndOf c.window w.near l.near
   pub far : IsEndOf d.window w.far l.far
   pub out : ShowAll (numbered_on (other d.role) d.longest w.out) l.out
@@ -160,8 +164,7 @@ pub record IsWhole (n1 : ℕ) (given : List (List ℕ)) (frame : PlainFrame) : T
   pub packet : IsHandedDown given frame
 
 abbrev pub AreWhole : ℕ → List (List ℕ) → List PlainFrame → Type 0
-AreWhole n1 given [] = Unit {0}
-AreWhole n1 given (frame ∷ frames) = IsWhole n1 given frame × AreWhole n1 given frames
+AreWhole n1 given frames = Each (IsWhole n1 given) frames
 
 abbrev pub AllSentAreWhole : Settings → Settings → Stations → Type 0
 AllSentAreWhole c d w = AreWhole c.longest (w.near.down ++ w.far.down) w.sent

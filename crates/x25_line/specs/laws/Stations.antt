@@ -83,20 +83,24 @@ pub data Act : Type 0 where
   Lose : (place : ℕ) → Act
   Damage : (place : ℕ) → (octets : List ℕ) → Act
 
+-- The acts by which a station takes no octets and is given no packet, in any world. `done` is what a step of it makes
+-- of that, and what is refused changes nothing.
+abbrev pub own_act : {W : Type 0} → Settings → LinkStation → W → (Step → W) → Act → W
+own_act c s w done T1 = unless (timer_refusal s) w (done (timer_step c s))
+own_act c s w done Connect = unless (connect_refusal s.phase) w (done (connect_step c s))
+own_act c s w done Disconnect = unless (disconnect_refusal s.phase) w (done (disconnect_step c s))
+own_act c s w done Abandon = if is_up s.phase then done (abandon_step c s) else w
+own_act c s w done Probe = if is_up s.phase then done (timer_step c s) else w
+own_act c s w done act = w
+
 abbrev pub acts : Settings → Act → Stations → Stations
 acts c (Put packet) w = if nat_le (length packet) c.longest
     then unless (put_refusal w.near.station) w (after_step c w w.back (packet ∷ []) (put_step c packet w.near.station))
     else w
 acts c Deliver w = delivered c w.back w
-acts c T1 w = unless (timer_refusal w.near.station) w (after_step c w w.back [] (timer_step c w.near.station))
-acts c Connect w = unless (connect_refusal w.near.station.phase) w
-    (after_step c w w.back [] (connect_step c w.near.station))
-acts c Disconnect w = unless (disconnect_refusal w.near.station.phase) w
-    (after_step c w w.back [] (disconnect_step c w.near.station))
-acts c Abandon w = if is_up w.near.station.phase then after_step c w w.back [] (abandon_step c w.near.station) else w
-acts c Probe w = if is_up w.near.station.phase then after_step c w w.back [] (timer_step c w.near.station) else w
 acts c (Lose i) w = record w { back = remove w.back i }
 acts c (Damage i octets) w = if is_visible octets then record w { back = replaced w.back i octets } else w
+acts c act w = own_act c w.near.station w (after_step c w w.back []) act
 
 -- ---- runs
 

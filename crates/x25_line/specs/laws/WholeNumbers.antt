@@ -8,7 +8,7 @@ use Rattle.x25_frame.specs.{Frame.{PlainFrame, info}, Reading.{frame_of}}
 use Rattle.x25_window.specs.{code.Modulo.{resolved}, laws.Window.{Frame, fresh_end}}
 use Rattle.x25_link.specs.{Station.{Settings, LinkStation, is_up}, Hearing.{other}, laws.WindowMachine.{Window}}
 use Rattle.x25_link.specs.laws.WindowLaw.{window_of}
-use Rattle.x25_line.specs.laws.Line.{Line, swapped as line_swapped}
+use Rattle.x25_line.specs.laws.Line.{Line, line_swapped}
 use Rattle.x25_line.specs.laws.Stations.{Stations, Act, Deliver, Lose, Damage, Event, Near, Far, is_visible, acts}
 use Rattle.x25_line.specs.laws.Stations.{swapped, happens, run, start}
 use Rattle.x25_line.specs.laws.StationClaims.{AreJoined, IsSetUpOnce, number_in, numbered_on, IsBehind}

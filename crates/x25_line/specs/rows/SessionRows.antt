@@ -1,10 +1,8 @@
--- Worked rows of two link stations over sessions: from nothing, set up again with a packet on the line, and what
--- happens where timer T1 isn't timely.
+-- Worked rows of two link stations over sessions: from nothing, and set up again with a packet on the line.
 use Rattle.std.specs.Prelude.{◌≡◌, ℕ, List, [], ◌∷◌}
 use Rattle.x25_line.specs.laws.Stations.{Put, Deliver, T1, Connect, Abandon, Lose, Event, Near, Far}
 use Rattle.x25_line.specs.rows.StationRows.{dte, dce}
 use Rattle.x25_line.specs.laws.Sessions.{Meeting, Sessions, run, from_nothing, from_set_up, AreTimely}
-use Rattle.x25_line.specs.laws.SessionClaims.{MeetInStep}
 
 abbrev pub meeting : ℕ → ℕ → Meeting
 meeting near far = record { near = near; far = far }
@@ -33,21 +31,3 @@ IsSecond w = (w.near.begun ≡ 2) × (w.far.begun ≡ 2) × (w.far.up 1 ≡ (5 �
 
 abbrev pub SetsUpAgain : Type 0
 SetsUpAgain = AreTimely dte dce setting_up_again from_set_up × IsSecond (run dte dce setting_up_again from_set_up)
-
--- T1 runs out while the SABM is on the line. The near end comes up by the first UA, hears the far end's first session,
--- and then the second, which began at the second SABM: its own is still the first, and the packet handed down in the
--- second isn't taken.
-abbrev pub untimely : List Event
-untimely =
-    Near Connect ∷ Near T1 ∷ Far Deliver ∷ Near Deliver ∷ Far
-    (Put (5 ∷ [])) ∷ Far Deliver ∷ Near Deliver ∷ Near Deliver ∷ Far (Put (7 ∷ [])) ∷ Near Deliver ∷ []
-
-pub record IsOutOfStep (w : Sessions) : Type 0 where
-  pub near : w.near.begun ≡ 1
-  pub far : w.far.begun ≡ 2
-  pub met : w.met ≡ meeting 1 2 ∷ meeting 1 1 ∷ []
-  pub up : w.near.up 1 ≡ (5 ∷ []) ∷ []
-  pub out : MeetInStep dte dce w → ⊥
-
-abbrev pub UntimelyIsOutOfStep : Type 0
-UntimelyIsOutOfStep = (AreTimely dte dce untimely from_nothing → ⊥) × IsOutOfStep (run dte dce untimely from_nothing)

@@ -1,6 +1,6 @@
 -- The near one of two links with their sessions: a step of its own, and the octets that a station hands down to it behind that.
 use Rattle.std.proofs.Common.{◌≡◌, ℕ, ◌==◌, ◌≤◌, Ok, List, [], ◌∷◌, ◌++◌, length, map, Bool, true, false, if◌then◌else◌, Option, Some, None, option_to_list, refl, sym, ap, ap₂, ◌∙◌, subst, append_assoc, append-nil}
-use Rattle.std.proofs.lemmas.Bool.{le-leb}
+use Rattle.std.proofs.lemmas.Bool.{le-leb, cond_both}
 use Rattle.std.specs.Prelude.{remove}
 use Rattle.x25_frame.specs.Frame.{PlainFrame}
 use Rattle.x25_packet.specs.{Packet.{PlainPacket}, Taking.{read_in}}
@@ -21,11 +21,7 @@ use Rattle.x25_line.specs.laws.Stations as line
 -- ---- lists
 
 pub extended_none : (lists : ℕ → List (List ℕ)) (session n : ℕ) → extended lists session [] n ≡ lists n
-extended_none lists session n = by (n == session)
-  where
-    by : (b : Bool) → (if b then lists n ++ [] else lists n) ≡ lists n
-    by true = append-nil (lists n)
-    by false = refl
+extended_none lists session n = cond_both (n == session) (lists n ++ []) (lists n) (λ (l : List (List ℕ)). l ≡ lists n) (λ _. append-nil (lists n)) (λ _. refl)
 
 -- more in the same session
 extended_again : (lists between : ℕ → List (List ℕ)) (session : ℕ) (some more : List (List ℕ)) → ((n : ℕ) → between n ≡ extended lists session some n)

@@ -18,7 +18,7 @@ use Rattle.x25_peer.specs.laws.BesideSessions.{read_by, ReadAs}
 use Rattle.x25_peer.specs.laws.BesideSessions.{Theirs, BesideSessions, in_session, links_of, handed_down, their_now, their_layer, coming, layer_went, layer_heard}
 use Rattle.x25_peer.proofs.{ReadLemmas.{ReadFirst, read_append, ok_same, said_same, made_more}, sessions.Meetings.{CanMeet}}
 use Rattle.x25_peer.proofs.sessions.SessionLinks.{links_with, LinkReached}
-use Rattle.x25_peer.proofs.sessions.Standing.{Below, in_other, both_cases, PairReached, IsRead, AreAnew, downs_of, ups_of, Stands, way, taken_begins, up_few}
+use Rattle.x25_peer.proofs.sessions.Standing.{Below, in_other, in_cases, both_cases, PairReached, IsRead, AreAnew, downs_of, ups_of, Stands, way, taken_begins, up_few}
 use Rattle.x25_line.specs.laws.Stations as line
 use Rattle.x25_line.specs.laws.PeerSessions as peers
 use Rattle.x25_layer.specs.laws.PeerJoined as layer_peer
@@ -36,18 +36,10 @@ stays_peer : (p : PeerEnd) → AreAnew p → GoesTo p p
 stays_peer p anew = record { given = λ m. refl; taken = λ m. omega (arith); anew = anew }
 
 now_given : (p : PeerEnd) (x : Peer) → x.given ≡ (now p).given → (m : ℕ) → ((with_now x p).of_session m).given ≡ (p.of_session m).given
-now_given p x same m = by (m == p.begun) refl
-  where
-    by : (b : Bool) → (m == p.begun) ≡ b → (if b then x else p.of_session m).given ≡ (p.of_session m).given
-    by true is = same ∙ ap (λ (i : ℕ). (p.of_session i).given) (sym (eqb-true m p.begun is))
-    by false is = refl
+now_given p x same = in_cases (λ (m : ℕ) (y : Peer). y.given ≡ (p.of_session m).given) p.begun x p.of_session same (λ m differs. refl)
 
 now_taken : (p : PeerEnd) (x : Peer) → length (now p).taken ≤ length x.taken → (m : ℕ) → length (p.of_session m).taken ≤ length ((with_now x p).of_session m).taken
-now_taken p x more m = by (m == p.begun) refl
-  where
-    by : (b : Bool) → (m == p.begun) ≡ b → length (p.of_session m).taken ≤ length (if b then x else p.of_session m).taken
-    by true is = subst (λ (i : ℕ). length (p.of_session i).taken ≤ length x.taken) (sym (eqb-true m p.begun is)) more
-    by false is = omega (arith)
+now_taken p x more = in_cases (λ (m : ℕ) (y : Peer). length (p.of_session m).taken ≤ length y.taken) p.begun x p.of_session more (λ m differs. omega (arith))
 
 later_same : (p : PeerEnd) (x : Peer) (m : ℕ) → p.begun < m → (with_now x p).of_session m ≡ p.of_session m
 later_same p x m over = in_other p.begun m x p.of_session (λ is. (omega (arith, over, is)))
@@ -61,21 +53,13 @@ with_now_goes p x anew same more = record {
 
 begins_goes : (p : PeerEnd) → AreAnew p → GoesTo p (begins p)
 begins_goes p anew = record {
-  given = λ m. given m (m == suc p.begun) refl;
-  taken = λ m. taken m (m == suc p.begun) refl;
+  given = in_cases (λ (m : ℕ) (y : Peer). y.given ≡ (p.of_session m).given) (suc p.begun) fresh_peer p.of_session (sym next.0) (λ m differs. refl);
+  taken = in_cases (λ (m : ℕ) (y : Peer). length (p.of_session m).taken ≤ length y.taken) (suc p.begun) fresh_peer p.of_session (let none = ap length next.1 in omega (arith, none)) (λ m differs. omega (arith));
   anew = λ m over. subst (λ (y : Peer). (y.given ≡ []) × (y.taken ≡ [])) (sym (in_other (suc p.begun) m fresh_peer p.of_session (λ is. (omega (arith, over, is))))) (anew m (omega (arith, over)));
 }
   where
     next : ((p.of_session (suc p.begun)).given ≡ []) × ((p.of_session (suc p.begun)).taken ≡ [])
     next = anew (suc p.begun) (omega (arith))
-
-    given : (m : ℕ) (b : Bool) → (m == suc p.begun) ≡ b → (if b then fresh_peer else p.of_session m).given ≡ (p.of_session m).given
-    given m true is = sym (ap (λ (i : ℕ). (p.of_session i).given) (eqb-true m (suc p.begun) is) ∙ next.0)
-    given m false is = refl
-
-    taken : (m : ℕ) (b : Bool) → (m == suc p.begun) ≡ b → length (p.of_session m).taken ≤ length (if b then fresh_peer else p.of_session m).taken
-    taken m true is = (let none : length (p.of_session m).taken ≡ 0 = ap (λ (i : ℕ). length (p.of_session i).taken) (eqb-true m (suc p.begun) is) ∙ ap length next.1 in omega (arith, none))
-    taken m false is = omega (arith)
 
 -- a peer that is an end here
 abbrev end_of : Ends → PeerEnd
@@ -153,11 +137,9 @@ handed_given (o ∷ all) p m = handed_given all (with_now (record (now p) { give
 
 handed_taken : (all : List (List ℕ)) (p : PeerEnd) (m : ℕ) → ((handed_down all p).of_session m).taken ≡ (p.of_session m).taken
 handed_taken [] p m = refl
-handed_taken (o ∷ all) p m = handed_taken all (with_now (record (now p) { given = (now p).given ++ o ∷ [] }) p) m ∙ by (m == p.begun) refl
-  where
-    by : (b : Bool) → (m == p.begun) ≡ b → (if b then record (now p) { given = (now p).given ++ o ∷ [] } else p.of_session m).taken ≡ (p.of_session m).taken
-    by true is = ap (λ (i : ℕ). (p.of_session i).taken) (sym (eqb-true m p.begun is))
-    by false is = refl
+handed_taken (o ∷ all) p m =
+    let x : Peer = record (now p) { given = (now p).given ++ o ∷ [] } in
+    handed_taken all (with_now x p) m ∙ in_cases (λ (n : ℕ) (y : Peer). y.taken ≡ (p.of_session n).taken) p.begun x p.of_session refl (λ n differs. refl) m
 
 handed_begun : (all : List (List ℕ)) (p : PeerEnd) → (handed_down all p).begun ≡ p.begun
 handed_begun [] p = refl

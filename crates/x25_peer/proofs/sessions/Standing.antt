@@ -1,7 +1,7 @@
 -- What stands of a station and a peer over sessions: their links are joined as `x25_line` has it, and the layers of each session of the one and
 -- each of the other that it met, or may meet yet, as `x25_layer` has it.
 use Rattle.std.proofs.Common.{◌≡◌, ℕ, ◌==◌, ◌≤◌, ◌<◌, inl, inr, List, [], ◌++◌, length, drop, Bool, true, false, if◌then◌else◌, refl, sym, ap, subst, ◌∙◌, append_assoc, eq-eqb, arith}
-use Rattle.std.proofs.{lemmas.Bool.{eqb-true}, lemmas.List.{drop-append-le}}
+use Rattle.std.proofs.{lemmas.Bool.{eqb-true, ne_eqb}, lemmas.List.{drop-append-le}}
 use Rattle.x25_packet.specs.Packet.{PlainPacket}
 use Rattle.x25_link.specs.Station.{Settings as LinkSettings, LinkStation, is_up}
 use Rattle.x25_link.specs.laws.NoteLaw.{TakeTells, TakeHandsUp, TimerTells, PutTells, ConnectTells, DisconnectTells, AbandonTells, RelinkTells}
@@ -56,11 +56,7 @@ pub in_here : {A : Type 0} (s : ℕ) (x : A) (all : ℕ → A) → in_session s 
 in_here {A} s x all = ap (λ (b : Bool). if b then x else all s) (eq-eqb s s refl)
 
 pub in_other : {A : Type 0} (s n : ℕ) (x : A) (all : ℕ → A) → (n ≡ s → ⊥) → in_session s x all n ≡ all n
-in_other {A} s n x all differs = by (n == s) refl
-  where
-    by : (b : Bool) → (n == s) ≡ b → (if b then x else all n) ≡ all n
-    by true is = absurd (differs (eqb-true n s is))
-    by false is = refl
+in_other {A} s n x all differs = ap (λ (b : Bool). if b then x else all n) (ne_eqb n s differs)
 
 pub in_cases : {A : Type 0} (P : ℕ → A → Type 0) (s : ℕ) (x : A) (all : ℕ → A) → P s x → ((n : ℕ) → (n ≡ s → ⊥) → P n (all n)) → (n : ℕ) → P n (in_session s x all n)
 in_cases {A} P s x all here others n = by (n == s) refl

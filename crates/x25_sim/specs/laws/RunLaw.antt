@@ -66,12 +66,6 @@ OfScripts Holds = (cfg : Cfg) → config_refusal cfg ≡ None → (down : Bool) 
     → IsUpAtMostOnce cfg (simulated cfg down shown script).next
     → Holds cfg (simulated cfg down shown script).next
 
--- the same from a link just set up, which isn't set up anew
-abbrev pub OfScriptsSetUp : (Cfg → World → Type 0) → Type 0
-OfScriptsSetUp Holds = (cfg : Cfg) → config_refusal cfg ≡ None → (shown : Shown) (script : List ℕ)
-    → IsUpOnce cfg (simulated cfg false shown script).next
-    → Holds cfg (simulated cfg false shown script).next
-
 -- by a script in which no line asks for it the link isn't set up anew
 abbrev pub UpOnceUnlessAsked : Type 0
 UpOnceUnlessAsked = (cfg : Cfg) → config_refusal cfg ≡ None → (shown : Shown) (script : List ℕ)

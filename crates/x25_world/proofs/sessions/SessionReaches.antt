@@ -1,10 +1,10 @@
 -- Two links over set-up and re-set-up, as either end sees them: a run of the same events, with the ends swapped.
-use Rattle.std.proofs.Common.{◌≡◌, ℕ, Bool, false, List, [], ◌∷◌, ◌++◌, inl, refl, sym, ap, ◌∙◌, subst, map}
+use Rattle.std.proofs.Common.{◌≡◌, ℕ, List, [], ◌∷◌, ◌++◌, inl, refl, sym, ap, ◌∙◌, subst, map}
 use Rattle.x25_bits.specs.{declared.role.Role.{Role}, declared.role.Role.TheVariants.{Dte, Dce}}
 use Rattle.x25_line.specs.laws.StationClaims.{AreJoined, AcceptsNoConnect}
 use Rattle.x25_line.specs.{laws.Sessions.{Meeting, Sessions, turned, from_nothing, IsTimely, IsTimelyAt, AreTimely}, laws.SessionClaims.{Each, Throughout}}
 use Rattle.x25_station.specs.declared.config.Cfg.{Cfg}
-use Rattle.x25_world.specs.{World.{Act, Event}, laws.Claims.{link_of}, laws.WindowGoes.{Asks, at_end, all_at}}
+use Rattle.x25_world.specs.{World.{Act, Event}, laws.Claims.{link_of}, laws.SessionWindow.{Asks, at_end, all_at}}
 use Rattle.x25_world.proofs.{Known.{IsConfigured}, OneLink.{OneLink, one_turned, one_acts}}
 use Rattle.x25_peer.proofs.sessions.LinkSteps.{puts_of, all_act, puts_last}
 use Rattle.x25_link.specs.{Station.{Settings as LinkSettings}, Hearing.{other}}
@@ -49,11 +49,11 @@ timely_flipped c d (e ∷ es) w h = (
 
 -- ---- as an end sees them
 
--- How a run began: with both links down; or with a link just set up, where, if `asks` is false, none of the two has asked for set-up since; or
--- with these links, of which all that follows belongs to this event.
+-- How a run began: with both links down; or with a link just set up, where none of the two has asked for set-up since; or with
+-- these links, of which all that follows belongs to this event.
 pub data Beginning : Type 0 where
   both_down : Beginning
-  set_up : (asks : Bool) → Beginning
+  set_up : Beginning
   at_event : (before : Sessions) (e : Event) → Beginning
 
 abbrev seen_from : Role → Sessions → Sessions
@@ -72,7 +72,7 @@ pub record SessionsReach (since : Beginning) (cfg : Cfg) (end : Role) (v : Sessi
   pub events : List line.Event
   pub timely : AreTimely (link_of cfg end) (link_of cfg (other end)) events from_nothing
   pub run : links.run (link_of cfg end) (link_of cfg (other end)) events from_nothing ≡ v
-  pub one_link : (asks : Bool) → since ≡ set_up asks → OneLink asks cfg end v
+  pub one_link : since ≡ set_up → OneLink cfg end v
   pub grown : (before : Sessions) (e : Event) → since ≡ at_event before e → Grown cfg e end before v
 
 pub reach_swapped : {since : Beginning} (cfg : Cfg) (end : Role) (v : Sessions) → SessionsReach since cfg end v → SessionsReach since cfg (other end) (links.swapped v)
@@ -80,14 +80,14 @@ reach_swapped cfg Dte v h = record {
   events = all_flipped h.events;
   timely = timely_flipped (link_of cfg Dte) (link_of cfg Dce) h.events from_nothing h.timely;
   run = run_flipped (link_of cfg Dte) (link_of cfg Dce) h.events from_nothing ∙ ap links.swapped h.run;
-  one_link = λ asks is. one_turned asks cfg Dte v (h.one_link asks is);
+  one_link = λ is. one_turned cfg Dte v (h.one_link is);
   grown = λ before e is. (let g = h.grown before e is in record { asked = g.asked; may = g.may; timely = g.timely; run = g.run ∙ sym (twice v) });
 }
 reach_swapped cfg Dce v h = record {
   events = all_flipped h.events;
   timely = timely_flipped (link_of cfg Dce) (link_of cfg Dte) h.events from_nothing h.timely;
   run = run_flipped (link_of cfg Dce) (link_of cfg Dte) h.events from_nothing ∙ ap links.swapped h.run;
-  one_link = λ asks is. one_turned asks cfg Dce v (h.one_link asks is);
+  one_link = λ is. one_turned cfg Dce v (h.one_link is);
   grown = λ before e is. (let g = h.grown before e is in record { asked = g.asked; may = g.may; timely = g.timely; run = g.run });
 }
 
@@ -101,7 +101,7 @@ timely_append c d (x ∷ xs) ys v f g = (f.0, timely_append c d xs ys (links.hap
 
 -- Since a set-up after which none may ask for another, the act is no Connect that is accepted.
 abbrev pub MayAct : Beginning → line.Act → Sessions → Type 0
-MayAct since act v = since ≡ set_up false → (s : line.Stations) → s.near.station ≡ v.near.station → AcceptsNoConnect act s
+MayAct since act v = since ≡ set_up → (s : line.Stations) → s.near.station ≡ v.near.station → AcceptsNoConnect act s
 
 -- within an event the act is one that its end may ask for
 abbrev pub MayAsk : Beginning → Role → line.Act → Type 0
@@ -163,7 +163,7 @@ sessions_act cfg end act v timely may asks h =
       events = h.events ++ line.Near act ∷ [];
       timely = timely_append c d h.events (line.Near act ∷ []) from_nothing h.timely (rw h.run timely, tt);
       run = links_append c d h.events (line.Near act ∷ []) from_nothing ∙ ap (λ (x : Sessions). links.acts c act x) h.run;
-      one_link = λ asks is. one_acts asks cfg end act v (λ free. may (is ∙ ap set_up free)) (h.one_link asks is);
+      one_link = λ is. one_acts cfg end act v (may is) (h.one_link is);
       grown = λ before e is. grow cfg end act v before e timely (asks before e is) (h.grown before e is);
     }
 

@@ -1,5 +1,5 @@
 -- Each event keeps the runs of two links and of the layers in each session, so each list of events does: from nothing, and from set-up.
-use Rattle.std.proofs.Common.{◌≡◌, ℕ, ◌≤◌, inl, inr, List, [], ◌∷◌, ◌++◌, ◌==◌, Bool, false, Option, None, refl, sym, ap, ◌∙◌, subst, arith}
+use Rattle.std.proofs.Common.{◌≡◌, ℕ, ◌≤◌, inl, inr, List, [], ◌∷◌, ◌++◌, ◌==◌, Option, None, refl, sym, ap, ◌∙◌, subst, arith}
 use Rattle.x25_bits.specs.{declared.role.Role.{Role}, declared.role.Role.TheVariants.{Dte, Dce}}
 use Rattle.x25_line.specs.laws.Sessions.{SessionEnd, Sessions, from_nothing}
 use Rattle.x25_station.specs.{declared.config.Cfg.{Cfg}, Config.{settings_from, config_refusal}, Entry.{link_up}}
@@ -8,10 +8,10 @@ use Rattle.x25_station.specs.laws.KeepLaw.{ConnectKeeps}
 use Rattle.x25_world.specs.declared.error.WorldError.{WorldError}
 use Rattle.x25_world.specs.World.{AtEnd, World, swapped, WorldOutcome, Happened, Declined, swapped_back, Act, Commands, Receives, Fires, Loses, Damages, acts, Event, happens, refusal_of, after, run, start, connected, established}
 use Rattle.x25_world.specs.laws.Claims.{ActsInOctets, AreInOctets, IsBeginning, IsUpAtMostOnce, UntilSecondUp, IsNoConnect, NoneConnects}
-use Rattle.x25_world.specs.{laws.Sessions.{Progress, progress_at, last_session}, laws.WindowGoes.{both_put, two_links}}
+use Rattle.x25_world.specs.laws.Sessions.{Progress, progress_at, last_session}
 use Rattle.x25_world.specs.{laws.SessionClaims.{Throughout, ThroughoutAlong}, laws.BesideClaims.{Gave, gave_where, gave_by, gave_at, gave_in}}
 use Rattle.x25_world.specs.laws.LawsBelow.{SessionLaws}
-use Rattle.x25_world.proofs.{Known.{IsConfigured, is_configured}, Established.{kept_new, just_set_up}, WorldLemmas.{refusal-swapped}, OneLink.{AreAlike}}
+use Rattle.x25_world.proofs.{Known.{IsConfigured, is_configured}, Established.{kept_new, both_put, two_links, just_set_up}, WorldLemmas.{refusal-swapped}, OneLink.{AreAlike}}
 use Rattle.x25_world.proofs.{sessions.SessionReaches.{Beginning, both_down, set_up, at_event, IsAt}, sessions.SessionTrace.{layer_of}}
 use Rattle.x25_world.proofs.sessions.SessionBeside.{MoreIs, none_more, more_again, said_channel}
 use Rattle.x25_world.proofs.sessions.SessionJoined.{IsEnd, SessionsJoined, retold, Goes, gave_none, sessions_swapped}
@@ -20,12 +20,12 @@ use Rattle.x25_world.proofs.{sessions.acts.SessionRequests.{requests_joined, giv
 use Rattle.x25_line.specs.laws.Sessions as links
 
 -- what happens at the far end is what happens at the near end of the two ends swapped
-back_after : (w : World) (o : WorldOutcome) → after w (swapped_back o) ≡ swapped (after (swapped w) o)
+pub back_after : (w : World) (o : WorldOutcome) → after w (swapped_back o) ≡ swapped (after (swapped w) o)
 back_after w (Happened next) = refl
 back_after w (Declined e) = refl
 
-pub not_set_up : {A : Type 0} (asks : Bool) → both_down ≡ set_up asks → A
-not_set_up asks is = absurd (cc)
+pub not_set_up : {A : Type 0} → both_down ≡ set_up → A
+not_set_up is = absurd (cc)
 
 -- such runs aren't within an event
 abbrev pub IsAtNone : Beginning → Type 0
@@ -34,8 +34,8 @@ IsAtNone since = (before : Sessions) (e : Event) → since ≡ at_event before e
 pub down_at_none : IsAtNone both_down
 down_at_none before e is = cc
 
-set_up_at_none : (asks : Bool) → IsAtNone (set_up asks)
-set_up_at_none asks before e is = cc
+set_up_at_none : IsAtNone set_up
+set_up_at_none before e is = cc
 
 one_up : (end : Role) (transcript : List AtEnd) → transcript ≡ record { at = Dce; entry = link_up } ∷ record { at = Dte; entry = link_up } ∷ [] → (progress_at end transcript).begun ≡ 1
 one_up Dte transcript is = ap (λ (t : List AtEnd). (progress_at Dte t).begun) is
@@ -63,7 +63,7 @@ behind {cfg = cfg} v u dte dte_more dce dce_more near far r = record {
 
 module _ (laws : SessionLaws) (cfg : Cfg) (fine : IsConfigured cfg) where
   acts_joined : {since : Beginning} (end : Role) (w : World) (h : SessionsJoined since cfg end w) (act : Act) → IsAt since end act → ActsInOctets act
-      → (let o = acts (settings_from end cfg) w act in (since ≡ set_up false → IsNoConnect act (refusal_of o))
+      → (let o = acts (settings_from end cfg) w act in (since ≡ set_up → IsNoConnect act (refusal_of o))
       → Goes since cfg end h.links (λ (n : ℕ). gave_by (layer_of cfg end) w.near.layer (n == h.links.near.begun) act (refusal_of o)) (after w o))
   acts_joined end w h (Commands (Requests request)) is_at octets none = requests_joined laws cfg fine end w h request (said_by cfg.say_sizes w.near.layer request) is_at (said_octets cfg.say_sizes w.near.layer request octets)
   acts_joined {since} end w h (Commands (RequestsWith given request)) is_at octets none =
@@ -92,7 +92,7 @@ module _ (laws : SessionLaws) (cfg : Cfg) (fine : IsConfigured cfg) where
   }
 
   pub event_joined : {since : Beginning} (at : Role) (act : Act) (w : World) → IsAt since at act → ActsInOctets act
-      → (let e : Event = record { at = at; act = act } in let o = happens cfg w e in (since ≡ set_up false → IsNoConnect act (refusal_of o))
+      → (let e : Event = record { at = at; act = act } in let o = happens cfg w e in (since ≡ set_up → IsNoConnect act (refusal_of o))
       → (h : SessionsJoined since cfg Dte w) → RunGoes since cfg h.links (λ (n : ℕ). gave_at cfg Dte n w e) (λ (n : ℕ). gave_at cfg Dce n w e) (after w o))
   unfolding sessions_swapped
   event_joined Dte act w is_at octets none h =
@@ -109,7 +109,7 @@ module _ (laws : SessionLaws) (cfg : Cfg) (fine : IsConfigured cfg) where
       subst (λ (x : World). RunGoes since cfg h.links (λ (n : ℕ). gave_at cfg Dte n w e) (λ (n : ℕ). gave_at cfg Dce n w e) x) (sym (back_after w o))
       (far_goes since w h act o (acts_joined Dce (swapped w) (sessions_swapped cfg Dte w h) act is_at octets (λ free. subst (IsNoConnect act) (refusal-swapped o) (none free))))
 
-  run_joined : {since : Beginning} (events : List Event) (w : World) → IsAtNone since → AreInOctets events → (since ≡ set_up false → NoneConnects cfg events w) → (h : SessionsJoined since cfg Dte w)
+  run_joined : {since : Beginning} (events : List Event) (w : World) → IsAtNone since → AreInOctets events → (since ≡ set_up → NoneConnects cfg events w) → (h : SessionsJoined since cfg Dte w)
       → RunGoes since cfg h.links (λ (n : ℕ). gave_in cfg Dte n events w) (λ (n : ℕ). gave_in cfg Dce n events w) (run cfg events w)
   run_joined [] w never octets none h = record {
     joined = h;
@@ -146,7 +146,7 @@ module _ (laws : SessionLaws) (cfg : Cfg) (fine : IsConfigured cfg) where
   start_joined = record {
     links = from_nothing;
     trace = [];
-    reach = record { events = []; timely = tt; run = refl; one_link = λ asks is. not_set_up asks is; grown = λ before e is. absurd (down_at_none before e is) };
+    reach = record { events = []; timely = tt; run = refl; one_link = λ is. not_set_up is; grown = λ before e is. absurd (down_at_none before e is) };
     near = end_at_start Dte;
     far = end_at_start Dce;
     out = refl;
@@ -169,14 +169,14 @@ module _ (laws : SessionLaws) (cfg : Cfg) (fine : IsConfigured cfg) where
   connected_goes : ConnectKeeps → BeginsSo (connected cfg)
   unfolding start_joined
   connected_goes keeps =
-      let s = connects_alone_joined laws cfg fine Dte start start_joined (λ before e is. absurd (down_at_none before e is)) (λ off. not_set_up false off) keeps in
+      let s = connects_alone_joined laws cfg fine Dte start start_joined (λ before e is. absurd (down_at_none before e is)) (λ off. not_set_up off) keeps in
       record { joined = s.joined; near = s.down; far = λ n. none_more cfg [] (s.joined.links.far.down n) [] (ap (λ (k : SessionEnd). k.down n) s.far) }
 
   established_goes : ConnectKeeps → BeginsSo (established cfg)
   established_goes keeps =
       let c = connected_goes keeps in
       behind from_nothing c.joined.links gave_none gave_none gave_none gave_none c.near c.far
-      (run_joined (record { at = Dce; act = Receives } ∷ record { at = Dte; act = Receives } ∷ []) (connected cfg) down_at_none (tt, (tt, tt)) (λ off. not_set_up false off) c.joined)
+      (run_joined (record { at = Dce; act = Receives } ∷ record { at = Dte; act = Receives } ∷ []) (connected cfg) down_at_none (tt, (tt, tt)) (λ off. not_set_up off) c.joined)
 
   pub established_joined : ConnectKeeps → SessionsJoined both_down cfg Dte (established cfg)
   established_joined keeps = (established_goes keeps).joined
@@ -196,19 +196,19 @@ module _ (laws : SessionLaws) (cfg : Cfg) (fine : IsConfigured cfg) where
       }
 
   -- two stations run from a link just set up too
-  set_up_joined : (asks : Bool) → ConnectKeeps → SessionsJoined (set_up asks) cfg Dte (established cfg)
-  set_up_joined asks keeps =
+  set_up_joined : ConnectKeeps → SessionsJoined set_up cfg Dte (established cfg)
+  set_up_joined keeps =
       let h = established_joined keeps in
       retold cfg Dte (established cfg) h (record {
         events = h.reach.events;
         timely = h.reach.timely;
         run = h.reach.run;
-        one_link = λ a is. record {
+        one_link = λ is. record {
           stations = two_links cfg;
-          reach = record { events = both_put; unasked = λ free. (tt, (tt, tt)); run = refl };
+          reach = record { events = both_put; unasked = (tt, (tt, tt)); run = refl };
           alike = set_up_alike keeps;
         };
-        grown = λ before e is. absurd (set_up_at_none asks before e is);
+        grown = λ before e is. absurd (set_up_at_none before e is);
       })
 
 -- at any beginning
@@ -230,7 +230,7 @@ pub throughout_goes : (laws : SessionLaws) → ConnectKeeps
 throughout_goes laws keeps cfg fine begin is events octets =
     let b = begin_goes laws keeps cfg (is_configured cfg fine) begin is in
     behind from_nothing b.joined.links gave_none (λ (n : ℕ). gave_in cfg Dte n events begin) gave_none (λ (n : ℕ). gave_in cfg Dce n events begin) b.near b.far
-    (run_joined laws cfg (is_configured cfg fine) events begin down_at_none octets (λ off. not_set_up false off) b.joined)
+    (run_joined laws cfg (is_configured cfg fine) events begin down_at_none octets (λ off. not_set_up off) b.joined)
 
 pub throughout_joined : (laws : SessionLaws) → ConnectKeeps → Throughout (λ (cfg : Cfg) (w : World). SessionsJoined both_down cfg Dte w)
 throughout_joined laws keeps cfg fine begin is events octets = (throughout_goes laws keeps cfg fine begin is events octets).joined
@@ -243,8 +243,8 @@ pub until_second : (laws : SessionLaws) → ConnectKeeps → (Holds : Cfg → Wo
     → UntilSecondUp Holds
 until_second laws keeps Holds holds cfg fine begin is events octets once = throughout laws keeps (λ (c : Cfg) (w : World). IsUpAtMostOnce c w → Holds c w) holds cfg fine begin is events octets once
 
--- at each world of a run from a link just set up, after which, where `asks` is false, no `connect` is accepted
-pub set_up_throughout : (laws : SessionLaws) → ConnectKeeps → (asks : Bool) (cfg : Cfg) → config_refusal cfg ≡ None → (events : List Event) → AreInOctets events
-    → (set_up asks ≡ set_up false → NoneConnects cfg events (established cfg)) → SessionsJoined (set_up asks) cfg Dte (run cfg events (established cfg))
-set_up_throughout laws keeps asks cfg fine events octets none =
-    (run_joined laws cfg (is_configured cfg fine) events (established cfg) (set_up_at_none asks) octets none (set_up_joined laws cfg (is_configured cfg fine) asks keeps)).joined
+-- at each world of a run from a link just set up, after which no `connect` is accepted
+pub set_up_throughout : (laws : SessionLaws) → ConnectKeeps → (cfg : Cfg) → config_refusal cfg ≡ None → (events : List Event) → AreInOctets events
+    → NoneConnects cfg events (established cfg) → SessionsJoined set_up cfg Dte (run cfg events (established cfg))
+set_up_throughout laws keeps cfg fine events octets none =
+    (run_joined laws cfg (is_configured cfg fine) events (established cfg) set_up_at_none octets (λ is. none) (set_up_joined laws cfg (is_configured cfg fine) keeps)).joined

@@ -6,18 +6,65 @@ use Rattle.x25_frame.specs.{Frame.{PlainFrame}, Reading.{frame_of}, declared.err
 use Rattle.x25_link.specs.{Hearing.{other}, Station.{Settings as LinkSettings, LinkStation}}
 use Rattle.x25_line.specs.laws.Stations.{StationEnd}
 use Rattle.x25_line.specs.laws.Sessions.{SessionEnd, Sessions, from_nothing, sabm_in, ua_in, how_many, asked, IsTimely, IsTimelyAt, AreTimely}
-use Rattle.x25_line.specs.laws.SessionClaims.{octets_of}
+use Rattle.x25_line.specs.laws.SessionClaims.{Each, octets_of}
 use Rattle.x25_line.specs.laws.SessionNumbers.{Standing, standing_happens, standing_run, standing_at, EachUpStandsWith, StandingGoesAlong}
 use Rattle.x25_station.specs.{declared.config.Cfg.{Cfg}, Config.{config_refusal}, laws.KeepLaw.{ConnectKeeps}}
-use Rattle.x25_world.specs.{World.{World, Event, happens, after, run}, laws.Claims.{AreInOctets, IsBeginning, link_of}, laws.WindowGoes.{all_at}}
+use Rattle.x25_world.specs.{World.{World, Event, happens, after, run}, laws.Claims.{ActsInOctets, AreInOctets, IsBeginning, link_of}, laws.SessionWindow.{Asks, all_at}}
 use Rattle.x25_world.specs.{laws.SessionWindow.{StandsInWindow, SessionsGoAlong, SessionsStayInWindow}, laws.SessionClaims.{ThroughoutAlong}}
 use Rattle.x25_world.specs.laws.LawsBelow.{SessionLaws}
 use Rattle.x25_world.proofs.{Known.{IsConfigured, is_configured}, WorldLemmas.{run_append}}
-use Rattle.x25_world.proofs.{sessions.SessionReaches.{both_down, links_append, timely_append, joined_at}, sessions.SessionJoined.{SessionsJoined}}
-use Rattle.x25_world.proofs.{sessions.SessionRuns.{begin_joined, throughout_joined}, WindowRuns.{Next, next}}
+use Rattle.x25_world.proofs.{sessions.SessionReaches.{Beginning, both_down, set_up, at_event, links_append, timely_append, joined_at}, sessions.SessionJoined.{SessionsJoined, retold}}
+use Rattle.x25_world.proofs.sessions.SessionRuns.{event_joined, down_at_none, not_set_up, begin_joined, throughout_joined}
 use Rattle.x25_line.proofs.sessions.SessionsForgotten.{Lasts, Alike, happens_alike, runs_alike, turned_alike}
 use Rattle.x25_line.specs.laws.Stations as line
 use Rattle.x25_line.specs.laws.Sessions as links
+
+-- ---- one event
+
+abbrev links_in : Beginning → Sessions → Sessions
+links_in (at_event before e) v = before
+links_in since v = v
+
+abbrev event_in : Beginning → Event → Event
+event_in (at_event before e) x = e
+event_in since x = x
+
+event_is_none : {A : Type 0} (v : Sessions) (e : Event) → at_event v e ≡ set_up → A
+event_is_none v e is = absurd (cc)
+
+-- the links go on by what the end of the event asks
+record Next (cfg : Cfg) (w : World) (v : Sessions) (e : Event) : Type 0 where
+  joined : SessionsJoined both_down cfg Dte (after w (happens cfg w e))
+  asked : List line.Act
+  may : Each (Asks e.act) asked
+  timely : AreTimely (link_of cfg Dte) (link_of cfg Dce) (all_at e.at asked) v
+  run : links.run (link_of cfg Dte) (link_of cfg Dce) (all_at e.at asked) v ≡ joined.links
+
+module _ (laws : SessionLaws) (cfg : Cfg) (fine : IsConfigured cfg) where
+  next : (w : World) (h : SessionsJoined both_down cfg Dte w) (e : Event) → ActsInOctets e.act → Next cfg w h.links e
+  next w h e octets =
+      let within : SessionsJoined (at_event h.links e) cfg Dte w = retold cfg Dte w h (record {
+        events = h.reach.events;
+        timely = h.reach.timely;
+        run = h.reach.run;
+        one_link = λ is. event_is_none h.links e is;
+        grown = λ before x is. record { asked = []; may = tt; timely = tt; run = sym (ap (λ (b : Beginning). links_in b h.links) is) };
+      }) in
+      let j = (event_joined laws cfg fine e.at e.act w (λ before x is. sym (ap (λ (b : Beginning). event_in b e) is)) octets (λ free. event_is_none h.links e free) within).joined in
+      let g = j.reach.grown h.links e refl in
+      record {
+        joined = retold cfg Dte (after w (happens cfg w e)) j (record {
+          events = j.reach.events;
+          timely = j.reach.timely;
+          run = j.reach.run;
+          one_link = λ is. not_set_up is;
+          grown = λ before x is. absurd (down_at_none before x is);
+        });
+        asked = g.asked;
+        may = g.may;
+        timely = g.timely;
+        run = g.run;
+      }
 
 -- ---- links that have the stations of these and the octets on their lines do alike
 

@@ -8,9 +8,9 @@ use Rattle.x25_station.specs.{declared.station.Station.{Station}, declared.step.
 use Rattle.x25_station.specs.{Config.{settings_from, config_refusal}, code.FitsStation.{FitsStation}}
 use Rattle.x25_world.specs.World.{AtEnd, World, Event, Act, Loses, WorldOutcome, Happened, Declined, happens}
 use Rattle.x25_world.specs.World.{refusal_of, after, run, AreAccepted, established}
-use Rattle.x25_world.specs.laws.Claims.{AreInOctets, IsUpOnce, IsUpAtMostOnce, SetsUpOnce, IsBeginning, NoneConnects}
-use Rattle.x25_world.specs.laws.Claims.{IsLawful, IsNamed, ArrivesAll, HasNoProcedureError}
-use Rattle.x25_world.specs.{laws.WindowGoes.{StaysInWindow}, laws.SessionClaims.{SessionsKeepOrder}}
+use Rattle.x25_world.specs.laws.Claims.{AreInOctets, IsUpOnce, IsUpAtMostOnce, IsBeginning, NoneConnects}
+use Rattle.x25_world.specs.laws.Claims.{IsLawful, IsNamed, ArrivesAll}
+use Rattle.x25_world.specs.laws.SessionClaims.{SessionsKeepOrder}
 use Rattle.x25_world.specs.{laws.BesideClaims.{BesideIsGiven}, laws.SessionWindow.{SessionsStayInWindow}}
 use Rattle.x25_world.specs.{code.ShownLine.{ShownLine, line_to}, BitDamage.{bit_damage, RefusesBits}}
 use Rattle.x25_world.specs.code.ShownWorld.{ShownWorld, line_of, TakesFewPlaces}
@@ -72,73 +72,32 @@ pub record Leaves (Holds : Cfg → World → Type 0) (cfg : Cfg) (from : World) 
   pub fits : FitsRun cfg from v events
   pub holds : Holds cfg (run cfg events from)
 
--- ---- what is claimed of a call, after each run that leads to the world before
+-- ---- what is claimed of a run from any of the three beginnings
 
--- It goes on so to the world that is left, and this holds of that: up to the moment at which an end goes up a second
--- time.
-abbrev pub HoldsAfter : (Cfg → World → Type 0) → ShownWorld → ShownWorld → (List Event → List Event) → Type 0
-HoldsAfter Holds old new more =
-    (cfg : Cfg) (from : World) (past : List Event) → IsBeginning cfg from → FitsRun cfg from old past
-    → IsUpAtMostOnce cfg (run cfg (more past) from) → Leaves Holds cfg from new (more past)
+-- These events lead here. Up to the moment at which an end goes up a second time `lawful`, `named` and `arrives` hold;
+-- `up_once` from a link just set up, where no `connect` is accepted; of each run, also where the link is set up anew,
+-- `sessions`, `links` and `beside`.
+pub record RunHolds (cfg : Cfg) (from : World) (v : ShownWorld) (events : List Event) : Type 0 where
+  pub fits : FitsRun cfg from v events
+  pub lawful : IsUpAtMostOnce cfg (run cfg events from) → IsLawful cfg (run cfg events from)
+  pub named : IsUpAtMostOnce cfg (run cfg events from) → IsNamed cfg (run cfg events from)
+  pub arrives : IsUpAtMostOnce cfg (run cfg events from) → ArrivesAll cfg (run cfg events from)
+  pub up_once : from ≡ established cfg → NoneConnects cfg events from → IsUpOnce cfg (run cfg events from)
+  pub sessions : SessionsKeepOrder cfg (run cfg events from)
+  pub links : SessionsStayInWindow cfg from events (run cfg events from)
+  pub beside : BesideIsGiven cfg from events (run cfg events from)
 
--- after each run from a link just set up, which isn't set up anew: this holds of the whole run, and of what is here
-abbrev pub HoldsAfterSetUp : (Cfg → List Event → World → Type 0) → ShownWorld → ShownWorld → (List Event → List Event)
-    → Type 0
-HoldsAfterSetUp Holds old new more =
-    (cfg : Cfg) (past : List Event) → FitsRun cfg (established cfg) old past → SetsUpOnce cfg (more past)
-    → Leaves (λ (c : Cfg) (w : World). Holds c (more past) w) cfg (established cfg) new (more past)
-
--- after each of these runs, also where the link is set up anew
-abbrev pub HoldsThroughout : (Cfg → World → Type 0) → ShownWorld → ShownWorld → (List Event → List Event) → Type 0
-HoldsThroughout Holds old new more =
-    (cfg : Cfg) (from : World) (past : List Event) → IsBeginning cfg from → FitsRun cfg from old past
-    → Leaves Holds cfg from new (more past)
-
--- after each of these runs, of the whole of it and of what is here
-abbrev pub GoesOnThroughout : (Cfg → World → List Event → World → Type 0) → ShownWorld → ShownWorld
-    → (List Event → List Event) → Type 0
-GoesOnThroughout Holds old new more =
-    (cfg : Cfg) (from : World) (past : List Event) → IsBeginning cfg from → FitsRun cfg from old past
-    → Leaves (λ (c : Cfg) (w : World). Holds c from (more past) w) cfg from new (more past)
-
--- where no `connect` was accepted in it, the link isn't set up anew
-abbrev pub UpOnceAfter : ShownWorld → ShownWorld → (List Event → List Event) → Type 0
-UpOnceAfter old new more =
-    (cfg : Cfg) (past : List Event) → FitsRun cfg (established cfg) old past →
-    NoneConnects cfg (more past) (established cfg)
-    → Leaves IsUpOnce cfg (established cfg) new (more past)
-
--- The world that is left is that of a run. Of each run up to the moment at which an end goes up a second time
--- `lawful` to `quiet` hold, `window` and `up_once` from a link just set up; of each run, also where the link is set
--- up anew, `sessions`, `links` and `beside`.
+-- The world that is left is that of a run, of which all this holds.
 pub record Claims (old new : ShownWorld) (more : List Event → List Event) : Type 0 where
   pub run : (cfg : Cfg) (from : World) (past : List Event) → FitsRun cfg from old past →
       FitsRun cfg from new (more past)
-  pub lawful : HoldsAfter IsLawful old new more
-  pub named : HoldsAfter IsNamed old new more
-  pub arrives : HoldsAfter ArrivesAll old new more
-  pub quiet : HoldsAfter HasNoProcedureError old new more
-  pub window : HoldsAfterSetUp StaysInWindow old new more
-  pub up_once : UpOnceAfter old new more
-  pub sessions : HoldsThroughout SessionsKeepOrder old new more
-  pub links : GoesOnThroughout SessionsStayInWindow old new more
-  pub beside : GoesOnThroughout BesideIsGiven old new more
+  pub holds : (cfg : Cfg) (from : World) (past : List Event) → IsBeginning cfg from → FitsRun cfg from old past
+      → RunHolds cfg from new (more past)
 
--- the same of a world that was just made, from where its runs begin
+-- the same of a world that was just made, from where its runs begin, at which neither end went up a second time
 pub record ClaimsOfNew (cfg : Cfg) (from : World) (v : ShownWorld) : Type 0 where
-  pub run : FitsRun cfg from v []
-  pub lawful : IsLawful cfg from
-  pub named : IsNamed cfg from
-  pub arrives : ArrivesAll cfg from
-  pub quiet : HasNoProcedureError cfg from
-  pub sessions : SessionsKeepOrder cfg from
-  pub links : SessionsStayInWindow cfg from [] from
-  pub beside : BesideIsGiven cfg from [] from
-
--- the claims of a world whose link was just set up
-pub record ClaimsOfSetUp (cfg : Cfg) : Type 0 where
-  pub window : StaysInWindow cfg [] (established cfg)
-  pub up_once : IsUpOnce cfg (established cfg)
+  pub once : IsUpAtMostOnce cfg from
+  pub holds : RunHolds cfg from v []
 
 -- ---- an end and what it shares with the other; the other end is as it was
 

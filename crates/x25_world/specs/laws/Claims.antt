@@ -73,12 +73,6 @@ AreInOctets events = Each (λ (e : Event). ActsInOctets e.act) events
 abbrev pub SetsUpOnce : Cfg → List Event → Type 0
 SetsUpOnce cfg events = IsUpOnce cfg (run cfg events (established cfg))
 
--- what holds of each list of events, of commands, deliveries, losses, damage and timer T1, from a link just set up,
--- which isn't set up anew, and of the world that they lead to
-abbrev pub Always : (Cfg → List Event → World → Type 0) → Type 0
-Always Holds = (cfg : Cfg) → config_refusal cfg ≡ None → (events : List Event) → AreInOctets events
-    → SetsUpOnce cfg events → Holds cfg events (run cfg events (established cfg))
-
 -- from where a run begins: both links are down, the DTE has asked that the link be set up, or it was just set up
 abbrev pub IsBeginning : Cfg → World → Type 0
 IsBeginning cfg begin = (begin ≡ start) ⊎ ((begin ≡ connected cfg) ⊎ (begin ≡ established cfg))
@@ -164,7 +158,7 @@ pub record HasNoProcedureError (cfg : Cfg) (w : World) : Type 0 where
   pub tap : IsQuietTap cfg w.tap
   pub told : (end : Role) → AreNoFaults (layer_notices (entries_at end w.transcript))
 
--- ---- the window of the link
+-- ---- the settings of a link
 
 abbrev pub link_of : Cfg → Role → LinkSettings
 link_of cfg end = link_settings (settings_from end cfg)

@@ -1,14 +1,48 @@
 -- The window of the links over set-up and re-set-up, along a run: one window machine behind the two sessions that
 -- stand, which goes on from event to event.
 use Rattle.std.specs.Prelude.{◌≡◌, List, [], ◌∷◌, ◌++◌}
-use Rattle.x25_bits.specs.declared.role.Role.TheVariants.{Dte, Dce}
+use Rattle.x25_bits.specs.{declared.role.Role.{Role}, declared.role.Role.TheVariants.{Dte, Dce}}
 use Rattle.x25_line.specs.{laws.Sessions.{Sessions, from_nothing, AreTimely}, laws.SessionClaims.{Each, octets_of}}
 use Rattle.x25_line.specs.laws.SessionNumbers.{Standing, standing_run, standing_at, EachUpStandsWith}
 use Rattle.x25_station.specs.declared.config.Cfg.{Cfg}
-use Rattle.x25_world.specs.{World.{World, Event, happens, after, run}, laws.Claims.{IsBeginning, link_of}}
-use Rattle.x25_world.specs.laws.WindowGoes.{Asks, all_at}
+use Rattle.x25_station.specs.Command.{Requests, RequestsWith, Connects, Disconnects, Probes, Relinks}
+use Rattle.x25_world.specs.World.{World, Act, Commands, Receives, Fires, Loses, Damages, Event, happens, after, run}
+use Rattle.x25_world.specs.laws.Claims.{IsBeginning, link_of}
 use Rattle.x25_line.specs.laws.Stations as line
 use Rattle.x25_line.specs.laws.Sessions as links
+
+-- ---- what an event does to the two links
+
+-- What the links may be asked for in an act of their end: what comes is taken off the line, and packets are put as the
+-- layer answers; where a count of the layer is full, the link is abandoned, and what comes is lost. A request may put
+-- packets. To relink is to abandon and then to connect. All else is asked for as it is.
+abbrev pub Asks : Act → line.Act → Type 0
+Asks Receives line.Deliver = Unit {0}
+Asks Receives (line.Put octets) = Unit {0}
+Asks Receives line.Abandon = Unit {0}
+Asks Receives (line.Lose place) = place ≡ 0
+Asks (Commands (Requests request)) (line.Put octets) = Unit {0}
+Asks (Commands (RequestsWith given request)) (line.Put octets) = Unit {0}
+Asks (Commands Connects) line.Connect = Unit {0}
+Asks (Commands Disconnects) line.Disconnect = Unit {0}
+Asks (Commands Probes) line.Probe = Unit {0}
+Asks (Commands Relinks) line.Abandon = Unit {0}
+Asks (Commands Relinks) line.Connect = Unit {0}
+Asks Fires line.T1 = Unit {0}
+Asks (Loses place) (line.Lose same) = same ≡ place
+Asks (Damages place octets) (line.Damage same others) = (same ≡ place) × (others ≡ octets)
+Asks act asked = ⊥
+
+-- each at the end of the event
+abbrev pub at_end : Role → line.Act → line.Event
+at_end Dte act = line.Near act
+at_end Dce act = line.Far act
+
+abbrev pub all_at : Role → List line.Act → List line.Event
+all_at end [] = []
+all_at end (act ∷ acts) = at_end end act ∷ all_at end acts
+
+-- ---- along a run
 
 -- A run of two links from both down, with the links and lines of this world, and the sessions that stand by it, with
 -- their window machine.

@@ -1,5 +1,5 @@
-use Rattle.x25_line.proofs.{StationRuns.{once_before}, PeerOrder.{stations_keep_order}}
-use Rattle.x25_line.proofs.StationClaimLemmas.{keeps_lists, keeps_notes, goes_along, sends_no_frmr, sends_whole, stays_one_link}
+use Rattle.x25_line.proofs.StationRuns.{once_before}
+use Rattle.x25_line.proofs.StationClaimLemmas.{keeps_order, keeps_lists, keeps_notes, goes_along, sends_no_frmr, sends_whole, stays_one_link}
 use Rattle.x25_line.proofs.law.links_keep_order.Goals as goal
 
 pub returns : goal.returns
@@ -7,7 +7,7 @@ returns c =
     let below = c.laws_below.ensures in
     let laws = below.healing.sessions.laws in
     record {
-      order = stations_keep_order below.reads laws;
+      order = keeps_order below.reads laws;
       lists = keeps_lists below.reads laws;
       notes = keeps_notes below.reads laws;
       window = goes_along below.reads laws;

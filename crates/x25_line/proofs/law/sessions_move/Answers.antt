@@ -1,7 +1,7 @@
-use Rattle.x25_line.proofs.rows.SessionRowLemmas.{sets_up_from_nothing, sets_up_again, untimely_is_out_of_step}
+use Rattle.x25_line.proofs.rows.SessionRowLemmas.{sets_up_from_nothing, sets_up_again}
 use Rattle.x25_line.proofs.law.sessions_move.Goals as goal
 
 pub returns : goal.returns
 returns c =
     let reads = c.reads_what_is_spelled.ensures.reads in
-    record { first = sets_up_from_nothing reads; second = sets_up_again reads; untimely = untimely_is_out_of_step reads }
+    record { first = sets_up_from_nothing reads; second = sets_up_again reads }

@@ -1,7 +1,6 @@
-use Rattle.std.proofs.Common.{false}
-use Rattle.x25_world.specs.{World.{run, established}, laws.Claims.{IsLawful, IsNamed, ArrivesAll, HasNoProcedureError}}
+use Rattle.x25_world.specs.{World.{run, established}, laws.Claims.{IsLawful, IsNamed, ArrivesAll}}
 use Rattle.x25_world.proofs.{Known.{is_configured}, Established.{set_up_accepted}, SetUpOnce.{lawful_once, named_once, arrives_once, is_up_once}}
-use Rattle.x25_world.proofs.{WindowRuns.{stays_in_window}, sessions.SessionRuns.{until_second, set_up_throughout}, sessions.claims.SessionQuiet.{has_no_error}}
+use Rattle.x25_world.proofs.sessions.SessionRuns.{until_second, set_up_throughout}
 use Rattle.x25_world.proofs.law.two_stations_keep_order.Goals as goal
 
 pub returns : goal.returns
@@ -14,8 +13,6 @@ returns c =
       lawful = until_second laws keeps IsLawful (λ cfg fine w h once. lawful_once laws cfg fine w h once);
       named = until_second laws keeps IsNamed (λ cfg fine w h once. named_once laws cfg fine w h once);
       arrives = until_second laws keeps ArrivesAll (λ cfg fine w h once. arrives_once laws cfg fine w h once);
-      quiet = until_second laws keeps HasNoProcedureError (λ cfg fine w h once. has_no_error laws cfg fine w h);
-      window = λ cfg fine events octets once. stays_in_window laws keeps links.window links.before cfg (is_configured cfg fine) events octets once;
       up_once = λ cfg fine events octets none.
-          is_up_once links.once cfg (is_configured cfg fine) (run cfg events (established cfg)) (set_up_throughout laws keeps false cfg fine events octets (λ free. none));
+          is_up_once links.once cfg (is_configured cfg fine) (run cfg events (established cfg)) (set_up_throughout laws keeps cfg fine events octets none);
     }

@@ -142,19 +142,19 @@ module _ {since : Beginning} (laws : SessionLaws) (cfg : Cfg) (fine : IsConfigur
       by false is = fires_joined is_at is
 
   -- set-up is asked for, by a command or not
-  connecting : (lead : Lead) → MayAsk since end line.Connect → (since ≡ set_up false → connect_refusal w.near.link.phase ≡ None → ⊥) → KeptBy (unless (connect_refusal w.near.link.phase) (led_by (lead_of lead) (follows (settings_from end cfg) w.near.layer (connect_step (link_of cfg end) w.near.link))))
+  connecting : (lead : Lead) → MayAsk since end line.Connect → (since ≡ set_up → connect_refusal w.near.link.phase ≡ None → ⊥) → KeptBy (unless (connect_refusal w.near.link.phase) (led_by (lead_of lead) (follows (settings_from end cfg) w.near.layer (connect_step (link_of cfg end) w.near.link))))
       → Goes since cfg end h.links gave_none
       (after w (of_station (settings_from end cfg) w (unless (connect_refusal w.near.link.phase) (led_by (lead_of lead) (follows (settings_from end cfg) w.near.layer (connect_step (link_of cfg end) w.near.link))))))
   connecting lead asks may =
       act_joined lead line.Connect (λ (s : LinkStation). connect_refusal s.phase) (connect_step (link_of cfg end)) refl (laws.hands (link_of cfg end) (link_of cfg end) (line.Near line.Connect) h.links).0.begun tt
       (λ accepted free s same is. may free accepted) asks refl (λ accepted. laws.stations.connect_tells (link_of cfg end) w.near.link (connects_in_down w.near.link.phase accepted))
 
-  pub connects_joined : IsAt since end (Commands Connects) → (since ≡ set_up false → IsNoConnect (Commands Connects) (refusal_of (of_station (settings_from end cfg) w (connects_asked (settings_from end cfg) w.near))))
+  pub connects_joined : IsAt since end (Commands Connects) → (since ≡ set_up → IsNoConnect (Commands Connects) (refusal_of (of_station (settings_from end cfg) w (connects_asked (settings_from end cfg) w.near))))
       → Goes since cfg end h.links gave_none (after w (of_station (settings_from end cfg) w (connects_asked (settings_from end cfg) w.near)))
   connects_joined is_at none = connecting connect (may_ask end (Commands Connects) line.Connect is_at tt) (λ free accepted. subst (λ (o : Option LinkError). IsNoConnect (Commands Connects) (refusal_of (of_station (settings_from end cfg) w (unless o
       (led_by (connect_asked ∷ []) (follows (settings_from end cfg) w.near.layer (connect_step (link_of cfg end) w.near.link))))))) accepted (none free)) (laws.stations.command_keeps (settings_from end cfg) w.near Connects h.near.kept)
 
-  pub connects_alone_joined : MayAsk since end line.Connect → (since ≡ set_up false → ⊥) → ConnectKeeps → Goes since cfg end h.links gave_none (after w (of_station (settings_from end cfg) w (connects (settings_from end cfg) w.near)))
+  pub connects_alone_joined : MayAsk since end line.Connect → (since ≡ set_up → ⊥) → ConnectKeeps → Goes since cfg end h.links gave_none (after w (of_station (settings_from end cfg) w (connects (settings_from end cfg) w.near)))
   connects_alone_joined asks unasked keeps = connecting no_command asks (λ free accepted. unasked free) (keeps (settings_from end cfg) w.near h.near.kept)
 
   pub disconnects_joined : IsAt since end (Commands Disconnects) → Goes since cfg end h.links gave_none (after w (of_station (settings_from end cfg) w (disconnects (settings_from end cfg) w.near)))
@@ -170,7 +170,7 @@ module _ {since : Beginning} (laws : SessionLaws) (cfg : Cfg) (fine : IsConfigur
       (laws.stations.command_keeps (settings_from end cfg) w.near Probes h.near.kept)
 
   -- the link is abandoned, and then connected
-  pub relinks_joined : IsAt since end (Commands Relinks) → (since ≡ set_up false → IsNoConnect (Commands Relinks) (refusal_of (of_station (settings_from end cfg) w (relinks (settings_from end cfg) w.near))))
+  pub relinks_joined : IsAt since end (Commands Relinks) → (since ≡ set_up → IsNoConnect (Commands Relinks) (refusal_of (of_station (settings_from end cfg) w (relinks (settings_from end cfg) w.near))))
       → Goes since cfg end h.links gave_none (after w (of_station (settings_from end cfg) w (relinks (settings_from end cfg) w.near)))
   relinks_joined is_at none = by (relink_refusal w.near.link.phase) refl none
     where
@@ -183,7 +183,7 @@ module _ {since : Beginning} (laws : SessionLaws) (cfg : Cfg) (fine : IsConfigur
       step : Step
       step = led_by (relink_asked ∷ []) (follows (settings_from end cfg) w.near.layer k)
 
-      by : (o : Option LinkError) → relink_refusal w.near.link.phase ≡ o → (since ≡ set_up false → IsNoConnect (Commands Relinks) (refusal_of (of_station (settings_from end cfg) w (unless o step))))
+      by : (o : Option LinkError) → relink_refusal w.near.link.phase ≡ o → (since ≡ set_up → IsNoConnect (Commands Relinks) (refusal_of (of_station (settings_from end cfg) w (unless o step))))
           → Goes since cfg end h.links gave_none (after w (of_station (settings_from end cfg) w (unless o step)))
       by (Some e) is none = stays cfg end w h gave_none
       by None is none =
