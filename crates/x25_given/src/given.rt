@@ -1,7 +1,7 @@
 ghost use Rattle.std.specs.Prelude.{◌≡◌};
 ghost use Rattle.x25_given.specs.Given.{may_give, plain_given};
 
-use x25_packet::{are_facilities, own_facilities};
+use x25_packet::own_facilities;
 
 /// The most octets of facilities: a field has at most 109, and six are the station's own. ITU-T X.25 (10/96), section
 /// 7.1.
@@ -25,10 +25,11 @@ impl<'a> Given<'a> {
     pub fn is_allowed(&self) -> bool
         ensures { result ≡ may_give (plain_given self.now) }
     {
-        let own = own_facilities(self.facilities);
-        are_facilities(self.facilities)
-            && (self.facilities.len() <= MOST_FACILITIES
-                && (own.packet_size.is_none()
-                    && (own.window_size.is_none() && self.user.len() <= MOST_USER)))
+        let Some(own) = own_facilities(self.facilities) else {
+            return false;
+        };
+        self.facilities.len() <= MOST_FACILITIES
+            && (own.packet_size.is_none()
+                && (own.window_size.is_none() && self.user.len() <= MOST_USER))
     }
 }

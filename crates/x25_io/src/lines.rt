@@ -28,6 +28,7 @@ fn line_end(octets: &[u8]) -> Option<usize>
 }
 
 /// The octets before the first line feed and those behind it, where there is one.
+#[inline(always)]
 pub fn split_line(octets: &[u8]) -> Option<(&[u8], &[u8])>
     ensures parts { MatchOption result (IsOpen octets.now)
         (λ parts. IsOpen parts.0.now × (octets.now ≡ parts.0.now ++ 10 ∷ parts.1.now)) }

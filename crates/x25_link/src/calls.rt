@@ -80,7 +80,8 @@ impl LinkStation {
         ensures { (c : Settings) (s : StationState) → FitsStation c self.now s → result ≡ timer_runs s.phase s }
     {
         if self.phase.is_up() {
-            self.outgoing.unacked() > 0 || self.recovery || self.peer_busy
+            // One test: a branch for each is often guessed wrong.
+            (self.outgoing.unacked() > 0) | (self.recovery | self.peer_busy)
         } else {
             self.phase.awaits_ua()
         }

@@ -109,6 +109,7 @@ impl Outgoing {
 
     /// Takes a received N(R), and says how many frames it acknowledges. 7 BadAck where it is none from the first frame
     /// that isn't acknowledged to V(S) at its highest; nothing changes then.
+    #[inline(always)]
     #[tactic(auto, using(crate::proofs::OutgoingLemmas::sent_length))]
     pub fn ack(&mut self, nr: Seq) -> Result<u8, WindowError>
         ensures step { (k : ℕ) (o : OutgoingState) → FitsOutgoing k self.old o

@@ -8,7 +8,7 @@ ghost use Rattle.x25_packet.specs.Classes.{none_own, own_in};
 ghost use Rattle.x25_packet.specs.Grammar.{Gives, addressed, block_of, field_read, fields_of, is_over, no_fields};
 ghost use Rattle.x25_packet.specs.Grammar.{optional_block};
 
-use crate::classes::{Own, are_facilities, own_facilities};
+use crate::classes::{Own, own_facilities};
 use crate::digits::{Digits, hold_digits};
 use crate::error::PacketError;
 use crate::facilities::Facilities;
@@ -66,12 +66,10 @@ fn read_field(forms: Forms, field: &[u8]) -> Result<Own, PacketError>
                 window_size: facilities.window_size,
             })
         }
-        Forms::Any => {
-            if !are_facilities(field) {
-                return Err(PacketError::BadParameter);
-            }
-            Ok(own_facilities(field))
-        }
+        Forms::Any => match own_facilities(field) {
+            Some(own) => Ok(own),
+            None => Err(PacketError::BadParameter),
+        },
     }
 }
 

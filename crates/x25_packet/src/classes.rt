@@ -1,5 +1,5 @@
 //! Facility fields of all classes, ITU-T X.25 (10/96), section 7.
-ghost use Rattle.std.specs.Prelude.{◌≡◌, ◌≤◌, ◌<◌, MatchOption, drop, length, slice_index};
+ghost use Rattle.std.specs.Prelude.{◌≡◌, ◌≤◌, ◌<◌, IfSome, MatchOption, drop, is_some, length, slice_index};
 ghost use Rattle.x25_packet.specs.Classes.{are_facilities, none_own, own_in, size_of, with_facility};
 
 use crate::facilities::Directions;
@@ -50,7 +50,7 @@ fn behind_facility<'a>(field: &'a [u8]) -> Option<&'a [u8]>
 }
 
 /// Whether the octets are facilities, one behind another: each as long as its class says.
-pub fn are_facilities(field: &[u8]) -> bool
+fn are_facilities(field: &[u8]) -> bool
     ensures { result ≡ are_facilities 0 field.now }
 {
     let mut rest = field;
@@ -84,9 +84,11 @@ fn with_front(own: Own, field: &[u8]) -> Own
     }
 }
 
-/// What the facilities of a field ask for, of those that a station knows.
-pub fn own_facilities(field: &[u8]) -> Own
-    ensures { result ≡ own_in none_own 0 field.now }
+/// What the facilities of a field ask for, of those that a station knows. None: the octets aren't facilities, one
+/// behind another, each as long as its class says.
+pub fn own_facilities(field: &[u8]) -> Option<Own>
+    ensures whole { is_some result ≡ are_facilities 0 field.now }
+    ensures own { IfSome result (λ own. own ≡ own_in none_own 0 field.now) }
 {
     let mut own = Own {
         fast_select: false,
@@ -96,10 +98,14 @@ pub fn own_facilities(field: &[u8]) -> Own
     let mut rest = field;
     while let Some(behind) = behind_facility(rest) {
         if rest[0] == MARKER {
-            return own;
+            return if are_facilities(behind) {
+                Some(own)
+            } else {
+                None
+            };
         }
         own = with_front(own, rest);
         rest = behind;
     }
-    own
+    if rest.is_empty() { Some(own) } else { None }
 }

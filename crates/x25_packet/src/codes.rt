@@ -20,6 +20,8 @@ pub const RESET: u8 = 0x1B;
 
 pub const RESET_CONF: u8 = 0x1F;
 
+pub const DIAGNOSTIC: u8 = 0xF1;
+
 pub const RESTART: u8 = 0xFB;
 
 pub const RESTART_CONF: u8 = 0xFF;

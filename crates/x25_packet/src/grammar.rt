@@ -23,10 +23,8 @@ use x25_bits::Seq;
 /// The most octets of user data in CALL, ACCEPT and CLEAR with fast select, section 6.16.
 pub const FAST_SELECT_OCTETS: usize = 128;
 
-/// The packet type identifier of REJ, with 0 for P(R), table 5-2, and those of packets on channel 0.
+/// The packet type identifier of REJ, with 0 for P(R), table 5-2, and those of two on channel 0.
 const REJ: u8 = 0x09;
-
-const DIAGNOSTIC: u8 = 0xF1;
 
 const REGISTRATION: u8 = 0xF3;
 
@@ -257,7 +255,7 @@ fn unwritten<'a, M: Made<'a>>(head: Head, kind: u8, body: &'a [u8]) -> Result<M,
     ensures { Makes M.gives head result (unwritten kind body.now) }
 {
     match kind {
-        DIAGNOSTIC => diagnostic(head, body),
+        codes::DIAGNOSTIC => diagnostic(head, body),
         REGISTRATION => {
             let octets = registered(body)?;
             M::made(head, Kind::Registration { octets })

@@ -2,12 +2,14 @@
 ghost use Rattle.x25_packet.specs.laws.TakingLaw.{TakesAllBehindThree, TakesInRange, TakesItsUserData};
 ghost use Rattle.x25_packet.specs.laws.TakingLaw.{TakesOnItsChannel, TakesWhatIsSpelled, TakesWhatIsWritten};
 ghost use Rattle.x25_packet.specs.laws.TakingLaw.{TakesWithoutMemory};
-ghost use Rattle.x25_packet.specs.laws.ReadingLaw.{ReadsWhatIsSpelled, ReadsTheFirstError};
+ghost use Rattle.x25_packet.specs.laws.ReadingLaw.{ReadsFormsThatAreSpelled, ReadsTheFirstError, ReadsWhatIsSpelled};
 
-/// Octets read as the packet that they spell, and those that spell none read as their first error.
+/// Octets read as the packet that they spell, and those that spell none read as their first error; and so does a packet
+/// in any form.
 pub fn reading_is_the_grammar()
     ensures spelled { ReadsWhatIsSpelled }
     ensures error { ReadsTheFirstError }
+    ensures form { ReadsFormsThatAreSpelled }
 {}
 
 /// What a station reads octets as, whether it reads one form or all: what they are in the form that it writes, where

@@ -25,7 +25,7 @@ mod spelling;
 mod taking;
 
 pub use block::Block;
-pub use classes::{Own, are_facilities, own_facilities};
+pub use classes::{Own, own_facilities};
 pub use digits::{Digits, hold_digits};
 pub use error::PacketError;
 pub use facilities::{Directions, Facilities, FacilityField};

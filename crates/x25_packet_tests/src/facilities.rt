@@ -1,4 +1,4 @@
-use x25_packet::{Directions, Own, are_facilities, own_facilities};
+use x25_packet::{Directions, Own, own_facilities};
 
 /// Facility fields, and whether their octets are facilities.
 static FIELDS: [(&[u8], bool); 12] = [
@@ -19,7 +19,7 @@ static FIELDS: [(&[u8], bool); 12] = [
 #[test]
 fn facilities_of_each_class(rt: HostRuntime) {
     for &(field, wanted) in &FIELDS {
-        assert_eq!(rt; are_facilities(field), wanted, "{field:?}");
+        assert_eq!(rt; own_facilities(field).is_some(), wanted, "{field:?}");
     }
 }
 
@@ -40,7 +40,7 @@ fn fields_of_up_to_three_octets(rt: HostRuntime) {
             let octets = [first, second, 0];
             let count = usize::from(second) % 3;
             assert_eq!(rt;
-                are_facilities(&octets[..count]),
+                own_facilities(&octets[..count]).is_some(),
                 are_short_facilities(octets, count),
                 "{octets:?}"
             );
@@ -97,6 +97,6 @@ static OWN: [(&[u8], Own); 4] = [
 #[test]
 fn facilities_before_a_marker(rt: HostRuntime) {
     for &(field, wanted) in &OWN {
-        assert!(rt; own_facilities(field) == wanted, "{field:?}");
+        assert!(rt; own_facilities(field) == Some(wanted), "{field:?}");
     }
 }

@@ -47,6 +47,7 @@ fn split_d(text: &[u8]) -> (bool, &[u8])
     }
 }
 
+#[inline(always)]
 #[tactic(auto, unfolding(crate::specs::Reading::send_in))]
 pub(crate) fn send(text: &[u8]) -> Option<Command<'_>>
     ensures { GivesCommand result (send_in text.now) }

@@ -40,6 +40,7 @@ pub mod ResultLemmas
 pub mod OutcomeLemmas
 pub mod TimerLemmas
 pub mod AwaitLemmas
+pub mod BesideLemmas
 pub mod StillLemmas
 pub mod WayOutLemmas
 pub mod UnheardLemmas

@@ -1,6 +1,7 @@
 -- What octets bring beside the packet that a station takes them for (profile): the fields of a call and of its clearing
 -- that have no place in that packet, and the code of a DIAGNOSTIC.
-use Rattle.std.specs.Prelude.{ℕ, ◌+◌, ◌≤◌, nat_lt, Bool, true, false, List, [], length, if◌then◌else◌, Option, Some}
+use Rattle.std.specs.Prelude.{ℕ, ◌+◌, ◌≤◌, ◌==◌, nat_lt, Bool, true, false, List, [], ◌∷◌, length, if◌then◌else◌}
+use Rattle.std.specs.Prelude.{Option, Some}
 use Rattle.std.specs.Prelude.{None, Result, Ok, Err}
 use Rattle.x25_packet.specs.Packet.{PlainPacket}
 use Rattle.x25_packet.specs.Reading.{packet_of}
@@ -57,6 +58,11 @@ unless_written (Err e) beside = beside
 abbrev pub beside_in : Bool → List ℕ → PlainBeside
 beside_in false octets = nothing
 beside_in true octets = unless_written (packet_of 128 octets) (beside_or_none (form_in 128 octets))
+
+-- octets of the type of a DIAGNOSTIC
+abbrev pub may_diagnose : List ℕ → Bool
+may_diagnose (first ∷ second ∷ kind ∷ body) = kind == 241
+may_diagnose _ = false
 
 -- sections 7.1 and 6.16
 abbrev pub AreFew : PlainBeside → Type 0

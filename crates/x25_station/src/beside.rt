@@ -1,11 +1,15 @@
 //! What a packet brings beside what the station takes it for.
 ghost use Rattle.std.specs.Prelude.{◌≡◌, true};
+ghost use Rattle.x25_station.specs.Entry.{entries_beside};
 ghost use Rattle.x25_station.specs.Beside.{AreFew, beside_in, beside_kind, of_block, of_fields, plain_beside};
-ghost use Rattle.x25_station.specs.Beside.{without_user};
+ghost use Rattle.x25_station.specs.Beside.{may_diagnose, without_user};
 ghost use Rattle.x25_packet.specs.Block.{plain_fields, plain_optional};
 ghost use Rattle.x25_packet.specs.Form.{plain_kind};
 
-use x25_packet::{Block, FAST_SELECT_OCTETS, Fields, Kind, decode, decode_within};
+use x25_packet::codes::DIAGNOSTIC;
+use x25_packet::{
+    Block, FAST_SELECT_OCTETS, Fields, Kind, decode, decode_within, reading_is_the_grammar,
+};
 
 /// What octets bring beside the packet that a station takes them for. Its octets are borrowed.
 #[derive(Clone, Copy, Debug)]
@@ -66,7 +70,7 @@ fn beside_kind<'a>(kind: Kind<'a>) -> Beside<'a>
 
 /// What octets bring beside the packet that a station takes them for, where it reads packets in all their forms.
 /// Nothing where they are a packet in the form that it writes, or none. A CALL may have 128 octets of user data here.
-pub(crate) fn beside_of<'a>(octets: &'a [u8]) -> Beside<'a>
+fn read_beside<'a>(octets: &'a [u8]) -> Beside<'a>
     ensures exact { plain_beside result ≡ beside_in true octets.now }
     // At most 109 octets of facilities, and 128 of user data.
     ensures few { AreFew (plain_beside result) }
@@ -78,4 +82,27 @@ pub(crate) fn beside_of<'a>(octets: &'a [u8]) -> Beside<'a>
         Ok(packet) => beside_kind(packet.kind),
         Err(_) => Beside::Nothing,
     }
+}
+
+/// Whether octets are of the type of a DIAGNOSTIC.
+fn may_diagnose(octets: &[u8]) -> bool
+    ensures { result ≡ may_diagnose octets.now }
+{
+    match octets {
+        [_, _, kind, ..] => *kind == DIAGNOSTIC,
+        _ => false,
+    }
+}
+
+/// What octets bring beside the packet that a station takes them for, and its user is told: fields beside what is told
+/// on this channel, or a DIAGNOSTIC. No other octets are read again.
+pub(crate) fn beside_of<'a>(octets: &'a [u8], channel: Option<u16>) -> Beside<'a>
+    ensures told { entries_beside (plain_beside result) channel ≡ entries_beside (beside_in true octets.now) channel }
+    ensures few { AreFew (plain_beside result) }
+{
+    if channel.is_none() && !may_diagnose(octets) {
+        reading_is_the_grammar();
+        return Beside::Nothing;
+    }
+    read_beside(octets)
 }

@@ -99,7 +99,7 @@ fn hear_all(layer: &mut Layer, link: &mut Link, packet: &[u8], entries: &mut Ent
     let bringing = hear(layer, link, true, packet, entries);
     match confirmed(before, layer) {
         Some(entry) => entries.push(entry),
-        None => enter_beside(beside_of(packet), bringing, entries),
+        None => enter_beside(beside_of(packet, bringing), bringing, entries),
     }
 }
 

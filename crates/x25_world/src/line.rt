@@ -107,9 +107,6 @@ impl Line {
         ensures same { self.new ≡ with_room_of self.new self.old }
         ensures few { TakesFew 9 self.old self.new }
     {
-        if self.room >= MOST_FRAMES {
-            return Ok(());
-        }
         grow(&mut self.to_dce)?;
         grow(&mut self.to_dte)?;
         if self.blanks.len() < MOST_FRAMES {

@@ -1,10 +1,10 @@
-use Rattle.std.proofs.Common.{true, ◌++◌, [], ◌∷◌, map, ap, ap₂, subst, ◌∙◌, ℕ, Option}
+use Rattle.std.proofs.Common.{true, ◌++◌, List, [], ◌∷◌, map, ap, subst, ◌∙◌, ℕ}
 use Rattle.std.proofs.lemmas.List.{map-append}
 use Rattle.x25_layer.specs.Layer.{Layer as LayerState}
 use Rattle.x25_station.specs.Confirming.{named_by}
 use Rattle.x25_layer.specs.laws.Rounds.{begin, rounds}
-use Rattle.x25_station.specs.Beside.{PlainBeside, beside_in}
-use Rattle.x25_station.specs.Entry.{bringing, entries_beside}
+use Rattle.x25_station.specs.Beside.{beside_in}
+use Rattle.x25_station.specs.Entry.{StationEntry, bringing, entries_beside}
 use Rattle.x25_station.specs.Step.{layer_answer}
 use Rattle.x25_station.specs.Confirming.{confirmed}
 use Rattle.x25_station.specs.Config.{link_settings, layer_settings}
@@ -36,5 +36,6 @@ returns-in-None-clause-entries c = λ c' l t fits link.
     let none = subst (λ o. Tells next (named_by octets) (confirmed lc l next (named_by octets)) o) c.in-None.is
     (c.confirmed.ensures.tells lc (named_by octets) l next stands (c.hear-bringing.ensures.puts.layer c' l t fits link)) in
     heard_all (view_of (link_settings c') t.near) lc l octets _ _ (entries_beside (beside_in true octets) (bringing a.notices)) (c.hear-bringing.ensures.entries c' l t fits link)
-    (c.enter_beside.ensures.entered ∙ ap₂ (λ (b : PlainBeside) (k : Option ℕ). map plain_entry c.hear-bringing.new.entries.items ++ entries_beside b k) c.beside_of.ensures.exact (c.hear-bringing.ensures.bringing c' l t fits link))
+    (c.enter_beside.ensures.entered ∙ ap (λ (es : List StationEntry). map plain_entry c.hear-bringing.new.entries.items ++ es)
+    (c.beside_of.ensures.told ∙ ap (entries_beside (beside_in true octets)) (c.hear-bringing.ensures.bringing c' l t fits link)))
     (nothing_behind next (named_by octets) (confirmed lc l next (named_by octets)) _ none)
