@@ -38,7 +38,7 @@ UNJUDGED = " ~ note: not judged from here on: numbers are modulo 128"
 Waiting = tuple[str, bool, bool]
 
 COUNTS = re.compile(r"# (dte|dce)(?: channel (\d+))?: (\d+) (?:frames|packets), (\d+) judged, \d+ not judged")
-TOLD = re.compile(r"# told: (\d+) rules, (\d+) manners(?:, (\d+) in doubt)?")
+TOLD = re.compile(r"# told: (\d+) rules, (\d+) manners(?:, (\d+) in doubt)?|# nothing was judged: .*")
 
 
 def add_words(parser: argparse.ArgumentParser) -> None:

@@ -7,7 +7,7 @@ use Rattle.x25_io.specs.Loose.{asked, carried}
 use Rattle.x25_io.specs.code.Written.{AppendsPrefix, Tells}
 use Rattle.x25_io.proofs.LooseLemmas.{long_asked, long_carried}
 use Rattle.x25_judge.specs.Answerer.{reply, reply_to, text_of, has_fault}
-use Rattle.x25_judge.specs.Judge.{answer_to, counts_text, gap_of, sent_of}
+use Rattle.x25_judge.specs.Judge.{answer_to, counts_text, gap_of, is_nothing, sent_of}
 use Rattle.x25_judge.specs.declared.judge.Judge.{Judge}
 
 module _ (loose : Bool) (j : Judge) where
@@ -23,7 +23,7 @@ module _ (loose : Bool) (j : Judge) where
   unfolding text_of
   no_text = refl
 
-  pub no_fault : has_fault loose j [] ≡ false
+  pub no_fault : has_fault loose j [] ≡ is_nothing j
   unfolding has_fault
   no_fault = refl
 

@@ -1,12 +1,12 @@
 -- An input, line by line.
 use Rattle.std.proofs.Common.{◌≡◌, ◌∙◌, ◌||◌, ℕ, Bool, false, List, [], ◌∷◌, ◌++◌, Option, append_assoc, ap, sym, subst}
 use Rattle.std.specs.Io.KnownBytes.{Appends}
-use Rattle.std.proofs.{Math.Bool.{or_assoc, or-false}, lemmas.List.{append-nil}}
+use Rattle.std.proofs.{Math.Bool.{or_assoc}, lemmas.List.{append-nil}}
 use Rattle.x25_io.specs.{HeldLine.{HoldsLine}, declared.held_line.HeldLine.{HeldLine}}
 use Rattle.x25_io.specs.{Lines.{lines_of}, code.LinesLead.{LinesLead}}
 use Rattle.x25_io.specs.code.Written.{AppendsPrefix, Tells}
 use Rattle.x25_io.proofs.{TakerLemmas.{between}, ToldLemmas.{prefix_more, none_told, part_of_all, told_prefix}}
-use Rattle.x25_judge.specs.{Answerer.{reply, output_by, text_of, has_fault}, Judge.{counts_text}}
+use Rattle.x25_judge.specs.{Answerer.{reply, output_by, text_of, has_fault}, Judge.{counts_text, is_nothing}}
 use Rattle.x25_judge.specs.{code.Stream.{JudgesOn, WritesLines}, declared.answerer.Answerer.{Answerer}}
 use Rattle.x25_judge.specs.declared.judge.Judge.{Judge}
 use Rattle.x25_judge.proofs.LineLemmas.{text_first, fault_first, no_text, no_fault}
@@ -75,12 +75,12 @@ module _ (loose : Bool) (j : Judge) (old now next : Option (List ℕ)) (input : 
   all_told a h = ap (λ t. h.told ++ t) (sym (no_text loose a.judge)) ∙ h.same
 
   pub ended : (a : Answerer) (output : List ℕ) (h : JudgesOn loose j a old now [] input) → Tells old next output (h.told ++ counts_text a.judge) → output ≡ []
-      → Appends old next (output_by loose j input) × (a.is_faulty ≡ has_fault loose j (lines_of input))
+      → Appends old next (output_by loose j input) × ((a.is_faulty || is_nothing a.judge) ≡ has_fault loose j (lines_of input))
   ended a output h tells none =
       let written : tells.written ≡ h.told ++ counts_text a.judge =
       sym (append-nil tells.written) ∙ ap (λ t. tells.written ++ t) (sym none) ∙ tells.same in (
         subst (Appends old next) (written ∙ all_told a h) tells.appends,
-        sym (or-false a.is_faulty) ∙ ap (λ b. a.is_faulty || b) (sym (no_fault loose a.judge)) ∙ h.status,
+        ap (λ b. a.is_faulty || b) (sym (no_fault loose a.judge)) ∙ h.status,
       )
 
   pub end_failed : (a : Answerer) (h : JudgesOn loose j a old now [] input) → AppendsPrefix old next (h.told ++ counts_text a.judge)

@@ -6,7 +6,7 @@ use Rattle.x25_bits.specs.declared.role.Role.{Role}
 use Rattle.x25_bits.specs.declared.role.Role.TheVariants.{Dte, Dce}
 use Rattle.x25_judge.specs.declared.counts.Count.{Count}
 use Rattle.x25_judge.specs.declared.counts.Line.{Line}
-use Rattle.x25_judge.specs.declared.counts.Line.TheVariants.{Frames, Packets, Told}
+use Rattle.x25_judge.specs.declared.counts.Line.TheVariants.{Frames, Nothing, Packets, Told}
 use Rattle.x25_judge.specs.declared.counts.Tally.{Tally}
 
 abbrev pub none : Count
@@ -76,3 +76,4 @@ abbrev pub line_text : Line → List ℕ
 line_text (Frames from c) = frames_line from c
 line_text (Packets from c) = packets_line from c
 line_text (Told t) = tally_line t
+line_text Nothing = codes "# nothing was judged: no line has a frame in hexadecimal digits\n"

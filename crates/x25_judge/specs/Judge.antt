@@ -1,6 +1,6 @@
 -- What `judge` writes, as a function of what it reads (profile): for each line what `decode` writes, and the rule or
 -- manners that its frame breaks.
-use Rattle.std.specs.Prelude.{ℕ, Bool, true, false, not, ◌&&◌, ◌||◌, List, [], ◌++◌, codes, if◌then◌else◌, Option}
+use Rattle.std.specs.Prelude.{ℕ, ◌==◌, Bool, true, false, not, ◌&&◌, ◌||◌, List, [], ◌++◌, codes, if◌then◌else◌, Option}
 use Rattle.std.specs.Prelude.{Some, None, is_some, Result, Ok, Err, unwrap_or}
 use Rattle.x25_bits.specs.declared.role.Role.{Role}
 use Rattle.x25_bits.specs.declared.role.Role.TheVariants.{Dte, Dce}
@@ -12,7 +12,7 @@ use Rattle.x25_frame.specs.declared.error.FrameError.{FrameError}
 use Rattle.x25_frame.specs.declared.error.FrameError.TheVariants.{Short, BadFcs, BadAddress, Undefined, NoInfoAllowed}
 use Rattle.x25_frame.specs.declared.error.FrameError.TheVariants.{TooLong}
 use Rattle.x25_packet_judge.specs.Book as book
-use Rattle.x25_judge.specs.Counts.{counted, end_text, more, no_counts, no_tally, none, tallied, tally_line}
+use Rattle.x25_judge.specs.Counts.{counted, end_text, line_text as last_text, more, no_counts, no_tally, none, tallied}
 use Rattle.x25_judge.specs.Doubt.{explains_told, lack}
 use Rattle.x25_judge.specs.Held.{forgets_all}
 use Rattle.x25_judge.specs.Manners.{none as no_manners}
@@ -24,8 +24,10 @@ use Rattle.x25_packet.specs.Reading.{channel_in}
 use Rattle.x25_possible_links.specs.code.Steps.{is_followed, is_known, unknown}
 use Rattle.x25_packet_judge.specs.declared.book.Book.{Book}
 use Rattle.x25_packet_judge.specs.declared.book.Verdict.{Verdict}
+use Rattle.x25_judge.specs.declared.counts.Line.{Line}
+use Rattle.x25_judge.specs.declared.counts.Line.TheVariants.{Nothing, Told}
 use Rattle.x25_judge.specs.declared.doubt.At.{At}
-use Rattle.x25_judge.specs.declared.doubt.At.TheVariants.{Line}
+use Rattle.x25_judge.specs.declared.doubt.At.TheVariants.{Line as OnLine}
 use Rattle.x25_judge.specs.declared.doubt.Lack.{Lack}
 use Rattle.x25_judge.specs.declared.doubt.Lack.TheVariants.{Any}
 use Rattle.x25_judge.specs.declared.judge.Judge.{Judge}
@@ -52,7 +54,7 @@ begins window reading strictness = record {
   dte_packets = no_counts;
   dce_packets = no_counts;
   told = no_tally;
-  at = Line;
+  at = OnLine;
   has_gap = false;
 }
 
@@ -256,7 +258,14 @@ answer_to j line = sent_of j (gap_in line) (sent_in line)
 
 -- ---- lines
 
+-- no line had octets
+abbrev pub is_nothing : Judge → Bool
+is_nothing j = j.dte_frames.seen == 0 && j.dce_frames.seen == 0
+
+abbrev pub last_line : Judge → Line
+last_line j = if is_nothing j then Nothing else Told j.told
+
 -- behind the last one, how much was judged, and what was told
 abbrev pub counts_text : Judge → List ℕ
 counts_text j = end_text Dte j.dte_frames j.dte_packets
-    ++ (end_text Dce j.dce_frames j.dce_packets ++ tally_line j.told)
+    ++ (end_text Dce j.dce_frames j.dce_packets ++ last_text (last_line j))

@@ -26,7 +26,7 @@ impl Answerer {
     ghost use Rattle.x25_io.specs.HeldLine.{most_line};
     ghost use Rattle.x25_io.specs.code.Written.{AppendsPrefix, Tells, TellsMore};
     ghost use Rattle.x25_judge.specs.Answerer.{reply};
-    ghost use Rattle.x25_judge.specs.Judge.{answer_to, begins_at, counts_text};
+    ghost use Rattle.x25_judge.specs.Judge.{answer_to, begins_at, counts_text, is_nothing};
     ghost use Rattle.x25_judge.specs.code.Stream.{Replies};
 
     /// Nothing waits.
@@ -110,13 +110,19 @@ impl Answerer {
         }
     }
 
+    /// Whether a line was faulty, or none had octets.
+    fn fails(&self) -> bool
+        ensures { result ≡ (self.now.is_faulty || is_nothing self.now.judge) }
+    {
+        self.is_faulty || self.judge.is_nothing()
+    }
+
     /// Tells how much was judged and what was told, and writes what waits.
     fn finish<W: Sink>(&mut self, writer: &mut W) -> Result<(), Failed>
         ensures kept { OnOk result (W.is_marked writer.new ≡ W.is_marked writer.old) }
         ensures tells { TellsMore result (W.contents writer.old) (W.contents writer.new) self.old.output self.new.output
             (counts_text self.old.judge) }
         ensures empty { OnOk result (self.new.output ≡ []) }
-        ensures is_faulty { self.new.is_faulty ≡ self.old.is_faulty }
         ensures loose { self.new.loose ≡ self.old.loose }
         ensures marked { OnErr result (W.is_marked writer.new ≡ true) }
     {
@@ -163,8 +169,9 @@ impl LineTaker for Answerer {
     }
 
     fn end<W: Sink>(&mut self, writer: &mut W) -> Result<u8, Fault> {
+        let fails = self.fails();
         match self.finish(writer) {
-            Ok(()) => Ok(u8::from(self.is_faulty)),
+            Ok(()) => Ok(u8::from(fails)),
             Err(_) => Err(Fault::Write),
         }
     }

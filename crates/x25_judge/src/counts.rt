@@ -225,12 +225,13 @@ fn push_tally(tally: Tally, text: &mut Text)
     text.push(b"\n");
 }
 
-/// A line on frames of an end, on its packets on a channel, or on what was told.
+/// A line on frames of an end, on its packets on a channel, on what was told, or that there was nothing to judge.
 #[derive(Clone, Copy)]
 pub(crate) enum Line {
     Frames(Role, Count),
     Packets(Role, Count),
     Told(Tally),
+    Nothing,
 }
 
 /// Appends it.
@@ -242,6 +243,9 @@ fn push_line(line: Line, text: &mut Text)
         Line::Frames(from, count) => push_frames(from, count, text),
         Line::Packets(from, count) => push_packets(from, count, text),
         Line::Told(tally) => push_tally(tally, text),
+        Line::Nothing => text.push(
+            b"# nothing was judged: no line has a frame in hexadecimal digits\n",
+        ),
     }
 }
 

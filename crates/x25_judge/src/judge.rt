@@ -9,9 +9,10 @@ ghost use Rattle.x25_frame.specs.Reading.{frame_of};
 ghost use Rattle.x25_text.specs.FrameText.{frame_text, reading_text};
 ghost use Rattle.x25_text.specs.WideFrameText.{wide_frame_text, wide_reading_text};
 ghost use Rattle.x25_frame.specs.Frame.{plain};
+ghost use Rattle.x25_packet_judge.specs.Book.{IsRead};
 ghost use Rattle.x25_judge.specs.Doubt.{explains_told};
 ghost use Rattle.x25_judge.specs.Judge.{all_told, answer_to, begins_at, behind, broken_text};
-ghost use Rattle.x25_judge.specs.Judge.{counts_carried, doubt_text, is_settled, lack_of};
+ghost use Rattle.x25_judge.specs.Judge.{counts_carried, doubt_text, is_nothing, is_settled, lack_of, last_line};
 ghost use Rattle.x25_judge.specs.Judge.{counts_frame, end_of, forgotten, gap_of};
 ghost use Rattle.x25_judge.specs.Judge.{book_by, counts_by, counts_packet, counts_text, covers, missed_by, next_by};
 ghost use Rattle.x25_judge.specs.Judge.{next_missed, no_frame, read_of, remark_missed, remark_of};
@@ -28,11 +29,12 @@ use std::alloc::{AllocError, Global};
 use x25_decode::{Reading, push_gap, read_gap, read_sent};
 use x25_frame::{Frame, FrameError, N1, Role, decode};
 use x25_io::{Failed, Output, Sink};
-use x25_packet::channel;
+use x25_packet::{Packet, PacketError, channel, decode_within, longest_user};
 use x25_packet_judge::{Book, PacketRule};
 use x25_possible_links::LinkSet;
 use x25_text::{
-    MOST_OCTETS, MOST_TEXT, ROOM, Text, push_fault, push_frame, push_other_frame, push_wide_frame,
+    MOST_OCTETS, MOST_TEXT, ROOM, Text, push_fault, push_frame, push_other_frame, push_packet,
+    push_wide_frame,
 };
 
 /// The most characters of the rule that a frame breaks, of the end in front of it, and of what it says of a frame that
@@ -109,17 +111,34 @@ fn covers(frame: &Frame, is_again: bool, is_judged: bool) -> bool
     }
 }
 
+/// The packet of an I frame, where packets aren't read in all forms.
+fn packet_of<'a>(reading: Reading, frame: &Frame<'a>) -> Result<Packet<'a>, PacketError>
+    ensures { IsRead reading (plain frame.now) result }
+{
+    match frame {
+        Frame::I { info, .. } if !reading.wide => decode_within(longest_user(reading.long), info),
+        _ => Err(PacketError::TooShort),
+    }
+}
+
 /// Appends a frame, as it is read.
-fn push_seen(reading: Reading, frame: &Frame, text: &mut Text)
-    requires { length text.old + MOST_TEXT ≤ ROOM }
+fn push_seen(reading: Reading, frame: &Frame, packet: &Result<Packet, PacketError>, text: &mut Text)
+    requires read { IsRead reading (plain frame.now) packet.now }
+    requires room { length text.old + MOST_TEXT ≤ ROOM }
     ensures text { text.new ≡ text.old ++ (if reading.wide then wide_frame_text reading.long (plain frame.now)
         else frame_text reading.long (plain frame.now)) }
     ensures size { length text.new ≤ length text.old + MOST_TEXT }
 {
-    if reading.wide {
-        push_wide_frame(reading.long, frame, text);
-    } else {
-        push_frame(reading.long, frame, text);
+    match (frame, packet) {
+        _ if reading.wide => push_wide_frame(reading.long, frame, text),
+        (Frame::I { ns, nr, p, .. }, Ok(packet)) => {
+            text.push_bit(b"I cmd P=", *p);
+            text.push_seq(b" S=", *ns);
+            text.push_seq(b" R=", *nr);
+            text.push(b" | ");
+            push_packet(packet, text);
+        }
+        _ => push_frame(reading.long, frame, text),
     }
 }
 
@@ -364,7 +383,8 @@ impl Judge {
     }
 
     /// The rule that a frame breaks, and what is noted of it.
-    fn sees(&mut self, from: Role, frame: &Frame) -> Remark
+    fn sees(&mut self, from: Role, frame: &Frame, packet: &Result<Packet, PacketError>) -> Remark
+        requires { IsRead self.old.reading (plain frame.now) packet.now }
         ensures next { self.new ≡ next_by from (plain frame.now) (seen_by self.old from (plain frame.now))
             (book_by self.old from (plain frame.now) (seen_by self.old from (plain frame.now))) self.old }
         ensures remark { result ≡ remark_of self.old from (plain frame.now) (seen_by self.old from (plain frame.now)) }
@@ -372,7 +392,7 @@ impl Judge {
         let seen = self.look(from, frame);
         let verdict = self
             .book
-            .sees(from, self.reading, frame, breaks_order(seen.rule));
+            .sees(from, self.reading, frame, packet, breaks_order(seen.rule));
         self.count_frame(from, seen.is_judged);
         self.count_carried(from, frame, seen.is_again, verdict.is_judged);
         Remark {
@@ -414,8 +434,9 @@ impl Judge {
         }
         let remark = match decode(from, N1, octets) {
             Ok(frame) => {
-                push_seen(self.reading, &frame, text);
-                self.sees(from, &frame)
+                let packet = packet_of(self.reading, &frame);
+                push_seen(self.reading, &frame, &packet, text);
+                self.sees(from, &frame, &packet)
             }
             Err(error) => {
                 push_missed(self.reading, from, octets, error, text);
@@ -445,6 +466,23 @@ impl Judge {
         }
     }
 
+    /// Whether no line had octets.
+    pub(crate) fn is_nothing(&self) -> bool
+        ensures { result ≡ is_nothing self.now }
+    {
+        self.dte_frames.seen == 0 && self.dce_frames.seen == 0
+    }
+
+    fn last_line(&self) -> Line
+        ensures { result ≡ last_line self.now }
+    {
+        if self.is_nothing() {
+            Line::Nothing
+        } else {
+            Line::Told(self.told)
+        }
+    }
+
     /// Tells how much was judged, and what was told.
     pub(crate) fn tell_counts<W: Sink>(
         &self,
@@ -470,7 +508,7 @@ impl Judge {
             output,
             writer,
         )?;
-        tell_line(Line::Told(self.told), output, writer)
+        tell_line(self.last_line(), output, writer)
     }
 
     /// Appends the line that answers a line; whether it counts is answered. `octets` is overwritten.

@@ -184,7 +184,6 @@ fn blind_note(was: bool, is: bool) -> Option<Note>
 }
 
 /// Its numbers, where octets that spell no frame were none; where it isn't in a session then, where they were any.
-#[inline(always)]
 fn numbers(set: &LinkSet) -> Stand
     ensures { result ≡ definition.numbers set.now }
 {
@@ -278,7 +277,6 @@ impl End {
     }
 
     /// It sends a frame.
-    #[inline(never)]
     fn sends(&mut self, is_same: bool, shown: Shown, frame: &Frame) -> Sent
         requires { is_same ≡ same_octets self.old.held (plain frame.now) }
         ensures own { self.new ≡ definition.end_sent (plain frame.now) shown self.old }
@@ -367,7 +365,6 @@ impl Minding {
     }
 
     /// A command.
-    #[inline(always)]
     fn asks(self, p: bool) -> Minding
         ensures { result ≡ definition.asks p self }
     {

@@ -32,8 +32,7 @@ each_set : (role from : Role) (channel : ℕ) (x : Packet) (cs : Channels)
     → end_of role (channel_of channel (all_happens (Sends from x) cs)) ≡ behind_item (seen_by role from x) (end_of role (channel_of channel cs))
 each_set role from channel x cs = ap (end_of role) (happens_on (Sends from x) channel cs) ∙ ends_move role from x (channel_of channel cs)
 
-sets_follow : (b : Book) (role from : Role) (channel of : ℕ) (packet : PlainPacket) (all : Bool) → is_of_all packet ≡ all
-    → set_of role channel (book.takes from of packet b).book
+sets_follow : (b : Book) (role from : Role) (channel of : ℕ) (packet : PlainPacket) (all : Bool) → is_of_all packet ≡ all → set_of role channel (book.takes from of packet b).book
     ≡ (if all || (channel % 4096 == of % 4096) then behind_item (seen_by role from (item_of packet)) (set_of role channel b)
     else set_of role channel b)
 sets_follow b role from channel of packet true is =
@@ -48,8 +47,7 @@ pub restarts_of_all : (b : Book) (role from : Role) (of : ℕ) (packet : PlainPa
 restarts_of_all b role from of packet is =
     ap (λ (s : book.Seen). end_of role s.book.restarts) (takes_is from of packet b true is) ∙ ends_move role from (item_of packet) b.restarts
 
-restarts_follow : (b : Book) (role from : Role) (of : ℕ) (packet : PlainPacket) (all : Bool) → is_of_all packet ≡ all
-    → is_quiet from b ≡ false
+restarts_follow : (b : Book) (role from : Role) (of : ℕ) (packet : PlainPacket) (all : Bool) → is_of_all packet ≡ all → is_quiet from b ≡ false
     → end_of role (book.takes from of packet b).book.restarts
     ≡ behind_item (seen_by role from (if all then item_of packet else Elsewhere)) (end_of role b.restarts)
 restarts_follow b role from of packet true is loud = restarts_of_all b role from of packet is
@@ -69,8 +67,7 @@ spoken_once : (from : Role) (b : Book) → is_quiet from (book.spoken from b) �
 spoken_once Dte b = refl
 spoken_once Dce b = refl
 
-pub sends_first : (from : Role) (of : ℕ) (packet : PlainPacket) (b : Book) → is_of_all packet ≡ true
-    → is_quiet from (book.takes from of packet b).book ≡ false
+pub sends_first : (from : Role) (of : ℕ) (packet : PlainPacket) (b : Book) → is_of_all packet ≡ true → is_quiet from (book.takes from of packet b).book ≡ false
 sends_first from of packet b is = ap (λ (s : book.Seen). is_quiet from s.book) (takes_is from of packet b true is) ∙ spoken_once from b
 
 loud_stays : (b : Book) (role from : Role) (of : ℕ) (packet : PlainPacket) (all : Bool) → is_of_all packet ≡ all
@@ -102,8 +99,7 @@ one_rule : AreUnknown → (from : Role) (of : ℕ) (x : Packet) (c : Channel) (e
 one_rule unknown from of x c true = refl
 one_rule unknown from of x c false = judged_rule from x c (unknown (end_of from c) x)
 
-one_judged : (from : Role) (of : ℕ) (x : Packet) (c : Channel) (e : Bool)
-    → (of_one e from of x c).is_judged ≡ (e || (sent x (end_of from c)).finding.is_judged)
+one_judged : (from : Role) (of : ℕ) (x : Packet) (c : Channel) (e : Bool) → (of_one e from of x c).is_judged ≡ (e || (sent x (end_of from c)).finding.is_judged)
 one_judged from of x c true = refl
 one_judged from of x c false = judged_is from x c
 
@@ -114,8 +110,7 @@ abbrev asked : Role → ℕ → Book → Bool → Set
 asked from of b all = if all then end_of from b.restarts else set_of from of b
 
 module _ (from : Role) (of : ℕ) (packet : PlainPacket) (b : Book) where
-  pub told_is : AreUnknown → (all : Bool) → is_of_all packet ≡ all
-      → (book.takes from of packet b).verdict.rule
+  pub told_is : AreUnknown → (all : Bool) → is_of_all packet ≡ all → (book.takes from of packet b).verdict.rule
       ≡ (if awaits from packet b then Some RestartAwaited
       else rule_of (sends_to (item_of packet) (asked_of from of packet b)).told (item_of packet))
   told_is unknown false is =
@@ -126,8 +121,7 @@ module _ (from : Role) (of : ℕ) (packet : PlainPacket) (b : Book) where
       ap (λ (s : book.Seen). s.verdict.rule) (takes_is from of packet b true is)
       ∙ ap (λ a. if not a && is_early from b then Some RestartAwaited else rule_of (sends_to (item_of packet) (asked from of b a)).told (item_of packet)) (sym is)
 
-  pub judged_so : (all : Bool) → is_of_all packet ≡ all
-      → (book.takes from of packet b).verdict.is_judged
+  pub judged_so : (all : Bool) → is_of_all packet ≡ all → (book.takes from of packet b).verdict.is_judged
       ≡ (awaits from packet b || (is_restart packet || (sent (item_of packet) (asked_of from of packet b)).finding.is_judged))
   judged_so false is =
       ap (λ (s : book.Seen). s.verdict.is_judged) (takes_is from of packet b false is)

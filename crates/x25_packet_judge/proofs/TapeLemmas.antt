@@ -5,8 +5,7 @@ use Rattle.x25_packet_judge.proofs.TellingLemmas.{broken, polite, rude, unbroken
 use Rattle.x25_possible.specs.laws.Possible.{Item, Own, Other}
 
 module _ (sets : SendsExactly) where
-  told_by : (from : Role) (channel : ℕ) (packet : PlainPacket) (b : Book) (e : Bool) → awaits from packet b ≡ e
-      → rule_told from channel packet b
+  told_by : (from : Role) (channel : ℕ) (packet : PlainPacket) (b : Book) (e : Bool) → awaits from packet b ≡ e → rule_told from channel packet b
       ≡ (if e then Some RestartAwaited else rule_of (sends_to (item_of packet) (asked_of from channel packet b)).told (item_of packet))
   told_by from channel packet b e is = told_is from channel packet b (λ s x. sets.unknown s x) (is_of_all packet) refl
       ∙ ap (λ e. if e then Some RestartAwaited else rule_of (sends_to (item_of packet) (asked_of from channel packet b)).told (item_of packet)) is
@@ -36,8 +35,7 @@ module _ (sets : SendsExactly) where
     judged = λ b from channel packet. judged_is from channel packet b (awaits from packet b) refl;
   }
     where
-      judged_is : (from : Role) (channel : ℕ) (packet : PlainPacket) (b : Book) (e : Bool) → awaits from packet b ≡ e
-          → (takes from channel packet b).verdict.is_judged
+      judged_is : (from : Role) (channel : ℕ) (packet : PlainPacket) (b : Book) (e : Bool) → awaits from packet b ≡ e → (takes from channel packet b).verdict.is_judged
           ≡ (awaits from packet b || (is_restart packet || (is_known (asked_of from channel packet b)
           && (is_some (rule_told from channel packet b) || is_known (moved from channel packet b)))))
       judged_is from channel packet b true is = judged_so from channel packet b (is_of_all packet) refl
@@ -61,8 +59,7 @@ module _ (from : Role) (channel : ℕ) (tape restarts : List (Item Packet)) (b :
   one_more (Own x) to = refl
   one_more (Other x) to = refl
 
-  if_on : (on : Bool) (i : Item Packet) (to : List (Item Packet))
-      → (if on then behind_item i (behind from to) else behind from to) ≡ behind from (if on then i ∷ to else to)
+  if_on : (on : Bool) (i : Item Packet) (to : List (Item Packet)) → (if on then behind_item i (behind from to) else behind from to) ≡ behind from (if on then i ∷ to else to)
   if_on true i to = one_more i to
   if_on false i to = refl
 
@@ -82,8 +79,7 @@ module _ (from : Role) (channel : ℕ) (tape restarts : List (Item Packet)) (b :
 
   module _ (sets : SendsExactly) (innocents : InnocentsStayUntold) (ps : List Spoken) where
     -- nothing of order is told where the tape of the set that is asked has a run
-    asked : (channels : ℕ) (packet : PlainPacket) (on : List (Item Packet)) → awaits from packet (behind_all ps b) ≡ false
-        → asked_of from channels packet (behind_all ps b) ≡ behind from on
+    asked : (channels : ℕ) (packet : PlainPacket) (on : List (Item Packet)) → awaits from packet (behind_all ps b) ≡ false → asked_of from channels packet (behind_all ps b) ≡ behind from on
         → MaySend from on (item_of packet) → is_order (rule_told from channels packet (behind_all ps b)) ≡ false
     asked channels packet on none is may =
         ap is_order (told_by sets from channels packet (behind_all ps b) false none)
@@ -113,8 +109,7 @@ module _ (from : Role) (channel : ℕ) (tape restarts : List (Item Packet)) (b :
   -- RESTART that is to be answered is of order
   module _ (sets : SendsExactly) (ps : List Spoken) (packet : PlainPacket) where
     none_polite : (e : Bool) → awaits from packet (behind_all ps b) ≡ e → is_of_all packet ≡ false
-        → (IsRude (sends_to (item_of packet) (behind from (tape_on from channel ps tape))).told → ⊥)
-        → is_manners (rule_told from channel packet (behind_all ps b)) ≡ false
+        → (IsRude (sends_to (item_of packet) (behind from (tape_on from channel ps tape))).told → ⊥) → is_manners (rule_told from channel packet (behind_all ps b)) ≡ false
     none_polite true is of mild = ap is_manners (told_by sets from channel packet (behind_all ps b) true is)
     none_polite false is of mild =
         ap is_manners (told_by sets from channel packet (behind_all ps b) false is)

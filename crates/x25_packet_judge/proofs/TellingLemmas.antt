@@ -17,8 +17,7 @@ manners_are (Talks k) = cond_both (nat_lt 0 k.window && (nat_lt k.window 7 && na
     (λ h. (and_parts (nat_lt k.window 7) _ (and_parts (nat_lt 0 k.window) _ h).1).0) (λ _. refl)
 manners_are s = refl
 
-strays_are : (ahead pending : ℕ) (k : Talk) (rule : PacketRule) → is_of_manners rule ≡ false
-    → is_of_manners (unwrap_or (reason.strays ahead pending k) rule) ≡ false
+strays_are : (ahead pending : ℕ) (k : Talk) (rule : PacketRule) → is_of_manners rule ≡ false → is_of_manners (unwrap_or (reason.strays ahead pending k) rule) ≡ false
 strays_are ahead pending k rule h = cond_both (nat_le ahead pending) _ _ (λ r. is_of_manners (unwrap_or r rule) ≡ false) (λ _. h)
     (λ _. cond_both (nat_lt (8 - ahead) (ahead - pending)) _ _ (λ r. is_of_manners (unwrap_or r rule) ≡ false) (λ _. refl) (λ _. refl))
 
@@ -85,15 +84,13 @@ polite (Broken s) x h = reasons_are s x
 
 -- ---- a packet of a channel
 
-pub ends_move : (role from : Role) (x : Packet) (c : Channel)
-    → end_of role (channels.takes from x c).channel ≡ behind_item (seen_by role from x) (end_of role c)
+pub ends_move : (role from : Role) (x : Packet) (c : Channel) → end_of role (channels.takes from x c).channel ≡ behind_item (seen_by role from x) (end_of role c)
 ends_move Dte Dte x c = refl
 ends_move Dte Dce x c = refl
 ends_move Dce Dte x c = refl
 ends_move Dce Dce x c = refl
 
-pub judged_ends : (role from : Role) (x : Packet) (c : Channel)
-    → end_of role (channels.judges from x c).channel ≡ behind_item (seen_by role from x) (end_of role c)
+pub judged_ends : (role from : Role) (x : Packet) (c : Channel) → end_of role (channels.judges from x c).channel ≡ behind_item (seen_by role from x) (end_of role c)
 unfolding channels.judges
 judged_ends role from x c = ends_move role from x c
 
@@ -105,8 +102,7 @@ none_of : (r : Option PacketRule) → is_some r ≡ false → None ≡ r
 none_of None h = refl
 none_of (Some rule) h = absurd (both_ways true h refl)
 
-none_known : (x : Packet) (s : Set) → Unknown x s → (known : Bool) → is_known s ≡ known
-    → (known && (is_some (rule_of (sends_to x s).told x) || is_known (sends_to x s).set)) ≡ false
+none_known : (x : Packet) (s : Set) → Unknown x s → (known : Bool) → is_known s ≡ known → (known && (is_some (rule_of (sends_to x s).told x) || is_known (sends_to x s).set)) ≡ false
     → None ≡ rule_of (sends_to x s).told x
 none_known x s unknown true is h = none_of _ (or_parts _ _ h).0
 none_known x s unknown false is h = sym (ap (λ (t : Told). rule_of t x) (unknown is))
@@ -119,13 +115,11 @@ marked_rule : (g h : Finding) (b : Bool) → h.rule ≡ None → (b ≡ false �
 marked_rule g h true none is = refl
 marked_rule g h false none is = none ∙ is refl
 
-pub judged_rule : (from : Role) (x : Packet) (c : Channel) → Unknown x (end_of from c)
-    → (channels.judges from x c).finding.rule ≡ rule_of (sends_to x (end_of from c)).told x
+pub judged_rule : (from : Role) (x : Packet) (c : Channel) → Unknown x (end_of from c) → (channels.judges from x c).finding.rule ≡ rule_of (sends_to x (end_of from c)).told x
 unfolding channels.judges
 judged_rule from x c unknown =
     marked_rule (channels.takes from x c).finding (channels.passed (channels.takes from x c).channel).finding _ refl (none_known x (end_of from c) unknown _ refl)
 
-pub judged_is : (from : Role) (x : Packet) (c : Channel)
-    → (channels.judges from x c).finding.is_judged ≡ (sent x (end_of from c)).finding.is_judged
+pub judged_is : (from : Role) (x : Packet) (c : Channel) → (channels.judges from x c).finding.is_judged ≡ (sent x (end_of from c)).finding.is_judged
 unfolding channels.judges
 judged_is from x c = marked_judged (channels.takes from x c).finding (channels.passed (channels.takes from x c).channel).finding _ refl refl

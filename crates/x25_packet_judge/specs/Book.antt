@@ -1,13 +1,14 @@
 -- The packet layers of both ends and all their channels, and what a frame changes and breaks. ITU-T X.25 (10/96),
 -- sections 3 and 4.
-use Rattle.std.specs.Prelude.{ℕ, ◌/◌, ◌%◌, ◌==◌, Bool, true, false, ◌&&◌, ◌||◌, if◌then◌else◌, List, [], ◌∷◌}
-use Rattle.std.specs.Prelude.{Option, Some, None, Result, Ok, Err}
+use Rattle.std.specs.Prelude.{ℕ, ◌≡◌, ◌/◌, ◌%◌, ◌==◌, Bool, true, false, ◌&&◌, ◌||◌, if◌then◌else◌, List, [], ◌∷◌}
+use Rattle.std.specs.Prelude.{Option, Some, None, Result, Ok, Err, IfOk}
 use Rattle.x25_bits.specs.declared.role.Role.{Role}
 use Rattle.x25_frame.specs.Frame.{PlainFrame, info, rr, rnr, rej, sabm, disc, ua, dm, frmr}
-use Rattle.x25_packet.specs.Packet.{PlainPacket, restart, restart_conf}
+use Rattle.x25_packet.specs.Packet.{PlainPacket, plain, restart, restart_conf}
 use Rattle.x25_packet.specs.Reading.{channel_in, packet_of}
-use Rattle.x25_packet.specs.Spelling.{longest_user}
+use Rattle.x25_packet.specs.Spelling.{IsInRange, longest_user}
 use Rattle.x25_packet.specs.declared.error.PacketError.{PacketError}
+use Rattle.x25_packet.specs.declared.packet.Packet.{Packet}
 use Rattle.x25_decode.specs.declared.answer.Reading.{Reading}
 use Rattle.x25_packet_judge.specs.Channel as channels
 use Rattle.x25_packet_judge.specs.Channel.{by_end}
@@ -26,7 +27,7 @@ use Rattle.x25_possible.specs.declared.packet.Packet.{Packet as Item}
 use Rattle.x25_possible.specs.declared.packet.Packet.TheVariants.{Elsewhere}
 use Rattle.x25_packet.specs.Form as form
 use Rattle.x25_packet.specs.Form.{PlainKind, PlainForm}
-use Rattle.x25_packet.specs.Grammar.{form_in}
+use Rattle.x25_packet.specs.Grammar.{Gives, form_in}
 use Rattle.x25_packet.specs.Taking.{taken_in}
 
 -- nothing was sent
@@ -179,6 +180,16 @@ reads_on from reading octets None b = quiet b
 reads_on from reading octets (Some channel) b =
     if reading.wide then reads_any from channel (longest_user reading.long) octets b
     else reads_written from channel (longest_user reading.long) octets b
+
+-- what information reads as, in the form that a station writes
+abbrev pub IsPacketOf : Bool → List ℕ → Result Packet PacketError → Type 0
+IsPacketOf long octets packet =
+    Gives plain packet (packet_of (longest_user long) octets) × IfOk packet (λ v. IsInRange 128 (plain v))
+
+-- and that of an I frame, where packets are read so
+abbrev pub IsRead : Reading → PlainFrame → Result Packet PacketError → Type 0
+IsRead reading (info ns nr p octets) packet = reading.wide ≡ false → IsPacketOf reading.long octets packet
+IsRead reading frame packet = Unit {0}
 
 -- the information of an I frame
 unfoldable pub reads : Role → Reading → List ℕ → Book → Seen

@@ -8,14 +8,14 @@ ghost use Rattle.x25_packet.specs.Grammar.{form_in};
 use crate::channel::{Channel, Event, Finding};
 use crate::channels::Channels;
 use crate::item::item_of;
-use crate::layers::{Layer, Layers};
+use crate::layers::{Layer, Layers, hear};
 use crate::packet_rule::PacketRule;
 use std::alloc::{AllocError, Global};
 use x25_bits::Role;
 use x25_decode::Reading;
 use x25_frame::Frame;
-use x25_packet::{Kind, Packet, channel, decode, decode_within, longest_user, take};
-use x25_possible::{Packet as Item, Spare};
+use x25_packet::{Kind, Packet, PacketError, channel, decode, longest_user, take};
+use x25_possible::Packet as Item;
 
 /// Which packets of both ends are followed, and what is known of the ends of the channels.
 #[derive(Drop)]
@@ -146,6 +146,17 @@ impl Book {
         }
     }
 
+    /// The end sends a packet; whether that is the first one since the set-up.
+    fn speaks(&mut self, from: Role) -> bool
+        ensures book { self.new ≡ definition.spoken from self.old }
+        ensures first { result ≡ (definition.layers_of from self.old).own.is_quiet }
+    {
+        match from {
+            Role::Dte => self.dte.speaks(),
+            Role::Dce => self.dce.speaks(),
+        }
+    }
+
     /// A packet of a channel, before which RESTART may have to be answered.
     fn judges(&mut self, from: Role, channel: u16, item: Item) -> Verdict
         ensures book { self.new ≡ (definition.judges from channel item self.old).book }
@@ -165,7 +176,7 @@ impl Book {
         ensures book { self.new ≡ (definition.restarts from item is_judged self.old).book }
         ensures verdict { result ≡ (definition.restarts from item is_judged self.old).verdict }
     {
-        let finding = self.restarts.takes(from, item, &mut Spare::new());
+        let finding = self.restarts.takes(from, item);
         self.channels.happens(Event::Sends(from, item));
         Verdict {
             rule: finding.rule,
@@ -181,13 +192,12 @@ impl Book {
         ensures book { self.new ≡ (definition.takes from channel (plain packet.now) self.old).book }
         ensures verdict { result ≡ (definition.takes from channel (plain packet.now) self.old).verdict }
     {
-        let layers = self.layers(from);
-        self.keep(from, layers.speaks());
+        let is_first = self.speaks(from);
         match packet {
             Packet::Restart { .. } => self.restarts(from, Item::Restart, true),
             Packet::RestartConf => self.restarts(from, Item::RestartConf, false),
             _ => {
-                if layers.own.is_quiet {
+                if is_first {
                     self.restarts = Channel::any();
                 }
                 self.judges(from, channel, item_of(packet))
@@ -226,7 +236,6 @@ impl Book {
     }
 
     /// A packet in any form, which is judged as the one that a station takes it for.
-    #[inline(never)]
     fn reads_any(&mut self, from: Role, channel: u16, most: usize, octets: &[u8]) -> Verdict
         ensures book { self.new ≡ (definition.reads_any from channel most octets.now self.old).book }
         ensures verdict { result ≡ (definition.reads_any from channel most octets.now self.old).verdict }
@@ -242,21 +251,27 @@ impl Book {
         }
     }
 
-    /// The information of an I frame; what is told of it is answered.
+    /// The information of an I frame, and the packet that it reads as; what is told of it is answered.
     #[tactic(auto, unfolding(crate::specs::Book::reads))]
-    fn reads(&mut self, from: Role, reading: Reading, octets: &[u8]) -> Verdict
+    fn reads(
+        &mut self,
+        from: Role,
+        reading: Reading,
+        octets: &[u8],
+        packet: &Result<Packet, PacketError>,
+    ) -> Verdict
+        requires { reading.wide ≡ false → definition.IsPacketOf reading.long octets.now packet.now }
         ensures book { self.new ≡ (definition.reads from reading octets.now self.old).book }
         ensures verdict { result ≡ (definition.reads from reading octets.now self.old).verdict }
     {
         let Some(channel) = channel(octets) else {
             return passed(None);
         };
-        let most = longest_user(reading.long);
         if reading.wide {
-            self.reads_any(from, channel, most, octets)
+            self.reads_any(from, channel, longest_user(reading.long), octets)
         } else {
-            match decode_within(most, octets) {
-                Ok(packet) => self.takes(from, channel, &packet),
+            match packet {
+                Ok(packet) => self.takes(from, channel, packet),
                 Err(_) => self.misses_on(channel),
             }
         }
@@ -267,25 +282,12 @@ impl Book {
     fn hears(&mut self, from: Role, number: u8)
         ensures { self.new ≡ definition.hears from number self.old }
     {
-        let layers = self.layers(from);
-        if layers.finds_other(number) {
+        let is_found = match from {
+            Role::Dte => hear(&mut self.dte, &mut self.dce, number),
+            Role::Dce => hear(&mut self.dce, &mut self.dte, number),
+        };
+        if is_found {
             self.forget();
-        }
-        self.keep(from, layers.hears(number));
-    }
-
-    /// An I frame that breaks no rule of the link layer; what is told of its packet is answered.
-    #[tactic(auto, unfolding(crate::specs::Book::moves))]
-    fn moves(&mut self, from: Role, reading: Reading, number: u8, octets: &[u8]) -> Verdict
-        ensures book { self.new ≡ (definition.moves from reading number octets.now self.old).book }
-        ensures verdict { result ≡ (definition.moves from reading number octets.now self.old).verdict }
-    {
-        let layers = self.layers(from);
-        self.keep(from, layers.moves(number));
-        if layers.may_judge(number) {
-            self.reads(from, reading, octets)
-        } else {
-            passed(None)
         }
     }
 
@@ -316,15 +318,17 @@ impl Book {
     }
 
     /// An I frame, which breaks a rule of the link layer where `is_broken`.
-    #[tactic(auto, unfolding(crate::specs::Book::sends_info))]
+    #[tactic(auto, unfolding(crate::specs::Book::sends_info, crate::specs::Book::moves))]
     fn info(
         &mut self,
         from: Role,
         reading: Reading,
         numbers: (u8, u8),
         octets: &[u8],
+        packet: &Result<Packet, PacketError>,
         is_broken: bool,
     ) -> Verdict
+        requires { reading.wide ≡ false → definition.IsPacketOf reading.long octets.now packet.now }
         ensures book { self.new
             ≡ (definition.sends_info from reading numbers.0 numbers.1 octets.now is_broken self.old).book }
         ensures verdict { result
@@ -332,17 +336,30 @@ impl Book {
     {
         if is_broken {
             self.keep(from, self.layers(from).lost());
-            passed(None)
+            return passed(None);
+        }
+        self.hears(from, numbers.1);
+        let layers = self.layers(from);
+        self.keep(from, layers.moves(numbers.0));
+        if layers.may_judge(numbers.0) {
+            self.reads(from, reading, octets, packet)
         } else {
-            self.hears(from, numbers.1);
-            self.moves(from, reading, numbers.0, octets)
+            passed(None)
         }
     }
 
     /// The end sends a frame, which breaks a rule of the link layer where `is_broken`; what is told of its packet is
-    /// answered.
+    /// answered. `packet` is what the information of an I frame reads as, where packets aren't read in all forms.
     #[tactic(auto, unfolding(crate::specs::Book::sees))]
-    pub fn sees(&mut self, from: Role, reading: Reading, frame: &Frame, is_broken: bool) -> Verdict
+    pub fn sees(
+        &mut self,
+        from: Role,
+        reading: Reading,
+        frame: &Frame,
+        packet: &Result<Packet, PacketError>,
+        is_broken: bool,
+    ) -> Verdict
+        requires { definition.IsRead reading (plain_frame frame.now) packet.now }
         ensures book { self.new ≡ (definition.sees from reading (plain_frame frame.now) is_broken self.old).book }
         ensures verdict { result ≡ (definition.sees from reading (plain_frame frame.now) is_broken self.old).verdict }
     {
@@ -352,6 +369,7 @@ impl Book {
                 reading,
                 (ns.get(), nr.get()),
                 info,
+                packet,
                 is_broken,
             ),
             Frame::Rr { nr, .. } | Frame::Rnr { nr, .. } | Frame::Rej { nr, .. } => {

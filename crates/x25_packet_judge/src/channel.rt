@@ -7,7 +7,7 @@ ghost use Rattle.x25_possible.specs.declared.packet.Packet.TheVariants.{Elsewher
 use crate::packet_rule::{PacketRule, is_order};
 use crate::reason::{manners, reason};
 use x25_bits::Role;
-use x25_possible::{Packet, Phase, Set, Spare, Told};
+use x25_possible::{Packet, Phase, Set, Told};
 
 /// Both ends of a channel, or of all that were never seen.
 #[derive(Drop)]
@@ -57,12 +57,13 @@ fn is_begun(set: &Set) -> bool
 }
 
 /// An end sends a packet.
-fn sent(own: &mut Set, packet: Packet, spare: &mut Spare) -> Finding
+#[inline(always)]
+fn sent(own: &mut Set, packet: Packet) -> Finding
     ensures own { own.new ≡ (definition.sent packet own.old).set }
     ensures finding { result ≡ (definition.sent packet own.old).finding }
 {
     let was_known = own.is_known();
-    let rule = rule_of(own.sends(packet, spare), packet);
+    let rule = rule_of(own.sends(packet), packet);
     Finding {
         rule,
         is_judged: was_known && (rule.is_some() || own.is_known()),
@@ -125,30 +126,31 @@ impl Channel {
     }
 
     /// An end sends a packet, which may come to the other one at any moment.
-    pub(crate) fn takes(&mut self, from: Role, packet: Packet, spare: &mut Spare) -> Finding
+    #[inline(always)]
+    pub(crate) fn takes(&mut self, from: Role, packet: Packet) -> Finding
         ensures channel { self.new ≡ (definition.takes from packet self.old).channel }
         ensures finding { result ≡ (definition.takes from packet self.old).finding }
     {
         match from {
             Role::Dte => {
-                let finding = sent(&mut self.dte, packet, spare);
-                self.dce.shows(packet, spare);
+                let finding = sent(&mut self.dte, packet);
+                self.dce.shows(packet);
                 finding
             }
             Role::Dce => {
-                let finding = sent(&mut self.dce, packet, spare);
-                self.dte.shows(packet, spare);
+                let finding = sent(&mut self.dce, packet);
+                self.dte.shows(packet);
                 finding
             }
         }
     }
 
-    pub(crate) fn happens(&mut self, event: Event, spare: &mut Spare)
+    pub(crate) fn happens(&mut self, event: Event)
         ensures { self.new ≡ definition.happens event self.old }
     {
         match event {
             Event::Sends(from, packet) => {
-                self.takes(from, packet, spare);
+                self.takes(from, packet);
             }
             Event::Loss => self.lose(),
         }
@@ -164,7 +166,7 @@ impl Channel {
         if is_begun(&self.dte) && is_begun(&self.dce) {
             return false;
         }
-        let finding = self.takes(from, Packet::Elsewhere, &mut Spare::new());
+        let finding = self.takes(from, Packet::Elsewhere);
         is_order(finding.rule)
     }
 
@@ -201,12 +203,13 @@ impl Channel {
     }
 
     /// The same as `takes`, and where it isn't judged that is noted.
+    #[inline(always)]
     #[tactic(auto, unfolding(crate::specs::Channel::judges))]
-    pub(crate) fn judges(&mut self, from: Role, packet: Packet, spare: &mut Spare) -> Finding
+    pub(crate) fn judges(&mut self, from: Role, packet: Packet) -> Finding
         ensures channel { self.new ≡ (definition.judges from packet self.old).channel }
         ensures finding { result ≡ (definition.judges from packet self.old).finding }
     {
-        let finding = self.takes(from, packet, spare);
+        let finding = self.takes(from, packet);
         self.marks(finding)
     }
 

@@ -8,7 +8,7 @@ use crate::channel::{Channel, Event, Finding};
 use std::alloc::{AllocError, Global};
 use std::marker::Model;
 use x25_bits::Role;
-use x25_possible::{Packet, Spare};
+use x25_possible::Packet;
 
 /// How many numbers a logical channel may have.
 const CHANNELS: usize = 4_096;
@@ -20,7 +20,6 @@ pub(crate) struct Channels {
     seen: Vec<Option<Channel>>,
     /// What each is that wasn't seen since then.
     usual: Channel,
-    spare: Spare,
 }
 
 impl Model for Channels {
@@ -45,25 +44,25 @@ fn pad(seen: &mut Vec<Option<Channel>>, index: usize)
     }
 }
 
+/// The first packet of one.
+fn begins(place: &mut Option<Channel>, usual: &Channel, from: Role, packet: Packet) -> Finding
+    ensures place { place.new ≡ Some (definition.judges from packet usual.now).channel }
+    ensures finding { result ≡ (definition.judges from packet usual.now).finding }
+{
+    let mut channel = usual.copy();
+    let finding = channel.judges(from, packet);
+    *place = Some(channel);
+    finding
+}
+
 /// A packet of one.
-fn judges(
-    place: &mut Option<Channel>,
-    usual: &Channel,
-    from: Role,
-    packet: Packet,
-    spare: &mut Spare,
-) -> Finding
+fn judges(place: &mut Option<Channel>, usual: &Channel, from: Role, packet: Packet) -> Finding
     ensures place { place.new ≡ Some (definition.judges from packet (unwrap_or place.old usual.now)).channel }
     ensures finding { result ≡ (definition.judges from packet (unwrap_or place.old usual.now)).finding }
 {
     match place {
-        Some(channel) => channel.judges(from, packet, spare),
-        None => {
-            let mut channel = usual.copy();
-            let finding = channel.judges(from, packet, spare);
-            *place = Some(channel);
-            finding
-        }
+        Some(channel) => channel.judges(from, packet),
+        None => begins(place, usual, from, packet),
     }
 }
 
@@ -83,20 +82,20 @@ fn misses(place: &mut Option<Channel>, usual: &Channel) -> Finding
     }
 }
 
-fn happens(place: &mut Option<Channel>, event: Event, spare: &mut Spare)
+fn happens(place: &mut Option<Channel>, event: Event)
     ensures { place.new ≡ option_map (definition.happens event) place.old }
 {
     if let Some(channel) = place {
-        channel.happens(event, spare);
+        channel.happens(event);
     }
 }
 
-fn each_happens(seen: &mut Vec<Option<Channel>>, event: Event, spare: &mut Spare)
+fn each_happens(seen: &mut Vec<Option<Channel>>, event: Event)
     ensures items { seen.new.items ≡ map (option_map (definition.happens event)) seen.old.items }
     ensures room { vec_capacity seen.new ≡ vec_capacity seen.old }
 {
     for place in seen.iter_mut() {
-        happens(place, event, spare);
+        happens(place, event);
     }
 }
 
@@ -108,7 +107,6 @@ impl Channels {
         Ok(Channels {
             seen: Vec::with_capacity(alloc, CHANNELS)?,
             usual: Channel::any(),
-            spare: Spare::new(),
         })
     }
 
@@ -120,13 +118,7 @@ impl Channels {
     {
         let index = usize::from(channel) % CHANNELS;
         pad(&mut self.seen, index);
-        judges(
-            &mut self.seen[index],
-            &self.usual,
-            from,
-            packet,
-            &mut self.spare,
-        )
+        judges(&mut self.seen[index], &self.usual, from, packet)
     }
 
     /// A packet of a channel that isn't read.
@@ -143,8 +135,8 @@ impl Channels {
     pub(crate) fn happens(&mut self, event: Event)
         ensures { self.new ≡ all_happens event self.old }
     {
-        each_happens(&mut self.seen, event, &mut self.spare);
-        self.usual.happens(event, &mut self.spare);
+        each_happens(&mut self.seen, event);
+        self.usual.happens(event);
     }
 
     /// All are as this one.

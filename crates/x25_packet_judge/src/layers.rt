@@ -1,5 +1,5 @@
 //! The packet layers of both ends, as the frames of the link show them.
-ghost use Rattle.std.specs.Prelude.{◌≡◌};
+ghost use Rattle.std.specs.Prelude.{◌≡◌, false};
 ghost use Rattle.x25_packet_judge.specs.Layers as definition;
 
 use crate::numbers::{apart, less};
@@ -68,6 +68,16 @@ impl Layer {
             asked: self.asked,
             ..Layer::unseen()
         }
+    }
+
+    /// It sends a packet; whether that is the first one since the set-up.
+    pub(crate) fn speaks(&mut self) -> bool
+        ensures layer { self.new ≡ record self.old { is_quiet = false } }
+        ensures first { result ≡ self.old.is_quiet }
+    {
+        let was_quiet = self.is_quiet;
+        self.is_quiet = false;
+        was_quiet
     }
 
     /// Not all of its packets were seen.
@@ -202,23 +212,6 @@ impl Layers {
         })
     }
 
-    /// The end sends an N(R).
-    pub(crate) fn hears(self, number: u8) -> Layers
-        ensures { result ≡ definition.hears number self }
-    {
-        let next = self.worn();
-        if self.finds_other(number) {
-            next.with_other(self.other.found_at(number))
-        } else if self.may_hear() {
-            next.with_other(Layer {
-                acked: number,
-                ..self.other
-            })
-        } else {
-            next
-        }
-    }
-
     /// Whether an I frame is the next one that wasn't seen yet.
     fn is_next(self, number: u8) -> bool
         ensures { result ≡ definition.is_next number self }
@@ -276,14 +269,25 @@ impl Layers {
             next
         }
     }
+}
 
-    /// The end sends a packet.
-    pub(crate) fn speaks(self) -> Layers
-        ensures { result ≡ definition.speaks self }
-    {
-        self.with_own(Layer {
-            is_quiet: false,
-            ..self.own
-        })
+/// An end sends an N(R); whether it shows that packets of the other end weren't seen.
+pub(crate) fn hear(own: &mut Layer, other: &mut Layer, number: u8) -> bool
+    ensures own { own.new ≡ (definition.hears number (record { own = own.old; other = other.old })).own }
+    ensures other { other.new ≡ (definition.hears number (record { own = own.old; other = other.old })).other }
+    ensures found { result ≡ definition.finds_other number (record { own = own.old; other = other.old }) }
+{
+    let layers = Layers {
+        own: *own,
+        other: *other,
+    };
+    own.is_fresh = false;
+    if layers.finds_other(number) {
+        *other = layers.other.found_at(number);
+        return true;
     }
+    if layers.may_hear() {
+        other.acked = number;
+    }
+    false
 }

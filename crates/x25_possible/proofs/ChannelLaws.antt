@@ -7,7 +7,7 @@ use Rattle.std.proofs.lemmas.Option.{none-some, same_Some, cond_some}
 use Rattle.x25_possible.specs.laws.Possible.{IsIn, AreFavourites}
 use Rattle.x25_bits.specs.declared.role.Role.{Role}
 use Rattle.x25_possible.specs.Channel.{nth, may_ack, may_number, may_follow, may_talk, fits, limits_of, talked, heard, hears, sends_as, takes, sends}
-use Rattle.x25_possible.specs.Channel.{no_limits, idle_sends, resets_sends, clears_sends, free_sends, idle_takes, calls_takes, free_takes}
+use Rattle.x25_possible.specs.Channel.{idle_sends, resets_sends, clears_sends, idle_takes, calls_takes}
 use Rattle.x25_possible.specs.Channel.{ending_sends, silent_sends, talk_sends, talking_as, talk_takes, resets_takes, clears_takes, restarts_takes, is_one_message, dropped, dropped_in_call, talk_at_once, clears_at_once, restarts_at_once, told_of, pr_of, at_once, one}
 use Rattle.x25_possible.specs.Channel.{channel_rules, channel_choices, lowered}
 use Rattle.x25_possible.specs.declared.packet.Packet.{Packet}
@@ -17,7 +17,7 @@ use Rattle.x25_possible.specs.declared.packet.Packet.TheVariants.{Elsewhere}
 use Rattle.x25_possible.specs.declared.phase.Phase.{Phase}
 use Rattle.x25_possible.specs.declared.phase.Limits.{Limits}
 use Rattle.x25_possible.specs.declared.packet.Terms.{Terms}
-use Rattle.x25_possible.specs.declared.phase.Phase.TheVariants.{Idle, Calls, Talks, Free, Resets, WasReset, Clears}
+use Rattle.x25_possible.specs.declared.phase.Phase.TheVariants.{Idle, Calls, Talks, Resets, WasReset, Clears}
 use Rattle.x25_possible.specs.declared.phase.Phase.TheVariants.{WasCleared, Restarts, WasRestarted}
 use Rattle.x25_possible.specs.declared.phase.Talk.{Talk}
 
@@ -265,17 +265,6 @@ calls_takes_at_once role terms InterruptConf u e = same_Some (Calls terms) u e
 calls_takes_at_once role terms Elsewhere u e = same_Some (Calls terms) u e
 calls_takes_at_once role terms x u e = absurd (none-some u e)
 
-free_takes_at_once : (x : Packet) (u : Phase) → dropped_in_call x Free ≡ Some u → free_takes x ≡ u
-free_takes_at_once (Call terms) u e = same_Some Free u e
-free_takes_at_once (Accept said) u e = same_Some Free u e
-free_takes_at_once (Data q m ps pr size) u e = same_Some Free u e
-free_takes_at_once (Rr pr) u e = same_Some Free u e
-free_takes_at_once (Rnr pr) u e = same_Some Free u e
-free_takes_at_once Interrupt u e = same_Some Free u e
-free_takes_at_once InterruptConf u e = same_Some Free u e
-free_takes_at_once Elsewhere u e = same_Some Free u e
-free_takes_at_once x u e = absurd (none-some u e)
-
 resets_takes_at_once : (limits : Limits) (x : Packet) (u : Phase) → dropped_in_call x (Resets limits) ≡ Some u
     → resets_takes limits x ≡ u
 resets_takes_at_once limits (Call terms) u e = same_Some (Resets limits) u e
@@ -304,7 +293,6 @@ at_once_takes : (role : Role) (s : Phase) (x : Packet) (u : Phase) → at_once s
 at_once_takes role (Talks k) x u e = ap Some (talk_takes_at_once k x u e)
 at_once_takes role Idle x u e = ap Some (idle_takes_at_once x u e)
 at_once_takes role (Calls terms) x u e = ap Some (calls_takes_at_once role terms x u e)
-at_once_takes role Free x u e = ap Some (free_takes_at_once x u e)
 at_once_takes role (Resets limits) x u e = ap Some (resets_takes_at_once limits x u e)
 at_once_takes role Clears x u e = ap Some (clears_takes_at_once x u e)
 at_once_takes role Restarts x u e = ap Some (restarts_takes_at_once x u e)
@@ -673,17 +661,6 @@ resets_commutes limits x y u r e h =
     ending_commutes x y (Resets limits) r (dropped_in_call_too x (Resets limits) u (Resets limits) e)
     (dropped_in_call_clears x (Resets limits) u e) h
 
-free_commutes : (x y : Packet) (u r : Phase) → dropped_in_call x Free ≡ Some u → free_sends y ≡ Some r → Commutes r x (free_sends y)
-free_commutes x (Data q m ps pr size) u r e h = goes_to (Some Free) x r Free refl (dropped_in_call_too x Free u Free e) h
-free_commutes x (Rr pr) u r e h = goes_to (Some Free) x r Free refl (dropped_in_call_too x Free u Free e) h
-free_commutes x (Rnr pr) u r e h = goes_to (Some Free) x r Free refl (dropped_in_call_too x Free u Free e) h
-free_commutes x Interrupt u r e h = goes_to (Some Free) x r Free refl (dropped_in_call_too x Free u Free e) h
-free_commutes x InterruptConf u r e h = goes_to (Some Free) x r Free refl (dropped_in_call_too x Free u Free e) h
-free_commutes x Reset u r e h =
-    goes_to (Some (Resets no_limits)) x r (Resets no_limits) refl (dropped_in_call_too x Free u (Resets no_limits) e) h
-free_commutes x y u r e h =
-    ending_commutes x y Free r (dropped_in_call_too x Free u Free e) (dropped_in_call_clears x Free u e) h
-
 silent_commutes : (x y : Packet) (r : Phase) → restarts_at_once x ≡ Some Restarts → silent_sends y ≡ Some r → Commutes r x (silent_sends y)
 silent_commutes x Restart r e h = goes_to (Some Restarts) x r Restarts refl e h
 silent_commutes x y r e h = absurd (none-some r h)
@@ -715,8 +692,6 @@ commutes_at Idle x u y r e h =
 commutes_at (Calls terms) x u y r e h =
     subst (λ w. Commutes r x (sends w y)) (dropped_is x (Calls terms) u e)
     (ending_commutes x y (Calls terms) r (dropped_too x (Calls terms) u (Calls terms) e) (dropped_clears x (Calls terms) u e) h)
-commutes_at Free x u y r e h =
-    subst (λ w. Commutes r x (sends w y)) (dropped_in_call_is x Free u e) (free_commutes x y u r e h)
 commutes_at (Resets limits) x u y r e h =
     subst (λ w. Commutes r x (sends w y)) (dropped_in_call_is x (Resets limits) u e) (resets_commutes limits x y u r e h)
 commutes_at Clears x u y r e h =

@@ -12,7 +12,7 @@ use Rattle.x25_possible.specs.laws.Sets.{AreCounted, Fits, IsRude, placed}
 use Rattle.x25_possible.specs.declared.packet.Packet.{Packet}
 use Rattle.x25_possible.specs.declared.packet.Packet.TheVariants.{Data}
 use Rattle.x25_possible.specs.declared.phase.Phase.{Phase}
-use Rattle.x25_possible.specs.declared.phase.Phase.TheVariants.{Idle, Calls, Talks, Free, Resets, Clears, Restarts}
+use Rattle.x25_possible.specs.declared.phase.Phase.TheVariants.{Idle, Calls, Talks, Resets, Clears, Restarts}
 use Rattle.x25_possible.specs.declared.phase.Talk.{Talk}
 use Rattle.x25_possible.specs.declared.set.Set.{Set}
 use Rattle.x25_possible.proofs.ChannelLaws.{IsAsGood, IsHigher, channel_favourites, clears_same, dropped_in_call_is, dropped_is}
@@ -56,7 +56,6 @@ polite_at_once (Talks k) y x u e p =
     subst (λ w. is_polite w x ≡ true) (sym (heard_at_once k y u e)) (polite_higher k (heard k y) x (heard_higher k y) p)
 polite_at_once Idle y x u e p = subst (λ w. is_polite w x ≡ true) (dropped_is y Idle u e) refl
 polite_at_once (Calls terms) y x u e p = subst (λ w. is_polite w x ≡ true) (dropped_is y (Calls terms) u e) refl
-polite_at_once Free y x u e p = subst (λ w. is_polite w x ≡ true) (dropped_in_call_is y Free u e) refl
 polite_at_once (Resets limits) y x u e p = subst (λ w. is_polite w x ≡ true) (dropped_in_call_is y (Resets limits) u e) refl
 polite_at_once Clears y x u e p = subst (λ w. is_polite w x ≡ true) (clears_same y u e) refl
 polite_at_once Restarts y x u e p = subst (λ w. is_polite w x ≡ true) (restarts_same y u e) refl

@@ -15,7 +15,7 @@ use Rattle.x25_possible.specs.declared.packet.Packet.{Packet}
 use Rattle.x25_possible.specs.declared.packet.Terms.{Terms}
 use Rattle.x25_possible.specs.declared.phase.Limits.{Limits}
 use Rattle.x25_possible.specs.declared.phase.Phase.{Phase}
-use Rattle.x25_possible.specs.declared.phase.Phase.TheVariants.{Idle, Calls, WasCalled, Free, Resets, WasReset, Clears, WasCleared, Restarts}
+use Rattle.x25_possible.specs.declared.phase.Phase.TheVariants.{Idle, Calls, WasCalled, Resets, WasReset, Clears, WasCleared, Restarts}
 use Rattle.x25_possible.specs.declared.phase.Phase.TheVariants.{WasRestarted}
 use Rattle.x25_possible.specs.declared.spots.Spot.{Spot}
 use Rattle.x25_possible.proofs.Lists.{in_left, in_right, in_either}
@@ -59,7 +59,6 @@ terms_are_same a b h =
 
 are_same : (s r : Phase) → is_same s r ≡ true → s ≡ r
 are_same Idle Idle h = refl
-are_same Free Free h = refl
 are_same Clears Clears h = refl
 are_same WasCleared WasCleared h = refl
 are_same Restarts Restarts h = refl

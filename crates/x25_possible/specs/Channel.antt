@@ -15,7 +15,7 @@ use Rattle.x25_possible.specs.declared.packet.Terms.{Terms}
 use Rattle.x25_possible.specs.declared.packet.Windows.{Windows}
 use Rattle.x25_possible.specs.declared.phase.Limits.{Limits}
 use Rattle.x25_possible.specs.declared.phase.Phase.{Phase}
-use Rattle.x25_possible.specs.declared.phase.Phase.TheVariants.{Idle, Calls, WasCalled, Talks, Free, Resets, WasReset}
+use Rattle.x25_possible.specs.declared.phase.Phase.TheVariants.{Idle, Calls, WasCalled, Talks, Resets, WasReset}
 use Rattle.x25_possible.specs.declared.phase.Phase.TheVariants.{Clears, WasCleared, Restarts, WasRestarted}
 use Rattle.x25_possible.specs.declared.phase.Talk.{Talk}
 
@@ -51,9 +51,6 @@ called_limits terms said = record {
 
 abbrev pub limits_of : Talk → Limits
 limits_of k = record { most = k.most; window = k.window }
-
-abbrev pub no_limits : Limits
-no_limits = record { most = 0; window = 0 }
 
 -- ---- data transfer, within a stretch (4.3, 4.4.1)
 
@@ -161,15 +158,6 @@ talk_sends t k Clear = Some Clears
 talk_sends t k Restart = Some Restarts
 talk_sends t k x = talking_as t k x
 
-abbrev pub free_sends : Packet → Option Phase
-free_sends (Data q m ps pr size) = Some Free
-free_sends (Rr pr) = Some Free
-free_sends (Rnr pr) = Some Free
-free_sends Interrupt = Some Free
-free_sends InterruptConf = Some Free
-free_sends Reset = Some (Resets no_limits)
-free_sends x = ending_sends Free x
-
 -- d2: also RESET again (4.4.3.1, timer T22)
 abbrev pub resets_sends : Limits → Packet → Option Phase
 resets_sends limits Reset = Some (Resets limits)
@@ -208,7 +196,6 @@ sends_as t Idle x = idle_sends x
 sends_as t (Calls terms) x = ending_sends (Calls terms) x
 sends_as t (WasCalled terms) x = called_sends terms x
 sends_as t (Talks k) x = talk_sends t k x
-sends_as t Free x = free_sends x
 sends_as t (Resets limits) x = resets_sends limits x
 sends_as t (WasReset limits) x = reset_sends limits x
 sends_as t Clears x = clears_sends x
@@ -244,10 +231,6 @@ calls_takes role terms x = ended_by x (Calls terms)
 abbrev pub talk_takes : Talk → Packet → Phase
 talk_takes k Reset = WasReset (limits_of k)
 talk_takes k x = ended_by x (Talks (heard k x))
-
-abbrev pub free_takes : Packet → Phase
-free_takes Reset = WasReset no_limits
-free_takes x = ended_by x Free
 
 -- d2: all is dropped but RESET and its confirmation, and what ends the call (4.4.3.3)
 abbrev pub resets_takes : Limits → Packet → Phase
@@ -286,7 +269,6 @@ takes role Idle x = Some (idle_takes x)
 takes role (Calls terms) x = Some (calls_takes role terms x)
 takes role (WasCalled terms) x = Some (ended_by x (WasCalled terms))
 takes role (Talks k) x = Some (talk_takes k x)
-takes role Free x = Some (free_takes x)
 takes role (Resets limits) x = Some (resets_takes limits x)
 takes role (WasReset limits) x = reset_takes limits x
 takes role Clears x = Some (clears_takes x)
@@ -354,7 +336,6 @@ abbrev pub at_once : Phase → Packet → Option Phase
 at_once (Talks k) x = talk_at_once k x
 at_once Idle x = dropped x Idle
 at_once (Calls terms) x = dropped x (Calls terms)
-at_once Free x = dropped_in_call x Free
 at_once (Resets limits) x = dropped_in_call x (Resets limits)
 at_once Clears x = clears_at_once x
 at_once Restarts x = restarts_at_once x

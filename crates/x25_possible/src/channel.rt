@@ -1,8 +1,8 @@
 //! What an end may send and take in each state, as the definition has it.
-ghost use Rattle.std.specs.Prelude.{◌≡◌, ◌+◌, ◌<◌, ◌^◌, false};
+ghost use Rattle.std.specs.Prelude.{◌≡◌, ◌+◌, ◌<◌, ◌^◌, IfSome, false};
 ghost use Rattle.x25_possible.specs.Channel as definition;
 ghost use Rattle.x25_possible.specs.Spots.{IsSmall};
-ghost use Rattle.x25_possible.specs.code.Steps.{is_large as large};
+ghost use Rattle.x25_possible.specs.code.Steps as steps;
 ghost use Rattle.x25_possible.specs.declared.packet.Packet.TheVariants.{Data, Rr};
 ghost use Rattle.x25_possible.specs.declared.phase.Phase.TheVariants.{Talks};
 
@@ -16,12 +16,9 @@ const LARGEST: u32 = 2_000_000_000;
 /// What isn't known counts as this number.
 const FAR: u32 = 1_000_000_000;
 
-/// What nothing is known of.
-const NO_LIMITS: Limits = Limits { most: 0, window: 0 };
-
 /// Whether a number is so large that it isn't counted on.
 pub(crate) fn is_large(phase: Phase) -> bool
-    ensures same { result ≡ large phase }
+    ensures same { result ≡ steps.is_large phase }
     ensures small { result ≡ false → IsSmall phase }
 {
     match phase {
@@ -154,6 +151,7 @@ fn talked(t: u32, talk: Talk, q: bool, m: bool) -> Talk
     }
 }
 
+#[inline(always)]
 fn sends_data(t: u32, talk: Talk, q: bool, m: bool, ps: u8, pr: u8, size: u16) -> Option<Phase>
     requires { IsSmall (Talks talk) }
     ensures { result ≡ definition.talk_sends t talk (Data q m ps pr size) }
@@ -259,20 +257,6 @@ fn called_sends(terms: Terms, packet: Packet) -> Option<Phase>
     }
 }
 
-fn free_sends(packet: Packet) -> Option<Phase>
-    ensures { result ≡ definition.free_sends packet }
-{
-    match packet {
-        Packet::Data { .. }
-        | Packet::Rr(_)
-        | Packet::Rnr(_)
-        | Packet::Interrupt
-        | Packet::InterruptConf => Some(Phase::Free),
-        Packet::Reset => Some(Phase::Resets(NO_LIMITS)),
-        _ => ending_sends(Phase::Free, packet),
-    }
-}
-
 fn resets_sends(limits: Limits, packet: Packet) -> Option<Phase>
     ensures { result ≡ definition.resets_sends limits packet }
 {
@@ -329,7 +313,6 @@ pub(crate) fn sends(phase: Phase, packet: Packet) -> Option<Phase>
         Phase::Calls(_) => ending_sends(phase, packet),
         Phase::WasCalled(terms) => called_sends(terms, packet),
         Phase::Talks(talk) => talk_sends(talk, packet),
-        Phase::Free => free_sends(packet),
         Phase::Resets(limits) => resets_sends(limits, packet),
         Phase::WasReset(limits) => reset_sends(limits, packet),
         Phase::Clears => clears_sends(packet),
@@ -412,15 +395,6 @@ fn talk_takes(talk: Talk, packet: Packet) -> Phase
     }
 }
 
-fn free_takes(packet: Packet) -> Phase
-    ensures { result ≡ definition.free_takes packet }
-{
-    match packet {
-        Packet::Reset => Phase::WasReset(NO_LIMITS),
-        _ => ended_by(packet, Phase::Free),
-    }
-}
-
 fn resets_takes(limits: Limits, packet: Packet) -> Phase
     ensures { result ≡ definition.resets_takes limits packet }
 {
@@ -486,7 +460,6 @@ pub(crate) fn takes(role: Role, phase: Phase, packet: Packet) -> Option<Phase>
         Phase::Calls(terms) => Some(calls_takes(role, terms, packet)),
         Phase::WasCalled(terms) => Some(ended_by(packet, Phase::WasCalled(terms))),
         Phase::Talks(talk) => Some(talk_takes(talk, packet)),
-        Phase::Free => Some(free_takes(packet)),
         Phase::Resets(limits) => Some(resets_takes(limits, packet)),
         Phase::WasReset(limits) => reset_takes(limits, packet),
         Phase::Clears => Some(clears_takes(packet)),
@@ -538,7 +511,7 @@ pub(crate) fn at_once(phase: Phase, packet: Packet) -> Option<Phase>
     match phase {
         Phase::Talks(talk) => talk_at_once(talk, packet),
         Phase::Idle | Phase::Calls(_) => dropped(packet, phase),
-        Phase::Free | Phase::Resets(_) => dropped_in_call(packet, phase),
+        Phase::Resets(_) => dropped_in_call(packet, phase),
         Phase::Clears => match packet {
             Packet::Clear | Packet::ClearConf | Packet::Restart | Packet::RestartConf => None,
             _ => Some(phase),
@@ -549,6 +522,54 @@ pub(crate) fn at_once(phase: Phase, packet: Packet) -> Option<Phase>
         },
         _ => None,
     }
+}
+
+// ---- one state, in flow control
+
+/// Its numbers, where they aren't too large.
+pub(crate) fn flow(phase: Phase) -> Option<Talk>
+    ensures same { result ≡ steps.flow phase }
+    ensures small { IfSome result (λ k. IsSmall (Talks k)) }
+{
+    match phase {
+        Phase::Talks(talk) => if is_large(phase) { None } else { Some(talk) },
+        _ => None,
+    }
+}
+
+#[inline(always)]
+fn flow_in(phase: Option<Phase>) -> Option<Talk>
+    ensures { result ≡ steps.flow_in phase }
+{
+    match phase {
+        Some(phase) => flow(phase),
+        None => None,
+    }
+}
+
+/// Its numbers behind a data packet, RR or RNR that it sends politely.
+#[inline(always)]
+pub(crate) fn flow_sends(talk: Talk, packet: Packet) -> Option<Talk>
+    requires { IsSmall (Talks talk) }
+    ensures { result ≡ steps.flow_sends talk packet }
+{
+    match packet {
+        Packet::Data { q, m, ps, pr, size } => if is_polite(Phase::Talks(talk), packet) {
+            flow_in(sends_data(nth(talk.told, pr), talk, q, m, ps, pr, size))
+        } else {
+            None
+        },
+        Packet::Rr(pr) | Packet::Rnr(pr) => flow_in(sends_ready(nth(talk.told, pr), talk, pr)),
+        _ => None,
+    }
+}
+
+/// Its numbers behind one that is taken at once.
+pub(crate) fn flow_takes(talk: Talk, packet: Packet) -> Option<Talk>
+    requires { IsSmall (Talks talk) }
+    ensures { result ≡ steps.flow_takes talk packet }
+{
+    flow_in(talk_at_once(talk, packet))
 }
 
 // ---- beside the rules

@@ -14,4 +14,4 @@ pub use law::{
 };
 pub use packet::{Packet, Said, Sizes, Terms, Windows};
 pub use phase::{Limits, Phase, Talk};
-pub use set::{Knowledge, Set, Spare, Told};
+pub use set::{Knowledge, Set, Told};

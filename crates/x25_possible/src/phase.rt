@@ -35,8 +35,6 @@ pub enum Phase {
     WasCalled(Terms),
     /// d1
     Talks(Talk),
-    /// d1, in a call of which nothing is known
-    Free,
     /// d2, in a call with these limits
     Resets(Limits),
     /// d3

@@ -1,16 +1,17 @@
 //! The states in which an end of a channel may be, packet by packet.
-ghost use Rattle.std.specs.Prelude.{◌≡◌};
+ghost use Rattle.std.specs.Prelude.{◌≡◌, IfSome};
+ghost use Rattle.x25_possible.specs.Spots.{IsSmall};
 ghost use Rattle.x25_possible.specs.code.Steps as definition;
+ghost use Rattle.x25_possible.specs.code.Steps.{IsInFlow, IsStep, IsTaken};
+ghost use Rattle.x25_possible.specs.declared.phase.Phase.TheVariants.{Talks};
 
-use crate::channel::dropped;
+use crate::channel::{dropped, flow, flow_sends, flow_takes};
 use crate::packet::Packet;
-use crate::phase::Phase;
+use crate::phase::{Phase, Talk};
 use crate::spots::{
-    Spot, Spots, are_answered, are_at_end, are_bound, found_all, gone, grown, is_one_idle, latest,
-    renew, rude,
+    Spot, Spots, are_answered, are_at_end, found_all, gone, grown, is_one_idle, latest, renew, rude,
 };
 use arrayvec::ArrayVec;
-use std::marker::Model;
 use x25_bits::Role;
 
 /// What is known of an end: nothing any more; nothing, and it may be anywhere on the way; or the states in which it may
@@ -36,26 +37,6 @@ pub enum Told {
     Broken(Phase),
 }
 
-/// A list in which states are made, lent from packet to packet: no contract says what it holds.
-#[derive(Drop)]
-pub struct Spare {
-    list: Spots,
-}
-
-impl Model for Spare {
-    ghost use Rattle.std.specs.Prelude.{◌≡◌};
-
-    ghost Value = { Unit {0} };
-
-    ghost view = { λ s. tt };
-}
-
-impl Spare {
-    pub fn new() -> Spare {
-        Spare { list: Spots::new() }
-    }
-}
-
 /// The states in which an end may be, and what the other one sent that it may not have taken.
 #[derive(Drop)]
 pub struct Set {
@@ -70,14 +51,16 @@ fn makes_known(knowledge: Knowledge, packet: Packet, spots: &[Spot]) -> bool
     ensures { result ≡ definition.makes_known knowledge packet spots.now }
 {
     match packet {
-        Packet::RestartConf | Packet::ClearConf | Packet::Accept(_) => true,
-        Packet::Restart => matches!(knowledge, Knowledge::Ready) || is_one_idle(spots),
-        Packet::Clear => is_one_idle(spots),
-        Packet::Data { .. }
+        Packet::RestartConf
+        | Packet::ClearConf
+        | Packet::Accept(_)
+        | Packet::Data { .. }
         | Packet::Rr(_)
         | Packet::Rnr(_)
         | Packet::Interrupt
-        | Packet::InterruptConf => are_bound(spots),
+        | Packet::InterruptConf => true,
+        Packet::Restart => matches!(knowledge, Knowledge::Ready) || is_one_idle(spots),
+        Packet::Clear => is_one_idle(spots),
         Packet::Call(_) | Packet::Reset | Packet::ResetConf | Packet::Elsewhere => false,
     }
 }
@@ -283,8 +266,8 @@ impl Set {
     }
 
     /// The end may be anywhere on the way, and a packet says where it is behind it.
-    fn locates(&mut self, packet: Packet, spots: &mut Spots)
-        ensures { self.new ≡ definition.located packet spots.old.items self.old }
+    fn locates(&mut self, packet: Packet, spots: &Spots)
+        ensures { self.new ≡ definition.located packet spots.now.items self.old }
     {
         self.knowledge = if makes_known(self.knowledge, packet, spots.as_slice()) {
             Knowledge::Known
@@ -296,44 +279,92 @@ impl Set {
     }
 
     /// A packet of an end that may be anywhere on the way.
-    fn finds(&mut self, packet: Packet, next: &mut Spots)
+    fn finds(&mut self, packet: Packet)
         ensures { self.new ≡ definition.finds packet self.old }
     {
         if !self.is_lost() || !may_find(self.knowledge, packet) {
             return;
         }
-        if found_all(self.role, &self.way, packet, next) && !next.is_empty() {
-            self.locates(packet, next);
+        let mut next = Spots::new();
+        if found_all(self.role, &self.way, packet, &mut next) && !next.is_empty() {
+            self.locates(packet, &next);
         }
     }
 
     /// As `sends`, with what came left on the way.
-    fn goes(&mut self, packet: Packet, next: &mut Spots) -> Told
+    fn goes(&mut self, packet: Packet) -> Told
         ensures set { self.new ≡ (definition.sent packet self.old).set }
         ensures told { result ≡ (definition.sent packet self.old).told }
     {
-        if !gone(false, self.role, &self.spots, &self.way, packet, next) {
+        let mut next = Spots::new();
+        if !gone(false, self.role, &self.spots, &self.way, packet, &mut next) {
             self.give_up();
             Told::Nothing
         } else if next.is_empty() {
-            self.is_unexplained(packet, next)
+            self.is_unexplained(packet, &mut next)
         } else {
-            self.is_explained(packet, next)
+            self.is_explained(packet, &next)
         }
     }
 
-    /// The end sends a packet.
-    pub fn sends(&mut self, packet: Packet, spare: &mut Spare) -> Told
+    /// Its numbers, where it is surely in flow control, and nothing is on the way to it.
+    fn flow(&self) -> Option<Talk>
+        ensures same { result ≡ definition.flow_of self.now }
+        ensures small { IfSome result (λ k. IsSmall (Talks k)) }
+    {
+        if !self.is_known() {
+            return None;
+        }
+        match (self.way.as_slice(), self.spots.as_slice()) {
+            ([], [spot]) => if spot.at == 0 { flow(spot.phase) } else { None },
+            _ => None,
+        }
+    }
+
+    /// Its one state is in flow control with other numbers.
+    fn flows(&mut self, talk: Talk)
+        requires { IsInFlow self.old }
+        ensures { self.new ≡ definition.in_flow talk self.old }
+    {
+        self.spots[0].phase = Phase::Talks(talk);
+    }
+
+    /// Its numbers behind a packet that it sends, where the whole of that is these.
+    #[inline(always)]
+    fn steps(&self, packet: Packet) -> Option<Talk>
+        ensures { IfSome result (λ next. IsStep packet next self.now) }
+    {
+        match self.flow() {
+            Some(talk) => flow_sends(talk, packet),
+            None => None,
+        }
+    }
+
+    /// As `sends`, of any set.
+    fn sends_any(&mut self, packet: Packet) -> Told
         ensures set { self.new ≡ (definition.sends_to packet self.old).set }
         ensures told { result ≡ (definition.sends_to packet self.old).told }
     {
         if self.is_blind() {
-            self.finds(packet, &mut spare.list);
+            self.finds(packet);
             return Told::Nothing;
         }
-        let told = self.goes(packet, &mut spare.list);
+        let told = self.goes(packet);
         self.trim();
         told
+    }
+
+    /// The end sends a packet.
+    #[inline(always)]
+    pub fn sends(&mut self, packet: Packet) -> Told
+        ensures set { self.new ≡ (definition.sends_to packet self.old).set }
+        ensures told { result ≡ (definition.sends_to packet self.old).told }
+    {
+        let Some(next) = self.steps(packet) else {
+            return self.sends_any(packet);
+        };
+        self.flows(next);
+        Told::Nothing
     }
 
     /// What comes to an end that may be anywhere is kept on the way, where it may say in which state that is.
@@ -351,7 +382,7 @@ impl Set {
     }
 
     /// As `shows`, with what came left on the way.
-    fn grows(&mut self, packet: Packet, next: &mut Spots)
+    fn grows(&mut self, packet: Packet)
         ensures { self.new ≡ definition.shown packet self.old }
     {
         if self.way.is_full() {
@@ -361,25 +392,48 @@ impl Set {
         let is_known = self.is_known() || are_answered(self.role, self.spots.as_slice(), packet);
         let last = self.way.len();
         self.way.push(packet);
-        if !grown(self.role, &self.spots, last, &self.way, next) {
+        let mut next = Spots::new();
+        if !grown(self.role, &self.spots, last, &self.way, &mut next) {
             self.give_up();
             return;
         }
-        self.take(next);
+        self.take(&next);
         if is_known {
             self.knowledge = Knowledge::Known;
         }
     }
 
-    /// The other end sends a packet, which may come at any moment from now on.
-    pub fn shows(&mut self, packet: Packet, spare: &mut Spare)
+    /// Its numbers behind a packet that comes, where the whole of that is these.
+    #[inline(always)]
+    fn hears(&self, packet: Packet) -> Option<Talk>
+        ensures { IfSome result (λ next. IsTaken packet next self.now) }
+    {
+        match self.flow() {
+            Some(talk) => flow_takes(talk, packet),
+            None => None,
+        }
+    }
+
+    /// As `shows`, to any set.
+    fn shows_any(&mut self, packet: Packet)
         ensures { self.new ≡ definition.shows_to packet self.old }
     {
         if self.is_blind() {
             self.awaits(packet);
             return;
         }
-        self.grows(packet, &mut spare.list);
+        self.grows(packet);
         self.trim();
+    }
+
+    /// The other end sends a packet, which may come at any moment from now on.
+    #[inline(always)]
+    pub fn shows(&mut self, packet: Packet)
+        ensures { self.new ≡ definition.shows_to packet self.old }
+    {
+        match self.hears(packet) {
+            Some(next) => self.flows(next),
+            None => self.shows_any(packet),
+        }
     }
 }

@@ -39,7 +39,6 @@ fn is_same(one: Phase, two: Phase) -> bool
 {
     match (one, two) {
         (Phase::Idle, Phase::Idle) => true,
-        (Phase::Free, Phase::Free) => true,
         (Phase::Clears, Phase::Clears) => true,
         (Phase::WasCleared, Phase::WasCleared) => true,
         (Phase::Restarts, Phase::Restarts) => true,
@@ -110,7 +109,6 @@ fn settle(role: Role, phase: Phase, at: usize, way: &[Packet], out: &mut Spots) 
 }
 
 /// Adds all that one comes to as the end sends a packet, by the rules, or where that breaks one. False: no room.
-#[inline(always)]
 fn goes(
     breaks: bool,
     role: Role,
@@ -135,7 +133,6 @@ fn goes(
     }
 }
 
-#[inline(always)]
 fn go_all(
     breaks: bool,
     role: Role,
@@ -385,18 +382,6 @@ pub(crate) fn is_one_idle(spots: &[Spot]) -> bool
         }
     }
     false
-}
-
-/// Whether each is of a call of which something is known, or of none.
-pub(crate) fn are_bound(spots: &[Spot]) -> bool
-    ensures { result ≡ definition.are_bound spots.now }
-{
-    for spot in spots {
-        if matches!(spot.phase, Phase::Free) {
-            return false;
-        }
-    }
-    true
 }
 
 /// Whether such a packet answers a state's request, and crosses none; of a DCE that called, the DTE may have called

@@ -11,10 +11,10 @@ use crate::frame::Frame;
 use crate::stand::{Numbers, Stand};
 
 /// Numbers up to here are counted; a set with larger ones says nothing.
-const LARGEST: u64 = 4_000_000_000_000_000_000;
+const LARGEST: u64 = (1 << 62) - 1;
 
 /// As many I frames that are taken, or acknowledged, where it isn't known how many may be.
-const FAR: u64 = 1_000_000_000_000_000_000;
+const FAR: u64 = 1 << 60;
 
 /// A session that begins.
 pub(crate) const FRESH: Stand = Stand::Up(Numbers {
@@ -60,7 +60,6 @@ fn may_number(n: u64, k: Numbers, ns: u8, differs: bool) -> bool
         && (n <= k.sent && (k.sent <= n + 7 && (n < k.acked + 7 && (n == k.sent || !differs))))
 }
 
-#[inline(always)]
 fn up_counts(k: Numbers, frame: Frame) -> Option<Stand>
     requires { IsSmall (Up k) }
     ensures { result ≡ definition.counts (places.number_of (Up k) frame) (places.least_of (Up k) frame) (Up k) frame }
@@ -355,7 +354,6 @@ pub(crate) fn is_sure(stand: Stand) -> bool
 }
 
 /// The numbers of a session, where they aren't too large and what it may acknowledge is known.
-#[inline(always)]
 pub(crate) fn sure_numbers(stand: Stand) -> Option<Numbers>
     ensures same { result ≡ steps.sure_numbers stand }
     ensures small { IfSome result (λ k. IsSmall (Up k)) }
@@ -371,7 +369,6 @@ pub(crate) fn sure_numbers(stand: Stand) -> Option<Numbers>
 }
 
 /// Its numbers behind a frame of a session that it sends; None where it may not, or they are too large.
-#[inline(always)]
 pub(crate) fn up_sends(k: Numbers, frame: Frame) -> Option<Numbers>
     requires { IsSmall (Up k) }
     ensures { result ≡ steps.up_sends k frame }
@@ -386,7 +383,6 @@ pub(crate) fn up_sends(k: Numbers, frame: Frame) -> Option<Numbers>
 }
 
 /// Its numbers behind a frame of a session that comes; None where it is of none, or they are too large.
-#[inline(always)]
 pub(crate) fn up_hears(k: Numbers, frame: Frame) -> Option<Numbers>
     requires { IsSmall (Up k) }
     ensures { result ≡ steps.up_hears k frame }

@@ -125,7 +125,6 @@ impl LinkSet {
     }
 
     /// Where the one of the places stands that has come farthest, once all has come.
-    #[inline(always)]
     pub fn latest(&self) -> Stand
         ensures { result ≡ definition.latest self.now.spots.items self.now.way.items }
     {
@@ -133,7 +132,6 @@ impl LinkSet {
     }
 
     /// Where it stands once all has come, where octets that spell no frame, of either end, were none.
-    #[inline(always)]
     pub fn plainest(&self) -> Stand
         ensures { result ≡ definition.plainest self.now.spots.items self.now.way.items }
     {

@@ -1,6 +1,6 @@
 //! Sets of states behind tapes.
 use x25_bits::Role;
-use x25_possible::{Packet, Said, Set, Spare, Terms, Told};
+use x25_possible::{Packet, Said, Set, Terms, Told};
 
 static USUAL: Terms = Terms {
     calling_size: 128,
@@ -54,7 +54,6 @@ fn mark_of(told: Told) -> u8 {
 /// Whether of the packets of the end (behind `>`; `<` of the other one) this is told.
 fn is_told(begun: &Set, tape: &[u8], told: &[u8]) -> bool {
     let mut set = begun.copy();
-    let mut spare = Spare::new();
     let mut count = 0;
     let mut is_own = false;
     for &letter in tape {
@@ -62,13 +61,13 @@ fn is_told(begun: &Set, tape: &[u8], told: &[u8]) -> bool {
             b'>' => is_own = true,
             b'<' => is_own = false,
             _ => if is_own {
-                let mark = mark_of(set.sends(packet_of(letter), &mut spare));
+                let mark = mark_of(set.sends(packet_of(letter)));
                 if count >= told.len() || told[count] != mark {
                     return false;
                 }
                 count += 1;
             } else {
-                set.shows(packet_of(letter), &mut spare);
+                set.shows(packet_of(letter));
             },
         }
     }
@@ -130,16 +129,15 @@ fn is_found(begun: &Set, tape: &[u8]) -> bool {
 }
 
 fn is_found_by(set: &mut Set, tape: &[u8]) -> bool {
-    let mut spare = Spare::new();
     let mut is_own = false;
     for &letter in tape {
         match letter {
             b'>' => is_own = true,
             b'<' => is_own = false,
             _ => if is_own {
-                set.sends(packet_of(letter), &mut spare);
+                set.sends(packet_of(letter));
             } else {
-                set.shows(packet_of(letter), &mut spare);
+                set.shows(packet_of(letter));
             },
         }
     }
@@ -222,14 +220,13 @@ fn doubts_an_end(rt: HostRuntime) {
 #[test]
 fn tells_nothing_without_room(rt: HostRuntime) {
     let mut set = Set::new(Role::Dte);
-    let mut spare = Spare::new();
     for _ in 0..17 {
-        set.shows(Packet::Reset, &mut spare);
-        set.shows(Packet::Call(USUAL), &mut spare);
+        set.shows(Packet::Reset);
+        set.shows(Packet::Call(USUAL));
     }
     assert!(rt; !set.is_known());
-    assert_eq!(rt; mark_of(set.sends(Packet::InterruptConf, &mut spare)), b'.');
-    set.shows(Packet::Restart, &mut spare);
-    assert_eq!(rt; mark_of(set.sends(Packet::RestartConf, &mut spare)), b'.');
+    assert_eq!(rt; mark_of(set.sends(Packet::InterruptConf)), b'.');
+    set.shows(Packet::Restart);
+    assert_eq!(rt; mark_of(set.sends(Packet::RestartConf)), b'.');
     assert!(rt; !set.is_known());
 }

@@ -181,8 +181,7 @@ goes_waits (y ∷ way) s m free there =
     first_waits (is_asking s || not (has_ua (y ∷ way))) (y ∷ way) (place.goes Sabm (upward s y) way) m free
     (λ h. goes_waits way (upward s y) m (or_parts (may_answer y) (has_answer way) free).1 h) there
 
-asker_new : (s : LinkSet) → has_answer s.way.items ≡ false → (sends_to Sabm s).told ≡ Nothing
-    → (sends_to Sabm s).set.is_blind ≡ false → (shows_to Ua (sends_to Sabm s).set).is_blind ≡ false
+asker_new : (s : LinkSet) → has_answer s.way.items ≡ false → (sends_to Sabm s).told ≡ Nothing → (sends_to Sabm s).set.is_blind ≡ false → (shows_to Ua (sends_to Sabm s).set).is_blind ≡ false
     → IsNew (shows_to Ua (sends_to Sabm s).set)
 asker_new s free told some room =
     shown_all Waits (IsWithin no_numbers) (sends_to Sabm s).set Ua waits (λ u x v e h. subst (λ w. comes v w ≡ Asking) e h) each room
@@ -225,8 +224,7 @@ answered_new true way m free (inr (inr h)) = absurd h
 answered_new false way m free (inl same) = subst (IsWithin no_numbers) (sym same) (fits_comes way fresh free (below_self fresh))
 answered_new false way m free (inr h) = absurd h
 
-answers_new : (way : List Frame) (s : Stand) (m : Place Stand Frame) → has_number way ≡ false → IsIn m (place.answers s way)
-    → IsWithin no_numbers m
+answers_new : (way : List Frame) (s : Stand) (m : Place Stand Frame) → has_number way ≡ false → IsIn m (place.answers s way) → IsWithin no_numbers m
 answers_new [] s m free there = absurd there
 answers_new (Sabm ∷ way) s m free there = answered_new (is_asking s) way m free there
 answers_new (Unread ∷ way) s m free there = absurd (both_ways true free refl)
@@ -239,8 +237,7 @@ abbrev HasNone : Place Stand Frame → Type 0
 HasNone p = has_number p.way ≡ false
 
 answerer_new : (s : LinkSet) → has_number s.way.items ≡ false → (shows_to Sabm s).is_blind ≡ false
-    → (sends_to Ua (shows_to Sabm s)).set.is_blind ≡ false → (sends_to Ua (shows_to Sabm s)).told ≡ Nothing
-    → IsNew (sends_to Ua (shows_to Sabm s)).set
+    → (sends_to Ua (shows_to Sabm s)).set.is_blind ≡ false → (sends_to Ua (shows_to Sabm s)).told ≡ Nothing → IsNew (sends_to Ua (shows_to Sabm s)).set
 answerer_new s free some room told =
     (sent_all HasNone (IsWithin no_numbers) (shows_to Sabm s) Ua shown
     (λ p m h there. settled_within no_numbers m (answers_new p.way p.state m h there)) room told).all
@@ -305,8 +302,7 @@ not_up : (s : Stand) → is_of_order (Some (links.broken s Sabm)) ≡ true
 not_up Out = refl
 not_up s = refl
 
-heard_by : (from : Role) (j : Judge) (line octets : List ℕ) (frame : PlainFrame) → Shows line from octets frame
-    → (own_of (other from) (answer_to j line).next).set
+heard_by : (from : Role) (j : Judge) (line octets : List ℕ) (frame : PlainFrame) → Shows line from octets frame → (own_of (other from) (answer_to j line).next).set
     ≡ shows_to (links.shown frame (differs (own_of from j).held frame)) (own_of (other from) j).set
 heard_by Dte j line octets frame shows = ap (λ (e : End). e.set) (goes j line Dte octets frame shows).opposite
 heard_by Dce j line octets frame shows = ap (λ (e : End). e.set) (goes j line Dce octets frame shows).opposite

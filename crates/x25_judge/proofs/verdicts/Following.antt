@@ -21,8 +21,7 @@ module _ (P : List (List ℕ) → ℕ → Type 0) where
   hearing_keeps true nr p h = h
   hearing_keeps false nr p h = h
 
-  taking_keeps : (b : Bool) (packet : List ℕ) (p : Peer) → P p.given p.sent
-      → P (peer.taking b packet p).given (peer.taking b packet p).sent
+  taking_keeps : (b : Bool) (packet : List ℕ) (p : Peer) → P p.given p.sent → P (peer.taking b packet p).given (peer.taking b packet p).sent
   taking_keeps true packet p h = h
   taking_keeps false packet p h = h
 
@@ -49,8 +48,7 @@ Means [] [] = Unit {0}
 Means (y ∷ end) (f ∷ way) = IsPart y f × Means end way
 Means end way = ⊥
 
-pub means_on : (end : List Frame) (way : Way) (y : Frame) (f : Option PlainFrame) → IsPart y f → Means end way
-    → Means (end ++ y ∷ []) (way ++ f ∷ [])
+pub means_on : (end : List Frame) (way : Way) (y : Frame) (f : Option PlainFrame) → IsPart y f → Means end way → Means (end ++ y ∷ []) (way ++ f ∷ [])
 means_on [] [] y f is m = (is, tt)
 means_on (z ∷ end) (g ∷ way) y f is m = (m.0, means_on end way y f is m.1)
 means_on end way y f is m = absurd m
@@ -68,8 +66,7 @@ pub record Front (set : LinkSet) (s : Stand) (f : Option PlainFrame) (way : Way)
   pub has : Has set (At s) (first ∷ rest)
   pub means : Means rest way
 
-pub front : (set : LinkSet) (s : Stand) (end : List Frame) (f : Option PlainFrame) (way : Way) → Has set (At s) end
-    → Means end (f ∷ way) → Front set s f way
+pub front : (set : LinkSet) (s : Stand) (end : List Frame) (f : Option PlainFrame) (way : Way) → Has set (At s) end → Means end (f ∷ way) → Front set s f way
 front set s [] f way has m = absurd m
 front set s (y ∷ end) f way has m = record { first = y; rest = end; is = m.0; has = has; means = m.1 }
 
@@ -99,8 +96,7 @@ acknowledged p nr t m =
     and_from (nr == t % 8) (nat_le p.told t && nat_le t (length p.taken)) (eq-eqb nr (t % 8) m.number)
     (and_from (nat_le p.told t) (nat_le t (length p.taken)) (le-leb p.told t m.rising) (le-leb t (length p.taken) m.taken))
 
-may_be_numbered : (p : Peer) (ns n : ℕ) (packet : List ℕ) (d : Bool) → MayNumber p ns packet n → n ≤ p.sent
-    → (n == p.sent || not d) ≡ true → may_number n (numbers_of p) ns d ≡ true
+may_be_numbered : (p : Peer) (ns n : ℕ) (packet : List ℕ) (d : Bool) → MayNumber p ns packet n → n ≤ p.sent → (n == p.sent || not d) ≡ true → may_number n (numbers_of p) ns d ≡ true
 may_be_numbered p ns n packet d m low same =
     and_from (ns == n % 8) (nat_le n p.sent && (nat_le p.sent (n + 7) && (nat_lt n (p.acked + 7) && (n == p.sent || not d))))
     (eq-eqb ns (n % 8) m.number)
@@ -131,8 +127,7 @@ pub record Counts (p q : Peer) (end : List Frame) (x : Frame) : Type 0 where
   pub last : ℕ
   pub goes : sends_as number last (Up (numbers_of p)) end x ≡ Some (Up (numbers_of q))
 
-ready_counts : (p q : Peer) (end : List Frame) (nr t : ℕ) → MayAcknowledge p nr t → q ≡ peer.told_to t p
-    → Counts p q end (Ready nr)
+ready_counts : (p q : Peer) (end : List Frame) (nr t : ℕ) → MayAcknowledge p nr t → q ≡ peer.told_to t p → Counts p q end (Ready nr)
 ready_counts p q end nr t m e = record {
   number = 0;
   last = t;
@@ -140,8 +135,7 @@ ready_counts p q end nr t m e = record {
       ∙ ap (λ r. Some (Up (numbers_of r))) (sym e);
 }
 
-counts : (p q : Peer) (end : List Frame) (frame : PlainFrame) (d : Bool) → MaySend p frame q → IsSame p frame d
-    → Counts p q end (shown frame d)
+counts : (p q : Peer) (end : List Frame) (frame : PlainFrame) (d : Bool) → MaySend p frame q → IsSame p frame d → Counts p q end (shown frame d)
 unfolding shown
 counts p q end (info ns nr pf packet) d may same =
     let n = may.0 in
@@ -180,8 +174,7 @@ module _ (set : LinkSet) where
       record { state = At s; end = end; has = has; may = link.sends s (stand_of stand p) end x n t e; means = m }
 
   answers_it : (s : Stand) (end : List Frame) (f : PlainFrame) (rest : Way) (stand : session.Stand) (p : Peer)
-      → ((y : Frame) → IsSeen y f → IsIn (stand_of stand p) (link.owed s y)) → Has set (At s) end → Means end (Some f ∷ rest)
-      → Says set Ua stand p rest
+      → ((y : Frame) → IsSeen y f → IsIn (stand_of stand p) (link.owed s y)) → Has set (At s) end → Means end (Some f ∷ rest) → Says set Ua stand p rest
   answers_it s end f rest stand p owed has m =
       let g = front set s end (Some f) rest has m in record {
         state = Owes (stand_of stand p);
@@ -224,8 +217,7 @@ module _ (set : LinkSet) where
       go false = ap (λ c. if not c then Some Asking else None) e
 
   pub says : (stand next : session.Stand) (p q : Peer) (way rest : Way) (end : List Frame) (frame : PlainFrame) (d : Bool)
-      → Has set (At (stand_of stand p)) end → Means end way → MaySay stand p way frame next q rest
-      → (stand ≡ In → IsSame p frame d) → Says set (shown frame d) next q rest
+      → Has set (At (stand_of stand p)) end → Means end way → MaySay stand p way frame next q rest → (stand ≡ In → IsSame p frame d) → Says set (shown frame d) next q rest
   unfolding shown
   says stand _ p q way _ end frame d has m (numbered _ _ is may) same =
       let c = counts p q end frame d may (same is) in

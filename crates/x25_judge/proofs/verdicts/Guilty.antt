@@ -23,8 +23,7 @@ unfolding IsSome
 none_of told some e = absurd (subst IsSome e some)
 
 module _ (window : ℕ) (t : Sent) (ns : ℕ) (p : Bool) (b : Minding) where
-  skips_tell : (told : Told) (x : Frame) (s : Stand) → IsSome told → (IsTold (links.rule_of told x) → Tells b)
-      → Tells (links.skipped_by told window s ns p b)
+  skips_tell : (told : Told) (x : Frame) (s : Stand) → IsSome told → (IsTold (links.rule_of told x) → Tells b) → Tells (links.skipped_by told window s ns p b)
   unfolding IsSome
   skips_tell (Broken u) x s some broken = broken refl
   skips_tell (Skips u) x s some broken = first_brings b.seen.rule (manners.sends window (links.place_in s) ns p true b.own).rule refl

@@ -34,8 +34,7 @@ with_heard h t ns nr p = record {
   told = p.told;
 }
 
-numbers_heard : (h t : Bool) (ns nr : ℕ) (packet : List ℕ) (p : Peer) → peer.IsWanted t ns p
-    → with_heard h t ns nr p ≡ numbers_of (taking t packet (hearing h nr p))
+numbers_heard : (h t : Bool) (ns nr : ℕ) (packet : List ℕ) (p : Peer) → peer.IsWanted t ns p → with_heard h t ns nr p ≡ numbers_of (taking t packet (hearing h nr p))
 numbers_heard true true ns nr packet p wanted =
     ap (λ m. record { sent = p.sent; acked = nth p.acked nr; taken = m; told = p.told })
     (ap (λ b. if b then length p.taken + 1 else length p.taken) (eq-eqb ns (length p.taken % 8) wanted) ∙ sym (one_more packet p.taken))
@@ -45,20 +44,18 @@ numbers_heard false true ns nr packet p wanted =
 numbers_heard true false ns nr packet p wanted = refl
 numbers_heard false false ns nr packet p wanted = refl
 
-ready_heard : (h : Bool) (nr : ℕ) (p : Peer)
-    → record { sent = p.sent; acked = if h then nth p.acked nr else p.acked; taken = length p.taken; told = p.told }
+ready_heard : (h : Bool) (nr : ℕ) (p : Peer) → record { sent = p.sent; acked = if h then nth p.acked nr else p.acked; taken = length p.taken; told = p.told }
     ≡ numbers_of (hearing h nr p)
 ready_heard true nr p = refl
 ready_heard false nr p = refl
 
 -- what can't be read may have had as much
-unread_more : (h t w : Bool) (nr : ℕ) (k : Numbers)
-    → AreBelow (record {
-      sent = k.sent;
-      acked = if h then nth k.acked nr else k.acked;
-      taken = if t && w then k.taken + 1 else k.taken;
-      told = k.told;
-    }) (heard h t k Unread)
+unread_more : (h t w : Bool) (nr : ℕ) (k : Numbers) → AreBelow (record {
+  sent = k.sent;
+  acked = if h then nth k.acked nr else k.acked;
+  taken = if t && w then k.taken + 1 else k.taken;
+  told = k.told;
+}) (heard h t k Unread)
 unread_more h t w nr k = record { sent = refl; acked = acks h; taken = takes t w; told = omega arith }
   where
     near : (a : ℕ) → nth a nr ≤ a + 7
@@ -74,19 +71,17 @@ unread_more h t w nr k = record { sent = refl; acked = acks h; taken = takes t w
     takes false w = omega arith
 
 module _ (set : LinkSet) (p : Peer) (end : List Frame) where
-  takes_as : (y : Frame) (h t : Bool) → Has set (At (Up (numbers_of p))) (y ∷ end)
-      → Has set (At (Up (heard h t (numbers_of p) y))) end
+  takes_as : (y : Frame) (h t : Bool) → Has set (At (Up (numbers_of p))) (y ∷ end) → Has set (At (Up (heard h t (numbers_of p) y))) end
   takes_as y h t has =
       has_taken set.spots.items set.way.items (At (Up (numbers_of p))) (At (Up (heard h t (numbers_of p) y))) y end has
       (hears (numbers_of p) y h t)
 
-  takes_unread : (h t w : Bool) (nr : ℕ) → Has set (At (Up (numbers_of p))) (Unread ∷ end)
-      → Has set (At (Up (record {
-        sent = p.sent;
-        acked = if h then nth p.acked nr else p.acked;
-        taken = if t && w then length p.taken + 1 else length p.taken;
-        told = p.told;
-      }))) end
+  takes_unread : (h t w : Bool) (nr : ℕ) → Has set (At (Up (numbers_of p))) (Unread ∷ end) → Has set (At (Up (record {
+    sent = p.sent;
+    acked = if h then nth p.acked nr else p.acked;
+    taken = if t && w then length p.taken + 1 else length p.taken;
+    told = p.told;
+  }))) end
   takes_unread h t w nr has =
       has_less set.spots.items set.way.items (Up (heard h t (numbers_of p) Unread)) (Up (record {
         sent = p.sent;
@@ -111,8 +106,7 @@ module _ (set : LinkSet) (p : Peer) (end : List Frame) where
   seen_ready y nr f (inl g) same = inl (g.1 ∙ same g.0)
   seen_ready y nr f (inr g) same = inr g
 
-  pub heard_has : (q : Peer) (y : Frame) (f : PlainFrame) → IsSeen y f → MayHear p (Ok f) q
-      → Has set (At (Up (numbers_of p))) (y ∷ end) → Has set (At (Up (numbers_of q))) end
+  pub heard_has : (q : Peer) (y : Frame) (f : PlainFrame) → IsSeen y f → MayHear p (Ok f) q → Has set (At (Up (numbers_of p))) (y ∷ end) → Has set (At (Up (numbers_of q))) end
   unfolding shown
   heard_has q y (info ns nr pf packet) (inl g) may has =
       subst (λ k. Has set (At (Up k)) end) (numbers_heard may.0 may.1 ns nr packet p may.2 ∙ ap numbers_of (sym may.3))
@@ -182,8 +176,7 @@ leads_has : (n : ℕ) (u : Stand) (way : List Frame) (t : Stand) (end : List Fra
 leads_has n _ _ _ _ (Stays u way) h = h
 leads_has n _ _ t end (Steps u x way _ _ e k) h = leads_has n (onward u x) way t end k (onward_may_have n u x h)
 
-up_has_sent : (set : LinkSet) (k : Numbers) (end : List Frame) → Has set (At (Up k)) end
-    → (q : Spot) × IsIn q set.spots.items × HasSent k.sent q.stand
+up_has_sent : (set : LinkSet) (k : Numbers) (end : List Frame) → Has set (At (Up k)) end → (q : Spot) × IsIn q set.spots.items × HasSent k.sent q.stand
 unfolding StateHas
 up_has_sent set k end g = (
   g.0,
@@ -241,8 +234,7 @@ same_anyhow p frame = tt
 told_held : (held : Held) (p q : Peer) (t : ℕ) → q ≡ peer.told_to t p → IsHeld held p.given p.sent → IsHeld held q.given q.sent
 told_held held p q t e is = subst (λ (r : Peer). IsHeld held r.given r.sent) (sym e) is
 
-counted_held : (held : Held) (p q : Peer) (frame : PlainFrame) → MaySend p frame q → IsHeld held p.given p.sent
-    → IsHeld (keeps held frame) q.given q.sent
+counted_held : (held : Held) (p q : Peer) (frame : PlainFrame) → MaySend p frame q → IsHeld held p.given p.sent → IsHeld (keeps held frame) q.given q.sent
 unfolding keeps
 counted_held held p q (info ns nr pf packet) may is =
     subst (λ (r : Peer). IsHeld (keeps held (info ns nr pf packet)) r.given r.sent) (sym may.6)
@@ -315,10 +307,8 @@ module _ {set : LinkSet} {held : Held} {stand : session.Stand} {p : Peer} {way :
               (begun_held (keeps held frame) [] room) may h.octets;
         }
 
-  garbled : (next : session.Stand) (q : Peer) (rest : Way) (state : State) (end : List Frame)
-      → link.MaySend state end Unread (At (stand_of next q)) → Has set state end → Means end rest
-      → HeldIn next (forgets_each set.spots.items held) q
-      → Follows (sends_to Unread set).set (forgets_each set.spots.items held) next q rest
+  garbled : (next : session.Stand) (q : Peer) (rest : Way) (state : State) (end : List Frame) → link.MaySend state end Unread (At (stand_of next q)) → Has set state end → Means end rest
+      → HeldIn next (forgets_each set.spots.items held) q → Follows (sends_to Unread set).set (forgets_each set.spots.items held) next q rest
   garbled next q rest state end may has means is = record {
     end = end;
     has = has_sent set Unread state (At (stand_of next q)) end may has;
@@ -346,8 +336,7 @@ module _ {set : LinkSet} {held : Held} {stand : session.Stand} {p : Peer} {way :
       less s is = tt
 
   -- the other end sends
-  shown_on : (y : Frame) (what : Option PlainFrame) → IsPart y what → IsTimely way
-      → Follows (shows_to y set) held stand p (way ++ what ∷ [])
+  shown_on : (y : Frame) (what : Option PlainFrame) → IsPart y what → IsTimely way → Follows (shows_to y set) held stand p (way ++ what ∷ [])
   shown_on y what is timely = record {
     end = h.end ++ y ∷ [];
     has = has_shown y (At (stand_of stand p)) h.end set (λ full. subst (λ n. n < 64) (sym (means_same h.end way h.means)) timely) h.has;
@@ -451,8 +440,7 @@ lost_end Dce j line octets broken = same_end _ _ (past j line Dte octets broken)
 abbrev FollowsOf : End → session.Stand → Peer → Way → Type 0
 FollowsOf e stand p way = Follows e.set e.held stand p way
 
-by_end : {set : LinkSet} {held : Held} {e : End} {stand : session.Stand} {p : Peer} {way : Way} → IsEnd set held e
-    → Follows set held stand p way → FollowsOf e stand p way
+by_end : {set : LinkSet} {held : Held} {e : End} {stand : session.Stand} {p : Peer} {way : Way} → IsEnd set held e → Follows set held stand p way → FollowsOf e stand p way
 by_end {set} {held} {e} {stand} {p} {way} g h =
     subst (λ (s : LinkSet). Follows s e.held stand p way) (sym g.places)
     (subst (λ (x : Held). Follows set x stand p way) (sym g.octets) h)
@@ -463,14 +451,12 @@ is_lost (Some f) = inr refl
 
 -- ---- the laws
 
-pub seen_fair : (from : Role) (j : Judge) (frame : PlainFrame)
-    → (sends_to (shown frame (differs (own_of from j).held frame)) (own_of from j).set).told ≡ Nothing
+pub seen_fair : (from : Role) (j : Judge) (frame : PlainFrame) → (sends_to (shown frame (differs (own_of from j).held frame)) (own_of from j).set).told ≡ Nothing
     → is_of_order (seen_by j from frame).seen.rule ≡ false
 seen_fair from j frame e =
     minds_fair j.window _ _ frame _ (ap (λ t. is_of_order (rule_of t (shown frame (differs (own_of from j).held frame)))) e)
 
-pub none_of_order : (from : Role) (j : Judge) (frame : PlainFrame) → is_of_order (seen_by j from frame).seen.rule ≡ false
-    → is_of_order (told_rule j from frame) ≡ false
+pub none_of_order : (from : Role) (j : Judge) (frame : PlainFrame) → is_of_order (seen_by j from frame).seen.rule ≡ false → is_of_order (told_rule j from frame) ≡ false
 none_of_order from j frame e =
     let t = seen_by j from frame in
     told_of_order t.seen.rule (book.sees from j.reading frame (breaks_order t.seen.rule) j.book).verdict.rule e
@@ -480,8 +466,7 @@ comes_to : (way : List Frame) (u : Stand) → is_below fresh (comes way u) ≡ t
 comes_to [] u e = Here fresh u [] (below_is fresh u e)
 comes_to (x ∷ way) Asking e = go (may_answer x) refl e (comes_to way fresh) (comes_to way Asking)
   where
-    go : (b : Bool) → may_answer x ≡ b → is_below fresh (comes way (if b then fresh else Asking)) ≡ true
-        → (is_below fresh (comes way fresh) ≡ true → Covers fresh way (At fresh) [])
+    go : (b : Bool) → may_answer x ≡ b → is_below fresh (comes way (if b then fresh else Asking)) ≡ true → (is_below fresh (comes way fresh) ≡ true → Covers fresh way (At fresh) [])
         → (is_below fresh (comes way Asking) ≡ true → Covers Asking way (At fresh) []) → Covers Asking (x ∷ way) (At fresh) []
     go true a h one two = Begins x way (At fresh) [] a (one h)
     go false a h one two = Later Asking x way (At fresh) [] (two h)
@@ -511,8 +496,7 @@ at_first = record {
   octets = tt;
 }
 
-standing : (from : Role) (j : Judge) (stand : session.Stand) (p : Peer) (way : Way) → MayStand from j stand p way
-    → FollowsOf (own_of from j) stand p way
+standing : (from : Role) (j : Judge) (stand : session.Stand) (p : Peer) (way : Way) → MayStand from j stand p way → FollowsOf (own_of from j) stand p way
 standing Dte _ _ _ _ (sessions.Starts window reading strictness) = at_first
 standing Dce _ _ _ _ (sessions.Starts window reading strictness) = at_first
 standing from _ _ _ _ (sessions.SetUp j b) = begun from j b

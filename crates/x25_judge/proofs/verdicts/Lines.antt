@@ -51,8 +51,7 @@ goes j line from octets frame shows =
 abbrev Past : Judge → Judge → Role → Type 0
 Past j k from = Goes k from (missed_by j from).own (missed_by j from).other
 
-pub next_past : (from : Role) (e : FrameError) (in_doubt : Bool) (j : Judge)
-    → Past j (tallies in_doubt (no_frame e) (next_missed from e (missed_by j from) j)) from
+pub next_past : (from : Role) (e : FrameError) (in_doubt : Bool) (j : Judge) → Past j (tallies in_doubt (no_frame e) (next_missed from e (missed_by j from) j)) from
 next_past Dte e in_doubt j = record { own = refl; opposite = refl }
 next_past Dce e in_doubt j = record { own = refl; opposite = refl }
 

@@ -41,21 +41,18 @@ again_fair at next is_poll back m =
     either (manners.goes_on at back m) _ _ refl
     (either (manners.may_go_back at is_poll back m) _ _ refl (either (nat_lt back m.behind) _ _ refl refl))
 
-from_fair : (window : ℕ) (at : Place) (back next : ℕ) (is_poll skips : Bool) (m : Manners)
-    → IsFair (manners.sends_from window at back next is_poll skips m).rule
+from_fair : (window : ℕ) (at : Place) (back next : ℕ) (is_poll skips : Bool) (m : Manners) → IsFair (manners.sends_from window at back next is_poll skips m).rule
 from_fair window at back next is_poll skips m =
     either skips _ _ refl
     (either (nat_lt 0 back) _ _ (again_fair at next is_poll back m)
     (either (m.behind == 0 || at.pending == 0) _ _ (new_fair window at m) refl))
 
-pub sends_fair : (window : ℕ) (at : Place) (number : ℕ) (is_poll skips : Bool) (m : Manners)
-    → IsFair (manners.sends window at number is_poll skips m).rule
+pub sends_fair : (window : ℕ) (at : Place) (number : ℕ) (is_poll skips : Bool) (m : Manners) → IsFair (manners.sends window at number is_poll skips m).rule
 sends_fair window at number is_poll skips m = from_fair window (manners.seen_place at m) _ _ is_poll skips m
 
 -- ---- with what is said
 
-minded_fair : (told : Told) (window : ℕ) (k : Numbers) (t : Sent) (ns : ℕ) (p differs : Bool) (m : Manners)
-    → IsFair (minded_as told window k t ns p differs m).rule
+minded_fair : (told : Told) (window : ℕ) (k : Numbers) (t : Sent) (ns : ℕ) (p differs : Bool) (m : Manners) → IsFair (minded_as told window k t ns p differs m).rule
 minded_fair (Broken s) window k t ns p differs m = refl
 minded_fair (Skips s) window k t ns p differs m = sends_fair window (manners.place_of k) ns p true m
 minded_fair Nothing window k t ns p differs m =
@@ -98,16 +95,14 @@ module _ (P : Option Rule → Bool → Type 0)
   counts_has (Up k) window t ns p b h = own_has (minded_by window k t ns p _ b.own) b (minded_fair t.told window k t ns p _ b.own) h
   counts_has s window t ns p b h = skipped_has t.told window s ns p b h
 
-  ready_has : (t : Sent) (to : LinkSet) (command : Bool) (nr : ℕ) (pf : Bool) (b : Minding) → Has b
-      → Has (ready_minded t to command nr pf b)
+  ready_has : (t : Sent) (to : LinkSet) (command : Bool) (nr : ℕ) (pf : Bool) (b : Minding) → Has b → Has (ready_minded t to command nr pf b)
   ready_has t to command nr pf b h =
       let said = bits_has command pf t.facts.is_known b h in has_if (pf && not command) _ _ said said
 
   accepts_has : (f is_shown : Bool) (b : Minding) → Has b → Has (accepts f is_shown b)
   accepts_has f is_shown b h = has_if (is_some b.seen.rule) _ _ h (answers_has f is_shown (begins b) h)
 
-  reject_has : (t : Sent) (to : LinkSet) (command : Bool) (nr : ℕ) (pf : Bool) (b : Minding) → Has b
-      → Has (reject_minded t to command nr pf b)
+  reject_has : (t : Sent) (to : LinkSet) (command : Bool) (nr : ℕ) (pf : Bool) (b : Minding) → Has b → Has (reject_minded t to command nr pf b)
   reject_has t to command nr pf b h =
       let c = hears t to nr (bits command pf t.facts.is_known b) in
       own_has (manners.rejects t.facts.is_sure c.own) c (either (t.facts.is_sure && c.own.is_rejecting) _ _ refl refl)
@@ -125,6 +120,5 @@ module _ (P : Option Rule → Bool → Type 0)
   minds_has window t to (dm f) b h = answers_has f t.facts.is_shown b h
   minds_has window t to (frmr f why) b h = answers_has f t.facts.is_shown b h
 
-pub minds_fair : (window : ℕ) (t : Sent) (to : LinkSet) (frame : PlainFrame) (b : Minding) → IsFair b.seen.rule
-    → IsFair (minds window t to frame b).seen.rule
+pub minds_fair : (window : ℕ) (t : Sent) (to : LinkSet) (frame : PlainFrame) (b : Minding) → IsFair b.seen.rule → IsFair (minds window t to frame b).seen.rule
 minds_fair = minds_has (λ r judged. IsFair r) (λ r m judged fair h. first_fair r m h fair)

@@ -124,10 +124,8 @@ stays_out ns p true at b h = subst (λ m. IsOutOfPlace ns p m at) (sym (asked_is
 stays_out ns p false at b h = h
 
 module _ (window : ℕ) (t : Sent) (ns : ℕ) (p : Bool) (b : Minding) where
-  pub number_tells : (told : Told) (x : Frame) (k : Numbers)
-      → (told ≡ Nothing → IsTold (links.minded_as Nothing window k t ns p (links.is_differing b.seen.rule) b.own).rule)
-      → (IsTold (links.rule_of told x) → Tells b)
-      → Tells (links.by_own (links.minded_as told window k t ns p (links.is_differing b.seen.rule) b.own) b)
+  pub number_tells : (told : Told) (x : Frame) (k : Numbers) → (told ≡ Nothing → IsTold (links.minded_as Nothing window k t ns p (links.is_differing b.seen.rule) b.own).rule)
+      → (IsTold (links.rule_of told x) → Tells b) → Tells (links.by_own (links.minded_as told window k t ns p (links.is_differing b.seen.rule) b.own) b)
   number_tells (Broken s) x k told broken = first_keeps b.seen.rule _ (broken refl)
   number_tells (SkipsOf s) x k told broken = first_brings b.seen.rule (manners.sends window (manners.place_of k) ns p true b.own).rule refl
   number_tells Nothing x k told broken = first_brings b.seen.rule _ (told refl)

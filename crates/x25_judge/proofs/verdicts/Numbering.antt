@@ -22,13 +22,11 @@ record Steps (from : Role) (Damage : Type 0) (P : List (List ℕ) → Peer → T
       → length p.given ≡ p.sent → Given p frame q → q.given ≡ more frame p.given → P lines p → P (lines ++ line ∷ []) q
   pub opposite : (lines : List (List ℕ)) (p : Peer) (line octets : List ℕ) (frame : PlainFrame)
       → Shows line (other from) octets frame → IsNumbered frame → P lines p → P (lines ++ line ∷ []) (notes (Ok frame) p)
-  pub damaged : Damage → (lines : List (List ℕ)) (p : Peer) (line octets : List ℕ) → IsDamaged line (other from) octets
-      → P lines p → P (lines ++ line ∷ []) (unread p)
+  pub damaged : Damage → (lines : List (List ℕ)) (p : Peer) (line octets : List ℕ) → IsDamaged line (other from) octets → P lines p → P (lines ++ line ∷ []) (unread p)
 
 module _ (reads : ReadsWhatIsSpelled) (from : Role) (Damage : Type 0) (P : List (List ℕ) → Peer → Type 0)
     (starts : P [] fresh_peer) (steps : Steps from Damage P) where
-  reached : (j : Judge) (lines : List (List ℕ)) → IsUntold Damage from j lines → (own_of from j).set.is_blind ≡ false
-      → Reached from P j lines
+  reached : (j : Judge) (lines : List (List ℕ)) → IsUntold Damage from j lines → (own_of from j).set.is_blind ≡ false → Reached from P j lines
   reached j lines (Begins k up) room = record { p = fresh_peer; holds = starts; knows = begun_knows j from (up from) room }
   reached k all (Says j lines line octets frame shows is quiet h) room =
       let own = own_line from j line octets frame shows is quiet room in
@@ -89,12 +87,10 @@ before_sent p u (inr (packet, e)) = ap (λ (x : Peer). x.sent) e
 
 module _ (from : Role) (lines : List (List ℕ)) (p q : Peer) (line octets : List ℕ) (all : length p.given ≡ p.sent)
     (h : Carries from lines p.given) where
-  beside : q.given ≡ p.given → (Carries from lines p.given → Carries from (lines ++ line ∷ []) p.given)
-      → Carries from (lines ++ line ∷ []) q.given
+  beside : q.given ≡ p.given → (Carries from lines p.given → Carries from (lines ++ line ∷ []) p.given) → Carries from (lines ++ line ∷ []) q.given
   beside is on = subst (Carries from (lines ++ line ∷ [])) (sym is) (on h)
 
-  carried : (frame : PlainFrame) → Shows line from octets frame → Given p frame q → q.given ≡ more frame p.given
-      → Carries from (lines ++ line ∷ []) q.given
+  carried : (frame : PlainFrame) → Shows line from octets frame → Given p frame q → q.given ≡ more frame p.given → Carries from (lines ++ line ∷ []) q.given
   carried (info ns nr pf packet) shows sends is = go (ns == length p.given % 8) refl is
     where
       n : ℕ
@@ -106,8 +102,7 @@ module _ (from : Role) (lines : List (List ℕ)) (p q : Peer) (line octets : Lis
           let again = sends.may.2.again in
           omega (arith, all, same, again)
 
-      go : (b : Bool) → (ns == length p.given % 8) ≡ b → q.given ≡ (if b then p.given ++ packet ∷ [] else p.given)
-          → Carries from (lines ++ line ∷ []) q.given
+      go : (b : Bool) → (ns == length p.given % 8) ≡ b → q.given ≡ (if b then p.given ++ packet ∷ [] else p.given) → Carries from (lines ++ line ∷ []) q.given
       go true e is =
           subst (Carries from (lines ++ line ∷ [])) (sym is)
           (Next lines p.given line octets ns nr pf packet shows (eqb-true ns (length p.given % 8) e) h)

@@ -22,8 +22,7 @@ keeps_room h frame g = g
 -- each of the last eight that is known is held under its number
 pub record IsHeld (h : Held) (given : List (List ℕ)) (m : ℕ) : Type 0 where
   pub room : HasRoom h
-  pub octets : (n : ℕ) → n < m → m ≤ n + 8 → is_held h n ≡ true
-      → slice_get given n ≡ Some (slice_index_or h.octets (n % 8) [])
+  pub octets : (n : ℕ) → n < m → m ≤ n + 8 → is_held h n ≡ true → slice_get given n ≡ Some (slice_index_or h.octets (n % 8) [])
 
 pub begun_held : (h : Held) (given : List (List ℕ)) → HasRoom h → IsHeld h given 0
 begun_held h given room = record { room = room; octets = λ n lt low is. absurd (omega (arith, lt)) }
@@ -42,8 +41,7 @@ pushed_held h given packet m is = record {
 
 -- number n goes, new or again
 pub sent_held : (h : Held) (given : List (List ℕ)) (m n ns nr : ℕ) (pf : Bool) (packet : List ℕ) → ns ≡ n % 8 → n ≤ m → m ≤ n + 7
-    → length packet ≤ ROOM → slice_get given n ≡ Some packet → IsHeld h given m
-    → IsHeld (keeps h (info ns nr pf packet)) given (max m (n + 1))
+    → length packet ≤ ROOM → slice_get given n ≡ Some packet → IsHeld h given m → IsHeld (keeps h (info ns nr pf packet)) given (max m (n + 1))
 unfolding keeps
 sent_held h given m n ns nr pf packet number le near fits same is = record {
   room = keeps_room h (info ns nr pf packet) is.room;
@@ -59,9 +57,7 @@ sent_held h given m n ns nr pf packet number le near fits same is = record {
     apart_from : (k : ℕ) → k < max m (n + 1) → max m (n + 1) ≤ k + 8 → (k ≡ n → ⊥) → (k % 8 ≡ ns % 8 → ⊥)
     apart_from k before low ne e = omega (arith, number, le, near, ne)
 
-    go : (k : ℕ) → k < max m (n + 1) → max m (n + 1) ≤ k + 8
-        → slice_index_or (slice_set h.known (ns % 8) (nat_le (length packet) ROOM)) (k % 8) false ≡ true
-        → ((k ≡ n) ⊎ (k ≡ n → ⊥))
+    go : (k : ℕ) → k < max m (n + 1) → max m (n + 1) ≤ k + 8 → slice_index_or (slice_set h.known (ns % 8) (nat_le (length packet) ROOM)) (k % 8) false ≡ true → ((k ≡ n) ⊎ (k ≡ n → ⊥))
         → slice_get given k ≡ Some (slice_index_or (slice_set h.octets (ns % 8) (kept packet)) (k % 8) [])
     go k before low known (inl e) =
         let here : slice_index_or (slice_set h.octets (ns % 8) (kept packet)) (k % 8) [] ≡ packet =
@@ -180,8 +176,7 @@ held_less qs h given m is =
     record { room = each_room qs h is.room; octets = λ n before near known. octets_less qs h given m n is before near known }
 
 -- a number more may have gone
-pub held_more : (qs : List Spot) (h : Held) (given : List (List ℕ)) (m : ℕ) → IsHeld h given m
-    → ((q : Spot) × IsIn q qs × HasSent m q.stand) → IsHeld (forgets_each qs h) given (m + 1)
+pub held_more : (qs : List Spot) (h : Held) (given : List (List ℕ)) (m : ℕ) → IsHeld h given m → ((q : Spot) × IsIn q qs × HasSent m q.stand) → IsHeld (forgets_each qs h) given (m + 1)
 held_more qs h given m is at = record {
   room = each_room qs h is.room;
   octets = λ n before near known. go n before near known (cases_eq n m);
@@ -216,8 +211,7 @@ sent_known h m n ns nr pf packet number le fits marks are k before near = go (ca
     in_room : ns % 8 < length h.known
     in_room = rw marks (omega arith)
 
-    go : ((k % 8 ≡ ns % 8) ⊎ (k % 8 ≡ ns % 8 → ⊥))
-        → slice_index_or (slice_set h.known (ns % 8) (nat_le (length packet) ROOM)) (k % 8) false ≡ true
+    go : ((k % 8 ≡ ns % 8) ⊎ (k % 8 ≡ ns % 8 → ⊥)) → slice_index_or (slice_set h.known (ns % 8) (nat_le (length packet) ROOM)) (k % 8) false ≡ true
     go (inl e) =
         ap (λ i. slice_index_or (slice_set h.known (ns % 8) (nat_le (length packet) ROOM)) i false) e
         ∙ get_or-set_same h.known (ns % 8) (nat_le (length packet) ROOM) false in_room ∙ le-leb (length packet) ROOM fits

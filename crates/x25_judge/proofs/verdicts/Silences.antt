@@ -41,8 +41,7 @@ fits_new Asking e = (refl, refl)
 fits_new (Up j) e = below_is (Up j) fresh e
 fits_new Free e = absurd (both_ways false refl e)
 
-pub begun_knows : (j : Judge) (from : Role) → IsBegun j from → (own_of from j).set.is_blind ≡ false
-    → Explains (own_of from j) fresh_peer
+pub begun_knows : (j : Judge) (from : Role) → IsBegun j from → (own_of from j).set.is_blind ≡ false → Explains (own_of from j) fresh_peer
 begun_knows j from b room = record {
   sees = room;
   within = λ q is. fits_new (come (own_of from j).set q) (b.new q is);
@@ -81,8 +80,7 @@ same_to_itself : (xs : List ℕ) → same_octets xs xs ≡ true
 same_to_itself [] = refl
 same_to_itself (x ∷ xs) = and_from (x == x) (same_octets xs xs) (eq-eqb x x refl) (same_to_itself xs)
 
-ack_passes : (u : Peer) (nr : ℕ) → Acknowledges (nth u.told nr) (numbers_of u) nr
-    → judges_ack nr u ≡ Some (told_to (nth u.told nr) u)
+ack_passes : (u : Peer) (nr : ℕ) → Acknowledges (nth u.told nr) (numbers_of u) nr → judges_ack nr u ≡ Some (told_to (nth u.told nr) u)
 ack_passes u nr a =
     cond-true (nat_le (nth u.told nr) (length u.taken) && nth u.told nr % 8 == nr) (Some (told_to (nth u.told nr) u)) None
     (and_from (nat_le (nth u.told nr) (length u.taken)) (nth u.told nr % 8 == nr) (le-leb (nth u.told nr) (length u.taken) a.taken)
@@ -90,8 +88,7 @@ ack_passes u nr a =
 
 module _ (set : LinkSet) (h : Held) (p : Peer) (e : Knows set h p) where
   -- the other end sends
-  shown_knows : (y : Frame) (q : Peer) → numbers_of q ≡ heard true true (numbers_of p) y → q.given ≡ p.given
-      → (shows_to y set).is_blind ≡ false → Knows (shows_to y set) h q
+  shown_knows : (y : Frame) (q : Peer) → numbers_of q ≡ heard true true (numbers_of p) y → q.given ≡ p.given → (shows_to y set).is_blind ≡ false → Knows (shows_to y set) h q
   shown_knows y q now same room = record {
     sees = room;
     within = subst (λ k. AllAre (IsWithin k) (shows_to y set)) (sym now)
@@ -123,8 +120,7 @@ module _ (set : LinkSet) (h : Held) (p : Peer) (e : Knows set h p) where
 
   -- without N(S)
   ready_passes : (frame : PlainFrame) (nr : ℕ) → judges (Ok frame) p ≡ judges_ack nr p → more frame p.given ≡ p.given → keeps h frame ≡ h
-      → (MayAcknowledge p nr (t nr) → MaySend p frame (told_to (t nr) p))
-      → (sends_to (Ready nr) set).set.is_blind ≡ false → (sends_to (Ready nr) set).told ≡ Nothing
+      → (MayAcknowledge p nr (t nr) → MaySend p frame (told_to (t nr) p)) → (sends_to (Ready nr) set).set.is_blind ≡ false → (sends_to (Ready nr) set).told ≡ Nothing
       → Passes (sends_to (Ready nr) set).set (keeps h frame) p frame
   ready_passes frame nr is no_more bare may_send room told =
       let a = acknowledges (t nr) (numbers_of p) nr (may (Ready nr) tt room told) in
@@ -162,8 +158,7 @@ module _ (set : LinkSet) (h : Held) (p : Peer) (e : Knows set h p) where
       says = acknowledges (t nr) (numbers_of p) nr parts.1
 
       passes_with : (now : List (List ℕ)) → (with_given now ≡ p) ⊎ ((x : List ℕ) × (with_given now ≡ with_given (p.given ++ x ∷ [])))
-          → length now ≡ max p.sent (n + 1) → slice_get now n ≡ Some packet → IsHeld h now p.sent
-          → judges_item n packet p ≡ Some (numbered_to n (with_given now)) → now ≡ more f p.given
+          → length now ≡ max p.sent (n + 1) → slice_get now n ≡ Some packet → IsHeld h now p.sent → judges_item n packet p ≡ Some (numbered_to n (with_given now)) → now ≡ more f p.given
           → Passes (sends_to y set).set (keeps h f) p f
       passes_with now given all same held item shown =
           let u = numbered_to n (with_given now) in
@@ -262,8 +257,7 @@ pub record OwnLine (from : Role) (j : Judge) (line : List ℕ) (frame : PlainFra
   pub sees : (own_of from j).set.is_blind ≡ false
   pub room : (sends_to (shown frame (differs (own_of from j).held frame)) (own_of from j).set).set.is_blind ≡ false
   pub told : (sends_to (shown frame (differs (own_of from j).held frame)) (own_of from j).set).told ≡ Nothing
-  pub on : (p : Peer)
-      → Knows (sends_to (shown frame (differs (own_of from j).held frame)) (own_of from j).set).set (keeps (own_of from j).held frame) p
+  pub on : (p : Peer) → Knows (sends_to (shown frame (differs (own_of from j).held frame)) (own_of from j).set).set (keeps (own_of from j).held frame) p
       → Explains (own_of from (answer_to j line).next) p
 
 pub own_line : (from : Role) (j : Judge) (line octets : List ℕ) (frame : PlainFrame) → Shows line from octets frame → IsNumbered frame
@@ -286,11 +280,9 @@ own_line from j line octets frame shows is quiet room =
 -- and one of the other end
 pub record OtherLine (from : Role) (j : Judge) (line : List ℕ) (y : Frame) : Type 0 where
   pub sees : (own_of from j).set.is_blind ≡ false
-  pub on : (p q : Peer) → numbers_of q ≡ heard true true (numbers_of p) y → q.given ≡ p.given → Explains (own_of from j) p
-      → Explains (own_of from (answer_to j line).next) q
+  pub on : (p q : Peer) → numbers_of q ≡ heard true true (numbers_of p) y → q.given ≡ p.given → Explains (own_of from j) p → Explains (own_of from (answer_to j line).next) q
 
-pub other_by : (from : Role) (j : Judge) (line : List ℕ) (y : Frame)
-    → IsEnd (shows_to y (own_of from j).set) (own_of from j).held (own_of from (answer_to j line).next)
+pub other_by : (from : Role) (j : Judge) (line : List ℕ) (y : Frame) → IsEnd (shows_to y (own_of from j).set) (own_of from j).held (own_of from (answer_to j line).next)
     → (own_of from (answer_to j line).next).set.is_blind ≡ false → OtherLine from j line y
 other_by from j line y g room =
     let set = (own_of from j).set in
@@ -302,8 +294,7 @@ other_by from j line y g room =
           (shown_knows set h p e y q is same now);
     }
 
-pub other_line : (from : Role) (j : Judge) (line octets : List ℕ) (frame : PlainFrame) → Shows line (other from) octets frame
-    → (own_of from (answer_to j line).next).set.is_blind ≡ false
+pub other_line : (from : Role) (j : Judge) (line octets : List ℕ) (frame : PlainFrame) → Shows line (other from) octets frame → (own_of from (answer_to j line).next).set.is_blind ≡ false
     → OtherLine from j line (shown frame (differs (own_of (other from) j).held frame))
 other_line from j line octets frame shows room =
     other_by from j line (shown frame (differs (own_of (other from) j).held frame)) (shown_end from j line octets frame shows) room
@@ -313,8 +304,7 @@ noted : (frame : PlainFrame) (d : Bool) (p : Peer) → IsNumbered frame → hear
 unfolding shown
 noted (info ns nr pf packet) d p is = go (ns == length p.taken % 8)
   where
-    go : (b : Bool)
-        → record { sent = p.sent; acked = nth p.acked nr; taken = if b then length p.taken + 1 else length p.taken; told = p.told }
+    go : (b : Bool) → record { sent = p.sent; acked = nth p.acked nr; taken = if b then length p.taken + 1 else length p.taken; told = p.told }
         ≡ numbers_of (taking b packet (hearing true nr p))
     go true = ap (λ m. record { sent = p.sent; acked = nth p.acked nr; taken = m; told = p.told }) (sym (length_push p.taken packet))
     go false = refl
@@ -333,16 +323,14 @@ notes_given (Tells (Some c) nr) p = taking_given (c.ns == length p.taken % 8) c.
 notes_given s p = refl
 
 pub noted_line : (from : Role) (j : Judge) (line octets : List ℕ) (frame : PlainFrame) (p : Peer) → Shows line (other from) octets frame
-    → IsNumbered frame → (own_of from (answer_to j line).next).set.is_blind ≡ false → Explains (own_of from j) p
-    → Explains (own_of from (answer_to j line).next) (notes (Ok frame) p)
+    → IsNumbered frame → (own_of from (answer_to j line).next).set.is_blind ≡ false → Explains (own_of from j) p → Explains (own_of from (answer_to j line).next) (notes (Ok frame) p)
 noted_line from j line octets frame p shows is room e =
     (other_line from j line octets frame shows room).on p (notes (Ok frame) p)
     (sym (noted frame (differs (own_of (other from) j).held frame) p is)) (notes_given (said (Ok frame)) p) e
 
 -- a line of the end, of which nothing is told
 pub passes_line : ReadsWhatIsSpelled → (from : Role) (j : Judge) (line octets : List ℕ) (frame : PlainFrame) (p : Peer) → Shows line from octets frame
-    → IsNumbered frame → OwnLine from j line frame → Explains (own_of from j) p
-    → Passes (own_of from (answer_to j line).next).set (own_of from (answer_to j line).next).held p frame
+    → IsNumbered frame → OwnLine from j line frame → Explains (own_of from j) p → Passes (own_of from (answer_to j line).next).set (own_of from (answer_to j line).next).held p frame
 passes_line reads from j line octets frame p shows is own e =
     let spelled = (reads from n1 frame octets shows.low).0 shows.reads in
     let g = frame_passes (own_of from j).set (own_of from j).held p e frame (is_short frame spelled.within) is own.room own.told in
@@ -359,8 +347,7 @@ record Explained (c : Settings) (w : Watched) : Type 0 where
   pub given : p.given ≡ w.shown
   pub knows : Explains (own_of (other c.role) w.judge) p
 
-explained : ReadsWhatIsSpelled → (c : Settings) → c.longest ≡ n1 → (w : Watched) → IsSilent c w
-    → (own_of (other c.role) w.judge).set.is_blind ≡ false → Explained c w
+explained : ReadsWhatIsSpelled → (c : Settings) → c.longest ≡ n1 → (w : Watched) → IsSilent c w → (own_of (other c.role) w.judge).set.is_blind ≡ false → Explained c w
 explained reads c longest w (Begins j up) room =
     record { p = fresh_peer; silent = tape.Begins; given = refl; knows = begun_knows j (other c.role) (up (other c.role)) room }
 explained reads c longest w (Acts v act h) room =

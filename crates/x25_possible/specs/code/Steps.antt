@@ -1,6 +1,6 @@
 -- What a set of states becomes, packet by packet: over lists, in the order in which the code goes. No list has more
 -- than 16 states: None where there is no room, or a number is too large.
-use Rattle.std.specs.Prelude.{ℕ, ◌+◌, ◌==◌, nat_lt, nat_le, Bool, true, false, not, ◌&&◌, ◌||◌, if◌then◌else◌}
+use Rattle.std.specs.Prelude.{◌≡◌, ℕ, ◌+◌, ◌==◌, nat_lt, nat_le, Bool, true, false, not, ◌&&◌, ◌||◌, if◌then◌else◌}
 use Rattle.std.specs.Prelude.{List, [], ◌∷◌, ◌++◌, length, drop, Option, Some, None}
 use Rattle.x25_bits.specs.declared.role.Role.{Role}
 use Rattle.x25_bits.specs.declared.role.Role.TheVariants.{Dte, Dce}
@@ -12,8 +12,9 @@ use Rattle.x25_possible.specs.declared.packet.Packet.TheVariants.{Rr, Rnr, Inter
 use Rattle.x25_possible.specs.declared.packet.Terms.{Terms}
 use Rattle.x25_possible.specs.declared.phase.Limits.{Limits}
 use Rattle.x25_possible.specs.declared.phase.Phase.{Phase}
-use Rattle.x25_possible.specs.declared.phase.Phase.TheVariants.{Idle, Calls, WasCalled, Talks, Free, Resets, WasReset}
+use Rattle.x25_possible.specs.declared.phase.Phase.TheVariants.{Idle, Calls, WasCalled, Talks, Resets, WasReset}
 use Rattle.x25_possible.specs.declared.phase.Phase.TheVariants.{Clears, WasCleared, Restarts, WasRestarted}
+use Rattle.x25_possible.specs.declared.phase.Talk.{Talk}
 use Rattle.x25_possible.specs.declared.set.Knowledge.{Knowledge}
 use Rattle.x25_possible.specs.declared.set.Knowledge.TheVariants.{Blind, Lost, Ready, Doubt, Likely, Known}
 use Rattle.x25_possible.specs.declared.set.Set.{Set}
@@ -34,7 +35,6 @@ same_terms a b =
 
 abbrev pub is_same : Phase → Phase → Bool
 is_same Idle Idle = true
-is_same Free Free = true
 is_same Clears Clears = true
 is_same WasCleared WasCleared = true
 is_same Restarts Restarts = true
@@ -186,14 +186,6 @@ abbrev pub is_one_idle : List Spot → Bool
 is_one_idle [] = false
 is_one_idle (q ∷ qs) = is_idle q.phase || is_one_idle qs
 
-abbrev pub is_free : Phase → Bool
-is_free Free = true
-is_free s = false
-
-abbrev pub are_bound : List Spot → Bool
-are_bound [] = true
-are_bound (q ∷ qs) = not (is_free q.phase) && are_bound qs
-
 abbrev pub is_dte : Role → Bool
 is_dte Dte = true
 is_dte Dce = false
@@ -222,11 +214,11 @@ makes_known k ClearConf qs = true
 makes_known k (Accept said) qs = true
 makes_known k Restart qs = is_ready k || is_one_idle qs
 makes_known k Clear qs = is_one_idle qs
-makes_known k (Data q m ps pr size) qs = are_bound qs
-makes_known k (Rr pr) qs = are_bound qs
-makes_known k (Rnr pr) qs = are_bound qs
-makes_known k Interrupt qs = are_bound qs
-makes_known k InterruptConf qs = are_bound qs
+makes_known k (Data q m ps pr size) qs = true
+makes_known k (Rr pr) qs = true
+makes_known k (Rnr pr) qs = true
+makes_known k Interrupt qs = true
+makes_known k InterruptConf qs = true
 makes_known k x qs = false
 
 -- behind one that wasn't read no call is known
@@ -397,6 +389,52 @@ awaits x s =
 -- the other end sends a packet
 abbrev pub shows_to : Packet → Set → Set
 shows_to x s = if is_blind s then awaits x s else trimmed (shown x s)
+
+-- ---- one state, in flow control, with nothing on the way
+
+abbrev pub flow : Phase → Option Talk
+flow (Talks k) = if is_large (Talks k) then None else Some k
+flow s = None
+
+abbrev pub flow_in : Option Phase → Option Talk
+flow_in None = None
+flow_in (Some s) = flow s
+
+-- its numbers behind a packet that it sends, or that comes
+abbrev pub flow_politely : Talk → Packet → Option Talk
+flow_politely k x = if is_polite (Talks k) x then flow_in (sends (Talks k) x) else None
+
+abbrev pub flow_sends : Talk → Packet → Option Talk
+flow_sends k (Data q m ps pr size) = flow_politely k (Data q m ps pr size)
+flow_sends k (Rr pr) = flow_politely k (Rr pr)
+flow_sends k (Rnr pr) = flow_politely k (Rnr pr)
+flow_sends k x = None
+
+abbrev pub flow_takes : Talk → Packet → Option Talk
+flow_takes k x = flow_in (at_once (Talks k) x)
+
+abbrev pub flow_alone : List Packet → List Spot → Option Talk
+flow_alone [] (q ∷ []) = if q.at == 0 then flow q.phase else None
+flow_alone way qs = None
+
+abbrev pub flow_of : Set → Option Talk
+flow_of s = if is_known s then flow_alone s.way.items s.spots.items else None
+
+abbrev pub in_flow : Talk → Set → Set
+in_flow k s = standing s.role [] (spot_at 0 (Talks k) ∷ []) Known
+
+pub record IsInFlow (s : Set) : Type 0 where
+  pub numbers : Talk
+  pub stands : s ≡ in_flow numbers s
+
+-- then the set becomes so
+pub record IsStep (x : Packet) (next : Talk) (s : Set) : Type 0 where
+  pub before : IsInFlow s
+  pub step : sends_to x s ≡ quietly (in_flow next s)
+
+pub record IsTaken (x : Packet) (next : Talk) (s : Set) : Type 0 where
+  pub before : IsInFlow s
+  pub step : shows_to x s ≡ in_flow next s
 
 -- ---- over a tape, latest first
 

@@ -32,8 +32,8 @@ IsSmall s = Unit {0}
 
 abbrev pub is_large : Stand → Bool
 is_large (Up k) =
-    nat_lt 4000000000000000000 k.sent || nat_lt 4000000000000000000 k.acked || nat_lt 4000000000000000000 k.taken
-    || nat_lt 4000000000000000000 k.told
+    nat_lt 4611686018427387903 k.sent || nat_lt 4611686018427387903 k.acked || nat_lt 4611686018427387903 k.taken
+    || nat_lt 4611686018427387903 k.told
 is_large s = false
 
 -- ---- behind a frame that no place allows
@@ -49,7 +49,7 @@ leapt s x = None
 
 -- so many that what may be taken, or is acknowledged, isn't known
 abbrev pub far : ℕ
-far = 1000000000000000000
+far = 1152921504606846976
 
 abbrev pub strays : Numbers → ℕ → Bool
 strays k nr = nat_lt k.taken (nth k.told nr)
