@@ -3,17 +3,17 @@ use Rattle.std.proofs.Common.{◌≡◌, ◌⊎◌, inl, inr, ℕ, ◌≤◌, Li
 use Rattle.std.proofs.{lemmas.Bool.{true≢false}, lemmas.List.{take-append-drop, take-append-le}}
 use Rattle.x25_bits.specs.{declared.role.Role.{Role}, declared.role.Role.TheVariants.{Dte, Dce}}
 use Rattle.x25_circuit.specs.{declared.message.Message.{Message}, Message.{no_part, joining, carried_from, carried}, Notice.{CallRequest}}
-use Rattle.x25_handshakes.specs.{laws.Handshake.{Side, Live, At, state_of, live}, laws.Stretch.{Packet, Stretch, fresh}, laws.Transfer.{fresh_transfer}}
-use Rattle.x25_handshakes.specs.{laws.Calls.{Phase, Talking, Connection, fresh_call}, laws.Layers.{Channels, all_fresh, Pair, turned}, laws.Names.{Name}}
-use Rattle.x25_handshakes.specs.laws.Histories.{Lists, messages, resets_in, held_in, circuit_at, name_at, held_at, Histories, histories_run, histories_start, IsPrefix}
+use Rattle.x25_handshakes.specs.{laws.Handshake.{Live, At, state_of, live}, laws.Stretch.{Packet, Stretch, fresh}, laws.Transfer.{fresh_transfer}}
+use Rattle.x25_handshakes.specs.{laws.Calls.{Phase, Talking, Connection, fresh_call}, laws.Layers.{Channels, all_fresh, Pair}, laws.Names.{Name}}
+use Rattle.x25_handshakes.specs.laws.Histories.{Lists, messages, resets_in, held_in, circuit_at, name_at, held_at, histories_run, histories_start, IsPrefix}
 use Rattle.x25_handshakes.specs.{laws.Arrivals.{open_at}, laws.Acknowledged.{AcknowledgedAreUp, AcknowledgedAreHandedUp}}
 use Rattle.x25_handshakes.specs.{laws.PeerClaims.{InEpochs, transfer_of}, laws.LawsBelow.{Laws}}
 use Rattle.x25_handshakes.proofs.{StretchRelation.{pieces, StretchesRelated}, TransferRelation.{stretch_level}, CallsRelation.{TalksRelated}}
-use Rattle.x25_handshakes.proofs.{ChannelRelation.{Seen, connection_level, ChannelRelated}, LayersRelation.{on, channels_level, LayersRelated, EndsRelated}}
+use Rattle.x25_handshakes.proofs.{ChannelRelation.{Seen, connection_level, ChannelRelated}, LayersRelation.{channels_level, LayersRelated, EndsRelated}}
 use Rattle.x25_handshakes.proofs.{HandshakeLemmas.{both_fresh}, TextLemmas.{carried-append}, LineLemmas.{heard_least}, PartLemmas.{Line-le}}
 use Rattle.x25_handshakes.proofs.{StretchLemmas.{StretchesRelated-fresh}, CallLemmas.{TalksRelated-flip}, JointLemmas.{joint_order}, NameLemmas.{name_eq}}
 use Rattle.x25_handshakes.proofs.{TurnLemmas.{Ends-meet}, StretchKindLemmas.{messages_handled}, LayerLemmas.{Stands, Stands-turned}}
-use Rattle.x25_handshakes.proofs.{LawLemmas.{Holds, always_holds}, ArrivalLemmas.{Opened, opened, name_opened}, PeerOrder.{in_epochs}}
+use Rattle.x25_handshakes.proofs.{LawLemmas.{always_holds}, ArrivalLemmas.{opened, name_opened}, PeerOrder.{in_epochs}}
 use Rattle.x25_handshakes.specs.laws.Terms.{Terms}
 
 -- ---- level by level
@@ -25,12 +25,11 @@ Acked x y = AcknowledgedAreUp x y.up
 in_stretch : (t b : Terms) (x : Stretch) (u v : List Packet) (y : Stretch) → StretchesRelated t b x u v y → Acked x y
 in_stretch t b x u v y h =
     let there = h.there in
-    let acks = there.acks.acks in
-    let low : x.acked ≤ length y.taken = omega (arith, acks, heard_least x.acked v) in
+    let low : x.acked ≤ length y.taken = omega (arith, there.acks.acks, heard_least x.acked v) in
     let few : take x.acked x.sent ≡ take x.acked y.taken = ap (take x.acked) there.line.flow ∙ take-append-le x.acked y.taken (pieces u) low in
     let rest = carried_from (joining no_part (take x.acked y.taken)) (drop x.acked y.taken) in
     record {
-      sent = omega (arith, low, Line-le x.sent y.taken u there.line);
+      sent = omega (arith, low, Line-le there.line);
       down = there.text.messages;
       first = (
         rest,
@@ -42,13 +41,13 @@ abbrev Transfers : At Stretch → At Stretch → Type 0
 Transfers x y = InEpochs Acked fresh fresh x y
 
 in_talk : (t b : Terms) (x : At Stretch) (u v : List Packet) (t₂ b₂ : Terms) (y : At Stretch) → TalksRelated t b x u v t₂ b₂ y → Transfers x y
-in_talk t b x u v t₂ b₂ y h = in_epochs (stretch_level t b) Acked (in_stretch t b) x u v y h.related.hand
+in_talk t b x u v t₂ b₂ y h = in_epochs (stretch_level t b) Acked (in_stretch t b) x y h.related.hand
 
 -- before p4: any terms do
 both_new : Transfers fresh_transfer fresh_transfer
 both_new =
     let t : Terms = record { window = 0; size = 0; longest = 0 } in
-    in_epochs (stretch_level t t) Acked (in_stretch t t) fresh_transfer [] [] fresh_transfer (both_fresh (stretch_level t t) (StretchesRelated-fresh t t) 0)
+    in_epochs (stretch_level t t) Acked (in_stretch t t) fresh_transfer fresh_transfer (both_fresh (stretch_level t t) (StretchesRelated-fresh t t) 0)
 
 abbrev Calls : Connection → Connection → Type 0
 Calls x y = Transfers (transfer_of x.phase) (transfer_of y.phase)
@@ -56,20 +55,20 @@ Calls x y = Transfers (transfer_of x.phase) (transfer_of y.phase)
 in_call : (r : Role) (x : Connection) (u v : List Packet) (y : Connection) → Seen r x u v y → Calls x y
 in_call Dte x u v y h = (joint_order TalksRelated fresh_transfer fresh_transfer Transfers both_new in_talk x.phase y.phase x.made x.indicated y.made y.indicated u v h).2
 in_call Dce x u v y h =
-    (joint_order TalksRelated fresh_transfer fresh_transfer (λ b a. Transfers a b) both_new (λ t b y u v t₂ b₂ x h. in_talk t₂ b₂ x v u t b y (TalksRelated-flip t b y u v t₂ b₂ x h))
+    (joint_order TalksRelated fresh_transfer fresh_transfer (λ b a. Transfers a b) both_new (λ t b y u v t₂ b₂ x h. in_talk t₂ b₂ x v u t b y (TalksRelated-flip h))
     y.phase x.phase y.made y.indicated x.made x.indicated v u h).2
 
 abbrev Channel : At Connection → At Connection → Type 0
 Channel x y = InEpochs Calls fresh_call fresh_call x y
 
-in_channel : (r : Role) (x : At Connection) (u v : List Packet) (y : At Connection) → ChannelRelated r x u v y → Channel x y
-in_channel r x u v y h = in_epochs (connection_level r) Calls (in_call r) x u v y h.hand
+in_channel : (r : Role) {x : At Connection} {u v : List Packet} {y : At Connection} → ChannelRelated r x u v y → Channel x y
+in_channel r {x} {u} {v} {y} h = in_epochs (connection_level r) Calls (in_call r) x y h.hand
 
 abbrev AllChannels : Channels → Channels → Type 0
 AllChannels x y = (k : ℕ) → Channel (x k) (y k)
 
-in_layers : (r : Role) (x : At Channels) (L K : List _) (y : At Channels) → LayersRelated r x L K y → InEpochs AllChannels all_fresh all_fresh x y
-in_layers r x L K y h = in_epochs (channels_level r) AllChannels (λ x u v y each k. in_channel r (x k) (on k u) (on k v) (y k) (each.each k)) x L K y h.hand
+in_layers : (r : Role) {x : At Channels} {L K : List _} {y : At Channels} → LayersRelated r x L K y → InEpochs AllChannels all_fresh all_fresh x y
+in_layers r {x} {L} {K} {y} h = in_epochs (channels_level r) AllChannels (λ x u v y each k. in_channel r (each.each k)) x y h.hand
 
 -- ---- a stretch that is open: the other end is there too, or has done nothing there
 
@@ -84,8 +83,8 @@ none_is_first (m ∷ l) up h = absurd (never h.1)
 abbrev Meets : Stretch → Type 0 → List Message → Type 0
 Meets x Same up = (Same × AcknowledgedAreUp x up) ⊎ AcknowledgedAreUp x []
 
-meets_resets : (x : Stretch) (s : ℕ) (y : At Stretch) → Transfers (live s x) y → Meets x (s ≡ y.epoch) (state_of y.side).up
-meets_resets x s y h = elim h.apart [
+meets_resets : (x : Stretch) (s : ℕ) {y : At Stretch} → Transfers (live s x) y → Meets x (s ≡ y.epoch) (state_of y.side).up
+meets_resets x s h = elim h.apart [
   | inl same ↦ inl (same, h.same same)
   | inr apart ↦ elim apart [ inl ahead ↦ inr (h.near_ahead ahead).0 | inr later ↦ absurd (true≢false (sym (h.peer_ahead later).1)) ]
 ]
@@ -105,19 +104,19 @@ up_of y = (messages.held y).up
 meets_clears : (x : Stretch) (c s : ℕ) (t b : Terms) (m i : List CallRequest) (y : At Connection) → Channel (live c (record { phase = Talking t b (live s x); made = m; indicated = i })) y
     → Meets x ((c ≡ y.epoch) × (s ≡ messages.resets (state_of y.side))) (up_of (state_of y.side))
 meets_clears x c s t b m i y h = elim h.apart [
-  | inl same ↦ elim (meets_resets x s (transfer_of (state_of y.side).phase) (h.same same)) [
+  | inl same ↦ elim (meets_resets x s (h.same same)) [
     | inl meet ↦ inl ((same, meet.0 ∙ sym (resets_are (state_of y.side).phase)), subst (AcknowledgedAreUp x) (sym (up_is (state_of y.side).phase)) meet.1)
     | inr none ↦ inr none
   ]
   | inr apart ↦ elim apart [
-    | inl ahead ↦ elim (meets_resets x s fresh_transfer (h.near_ahead ahead).0) [ inl meet ↦ inr meet.1 | inr none ↦ inr none ]
+    | inl ahead ↦ elim (meets_resets x s (h.near_ahead ahead).0) [ inl meet ↦ inr meet.1 | inr none ↦ inr none ]
     | inr later ↦ absurd (true≢false (sym (h.peer_ahead later).1))
   ]
 ]
 
-meets_restarts : (x : Stretch) (e : ℕ) (chans : Channels) (k c s : ℕ) (t b : Terms) (m i : List CallRequest) (y : At Channels) → chans k ≡ live c (record { phase = Talking t b (live s x); made = m; indicated = i })
+meets_restarts : (x : Stretch) (e : ℕ) (chans : Channels) (k c s : ℕ) (t b : Terms) (m i : List CallRequest) {y : At Channels} → chans k ≡ live c (record { phase = Talking t b (live s x); made = m; indicated = i })
     → InEpochs AllChannels all_fresh all_fresh (live e chans) y → Meets x (name_at messages y k ≡ record { restarts = e; clears = c; resets = s }) (held_at messages y k).up
-meets_restarts x e chans k c s t b m i y is h = elim h.apart [
+meets_restarts x e chans k c s t b m i {y} is h = elim h.apart [
   | inl same ↦ elim (meets_clears x c s t b m i (circuit_at y k) (rw (sym is) (h.same same k))) [
     | inl meet ↦ inl (name_eq (name_at messages y k) (record { restarts = e; clears = c; resets = s }) (sym same) (sym meet.0.0) (sym meet.0.1), meet.1)
     | inr none ↦ inr none
@@ -132,24 +131,24 @@ meets_restarts x e chans k c s t b m i y is h = elim h.apart [
 in_history : (x : Stretch) (history : Name → Lists Message) (name : Name) (y : At Channels) (k : ℕ) → history (name_at messages y k) ≡ held_at messages y k
     → Meets x (name_at messages y k ≡ name) (held_at messages y k).up → AcknowledgedAreUp x (history name).up
 in_history x history name y k held (inl meet) =
-    subst (AcknowledgedAreUp x) (ap (λ (l : Lists Message). l.up) (sym held) ∙ ap (λ (n : Name). (history n).up) meet.0) meet.1
+    subst (AcknowledgedAreUp x) (ap (λ l. l.up) (sym held) ∙ ap (λ n. (history n).up) meet.0) meet.1
 in_history x history name y k held (inr none) = record { sent = none.sent; down = none.down; first = none_is_first _ (history name).up none.first }
 
-at_near : (r : Role) (w : Pair) (k : ℕ) (x : Stretch) (history : Name → Lists Message) → Stands r w → history (name_at messages (state_of w.far) k) ≡ held_at messages (state_of w.far) k
+at_near : {r : Role} {w : Pair} (k : ℕ) (x : Stretch) (history : Name → Lists Message) → Stands r w → history (name_at messages (state_of w.far) k) ≡ held_at messages (state_of w.far) k
     → open_at w.near k ≡ Some x → AcknowledgedAreUp x (history (name_at messages (state_of w.near) k)).up
-at_near r w k x history stands held is =
-    let o : Opened w.near k x = opened w.near k x is in
-    let top : EndsRelated r (Live (live o.restarts o.channels)) w.out w.back w.far = subst (λ (s : Side (At Channels)). EndsRelated r s w.out w.back w.far) o.end stands.top in
-    let ends = Ends-meet r (live o.restarts o.channels) w.out w.back w.far top in
-    let there : At Channels = state_of w.far in
-    subst (λ (n : Name). AcknowledgedAreUp x (history n).up) (sym (name_opened w.near k x o))
+at_near {r} {w} k x history stands held is =
+    let o = opened w.near k x is in
+    let top : EndsRelated r (Live (live o.restarts o.channels)) w.out w.back w.far = subst (λ s. EndsRelated r s w.out w.back w.far) o.end stands.top in
+    let ends = Ends-meet r (live o.restarts o.channels) w.out w.far top in
+    let there = state_of w.far in
+    subst (λ n. AcknowledgedAreUp x (history n).up) (sym (name_opened o))
     (in_history x history (record { restarts = o.restarts; clears = o.clears; resets = o.resets }) there k held
-    (meets_restarts x o.restarts o.channels k o.clears o.resets o.sends o.takes o.made o.indicated there o.circuit (in_layers r (live o.restarts o.channels) ends.0 w.back there ends.1)))
+    (meets_restarts x o.restarts o.channels k o.clears o.resets o.sends o.takes o.made o.indicated o.circuit (in_layers r ends.1)))
 
 pub acknowledged_up : Laws → AcknowledgedAreHandedUp
 acknowledged_up laws events k x =
-    let g : Histories Message = histories_run messages events histories_start in
-    let h : Holds messages Dte g = always_holds messages messages_handled laws events in (
-      λ is. at_near Dte g.pair k x (g.far k) h.stands (h.histories k).held_there is,
-      λ is. at_near Dce (turned g.pair) k x (g.near k) (Stands-turned Dte g.pair h.stands) (h.histories k).held is,
+    let g = histories_run messages events histories_start in
+    let h = always_holds messages_handled laws events in (
+      λ is. at_near k x (g.far k) h.stands (h.histories k).held_there is,
+      λ is. at_near k x (g.near k) (Stands-turned h.stands) (h.histories k).held is,
     )

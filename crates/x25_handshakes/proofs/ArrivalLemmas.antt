@@ -1,11 +1,11 @@
 -- An open stretch of both ends, with nothing on the way from one: all of it has arrived.
 use Rattle.std.proofs.{Common.{◌≡◌, ℕ, List, [], ◌∷◌, ◌++◌, Some, Bool, refl, sym, ap, subst, ◌∙◌, arith}, lemmas.Option.{same_Some, none-some}}
 use Rattle.x25_circuit.specs.{Message.{Piece, More, Last, Partial, no_part, joined, joining, wholes}, Notice.{CallRequest}}
-use Rattle.x25_bits.specs.{declared.role.Role.{Role}, declared.role.Role.TheVariants.{Dte, Dce}}
+use Rattle.x25_bits.specs.declared.role.Role.{Role}
 use Rattle.x25_handshakes.specs.{laws.Handshake.{Side, Live, Left, At, state_of, live}, laws.Stretch.{Stretch}, laws.Calls.{Phase, Talking, Connection}}
-use Rattle.x25_handshakes.specs.{laws.Layers.{LayerPacket, Channels, Pair, turned, pair_run, pair_start}, laws.Names.{Name}, laws.Histories.{messages, name_at}}
+use Rattle.x25_handshakes.specs.{laws.Layers.{Channels, Pair, pair_run, pair_start}, laws.Names.{Name}, laws.Histories.{messages, name_at}}
 use Rattle.x25_handshakes.specs.{laws.Arrivals.{open_in, open_phase, open_call, open_channel, open_at, HasArrived, AllArrives}, laws.LawsBelow.{Laws}}
-use Rattle.x25_handshakes.proofs.{LayersRelation.{EndsRelated}, StretchRelation.{FollowsFrom}, LayerLemmas.{Stands, Stands-turned, Stands-run, Stands-start}}
+use Rattle.x25_handshakes.proofs.{LayersRelation.{EndsRelated}, LayerLemmas.{Stands, Stands-turned, Stands-run, Stands-start}}
 use Rattle.x25_handshakes.proofs.{StretchLemmas.{FollowsFrom-from_Dir}, ClaimLemmas.{open_stretch}, TextLemmas.{joining-append}}
 use Rattle.x25_handshakes.specs.laws.Terms.{Terms}
 
@@ -23,10 +23,10 @@ pub record Opened (s : Side (At Channels)) (k : ℕ) (x : Stretch) : Type 0 wher
   pub circuit : channels k ≡ live clears (record { phase = Talking sends takes (live resets x); made = made; indicated = indicated })
 
 in_transfer : (at : At Stretch) (x : Stretch) → open_in at.side ≡ Some x → at ≡ live at.epoch x
-in_transfer at x is = ap (λ (s : Side Stretch). record { epoch = at.epoch; side = s }) (side at.side is)
+in_transfer at x is = ap (λ s. record { epoch = at.epoch; side = s }) (side at.side is)
   where
     side : (s : Side Stretch) → open_in s ≡ Some x → s ≡ Live x
-    side (Live y) e = ap (λ (z : Stretch). Live z) (same_Some y x e)
+    side (Live y) e = ap (λ z. Live z) (same_Some y x e)
     side (Left y) e = absurd (none-some x e)
 
 record InPhase (a : Phase) (x : Stretch) : Type 0 where
@@ -36,7 +36,7 @@ record InPhase (a : Phase) (x : Stretch) : Type 0 where
   phase : a ≡ Talking sends takes (live resets x)
 
 in_phase : (a : Phase) (x : Stretch) → open_phase a ≡ Some x → InPhase a x
-in_phase (Talking t b at) x is = record { resets = at.epoch; sends = t; takes = b; phase = ap (λ (z : At Stretch). Talking t b z) (in_transfer at x is) }
+in_phase (Talking t b at) x is = record { resets = at.epoch; sends = t; takes = b; phase = ap (λ z. Talking t b z) (in_transfer at x is) }
 in_phase a x is = absurd (none-some x is)
 
 pub opened : (s : Side (At Channels)) (k : ℕ) (x : Stretch) → open_at s k ≡ Some x → Opened s k x
@@ -46,7 +46,7 @@ opened (Live z) k x is = ends z.epoch z.side is
     calls : (e : ℕ) (y : Channels) (c : Side Connection) → (y k).side ≡ c → open_call c ≡ Some x → Opened (Live (live e y)) k x
     calls e y (Left c) same is_open = absurd (none-some x is_open)
     calls e y (Live c) same is_open =
-        let phase : InPhase c.phase x = in_phase c.phase x is_open in
+        let phase = in_phase c.phase x is_open in
         record {
           restarts = e;
           channels = y;
@@ -57,8 +57,8 @@ opened (Live z) k x is = ends z.epoch z.side is
           made = c.made;
           indicated = c.indicated;
           end = refl;
-          circuit = ap (λ (s : Side Connection). record { epoch = (y k).epoch; side = s })
-              (same ∙ ap (λ (a : Phase). Live (record { phase = a; made = c.made; indicated = c.indicated })) phase.phase);
+          circuit = ap (λ s. record { epoch = (y k).epoch; side = s })
+              (same ∙ ap (λ a. Live (record { phase = a; made = c.made; indicated = c.indicated })) phase.phase);
         }
 
     ends : (e : ℕ) (y : Side Channels) → open_channel y k ≡ Some x → Opened (Live (record { epoch = e; side = y })) k x
@@ -66,10 +66,10 @@ opened (Live z) k x is = ends z.epoch z.side is
     ends e (Left y) is_open = absurd (none-some x is_open)
 
 -- its name
-pub name_opened : (s : Side (At Channels)) (k : ℕ) (x : Stretch) (o : Opened s k x) → name_at messages (state_of s) k ≡ record { restarts = o.restarts; clears = o.clears; resets = o.resets }
-name_opened s k x o =
-    ap (λ (z : Side (At Channels)). name_at messages (state_of z) k) o.end
-    ∙ ap (λ (c : At Connection). record { restarts = o.restarts; clears = c.epoch; resets = messages.resets (state_of c.side) }) o.circuit
+pub name_opened : {s : Side (At Channels)} {k : ℕ} {x : Stretch} (o : Opened s k x) → name_at messages (state_of s) k ≡ record { restarts = o.restarts; clears = o.clears; resets = o.resets }
+name_opened {k} o =
+    ap (λ z. name_at messages (state_of z) k) o.end
+    ∙ ap (λ c. record { restarts = o.restarts; clears = c.epoch; resets = messages.resets (state_of c.side) }) o.circuit
 
 -- packets of which none ends a message leave it begun
 still_begun : (j : Partial) (ps : List Piece) (q : Bool) → j.begun ≡ Some q → wholes ps ≡ 0 → (r : Bool) × ((joining j ps).begun ≡ Some r)
@@ -81,34 +81,34 @@ whole_rest : (j : Partial) (ps : List Piece) → joining j ps ≡ no_part → wh
 whole_rest j [] whole none = refl
 whole_rest j (More q user ∷ ps) whole none =
     let begun = still_begun (joined j (More q user)) ps q.q refl (let e : wholes ps ≡ 0 = omega (arith, none) in e) in
-    absurd (none-some begun.0 (sym (ap (λ (k : Partial). k.begun) whole) ∙ begun.1))
+    absurd (none-some begun.0 (sym (ap (λ k. k.begun) whole) ∙ begun.1))
 whole_rest j (Last q user ∷ ps) whole none = absurd (omega (arith, none))
 
 -- where no message waits, nothing is left of one, since what was sent and what is left are whole messages
 pub nothing_waits : (sent rest : List Piece) → joining no_part (sent ++ rest) ≡ no_part → wholes rest ≡ 0 → rest ≡ []
 nothing_waits sent rest whole none = whole_rest (joining no_part sent) rest (sym (joining-append no_part sent rest) ∙ whole) none
 
-arrived : (r : Role) (w : Pair) (k : ℕ) (x y : Stretch) → Stands r w → (o : Opened w.near k x) (p : Opened w.far k y)
+arrived : {r : Role} {w : Pair} {k : ℕ} {x y : Stretch} → Stands r w → (o : Opened w.near k x) (p : Opened w.far k y)
     → ◌≡◌ {A = Name} (record { restarts = o.restarts; clears = o.clears; resets = o.resets }) (record { restarts = p.restarts; clears = p.clears; resets = p.resets })
     → w.out ≡ [] → HasArrived x y
-arrived r w k x y stands o p same none =
+arrived {r} {w} {k} {x} {y} stands o p same none =
     let top : EndsRelated r (Live (live o.restarts o.channels)) [] w.back (Live (live o.restarts p.channels)) =
-    subst (λ (rs : ℕ). EndsRelated r (Live (live o.restarts o.channels)) [] w.back (Live (live rs p.channels))) (sym (ap (λ (n : Name). n.restarts) same))
-    (subst (λ (s : Side (At Channels)). EndsRelated r (Live (live o.restarts o.channels)) [] w.back s) p.end
-    (rw (sym o.end) (subst (λ (l : List LayerPacket). EndsRelated r w.near l w.back w.far) none stands.top))) in
+    subst (λ rs. EndsRelated r (Live (live o.restarts o.channels)) [] w.back (Live (live rs p.channels))) (sym (ap (λ n. n.restarts) same))
+    (subst (λ s. EndsRelated r (Live (live o.restarts o.channels)) [] w.back s) p.end
+    (rw (sym o.end) (subst (λ l. EndsRelated r w.near l w.back w.far) none stands.top))) in
     let there : p.channels k ≡ live o.clears (record { phase = Talking p.sends p.takes (live o.resets y); made = p.made; indicated = p.indicated }) =
-    p.circuit ∙ ap (λ (n : Name). live n.clears (record { phase = Talking p.sends p.takes (live n.resets y); made = p.made; indicated = p.indicated })) (sym same) in
-    let got = open_stretch r o.sends o.takes p.sends p.takes o.restarts o.clears o.resets o.channels p.channels k o.made o.indicated p.made p.indicated x y w.back o.circuit there top in
-    let all : FollowsFrom x [] y = FollowsFrom-from_Dir o.sends x [] got.0 y got.1.there in
+    p.circuit ∙ ap (λ n. live n.clears (record { phase = Talking p.sends p.takes (live n.resets y); made = p.made; indicated = p.indicated })) (sym same) in
+    let got = open_stretch r o.sends o.takes p.sends p.takes o.restarts o.clears o.resets o.channels p.channels k o.made o.indicated p.made p.indicated x y o.circuit there top in
+    let all = FollowsFrom-from_Dir got.1.there in
     record { messages = λ waits. all.all refl (nothing_waits x.sent x.rest got.1.there.text.whole waits); interrupts = all.int_all refl }
 
 pub all_arrives : Laws → AllArrives
 all_arrives laws events k x y near far same =
     let w = pair_run events pair_start in
-    let stands : Stands Dte w = Stands-run laws events pair_start Stands-start in
-    let o : Opened w.near k x = opened w.near k x near in
-    let p : Opened w.far k y = opened w.far k y far in
-    let named = sym (name_opened w.near k x o) ∙ same ∙ name_opened w.far k y p in (
-      λ none. arrived Dte w k x y stands o p named none,
-      λ none. arrived Dce (turned w) k y x (Stands-turned Dte w stands) p o (sym named) none,
+    let stands = Stands-run laws events Stands-start in
+    let o = opened w.near k x near in
+    let p = opened w.far k y far in
+    let named = sym (name_opened o) ∙ same ∙ name_opened p in (
+      λ none. arrived stands o p named none,
+      λ none. arrived (Stands-turned stands) p o (sym named) none,
     )

@@ -17,7 +17,7 @@ indicated_begins r c u p v y h = seen_begins r (call_takes r c p).next (u ++ (ca
 
 -- a packet makes no call
 answered_made : (a : Phase) (mine : Params) (m i : List CallRequest) (most : ℕ) (q : Params) → (is_answered a mine m i most q).next.made ≡ m
-answered_made a mine m i most q = cond_both (may_answer mine q) (goes (calling_talk most q) m i []) (unexpected a m i) (λ (s : Step Connection Packet). s.next.made ≡ m) (λ _. refl) (λ _. refl)
+answered_made a mine m i most q = cond_both (may_answer mine q) (goes (calling_talk most q) m i []) (unexpected a m i) (λ s. s.next.made ≡ m) (λ _. refl) (λ _. refl)
 
 takes_made : (r : Role) (a : Phase) (m i : List CallRequest) (p : Packet) → (phase_takes r a m i p).next.made ≡ m
 takes_made r Unused m i (Call n) = refl
@@ -38,11 +38,11 @@ Acted m i s = IsPrefix m s.next.made × (s.next.indicated ≡ i)
 accepted : (theirs : Params) (m i : List CallRequest) (answer : Option Proposal) (most : ℕ) → Acted m i (accepts theirs m i answer most)
 accepted theirs m i None most = (alike m, refl)
 accepted theirs m i (Some q) most =
-    cond_both (may_answer theirs q.params) (goes (called_talk most q.params) m i (Accept (field_for theirs q) most ∷ [])) (goes (Offered theirs) m i []) (λ (s : Step Connection Packet). Acted m i s) (λ _. (alike m, refl)) (λ _. (alike m, refl))
+    cond_both (may_answer theirs q.params) (goes (called_talk most q.params) m i (Accept (field_for theirs q) most ∷ [])) (goes (Offered theirs) m i []) (λ s. Acted m i s) (λ _. (alike m, refl)) (λ _. (alike m, refl))
 
 acted : (a : Phase) (m i : List CallRequest) (act : CallAct) → Acted m i (phase_acts a m i act)
 acted Unused m i (PlacesCall n) =
-    cond_both (may_propose n.params) (goes (Waiting n.params) (m ++ n ∷ []) i (Call n ∷ [])) (goes Unused m i []) (λ (s : Step Connection Packet). Acted m i s)
+    cond_both (may_propose n.params) (goes (Waiting n.params) (m ++ n ∷ []) i (Call n ∷ [])) (goes Unused m i []) (λ s. Acted m i s)
     (λ _. ((n ∷ [], refl), refl)) (λ _. (alike m, refl))
 acted (Offered theirs) m i (AcceptsCall answer most) = accepted theirs m i answer most
 acted (Talking t b x) m i (Talks a) = (alike m, refl)

@@ -1,10 +1,10 @@
 -- Two circuits in p4 and their calls keep their relation, and have no procedure error.
 use Rattle.std.proofs.Common.{List, [], ◌≡◌, ◌∷◌, ◌++◌, refl, sym, subst}
-use Rattle.x25_handshakes.specs.{laws.Handshake.{At}, laws.Stretch.{Packet, Stretch, fresh}, laws.Transfer.{fresh_transfer, transfer_takes, transfer_acts}}
+use Rattle.x25_handshakes.specs.{laws.Handshake.{At}, laws.Stretch.{Packet, Stretch, fresh}, laws.Transfer.{fresh_transfer}}
 use Rattle.x25_handshakes.specs.{laws.Calls.{Phase, Unused, Waiting, Connection, call_takes, CallAct, call_acts, fresh_call}, laws.LawsBelow.{Laws}}
 use Rattle.x25_circuit.specs.{Notice.{CallRequest}}
 use Rattle.x25_handshakes.proofs.{TermsLemmas.{IsSound}, HandshakeLemmas.{hand_flip, hand_map}, StretchRelation.{StretchesRelated}}
-use Rattle.x25_handshakes.proofs.TransferRelation.{reset_mark, stretch_level, TransfersRelated}
+use Rattle.x25_handshakes.proofs.TransferRelation.{TransfersRelated}
 use Rattle.x25_handshakes.proofs.StretchLemmas.{StretchesRelated-flip, StretchesRelated-fresh, GoodStretch-acts, GoodStretch-takes}
 use Rattle.x25_handshakes.proofs.{OwnTransferLemmas.{OwnStretches}, CallsRelation.{TalksRelated, Joint, GoodCall, IsCalled}, ChannelRelation.{Seen}}
 use Rattle.x25_handshakes.proofs.OwnCallLemmas.{own_dte_talks, DteTalks, DceTalks, dte_takes, dte_acts, dce_takes, dce_acts}
@@ -13,8 +13,8 @@ use Rattle.x25_handshakes.specs.laws.Terms.{Terms}
 
 pub TransfersRelated-flip : (t b : Terms) (x : At Stretch) (L K : List Packet) (y : At Stretch) → TransfersRelated t b x L K y → TransfersRelated b t y K L x
 TransfersRelated-flip t b x L K y h = record {
-  hand = hand_flip (record { mark = reset_mark; fresh = fresh; fresh_there = fresh; gone = λ x. Unit {0}; gone_there = λ x. Unit {0}; related = λ x u v y. StretchesRelated b t y v u x }) x.epoch y.epoch x.side y.side L K
-      (hand_map (stretch_level t b) (λ x u v y. StretchesRelated b t y v u x) (λ x u v y r. StretchesRelated-flip t b x u v y r) x.epoch y.epoch x.side y.side L K h.hand);
+  hand = hand_flip
+      (hand_map (λ x u v y. StretchesRelated b t y v u x) (λ x u v y r. StretchesRelated-flip r) h.hand);
   there = h.back;
   back = h.there;
 }
@@ -24,18 +24,18 @@ own_stretches t b st sb = record {
   empty = StretchesRelated-fresh t b;
   kinds = λ x u v y h. h.there.line.kinds;
   acts = λ x u v y a h. GoodStretch-acts t b st sb x u v y a h;
-  takes = λ x u p v y h. GoodStretch-takes t b sb x u p v y h;
+  takes = λ x u p v y h. GoodStretch-takes sb p v h;
 }
 
 -- two ends in p4
 
-pub TalksRelated-flip : (t b : Terms) (x : At Stretch) (u v : List Packet) (t₂ b₂ : Terms) (y : At Stretch) → TalksRelated t b x u v t₂ b₂ y → TalksRelated t₂ b₂ y v u t b x
-TalksRelated-flip t b x u v t₂ b₂ y h = record {
+pub TalksRelated-flip : {t b : Terms} {x : At Stretch} {u v : List Packet} {t₂ b₂ : Terms} {y : At Stretch} → TalksRelated t b x u v t₂ b₂ y → TalksRelated t₂ b₂ y v u t b x
+TalksRelated-flip {t} {b} {x} {u} {v} {y} h = record {
   there = sym h.back;
   back = sym h.there;
   sound = rw h.back h.sound_back;
   sound_back = rw h.there h.sound;
-  related = rw h.back (subst (λ (s : Terms). TransfersRelated b s y v u x) (sym h.there) (TransfersRelated-flip t b x u v y h.related));
+  related = rw h.back (subst (λ s. TransfersRelated b s y v u x) (sym h.there) (TransfersRelated-flip t b x u v y h.related));
 }
 
 -- our own end, with another of our own
@@ -47,22 +47,22 @@ dce_talks : DceTalks TalksRelated fresh_transfer
 dce_talks = record {
   fresh = λ t b st sb. dte_talks.fresh t b st sb;
   takes = λ t b x u p v t₂ b₂ y h.
-      (let good = dte_talks.takes t₂ b₂ y v p u t b x (TalksRelated-flip t b x (p ∷ u) v t₂ b₂ y h) in
-      record { quiet = good.quiet; kept = TalksRelated-flip t₂ b₂ (transfer_takes b₂.longest b₂.size y p).next (v ++ (transfer_takes b₂.longest b₂.size y p).out) u t b x good.kept });
+      (let good = dte_talks.takes t₂ b₂ y v p u t b x (TalksRelated-flip h) in
+      record { quiet = good.quiet; kept = TalksRelated-flip good.kept });
   acts = λ t b x u v t₂ b₂ y act h.
-      (let good = dte_talks.acts t₂ b₂ y v u t b x act (TalksRelated-flip t b x u v t₂ b₂ y h) in
-      record { quiet = good.quiet; kept = TalksRelated-flip t₂ b₂ (transfer_acts t₂ y act).next (v ++ (transfer_acts t₂ y act).out) u t b x good.kept });
+      (let good = dte_talks.acts t₂ b₂ y v u t b x act (TalksRelated-flip h) in
+      record { quiet = good.quiet; kept = TalksRelated-flip good.kept });
 }
 
 -- ---- the two roles at once
 
 pub Seen-takes : (r : Role) (x : Connection) (u : List Packet) (p : Packet) (v : List Packet) (y : Connection) → Seen r x u (p ∷ v) y → GoodCall (Seen r) (call_takes r x p) u v y
-Seen-takes Dte x u p v y h = dte_takes TalksRelated fresh_transfer dte_talks x y.phase y.made y.indicated u p v h
-Seen-takes Dce x u p v y h = dce_takes TalksRelated fresh_transfer dce_talks x y.phase y.made y.indicated u p v h
+Seen-takes Dte x u p v y h = dte_takes dte_talks x y.phase y.made y.indicated u p v h
+Seen-takes Dce x u p v y h = dce_takes dce_talks x y.phase y.made y.indicated u p v h
 
 pub Seen-acts : Laws → (r : Role) (x : Connection) (u v : List Packet) (y : Connection) (a : CallAct) → Seen r x u v y → GoodCall (Seen r) (call_acts x a) u v y
-Seen-acts laws Dte x u v y a h = dte_acts TalksRelated fresh_transfer dte_talks x y.phase y.made y.indicated u laws v a h
-Seen-acts laws Dce x u v y a h = dce_acts TalksRelated fresh_transfer dce_talks x y.phase y.made y.indicated u laws v a h
+Seen-acts laws Dte x u v y a h = dte_acts dte_talks x y.phase y.made y.indicated u laws v a h
+Seen-acts laws Dce x u v y a h = dce_acts dce_talks x y.phase y.made y.indicated u laws v a h
 
 pub Seen-fresh : (r : Role) → Seen r fresh_call [] [] fresh_call
 Seen-fresh Dte = (tt, tt, refl, refl, refl, refl)

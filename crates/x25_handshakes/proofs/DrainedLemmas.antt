@@ -6,12 +6,12 @@ use Rattle.x25_bits.specs.{declared.role.Role.{Role}, declared.role.Role.TheVari
 use Rattle.x25_handshakes.specs.{laws.Handshake.{Side, Live, Left, At, state_of, Step, live}, laws.Stretch.{Data, Stretch, Pull, stretch_does, pulls, Packet}}
 use Rattle.x25_handshakes.specs.{laws.Transfer.{Inside, lifted}, laws.Calls.{Phase, Waiting, Crossed, Talking, Connection, Talks, in_transfer}}
 use Rattle.x25_handshakes.specs.laws.Channel.{Within, lifted_call, channel_acts}
-use Rattle.x25_handshakes.specs.{laws.Layers.{LayerPacket, Channels, addressed, Pair, turned, pair_run, pair_start}, laws.Names.{Name}}
+use Rattle.x25_handshakes.specs.{laws.Layers.{LayerPacket, Channels, addressed, Pair, pair_run, pair_start}, laws.Names.{Name}}
 use Rattle.x25_handshakes.specs.{laws.Histories.{messages, resets_in, name_at}, laws.Arrivals.{open_in, open_phase, open_call, open_channel, open_at}}
 use Rattle.x25_handshakes.specs.{laws.Drained.{is_up, pulled_at, IsOpenThere, AllIsKnown}, laws.LawsBelow.{Laws}}
-use Rattle.x25_handshakes.proofs.{HandshakeRelation.{Level, Handshake}, HandshakeLemmas.{cons≢nil}, StretchRelation.{StretchesRelated}}
-use Rattle.x25_handshakes.proofs.{TransferRelation.{stretch_level}, CallsRelation.{Joint}, ChannelRelation.{Seen, connection_level, ChannelRelated}}
-use Rattle.x25_handshakes.proofs.{LayersRelation.{channels_level, EndsRelated}, PartLemmas.{Line-le}, CallLemmas.{TalksRelated-flip}}
+use Rattle.x25_handshakes.proofs.{HandshakeRelation.{Level, Handshake}, HandshakeLemmas.{cons≢nil}}
+use Rattle.x25_handshakes.proofs.{CallsRelation.{Joint}, ChannelRelation.{Seen, ChannelRelated}}
+use Rattle.x25_handshakes.proofs.{LayersRelation.{EndsRelated}, PartLemmas.{Line-le}, CallLemmas.{TalksRelated-flip}}
 use Rattle.x25_handshakes.proofs.{LayerLemmas.{Stands, Stands-turned, Stands-run, Stands-start}, ClaimLemmas.{BothTalk}}
 use Rattle.x25_handshakes.proofs.ArrivalLemmas.{Opened, opened, name_opened}
 use Rattle.x25_handshakes.specs.laws.Terms.{Terms}
@@ -23,11 +23,11 @@ record AtRest {S T P : Type 0} (l : Level S T P) (ex ey : ℕ) (x : S) (y : Side
   side : y ≡ Live state
   related : l.related x [] [] state
 
-at_rest : {S T P : Type 0} (l : Level S T P) (ex ey : ℕ) (x : S) (y : Side T) → Handshake l ex ey (Live x) y [] [] → AtRest l ex ey x y
-at_rest l ex ey x (Live z) (inl same) = record { epochs = same.epochs; state = z; side = refl; related = same.inner }
-at_rest l ex ey x (Left z) (inl same) = absurd (true≢false same.back)
-at_rest l ex ey x y (inr (inl ahead)) = absurd ahead.there
-at_rest l ex ey x y (inr (inr later)) = absurd later.back
+at_rest : {S T P : Type 0} {l : Level S T P} {ex ey : ℕ} (x : S) (y : Side T) → Handshake l ex ey (Live x) y [] [] → AtRest l ex ey x y
+at_rest x (Live z) (inl same) = record { epochs = same.epochs; state = z; side = refl; related = same.inner }
+at_rest x (Left z) (inl same) = absurd (true≢false same.back)
+at_rest x y (inr (inl ahead)) = absurd ahead.there
+at_rest x y (inr (inr later)) = absurd later.back
 
 -- an end in p4 with nothing on the way: the other is in p4 too
 
@@ -37,7 +37,7 @@ rest_a t b x (Waiting q) ma ia mb ib h = absurd h.0
 rest_a t b x other ma ia mb ib h = absurd h
 
 rest_b : (t b : Terms) (a : Phase) (y : At Stretch) (ma ia mb ib : List CallRequest) → Joint a (Talking t b y) ma ia mb ib [] [] → BothTalk t b y [] [] a
-rest_b t b (Talking t₂ b₂ x) y ma ia mb ib h = record { sends = t₂; takes = b₂; other = x; phase = refl; talks = TalksRelated-flip t₂ b₂ x [] [] t b y h.0 }
+rest_b t b (Talking t₂ b₂ x) y ma ia mb ib h = record { sends = t₂; takes = b₂; other = x; phase = refl; talks = TalksRelated-flip h.0 }
 rest_b t b (Waiting q) y ma ia mb ib h = absurd h.1
 rest_b t b (Crossed q) y ma ia mb ib h = absurd h.1
 rest_b t b a y ma ia mb ib h = absurd h
@@ -62,7 +62,7 @@ held_back k e t b m i s x least acked none = by x.rest refl none
 
     ready_by : (p : Piece) (ps : List Piece) (c : Bool) → x.peer_ready ≡ c
         → sent_by k e t b m i s (if c then (if nat_lt (length x.sent) (x.acked + t.window) then next p ps else stretch_does x []) else stretch_does x []) ≡ [] → (x.rest ≡ []) ⊎ (x.peer_ready ≡ false)
-    ready_by p ps true is sends = absurd (cons≢nil _ _ (subst (λ (a : Bool). sent_by k e t b m i s (if a then next p ps else stretch_does x []) ≡ []) room sends))
+    ready_by p ps true is sends = absurd (cons≢nil _ _ (subst (λ a. sent_by k e t b m i s (if a then next p ps else stretch_does x []) ≡ []) room sends))
     ready_by p ps false is sends = inr is
 
     by : (l : List Piece) → x.rest ≡ l → sent_by k e t b m i s (pulls t x l) ≡ [] → (x.rest ≡ []) ⊎ (x.peer_ready ≡ false)
@@ -77,51 +77,50 @@ not_ready x y same (inr not) = inr (sym same ∙ not)
 opened_by : (z : At Channels) (k : ℕ) (far : Side (At Channels)) (y : Channels) (c : Connection) (t b : Terms) (at : At Stretch) (q : Stretch)
     → far ≡ Live z → z.side ≡ Live y → (y k).side ≡ Live c → c.phase ≡ Talking t b at → at.side ≡ Live q → open_at far k ≡ Some q
 opened_by z k far y c t b at q up restarts clears talks resets =
-    ap (λ (s : Side (At Channels)). open_at s k) up ∙ ap (λ (s : Side Channels). open_channel s k) restarts ∙ ap open_call clears ∙ ap open_phase talks ∙ ap open_in resets
+    ap (λ s. open_at s k) up ∙ ap (λ s. open_channel s k) restarts ∙ ap open_call clears ∙ ap open_phase talks ∙ ap open_in resets
 
 -- the name of the stretch that is open
 named_by : (z : At Channels) (k : ℕ) (far : Side (At Channels)) (y : Channels) (c : Connection) (t b : Terms) (at : At Stretch)
     → far ≡ Live z → z.side ≡ Live y → (y k).side ≡ Live c → c.phase ≡ Talking t b at → name_at messages (state_of far) k ≡ record { restarts = z.epoch; clears = (y k).epoch; resets = at.epoch }
 named_by z k far y c t b at up restarts clears talks =
-    ap (λ (s : Side (At Channels)). name_at messages (state_of s) k) up
-    ∙ ap (λ (s : Side Channels). record { restarts = z.epoch; clears = (state_of s k).epoch; resets = resets_in (state_of (state_of s k).side).phase }) restarts
-    ∙ ap (λ (s : Side Connection). record { restarts = z.epoch; clears = (y k).epoch; resets = resets_in (state_of s).phase }) clears
-    ∙ ap (λ (p : Phase). record { restarts = z.epoch; clears = (y k).epoch; resets = resets_in p }) talks
+    ap (λ s. name_at messages (state_of s) k) up
+    ∙ ap (λ s. record { restarts = z.epoch; clears = (state_of s k).epoch; resets = resets_in (state_of (state_of s k).side).phase }) restarts
+    ∙ ap (λ s. record { restarts = z.epoch; clears = (y k).epoch; resets = resets_in (state_of s).phase }) clears
+    ∙ ap (λ p. record { restarts = z.epoch; clears = (y k).epoch; resets = resets_in p }) talks
 
 name_same : (a b c d e f : ℕ) → a ≡ d → b ≡ e → c ≡ f → ◌≡◌ {A = Name} (record { restarts = a; clears = b; resets = c }) (record { restarts = d; clears = e; resets = f })
 name_same a b c d e f p q r =
-    ap (λ (n : ℕ). record { restarts = n; clears = b; resets = c }) p
-    ∙ ap (λ (n : ℕ). record { restarts = d; clears = n; resets = c }) q
-    ∙ ap (λ (n : ℕ). record { restarts = d; clears = e; resets = n }) r
+    ap (λ n. record { restarts = n; clears = b; resets = c }) p
+    ∙ ap (λ n. record { restarts = d; clears = n; resets = c }) q
+    ∙ ap (λ n. record { restarts = d; clears = e; resets = n }) r
 
-known : (r : Role) (w : Pair) (k : ℕ) (x : Stretch) → Stands r w → (o : Opened w.near k x) → (z : At Channels) → w.far ≡ Live z → w.out ≡ [] → w.back ≡ [] → IsOpenThere k w.near w.far x
-known r w k x stands o z up out back =
+known : {r : Role} {w : Pair} {k : ℕ} {x : Stretch} → Stands r w → (o : Opened w.near k x) → (z : At Channels) → w.far ≡ Live z → w.out ≡ [] → w.back ≡ [] → IsOpenThere k w.near w.far x
+known {r} {w} {k} {x} stands o z up out back =
     let a : Connection = record { phase = Talking o.sends o.takes (live o.resets x); made = o.made; indicated = o.indicated } in
     let top : EndsRelated r (Live (live o.restarts o.channels)) [] [] (Live z) =
-    subst (λ (s : Side (At Channels)). EndsRelated r (Live (live o.restarts o.channels)) [] [] s) up
-    (rw (sym o.end) (subst (λ (l : List LayerPacket). EndsRelated r w.near [] l w.far) back
-    (subst (λ (l : List LayerPacket). EndsRelated r w.near l w.back w.far) out stands.top))) in
-    let one : AtRest (channels_level r) o.restarts z.epoch o.channels z.side = at_rest (channels_level r) o.restarts z.epoch o.channels z.side top.hand in
-    let y : Channels = one.state in
-    let chan : ChannelRelated r (live o.clears a) [] [] (y k) = subst (λ (c : At Connection). ChannelRelated r c [] [] (y k)) o.circuit (one.related.each k) in
-    let two : AtRest (connection_level r) o.clears (y k).epoch a (y k).side = at_rest (connection_level r) o.clears (y k).epoch a (y k).side chan.hand in
-    let talk : BothTalk o.sends o.takes (live o.resets x) [] [] two.state.phase = rest_seen r o.sends o.takes o.made o.indicated (live o.resets x) two.state two.related in
-    let at : At Stretch = talk.other in
-    let three : AtRest (stretch_level o.sends o.takes) o.resets at.epoch x at.side = at_rest (stretch_level o.sends o.takes) o.resets at.epoch x at.side talk.talks.related.hand in
-    let q : Stretch = three.state in
-    let both : StretchesRelated o.sends o.takes x [] [] q = three.related in
-    let flow : length x.sent ≡ length q.taken + 0 = Line-le x.sent q.taken [] both.there.line in
-    let acked : x.acked ≡ length x.sent = omega (arith, flow, both.told.acks) in
+    subst (λ s. EndsRelated r (Live (live o.restarts o.channels)) [] [] s) up
+    (rw (sym o.end) (subst (λ l. EndsRelated r w.near [] l w.far) back
+    (subst (λ l. EndsRelated r w.near l w.back w.far) out stands.top))) in
+    let one = at_rest o.channels z.side top.hand in
+    let y = one.state in
+    let chan : ChannelRelated r (live o.clears a) [] [] (y k) = subst (λ c. ChannelRelated r c [] [] (y k)) o.circuit (one.related.each k) in
+    let two = at_rest a (y k).side chan.hand in
+    let talk = rest_seen r o.sends o.takes o.made o.indicated (live o.resets x) two.state two.related in
+    let at = talk.other in
+    let three = at_rest x at.side talk.talks.related.hand in
+    let q = three.state in
+    let both = three.related in
+    let acked : x.acked ≡ length x.sent = omega (arith, Line-le both.there.line, both.told.acks) in
     record {
       stretch = q;
       opened = opened_by z k w.far y two.state talk.sends talk.takes at q up one.side two.side talk.phase three.side;
-      same_name = name_opened w.near k x o ∙ name_same o.restarts o.clears o.resets z.epoch (y k).epoch at.epoch one.epochs two.epochs three.epochs
+      same_name = name_opened o ∙ name_same o.restarts o.clears o.resets z.epoch (y k).epoch at.epoch one.epochs two.epochs three.epochs
           ∙ sym (named_by z k w.far y two.state talk.sends talk.takes at up one.side two.side talk.phase);
       acked = acked;
       ready = both.told.ready;
       waits = λ none. not_ready x q both.told.ready (held_back k o.clears o.sends o.takes o.made o.indicated o.resets x talk.talks.sound.least acked
-          (subst (λ (c : At Connection). addressed k (channel_acts c (Within (Talks (Inside Pull)))).out ≡ []) o.circuit
-          (subst (λ (s : Side (At Channels)). pulled_at s k ≡ []) o.end none)));
+          (subst (λ c. addressed k (channel_acts c (Within (Talks (Inside Pull)))).out ≡ []) o.circuit
+          (subst (λ s. pulled_at s k ≡ []) o.end none)));
     }
 
 up_is : (s : Side (At Channels)) → is_up s ≡ true → (z : At Channels) × (s ≡ Live z)
@@ -131,7 +130,7 @@ up_is (Left z) is = absurd (true≢false (sym is))
 pub all_is_known : Laws → AllIsKnown
 all_is_known laws events k x out back =
     let w = pair_run events pair_start in
-    let stands : Stands Dte w = Stands-run laws events pair_start Stands-start in (
-      λ up is. let far = up_is w.far up in known Dte w k x stands (opened w.near k x is) far.0 far.1 out back,
-      λ up is. let near = up_is w.near up in known Dce (turned w) k x (Stands-turned Dte w stands) (opened w.far k x is) near.0 near.1 back out,
+    let stands = Stands-run laws events Stands-start in (
+      λ up is. let far = up_is w.far up in known stands (opened w.near k x is) far.0 far.1 out back,
+      λ up is. let near = up_is w.near up in known (Stands-turned stands) (opened w.far k x is) near.0 near.1 back out,
     )

@@ -70,18 +70,18 @@ past_confirm {P} mark c is [] ends = rw is refl
 past_confirm mark c is (p ∷ L) ends = past_step (mark p) L (L ++ c ∷ []) (Ends mark false L) (past mark (L ++ c ∷ [])) ends (λ e. past_confirm mark c is L e)
 
 pub cons≢nil : {P : Type 0} (p : P) (K : List P) → p ∷ K ≡ [] → ⊥
-cons≢nil p K e = subst (λ (l : List _). elim l as (λ _. Type 0) [ [] ↦ ⊥ | q ∷ r ↦ Unit {0} ]) e tt
+cons≢nil p K e = subst (λ l. elim l as (λ _. Type 0) [ [] ↦ ⊥ | q ∷ r ↦ Unit {0} ]) e tt
 
 -- the front of a line is a request: its sender has left, and nothing is behind
-request_front : {P : Type 0} (mark : P → Mark) (p : P) (K : List P) (left : Bool) → mark p ≡ Request → Ends mark left (p ∷ K) → (left ≡ true) × (K ≡ [])
-request_front mark p K left is ends = subst (λ (m : Mark). ends_at m left K (Ends mark left K)) is ends
+request_front : {P : Type 0} (mark : P → Mark) (p : P) (K : List P) {left : Bool} → mark p ≡ Request → Ends mark left (p ∷ K) → (left ≡ true) × (K ≡ [])
+request_front mark p K {left} is ends = subst (λ m. ends_at m left K (Ends mark left K)) is ends
 
 -- A live end never takes a confirmation.
-pub confirm_never : {S T P : Type 0} (l : Level S T P) (p : P) → l.mark p ≡ Confirm →
-    (ex ey : ℕ) (x : S) (y : Side T) (L K : List P) → Handshake l ex ey (Live x) y L (p ∷ K) → ⊥
-confirm_never l p is ex ey x y L K (inl same) = subst (λ (m : Mark). ends_at m (has_left y) K (Ends l.mark (has_left y) K)) is same.back
-confirm_never l p is ex ey x y L K (inr (inl ahead)) = cons≢nil p K ahead.back
-confirm_never l p is ex ey x y L K (inr (inr later)) = true≢false (sym later.waits)
+pub confirm_never : {S T P : Type 0} {l : Level S T P} (p : P) → l.mark p ≡ Confirm →
+    {ex ey : ℕ} (x : S) {y : Side T} {L : List P} (K : List P) → Handshake l ex ey (Live x) y L (p ∷ K) → ⊥
+confirm_never {l} p is x {y} K (inl same) = subst (λ m. ends_at m (has_left y) K (Ends l.mark (has_left y) K)) is same.back
+confirm_never p is x K (inr (inl ahead)) = cons≢nil p K ahead.back
+confirm_never p is x K (inr (inr later)) = true≢false (sym later.waits)
 
 -- the same behind the first marker
 behind_map : (m : Mark) (here here₂ later later₂ : Type 0) → behind_at m here later → (here → here₂) → (later → later₂) → behind_at m here₂ later₂
@@ -129,22 +129,22 @@ past_inner {P} mark (p ∷ L) o all b = past_map (λ l. before mark l) (λ l. be
     (λ e. before_inner mark L o all e) (λ e. past_inner mark L o all e)
 
 -- what R keeps with both ends there is kept for the end that is there
-pub ext_step : {S T P : Type 0} (gone : S → Type 0) (gone_there : T → Type 0) (R : S → List P → List P → T → Type 0) (x x₂ : S) (o u v v₂ : List P) (y : Side T) →
+pub ext_step : {S T P : Type 0} (gone : S → Type 0) (gone_there : T → Type 0) (R : S → List P → List P → T → Type 0) (x x₂ : S) (o u : List P) {v : List P} (v₂ : List P) (y : Side T) →
     ((w : List P) (z : T) → R x w v z → R x₂ (w ++ o) v₂ z) → Extended gone gone_there R (Live x) u v y → Extended gone gone_there R (Live x₂) (u ++ o) v₂ y
-ext_step gone gone_there R x x₂ o u v v₂ (Live y) kept r = kept u y r
-ext_step gone gone_there R x x₂ o u v v₂ (Left z) kept r = (r.0 ++ o, r.1, kept r.0 z r.2)
+ext_step gone gone_there R x x₂ o u v₂ (Live y) kept r = kept u y r
+ext_step gone gone_there R x x₂ o u v₂ (Left z) kept r = (r.0 ++ o, r.1, kept r.0 z r.2)
 
 -- An end leaves: its request goes to the back.
-pub leave : {S T P : Type 0} (l : Level S T P) (q : P) → l.mark q ≡ Request →
-    (ex ey : ℕ) (x : S) (y : Side T) (L K : List P) → l.gone x → Handshake l ex ey (Live x) y L K → Handshake l ex ey (Left x) y (L ++ q ∷ []) K
-leave l q is ex ey x y L K gone (inl same) =
+pub leave : {S T P : Type 0} {l : Level S T P} (q : P) → l.mark q ≡ Request →
+    {ex ey : ℕ} (x : S) {y : Side T} {L K : List P} → l.gone x → Handshake l ex ey (Live x) y L K → Handshake l ex ey (Left x) y (L ++ q ∷ []) K
+leave {l} q is x {y} {L} {K} gone (inl same) =
     inl (record {
       epochs = same.epochs;
       there = ends_leave l.mark q is L same.there;
       back = same.back;
       inner = rw (before_leave l.mark q is L same.there) (stops l.gone l.gone_there l.related x (before l.mark L) (before l.mark K) y gone same.inner);
     })
-leave l q is ex ey x y L K gone (inr (inl ahead)) =
+leave {l} q is x {L} gone (inr (inl ahead)) =
     inr (inl (record {
       epochs = ahead.epochs;
       waits = ahead.waits;
@@ -152,20 +152,20 @@ leave l q is ex ey x y L K gone (inr (inl ahead)) =
       there = behind_leave l.mark q is L ahead.there;
       inner = rw (past_leave l.mark q is L ahead.there) (stops l.gone l.gone_there l.related x (before l.mark (past l.mark L)) [] (Live l.fresh_there) gone ahead.inner);
     }))
-leave l q is ex ey x y L K gone (inr (inr later)) = absurd (true≢false (sym later.waits))
+leave q is x gone (inr (inr later)) = absurd (true≢false (sym later.waits))
 
 -- A live end acts, in its epoch.
-pub inner_act : {S T P : Type 0} (l : Level S T P) (o : List P) → AllInner l.mark o →
-    (ex ey : ℕ) (x x₂ : S) (y : Side T) (L K : List P) → ((w v : List P) (z : T) → l.related x w v z → l.related x₂ (w ++ o) v z) →
+pub inner_act : {S T P : Type 0} {l : Level S T P} (o : List P) → AllInner l.mark o →
+    {ex ey : ℕ} (x x₂ : S) {y : Side T} {L K : List P} → ((w v : List P) (z : T) → l.related x w v z → l.related x₂ (w ++ o) v z) →
     Handshake l ex ey (Live x) y L K → Handshake l ex ey (Live x₂) y (L ++ o) K
-inner_act l o all ex ey x x₂ y L K kept (inl same) =
+inner_act {l} o all x x₂ {y} {L} {K} kept (inl same) =
     inl (record {
       epochs = same.epochs;
       there = ends_inner l.mark L o all same.there;
       back = same.back;
-      inner = rw (before_inner l.mark L o all same.there) (ext_step l.gone l.gone_there l.related x x₂ o (before l.mark L) (before l.mark K) (before l.mark K) y (λ w z r. kept w (before l.mark K) z r) same.inner);
+      inner = rw (before_inner l.mark L o all same.there) (ext_step l.gone l.gone_there l.related x x₂ o (before l.mark L) (before l.mark K) y (λ w z r. kept w (before l.mark K) z r) same.inner);
     })
-inner_act l o all ex ey x x₂ y L K kept (inr (inl ahead)) =
+inner_act {l} o all x x₂ {L} kept (inr (inl ahead)) =
     inr (inl (record {
       epochs = ahead.epochs;
       waits = ahead.waits;
@@ -173,37 +173,37 @@ inner_act l o all ex ey x x₂ y L K kept (inr (inl ahead)) =
       there = behind_inner l.mark L o all ahead.there;
       inner = rw (past_inner l.mark L o all ahead.there) (kept (before l.mark (past l.mark L)) [] l.fresh_there ahead.inner);
     }))
-inner_act l o all ex ey x x₂ y L K kept (inr (inr later)) = absurd (true≢false (sym later.waits))
+inner_act o all x x₂ kept (inr (inr later)) = absurd (true≢false (sym later.waits))
 
 inner_front : {P : Type 0} (mark : P → Mark) (p : P) (K : List P) (left : Bool) → mark p ≡ Inner → Ends mark left (p ∷ K) → Ends mark left K
-inner_front mark p K left is ends = subst (λ (m : Mark). ends_at m left K (Ends mark left K)) is ends
+inner_front mark p K left is ends = subst (λ m. ends_at m left K (Ends mark left K)) is ends
 
 -- behind inner packets
-skipped_ends : {P : Type 0} (mark : P → Mark) (j : List P) (p : P) (K : List P) (left : Bool) → AllInner mark j → mark p ≡ Request → Ends mark left (j ++ p ∷ K) → (left ≡ true) × (K ≡ [])
-skipped_ends mark [] p K left all is ends = request_front mark p K left is ends
-skipped_ends mark (q ∷ j) p K left all is ends = skipped_ends mark j p K left all.1 is (inner_front mark q (j ++ p ∷ K) left all.0 ends)
+skipped_ends : {P : Type 0} (mark : P → Mark) (j : List P) (p : P) (K : List P) {left : Bool} → AllInner mark j → mark p ≡ Request → Ends mark left (j ++ p ∷ K) → (left ≡ true) × (K ≡ [])
+skipped_ends mark [] p K {left} all is ends = request_front mark p K is ends
+skipped_ends mark (q ∷ j) p K {left} all is ends = skipped_ends mark j p K all.1 is (inner_front mark q (j ++ p ∷ K) left all.0 ends)
 
 some≢nil : {P : Type 0} (j : List P) (p : P) (K : List P) → j ++ p ∷ K ≡ [] → ⊥
 some≢nil [] p K e = cons≢nil p K e
 some≢nil (q ∷ j) p K e = cons≢nil q (j ++ p ∷ K) e
 
 -- A live end takes a request before what stands in front of it, which it drops, and confirms it.
-pub request_skips : {S T P : Type 0} (l : Level S T P) (empty : l.related l.fresh [] [] l.fresh_there) (c p : P) (j : List P) → AllInner l.mark j → l.mark c ≡ Confirm → l.mark p ≡ Request →
-    (ex ey : ℕ) (x : S) (y : Side T) (L K : List P) → Handshake l ex ey (Live x) y L (j ++ p ∷ K) → Handshake l (suc ex) ey (Live l.fresh) y (L ++ c ∷ []) K
-request_skips l empty c p j all is_c is_p ex ey x y L K (inl same) =
+pub request_skips : {S T P : Type 0} {l : Level S T P} (empty : l.related l.fresh [] [] l.fresh_there) (c p : P) (j : List P) → AllInner l.mark j → l.mark c ≡ Confirm → l.mark p ≡ Request →
+    {ex ey : ℕ} (x : S) {y : Side T} {L : List P} (K : List P) → Handshake l ex ey (Live x) y L (j ++ p ∷ K) → Handshake l (suc ex) ey (Live l.fresh) y (L ++ c ∷ []) K
+request_skips {l} empty c p j all is_c is_p x {y} {L} K (inl same) =
     inr (inl (record {
       epochs = ap suc same.epochs;
-      waits = (skipped_ends l.mark j p K (has_left y) all is_p same.back).0;
-      back = (skipped_ends l.mark j p K (has_left y) all is_p same.back).1;
+      waits = (skipped_ends l.mark j p K all is_p same.back).0;
+      back = (skipped_ends l.mark j p K all is_p same.back).1;
       there = behind_confirm l.mark c is_c L same.there;
       inner = rw (past_confirm l.mark c is_c L same.there) empty;
     }))
-request_skips l empty c p j all is_c is_p ex ey x y L K (inr (inl ahead)) = absurd (some≢nil j p K ahead.back)
-request_skips l empty c p j all is_c is_p ex ey x y L K (inr (inr later)) = absurd (true≢false (sym later.waits))
+request_skips empty c p j all is_c is_p x K (inr (inl ahead)) = absurd (some≢nil j p K ahead.back)
+request_skips empty c p j all is_c is_p x K (inr (inr later)) = absurd (true≢false (sym later.waits))
 
 pub request_live : {S T P : Type 0} (l : Level S T P) (empty : l.related l.fresh [] [] l.fresh_there) (c p : P) → l.mark c ≡ Confirm → l.mark p ≡ Request →
     (ex ey : ℕ) (x : S) (y : Side T) (L K : List P) → Handshake l ex ey (Live x) y L (p ∷ K) → Handshake l (suc ex) ey (Live l.fresh) y (L ++ c ∷ []) K
-request_live l empty c p is_c is_p ex ey x y L K h = request_skips l empty c p [] tt is_c is_p ex ey x y L K h
+request_live l empty c p is_c is_p ex ey x y L K h = request_skips empty c p [] tt is_c is_p x K h
 
 before_front : {P : Type 0} (mark : P → Mark) (p : P) (K : List P) → mark p ≡ Inner → before mark (p ∷ K) ≡ p ∷ before mark K
 before_front {P} mark p K is = ap (λ m. kept_before {P = P} m p (before mark K)) is
@@ -222,48 +222,48 @@ before_fronts mark [] K all = refl
 before_fronts mark (q ∷ j) K all = before_front mark q (j ++ K) all.0 ∙ ap (λ l. q ∷ l) (before_fronts mark j K all.1)
 
 -- A live end takes a packet of its epoch before the inner packets in front of it.
-pub inner_take_behind : {S T P : Type 0} (l : Level S T P) (j : List P) (p : P) (o : List P) → AllInner l.mark j → l.mark p ≡ Inner → AllInner l.mark o →
-    (ex ey : ℕ) (x x₂ : S) (y : Side T) (L K : List P) → ((w v : List P) (z : T) → l.related x w (j ++ p ∷ v) z → l.related x₂ (w ++ o) (j ++ v) z) →
+pub inner_take_behind : {S T P : Type 0} {l : Level S T P} (j : List P) (p : P) (o : List P) → AllInner l.mark j → l.mark p ≡ Inner → AllInner l.mark o →
+    {ex ey : ℕ} (x x₂ : S) {y : Side T} {L : List P} (K : List P) → ((w v : List P) (z : T) → l.related x w (j ++ p ∷ v) z → l.related x₂ (w ++ o) (j ++ v) z) →
     Handshake l ex ey (Live x) y L (j ++ p ∷ K) → Handshake l ex ey (Live x₂) y (L ++ o) (j ++ K)
-inner_take_behind l j p o front is all ex ey x x₂ y L K kept (inl same) =
+inner_take_behind {l} j p o front is all x x₂ {y} {L} K kept (inl same) =
     inl (record {
       epochs = same.epochs;
       there = ends_inner l.mark L o all same.there;
       back = inner_more l.mark j K (has_left y) front (inner_front l.mark p K (has_left y) is (inner_fronts l.mark j (p ∷ K) (has_left y) front same.back));
-      inner = rw (before_inner l.mark L o all same.there) (subst (λ (v : List _). Extended l.gone l.gone_there l.related (Live x₂) (before l.mark L ++ o) v y) (sym (before_fronts l.mark j K front))
-          (ext_step l.gone l.gone_there l.related x x₂ o (before l.mark L) (j ++ p ∷ before l.mark K) (j ++ before l.mark K) y (λ w z r. kept w (before l.mark K) z r)
-          (subst (λ (v : List _). Extended l.gone l.gone_there l.related (Live x) (before l.mark L) v y) (before_fronts l.mark j (p ∷ K) front ∙ ap (λ v. j ++ v) (before_front l.mark p K is)) same.inner)));
+      inner = rw (before_inner l.mark L o all same.there) (subst (λ v. Extended l.gone l.gone_there l.related (Live x₂) (before l.mark L ++ o) v y) (sym (before_fronts l.mark j K front))
+          (ext_step l.gone l.gone_there l.related x x₂ o (before l.mark L) (j ++ before l.mark K) y (λ w z r. kept w (before l.mark K) z r)
+          (subst (λ v. Extended l.gone l.gone_there l.related (Live x) (before l.mark L) v y) (before_fronts l.mark j (p ∷ K) front ∙ ap (λ v. j ++ v) (before_front l.mark p K is)) same.inner)));
     })
-inner_take_behind l j p o front is all ex ey x x₂ y L K kept (inr (inl ahead)) = absurd (some≢nil j p K ahead.back)
-inner_take_behind l j p o front is all ex ey x x₂ y L K kept (inr (inr later)) = absurd (true≢false (sym later.waits))
+inner_take_behind j p o front is all x x₂ K kept (inr (inl ahead)) = absurd (some≢nil j p K ahead.back)
+inner_take_behind j p o front is all x x₂ K kept (inr (inr later)) = absurd (true≢false (sym later.waits))
 
 pub inner_take : {S T P : Type 0} (l : Level S T P) (p : P) (o : List P) → l.mark p ≡ Inner → AllInner l.mark o →
     (ex ey : ℕ) (x x₂ : S) (y : Side T) (L K : List P) → ((w v : List P) (z : T) → l.related x w (p ∷ v) z → l.related x₂ (w ++ o) v z) →
     Handshake l ex ey (Live x) y L (p ∷ K) → Handshake l ex ey (Live x₂) y (L ++ o) K
-inner_take l p o is all ex ey x x₂ y L K kept h = inner_take_behind l [] p o tt is all ex ey x x₂ y L K kept h
+inner_take l p o is all ex ey x x₂ y L K kept h = inner_take_behind [] p o tt is all x x₂ K kept h
 
 forget_back : {S T P : Type 0} (gone : S → Type 0) (gone_there : T → Type 0) (R : S → List P → List P → T → Type 0) (x : S) (u v v₂ : List P) (y : Side T) → Extended gone gone_there R (Left x) u v y → Extended gone gone_there R (Left x) u v₂ y
 forget_back gone gone_there R x u v v₂ (Live y) r = r
 forget_back gone gone_there R x u v v₂ (Left y) r = r
 
 -- An end that has left drops what is no marker.
-pub drops : {S T P : Type 0} (l : Level S T P) (p : P) → l.mark p ≡ Inner →
-    (ex ey : ℕ) (x : S) (y : Side T) (L K : List P) → Handshake l ex ey (Left x) y L (p ∷ K) → Handshake l ex ey (Left x) y L K
-drops l p is ex ey x y L K (inl same) =
+pub drops : {S T P : Type 0} {l : Level S T P} (p : P) → l.mark p ≡ Inner →
+    {ex ey : ℕ} (x : S) {y : Side T} {L : List P} (K : List P) → Handshake l ex ey (Left x) y L (p ∷ K) → Handshake l ex ey (Left x) y L K
+drops {l} p is x {y} {L} K (inl same) =
     inl (record {
       epochs = same.epochs;
       there = same.there;
       back = inner_front l.mark p K (has_left y) is same.back;
       inner = forget_back l.gone l.gone_there l.related x (before l.mark L) (before l.mark (p ∷ K)) (before l.mark K) y same.inner;
     })
-drops l p is ex ey x y L K (inr (inl ahead)) = absurd (cons≢nil p K ahead.back)
-drops l p is ex ey x y L K (inr (inr later)) =
+drops p is x K (inr (inl ahead)) = absurd (cons≢nil p K ahead.back)
+drops {l} p is x {y} K (inr (inr later)) =
     inr (inr (record {
       epochs = later.epochs;
       waits = later.waits;
       there = later.there;
-      back = subst (λ (m : Mark). behind_at m (Ends l.mark (has_left y) K) (Behind l.mark (has_left y) K)) is later.back;
-      inner = subst (λ (m : Mark). Extended l.gone l.gone_there l.related (Live l.fresh) [] (before l.mark (kept_past m K (past l.mark K))) y) is later.inner;
+      back = subst (λ m. behind_at m (Ends l.mark (has_left y) K) (Behind l.mark (has_left y) K)) is later.back;
+      inner = subst (λ m. Extended l.gone l.gone_there l.related (Live l.fresh) [] (before l.mark (kept_past m K (past l.mark K))) y) is later.inner;
     }))
 
 -- the line of an end that has left ends in its request
@@ -300,9 +300,9 @@ marker_past Inner rest later never = absurd (never refl)
 marker_past m rest later never = refl
 
 -- An end that has left takes a request or a confirmation: it is in its next epoch, and sends nothing.
-pub marker_left : {S T P : Type 0} (l : Level S T P) (empty : l.related l.fresh [] [] l.fresh_there) (p : P) → (l.mark p ≡ Inner → ⊥) →
-    (ex ey : ℕ) (x : S) (y : Side T) (L K : List P) → Handshake l ex ey (Left x) y L (p ∷ K) → Handshake l (suc ex) ey (Live l.fresh) y L K
-marker_left l empty p never ex ey x y L K (inl same) =
+pub marker_left : {S T P : Type 0} {l : Level S T P} (empty : l.related l.fresh [] [] l.fresh_there) (p : P) → (l.mark p ≡ Inner → ⊥) →
+    {ex ey : ℕ} (x : S) {y : Side T} {L : List P} (K : List P) → Handshake l ex ey (Left x) y L (p ∷ K) → Handshake l (suc ex) ey (Live l.fresh) y L K
+marker_left {l} empty p never x {y} {L} K (inl same) =
     inr (inl (record {
       epochs = ap suc same.epochs;
       waits = (marker_same (l.mark p) K (has_left y) (Ends l.mark (has_left y) K) never same.back).0;
@@ -310,13 +310,13 @@ marker_left l empty p never ex ey x y L K (inl same) =
       there = ends_behind l.mark L same.there;
       inner = rw (ends_past l.mark L same.there) empty;
     }))
-marker_left l empty p never ex ey x y L K (inr (inl ahead)) = absurd (cons≢nil p K ahead.back)
-marker_left l empty p never ex ey x y L K (inr (inr later)) =
+marker_left empty p never x K (inr (inl ahead)) = absurd (cons≢nil p K ahead.back)
+marker_left {l} empty p never x {y} K (inr (inr later)) =
     inl (record {
       epochs = sym later.epochs;
       there = rw later.there refl;
       back = marker_behind (l.mark p) (Ends l.mark (has_left y) K) (Behind l.mark (has_left y) K) never later.back;
-      inner = rw later.there (subst (λ (u : List _). Extended l.gone l.gone_there l.related (Live l.fresh) [] (before l.mark u) y) (marker_past (l.mark p) K (past l.mark K) never) later.inner);
+      inner = rw later.there (subst (λ u. Extended l.gone l.gone_there l.related (Live l.fresh) [] (before l.mark u) y) (marker_past (l.mark p) K (past l.mark K) never) later.inner);
     })
 
 -- The relation seen from the other end.
@@ -329,12 +329,12 @@ ext_flip l (Left x) u v (Live y) r = r
 ext_flip l (Live x) u v (Left y) r = r
 ext_flip l (Left x) u v (Left y) r = (r.1, r.0, r.2)
 
-pub hand_flip : {S T P : Type 0} (l : Level S T P) (ex ey : ℕ) (x : Side S) (y : Side T) (L K : List P) → Handshake l ex ey x y L K → Handshake (flip l) ey ex y x K L
-hand_flip l ex ey x y L K (inl same) =
+pub hand_flip : {S T P : Type 0} {l : Level S T P} {ex ey : ℕ} {x : Side S} {y : Side T} {L K : List P} → Handshake l ex ey x y L K → Handshake (flip l) ey ex y x K L
+hand_flip {l} {x} {y} {L} {K} (inl same) =
     inl (record { epochs = sym same.epochs; there = same.back; back = same.there; inner = ext_flip l x (before l.mark L) (before l.mark K) y same.inner })
-hand_flip l ex ey x y L K (inr (inl ahead)) =
+hand_flip {l} {x} {L} (inr (inl ahead)) =
     inr (inr (record { epochs = ahead.epochs; waits = ahead.waits; there = ahead.back; back = ahead.there; inner = ext_flip l x (before l.mark (past l.mark L)) [] (Live l.fresh_there) ahead.inner }))
-hand_flip l ex ey x y L K (inr (inr later)) =
+hand_flip {l} {y} {K} (inr (inr later)) =
     inr (inl (record { epochs = later.epochs; waits = later.waits; there = later.back; back = later.there; inner = ext_flip l (Live l.fresh) [] (before l.mark (past l.mark K)) y later.inner }))
 
 pub both_fresh : {S T P : Type 0} (l : Level S T P) → l.related l.fresh [] [] l.fresh_there → (e : ℕ) → Handshake l e e (Live l.fresh) (Live l.fresh_there) [] []
@@ -346,12 +346,12 @@ pub both_requests : {S T P : Type 0} (l : Level S T P) → l.related l.fresh [] 
 both_requests l empty q is e = inl (record { epochs = refl; there = ends_leave l.mark q is [] refl; back = ends_leave l.mark q is [] refl; inner = ([], [], empty) })
 
 -- A live end stands in the inner relation, with some lines and some end (for what follows from it alone, as 'no error').
-pub inner_live : {S T P : Type 0} (l : Level S T P) (ex ey : ℕ) (x : S) (y : Side T) (L K : List P) → Handshake l ex ey (Live x) y L K
+pub inner_live : {S T P : Type 0} {l : Level S T P} {ex ey : ℕ} (x : S) (y : Side T) {L K : List P} → Handshake l ex ey (Live x) y L K
     → (w : List P) × (v : List P) × (z : T) × l.related x w v z
-inner_live l ex ey x (Live z) L K (inl same) = (before l.mark L, before l.mark K, z, same.inner)
-inner_live l ex ey x (Left z) L K (inl same) = (same.inner.0, before l.mark K, z, same.inner.2)
-inner_live l ex ey x y L K (inr (inl ahead)) = (before l.mark (past l.mark L), [], l.fresh_there, ahead.inner)
-inner_live l ex ey x y L K (inr (inr later)) = absurd (true≢false (sym later.waits))
+inner_live {l} x (Live z) {L} {K} (inl same) = (before l.mark L, before l.mark K, z, same.inner)
+inner_live {l} x (Left z) {K} (inl same) = (same.inner.0, before l.mark K, z, same.inner.2)
+inner_live {l} x y {L} (inr (inl ahead)) = (before l.mark (past l.mark L), [], l.fresh_there, ahead.inner)
+inner_live x y (inr (inr later)) = absurd (true≢false (sym later.waits))
 
 -- The relation of the ends may be put by one that follows from it.
 ext_map : {S T P : Type 0} (gone : S → Type 0) (gone_there : T → Type 0) (R Q : S → List P → List P → T → Type 0) → ((x : S) (u v : List P) (y : T) → R x u v y → Q x u v y)
@@ -361,32 +361,32 @@ ext_map gone gone_there R Q f (Left x) u v (Live y) r = (r.0, r.1, f x u r.0 y r
 ext_map gone gone_there R Q f (Live x) u v (Left y) r = (r.0, r.1, f x r.0 v y r.2)
 ext_map gone gone_there R Q f (Left x) u v (Left y) r = (r.0, r.1, f x r.0 r.1 y r.2)
 
-pub hand_map : {S T P : Type 0} (l : Level S T P) (Q : S → List P → List P → T → Type 0) → ((x : S) (u v : List P) (y : T) → l.related x u v y → Q x u v y)
-    → (ex ey : ℕ) (x : Side S) (y : Side T) (L K : List P) → Handshake l ex ey x y L K
+pub hand_map : {S T P : Type 0} {l : Level S T P} (Q : S → List P → List P → T → Type 0) → ((x : S) (u v : List P) (y : T) → l.related x u v y → Q x u v y)
+    → {ex ey : ℕ} {x : Side S} {y : Side T} {L K : List P} → Handshake l ex ey x y L K
     → Handshake (record { mark = l.mark; fresh = l.fresh; fresh_there = l.fresh_there; gone = l.gone; gone_there = l.gone_there; related = Q }) ex ey x y L K
-hand_map l Q f ex ey x y L K (inl same) =
+hand_map {l} Q f {x} {y} {L} {K} (inl same) =
     inl (record { epochs = same.epochs; there = same.there; back = same.back; inner = ext_map l.gone l.gone_there l.related Q f x (before l.mark L) (before l.mark K) y same.inner })
-hand_map l Q f ex ey x y L K (inr (inl ahead)) =
+hand_map {l} Q f {x} {L} (inr (inl ahead)) =
     inr (inl (record { epochs = ahead.epochs; waits = ahead.waits; back = ahead.back; there = ahead.there; inner = ext_map l.gone l.gone_there l.related Q f x (before l.mark (past l.mark L)) [] (Live l.fresh_there) ahead.inner }))
-hand_map l Q f ex ey x y L K (inr (inr later)) =
+hand_map {l} Q f {y} {K} (inr (inr later)) =
     inr (inr (record { epochs = later.epochs; waits = later.waits; there = later.there; back = later.back; inner = ext_map l.gone l.gone_there l.related Q f (Live l.fresh) [] (before l.mark (past l.mark K)) y later.inner }))
 
 -- A request reaches a live end only from an end that has left a state from which one leaves, with nothing before it.
 pub request_gone : {S T P : Type 0} (l : Level S T P) (p : P) → l.mark p ≡ Request → (ex ey : ℕ) (x : S) (y : Side T) (L K : List P) → Handshake l ex ey (Live x) y L (p ∷ K)
     → (w : List P) × (z : T) × l.gone_there z × l.related x w [] z
-request_gone l p is ex ey x (Live z) L K (inl same) = absurd (true≢false (sym (request_front l.mark p K false is same.back).0))
-request_gone {P = P} l p is ex ey x (Left z) L K (inl same) =
-    (same.inner.0, z, same.inner.1, subst (λ (v : List P). l.related x same.inner.0 v z) (ap (λ m. kept_before {P = P} m p (before l.mark K)) is) same.inner.2)
+request_gone l p is ex ey x (Live z) L K (inl same) = absurd (true≢false (sym (request_front l.mark p K is same.back).0))
+request_gone {P} l p is ex ey x (Left z) L K (inl same) =
+    (same.inner.0, z, same.inner.1, subst (λ v. l.related x same.inner.0 v z) (ap (λ m. kept_before {P = P} m p (before l.mark K)) is) same.inner.2)
 request_gone l p is ex ey x y L K (inr (inl ahead)) = absurd (cons≢nil p K ahead.back)
 request_gone l p is ex ey x y L K (inr (inr later)) = absurd (true≢false (sym later.waits))
 
 -- A live end takes an inner packet only in the epoch of the other end, from the state in which that is or which it left.
 pub meets : {S T P : Type 0} (l : Level S T P) (p : P) → l.mark p ≡ Inner → (ex ey : ℕ) (x : S) (y : Side T) (L K : List P) → Handshake l ex ey (Live x) y L (p ∷ K)
     → (ex ≡ ey) × (w : List P) × (v : List P) × l.related x w (p ∷ v) (state_of y)
-meets {P = P} l p is ex ey x (Live z) L K (inl same) =
-    (same.epochs, before l.mark L, before l.mark K, subst (λ (v : List P). l.related x (before l.mark L) v z) (before_front l.mark p K is) same.inner)
-meets {P = P} l p is ex ey x (Left z) L K (inl same) =
-    (same.epochs, same.inner.0, before l.mark K, subst (λ (v : List P). l.related x same.inner.0 v z) (before_front l.mark p K is) same.inner.2)
+meets {P} l p is ex ey x (Live z) L K (inl same) =
+    (same.epochs, before l.mark L, before l.mark K, subst (λ v. l.related x (before l.mark L) v z) (before_front l.mark p K is) same.inner)
+meets {P} l p is ex ey x (Left z) L K (inl same) =
+    (same.epochs, same.inner.0, before l.mark K, subst (λ v. l.related x same.inner.0 v z) (before_front l.mark p K is) same.inner.2)
 meets l p is ex ey x y L K (inr (inl ahead)) = absurd (cons≢nil p K ahead.back)
 meets l p is ex ey x y L K (inr (inr later)) = absurd (true≢false (sym later.waits))
 
@@ -396,16 +396,16 @@ pub live_front : {S T P : Type 0} (l : Level S T P) (p : P) → l.mark p ≡ Inn
 live_front l p is ex ey x y L K h = (let m = meets l p is ex ey x y L K h in (m.1, m.2, state_of y, m.3))
 
 -- Two live ends of one epoch stand in the inner relation.
-pub both_live : {S T P : Type 0} (l : Level S T P) (e : ℕ) (x : S) (y : T) (L K : List P) → Handshake l e e (Live x) (Live y) L K → l.related x (before l.mark L) (before l.mark K) y
-both_live l e x y L K (inl same) = same.inner
-both_live l e x y L K (inr (inl ahead)) = absurd (true≢false (sym ahead.waits))
-both_live l e x y L K (inr (inr later)) = absurd (true≢false (sym later.waits))
+pub both_live : {S T P : Type 0} {l : Level S T P} {e : ℕ} (x : S) (y : T) {L K : List P} → Handshake l e e (Live x) (Live y) L K → l.related x (before l.mark L) (before l.mark K) y
+both_live x y (inl same) = same.inner
+both_live x y (inr (inl ahead)) = absurd (true≢false (sym ahead.waits))
+both_live x y (inr (inr later)) = absurd (true≢false (sym later.waits))
 
 -- ---- two ends, each in its epoch
 
-pub still : {S T P : Type 0} (l : Level S T P) (x : At S) (L K : List P) (y : At T) → Handshaken l x L K y → Handshaken l x (L ++ []) K y
-still l x L K y h = rw (append-nil L) h
+pub still : {S T P : Type 0} {l : Level S T P} {x : At S} {L K : List P} {y : At T} → Handshaken l x L K y → Handshaken l x (L ++ []) K y
+still {L} h = rw (append-nil L) h
 
 -- the same, seen from the second
-pub turned : {S T P : Type 0} (l : Level S T P) (x : At S) (L K : List P) (y : At T) → Handshaken l x L K y → Handshaken (flip l) y K L x
-turned l x L K y h = record { hand = hand_flip l x.epoch y.epoch x.side y.side L K h.hand }
+pub turned : {S T P : Type 0} {l : Level S T P} {x : At S} {L K : List P} {y : At T} → Handshaken l x L K y → Handshaken (flip l) y K L x
+turned {l} {x} {L} {K} {y} h = record { hand = hand_flip h.hand }

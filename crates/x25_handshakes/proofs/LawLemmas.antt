@@ -2,9 +2,9 @@
 use Rattle.std.proofs.Common.{ℕ, List, [], ◌∷◌, Option, Bool, true, false, if◌then◌else◌, refl, sym, subst}
 use Rattle.x25_bits.specs.{declared.role.Role.{Role}, declared.role.Role.TheVariants.{Dte, Dce}}
 use Rattle.x25_handshakes.specs.{laws.Handshake.{Side, Live, Left, At, state_of, live}, laws.Calls.{call_takes}}
-use Rattle.x25_handshakes.specs.laws.Layers.{LayerPacket, On, Channels, Move, Acts, Takes, LinkDown, Event, pair_moves, layer_acts, layer_takes, layer_side_takes}
+use Rattle.x25_handshakes.specs.laws.Layers.{LayerPacket, On, Channels, Move, Acts, Takes, LinkDown, LayerEvent, pair_moves, layer_side_takes}
 use Rattle.x25_handshakes.specs.laws.Names.{Name}
-use Rattle.x25_handshakes.specs.laws.Histories.{Lists, Kind, name_at, held_at, channel_view, written, IsLawful, Histories, turned_histories, histories_moves, histories_happens, histories_run, histories_start, AreInOrder}
+use Rattle.x25_handshakes.specs.laws.Histories.{Lists, Kind, name_at, held_at, channel_view, written, IsLawful, Histories, turned_histories, histories_moves, histories_run, histories_start, AreInOrder}
 use Rattle.x25_handshakes.specs.{laws.PeerLayers.{other_role}, laws.LawsBelow.{Laws}}
 use Rattle.x25_handshakes.proofs.{LayersRelation.{EndsRelated}, LayerLemmas.{Stands, Stands-moves, Stands-turned, Stands-start}}
 use Rattle.x25_handshakes.proofs.HistoryLemmas.{Turn, MayHandUp, lawful_turned, lawful_turn}
@@ -17,9 +17,9 @@ taken kind handled r e x k p L K far history top =
     turn_taken kind handled (MayHandUp (name_at kind (record { epoch = e; side = x }) k) (channel_view kind (state_of far) k history)) k r e x p
     (λ y q c is_x is_p side inner.
     let top_y : EndsRelated r (Live (live e y)) L (On k q ∷ K) far =
-    subst (λ (z : LayerPacket). EndsRelated r (Live (live e y)) L (z ∷ K) far) is_p
+    subst (λ z. EndsRelated r (Live (live e y)) L (z ∷ K) far) is_p
     (rw (sym is_x) top) in
-    subst (λ (z : Side Channels). WithinCall kind (MayHandUp (name_at kind (record { epoch = e; side = z }) k) (channel_view kind (state_of far) k history)) (y k).epoch c (call_takes r c q).next) (sym is_x)
+    subst (λ z. WithinCall kind (MayHandUp (name_at kind (record { epoch = e; side = z }) k) (channel_view kind (state_of far) k history)) (y k).epoch c (call_takes r c q).next) (sym is_x)
     (taken_in_its_epoch kind handled r e y k c q L K far history inner side top_y))
 
 lawful_moves : {M : Type 0} (kind : Kind M) → IsHandled kind → (r : Role) (near : Side (At Channels)) (out back : List LayerPacket) (far : Side (At Channels)) (error : Option ℕ)
@@ -27,49 +27,49 @@ lawful_moves : {M : Type 0} (kind : Kind M) → IsHandled kind → (r : Role) (n
     → let w = pair_moves r (record { near = near; far = far; out = out; back = back; error = error }) near what in
     IsLawful (channel_view kind (state_of w.near) k (written history (name_at kind (state_of w.near) k) (held_at kind (state_of w.near) k))) (channel_view kind (state_of w.far) k there)
 lawful_moves kind handled r (Live x) out back far error (Acts a) k history there top h =
-    lawful_turn kind k x (layer_acts x a).next history (channel_view kind (state_of far) k there) (turn_acted kind handled (MayHandUp (name_at kind x k) (channel_view kind (state_of far) k there)) k x.epoch x.side a) h
+    lawful_turn history (turn_acted kind handled (MayHandUp (name_at kind x k) (channel_view kind (state_of far) k there)) k x.epoch x.side a) h
 lawful_moves kind handled r (Live x) out [] far error Takes k history there top h =
-    lawful_turn kind k x x history (channel_view kind (state_of far) k there) (turn_still kind (MayHandUp (name_at kind x k) (channel_view kind (state_of far) k there)) k x) h
+    lawful_turn history (turn_still kind (MayHandUp (name_at kind x k) (channel_view kind (state_of far) k there)) k x) h
 lawful_moves kind handled r (Live x) out (p ∷ K) far error Takes k history there top h =
-    lawful_turn kind k x (layer_takes r x p).next history (channel_view kind (state_of far) k there) (taken kind handled r x.epoch x.side k p out K far there top) h
+    lawful_turn history (taken kind handled r x.epoch x.side k p out K far there top) h
 lawful_moves kind handled r (Live x) out back far error LinkDown k history there top h =
-    lawful_turn kind k x x history (channel_view kind (state_of far) k there) (turn_still kind (MayHandUp (name_at kind x k) (channel_view kind (state_of far) k there)) k x) h
+    lawful_turn history (turn_still kind (MayHandUp (name_at kind x k) (channel_view kind (state_of far) k there)) k x) h
 lawful_moves kind handled r (Left x) out back far error what k history there top h =
-    lawful_turn kind k x x history (channel_view kind (state_of far) k there) (turn_still kind (MayHandUp (name_at kind x k) (channel_view kind (state_of far) k there)) k x) h
+    lawful_turn history (turn_still kind (MayHandUp (name_at kind x k) (channel_view kind (state_of far) k there)) k x) h
 
 pub record Holds {M : Type 0} (kind : Kind M) (r : Role) (g : Histories M) : Type 0 where
   pub stands : Stands r g.pair
   pub histories : (k : ℕ) → IsLawful (channel_view kind (state_of g.pair.near) k (g.near k)) (channel_view kind (state_of g.pair.far) k (g.far k))
 
-holds_turned : {M : Type 0} (kind : Kind M) (r : Role) (g : Histories M) → Holds kind r g → Holds kind (other_role r) (turned_histories g)
-holds_turned kind r g h = record {
-  stands = Stands-turned r g.pair h.stands;
-  histories = λ k. lawful_turned (channel_view kind (state_of g.pair.near) k (g.near k)) (channel_view kind (state_of g.pair.far) k (g.far k)) (h.histories k);
+holds_turned : {M : Type 0} {kind : Kind M} {r : Role} {g : Histories M} → Holds kind r g → Holds kind (other_role r) (turned_histories g)
+holds_turned {kind} {r} {g} h = record {
+  stands = Stands-turned h.stands;
+  histories = λ k. lawful_turned (h.histories k);
 }
 
 holds_moves : {M : Type 0} (kind : Kind M) → IsHandled kind → Laws → (r : Role) (near far : Side (At Channels)) (out back : List LayerPacket) (error : Option ℕ)
     (history there : ℕ → Name → Lists M) (what : Move)
     → let g : Histories M = record { pair = record { near = near; far = far; out = out; back = back; error = error }; near = history; far = there } in Holds kind r g → Holds kind r (histories_moves kind r g what)
 holds_moves kind handled laws r near far out back error history there what h = record {
-  stands = Stands-moves laws r near out back far error what h.stands;
+  stands = Stands-moves laws near out back far error what h.stands;
   histories = λ k. lawful_moves kind handled r near out back far error what k (history k) (there k) h.stands.top (h.histories k);
 }
 
-holds_if : {M : Type 0} (kind : Kind M) (r : Role) (first : Bool) (u v : Histories M) → Holds kind r u → Holds kind r v → Holds kind r (if first then u else v)
-holds_if kind r true u v f g = f
-holds_if kind r false u v f g = g
+holds_if : {M : Type 0} {kind : Kind M} {r : Role} (first : Bool) {u v : Histories M} → Holds kind r u → Holds kind r v → Holds kind r (if first then u else v)
+holds_if true f g = f
+holds_if false f g = g
 
-holds_run : {M : Type 0} (kind : Kind M) → IsHandled kind → Laws → (es : List Event) (g : Histories M) → Holds kind Dte g → Holds kind Dte (histories_run kind es g)
-holds_run kind handled laws [] g h = h
-holds_run kind handled laws (e ∷ es) g h =
-    holds_run kind handled laws es (histories_happens kind g e)
-    (holds_if kind Dte e.first (histories_moves kind Dte g e.what) (turned_histories (histories_moves kind Dce (turned_histories g) e.what))
+holds_run : {M : Type 0} {kind : Kind M} → IsHandled kind → Laws → (es : List LayerEvent) {g : Histories M} → Holds kind Dte g → Holds kind Dte (histories_run kind es g)
+holds_run handled laws [] h = h
+holds_run {kind} handled laws (e ∷ es) {g} h =
+    holds_run handled laws es
+    (holds_if e.first
     (holds_moves kind handled laws Dte g.pair.near g.pair.far g.pair.out g.pair.back g.pair.error g.near g.far e.what h)
-    (holds_turned kind Dce (histories_moves kind Dce (turned_histories g) e.what)
-    (holds_moves kind handled laws Dce g.pair.far g.pair.near g.pair.back g.pair.out g.pair.error g.far g.near e.what (holds_turned kind Dte g h))))
+    (holds_turned
+    (holds_moves kind handled laws Dce g.pair.far g.pair.near g.pair.back g.pair.out g.pair.error g.far g.near e.what (holds_turned h))))
 
-holds_start : {M : Type 0} (kind : Kind M) → IsHandled kind → Holds kind Dte histories_start
-holds_start kind handled = record {
+holds_start : {M : Type 0} {kind : Kind M} → IsHandled kind → Holds kind Dte histories_start
+holds_start handled = record {
   stands = Stands-start;
   histories = λ k. record {
     held = sym handled.fresh;
@@ -81,8 +81,8 @@ holds_start kind handled = record {
   };
 }
 
-pub always_holds : {M : Type 0} (kind : Kind M) → IsHandled kind → Laws → (es : List Event) → Holds kind Dte (histories_run kind es histories_start)
-always_holds kind handled laws es = holds_run kind handled laws es histories_start (holds_start kind handled)
+pub always_holds : {M : Type 0} {kind : Kind M} → IsHandled kind → Laws → (es : List LayerEvent) → Holds kind Dte (histories_run kind es histories_start)
+always_holds {kind} handled laws es = holds_run handled laws es (holds_start handled)
 
-pub in_order : {M : Type 0} (kind : Kind M) → IsHandled kind → Laws → AreInOrder kind
-in_order kind handled laws es k = (always_holds kind handled laws es).histories k
+pub in_order : {M : Type 0} {kind : Kind M} → IsHandled kind → Laws → AreInOrder kind
+in_order {kind} handled laws es k = (always_holds handled laws es).histories k

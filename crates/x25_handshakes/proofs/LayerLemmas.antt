@@ -2,13 +2,13 @@
 use Rattle.std.proofs.Common.{ℕ, List, [], Option, refl, ◌≡◌, ◌∷◌, None, Bool, true, false, if◌then◌else◌, ap, ◌∙◌}
 use Rattle.x25_handshakes.specs.{laws.Handshake.{At, Side, Live, Left, first_error}, laws.Stretch.{Packet, Stretch}, laws.Calls.{Connection, fresh_call}}
 use Rattle.x25_handshakes.specs.{laws.Channel.{fresh_channel}, laws.Transfer.{fresh_transfer}, laws.LawsBelow.{Laws}, laws.PeerLayers.{other_role}}
-use Rattle.x25_handshakes.specs.laws.Layers.{LayerPacket, Restart, Channels, all_fresh, layer_takes, LayerAct, layer_acts, Pair, Move, Acts, Takes, LinkDown, turned, pair_moves, Event, pair_happens, pair_run, pair_start}
+use Rattle.x25_handshakes.specs.laws.Layers.{LayerPacket, Restart, Channels, all_fresh, layer_takes, LayerAct, layer_acts, Pair, Move, Acts, Takes, LinkDown, turned, pair_moves, LayerEvent, pair_run, pair_start}
 use Rattle.x25_bits.specs.{declared.role.Role.{Role}, declared.role.Role.TheVariants.{Dte, Dce}}
 use Rattle.x25_handshakes.proofs.{HandshakeLemmas.{hand_flip, both_fresh, hand_map, ext_step, both_requests}, CallsRelation.{TalksRelated, IsCalled}}
-use Rattle.x25_handshakes.proofs.ChannelRelation.{clear_mark, Seen, connection_level, ChannelRelated}
+use Rattle.x25_handshakes.proofs.ChannelRelation.{Seen, connection_level, ChannelRelated}
 use Rattle.x25_handshakes.proofs.{OwnChannelLemmas.{OwnCalls, not_p1, channel_takes_good, channel_acts_good}, JointLemmas.{Quiet, quiet_transfer, quiet_joint}}
 use Rattle.x25_handshakes.proofs.CallLemmas.{Seen-takes, Seen-acts, Seen-fresh, Seen-free}
-use Rattle.x25_handshakes.proofs.LayersRelation.{on, OnEach, restart_mark, channels_level, LayersRelated, GoodLayer, EndsRelated}
+use Rattle.x25_handshakes.proofs.LayersRelation.{OnEach, channels_level, LayersRelated, GoodLayer, EndsRelated}
 use Rattle.x25_handshakes.proofs.OwnLayerLemmas.{OwnChannels, layer_takes_good, layer_acts_good}
 use Rattle.x25_handshakes.specs.laws.Terms.{Terms}
 
@@ -25,10 +25,10 @@ Seen-quiet Dce x u v y h =
     let k = quiet_joint TalksRelated fresh_transfer fresh_transfer talk_quiet y.phase x.phase y.made y.indicated x.made x.indicated v u h in
     (k.1, k.0)
 
-pub ChannelRelated-flip : (r : Role) (x : At Connection) (L K : List Packet) (y : At Connection) → ChannelRelated r x L K y → ChannelRelated (other_role r) y K L x
-ChannelRelated-flip r x L K y h = record {
-  hand = hand_flip (record { mark = clear_mark; fresh = fresh_call; fresh_there = fresh_call; gone = IsCalled; gone_there = IsCalled; related = λ x u v y. Seen (other_role r) y v u x }) x.epoch y.epoch x.side y.side L K
-      (hand_map (connection_level r) (λ x u v y. Seen (other_role r) y v u x) (λ x u v y k. Seen-flip r x u v y k) x.epoch y.epoch x.side y.side L K h.hand);
+pub ChannelRelated-flip : (r : Role) {x : At Connection} {L K : List Packet} {y : At Connection} → ChannelRelated r x L K y → ChannelRelated (other_role r) y K L x
+ChannelRelated-flip r {x} {L} {K} {y} h = record {
+  hand = hand_flip
+      (hand_map (λ x u v y. Seen (other_role r) y v u x) (λ x u v y k. Seen-flip r x u v y k) h.hand);
 }
 
 pub ChannelRelated-fresh : (r : Role) → ChannelRelated r fresh_channel [] [] fresh_channel
@@ -60,21 +60,21 @@ as_found p e = e
 own_channels : Laws → (r : Role) → OwnChannels (ChannelRelated r) all_fresh r as_found
 own_channels laws r = record {
   empty = λ h. ChannelRelated-fresh r;
-  acts = λ x L K y a h. (let good = channel_acts_good IsCalled IsCalled (Seen r) fresh_call r call_found (own_calls laws r) x L K y a h in (good.quiet, good.kept));
-  takes = λ k x L p K y h. (let good = channel_takes_good IsCalled IsCalled (Seen r) fresh_call r call_found (own_calls laws r) x L p K y h in (good.quiet, good.kept));
+  acts = λ x L K y a h. (let good = channel_acts_good IsCalled IsCalled (Seen r) fresh_call r call_found (own_calls laws r) a h in (good.quiet, good.kept));
+  takes = λ k x L p K y h. (let good = channel_takes_good IsCalled IsCalled (Seen r) fresh_call r call_found (own_calls laws r) p K h in (good.quiet, good.kept));
   none = λ p. refl;
 }
 
-pub GoodLayer-takes : Laws → (r : Role) (x : At Channels) (L : List LayerPacket) (p : LayerPacket) (K : List LayerPacket) (y : At Channels) → LayersRelated r x L (p ∷ K) y → GoodLayer r (layer_takes r x p) L K y
-GoodLayer-takes laws r x L p K y h = layer_takes_good (ChannelRelated r) all_fresh r as_found (own_channels laws r) x L p K y h
+pub GoodLayer-takes : Laws → (r : Role) {x : At Channels} {L : List LayerPacket} (p : LayerPacket) (K : List LayerPacket) {y : At Channels} → LayersRelated r x L (p ∷ K) y → GoodLayer r (layer_takes r x p) L K y
+GoodLayer-takes laws r {x} {L} p K {y} h = layer_takes_good (ChannelRelated r) all_fresh r as_found (own_channels laws r) p K h
 
-pub GoodLayer-acts : Laws → (r : Role) (x : At Channels) (L K : List LayerPacket) (y : At Channels) (a : LayerAct) → LayersRelated r x L K y → GoodLayer r (layer_acts x a) L K y
-GoodLayer-acts laws r x L K y a h = layer_acts_good (ChannelRelated r) all_fresh r as_found (own_channels laws r) x L K y a h
+pub GoodLayer-acts : Laws → (r : Role) {x : At Channels} {L K : List LayerPacket} {y : At Channels} (a : LayerAct) → LayersRelated r x L K y → GoodLayer r (layer_acts x a) L K y
+GoodLayer-acts laws r {x} {L} {K} {y} a h = layer_acts_good (ChannelRelated r) all_fresh r as_found (own_channels laws r) a h
 
-LayersRelated-flip : (r : Role) (x : At Channels) (L K : List LayerPacket) (y : At Channels) → LayersRelated r x L K y → LayersRelated (other_role r) y K L x
-LayersRelated-flip r x L K y h = record {
-  hand = hand_flip (record { mark = restart_mark; fresh = all_fresh; fresh_there = all_fresh; gone = λ x. Unit {0}; gone_there = λ x. Unit {0}; related = λ x u v y. OnEach (ChannelRelated (other_role r)) y v u x }) x.epoch y.epoch x.side y.side L K
-      (hand_map (channels_level r) (λ x u v y. OnEach (ChannelRelated (other_role r)) y v u x) (λ x u v y k. record { each = λ h. ChannelRelated-flip r (x h) (on h u) (on h v) (y h) (k.each h) }) x.epoch y.epoch x.side y.side L K h.hand);
+LayersRelated-flip : (r : Role) {x : At Channels} {L K : List LayerPacket} {y : At Channels} → LayersRelated r x L K y → LayersRelated (other_role r) y K L x
+LayersRelated-flip r {x} {L} {K} {y} h = record {
+  hand = hand_flip
+      (hand_map (λ x u v y. OnEach (ChannelRelated (other_role r)) y v u x) (λ x u v y k. record { each = λ h. ChannelRelated-flip r (k.each h) }) h.hand);
 }
 
 -- both links up: Top
@@ -92,45 +92,45 @@ EndsRelated-stops r x L K (Live z) h = (K, tt, h)
 EndsRelated-stops r x L K (Left z) h = (h.0, K, h.2)
 
 EndsRelated-flip : (r : Role) (x : Side (At Channels)) (L K : List LayerPacket) (y : Side (At Channels)) → EndsRelated r x L K y → EndsRelated (other_role r) y K L x
-EndsRelated-flip r (Live x) L K (Live y) h = LayersRelated-flip r x L K y h
-EndsRelated-flip r (Left x) L K (Live y) h = (h.0, h.1, LayersRelated-flip r x L h.0 y h.2)
-EndsRelated-flip r (Live x) L K (Left y) h = (h.0, h.1, LayersRelated-flip r x h.0 K y h.2)
-EndsRelated-flip r (Left x) L K (Left y) h = (h.1, h.0, LayersRelated-flip r x h.0 h.1 y h.2)
+EndsRelated-flip r (Live x) L K (Live y) h = LayersRelated-flip r h
+EndsRelated-flip r (Left x) L K (Live y) h = (h.0, h.1, LayersRelated-flip r h.2)
+EndsRelated-flip r (Live x) L K (Left y) h = (h.0, h.1, LayersRelated-flip r h.2)
+EndsRelated-flip r (Left x) L K (Left y) h = (h.1, h.0, LayersRelated-flip r h.2)
 
-pub Stands-turned : (r : Role) (w : Pair) → Stands r w → Stands (other_role r) (turned w)
-Stands-turned r w h = record { quiet = h.quiet; top = EndsRelated-flip r w.near w.out w.back w.far h.top }
+pub Stands-turned : {r : Role} {w : Pair} → Stands r w → Stands (other_role r) (turned w)
+Stands-turned {r} {w} h = record { quiet = h.quiet; top = EndsRelated-flip r w.near w.out w.back w.far h.top }
 
-pub Stands-moves : Laws → (r : Role) (near : Side (At Channels)) (out back : List LayerPacket) (far : Side (At Channels)) (error : Option ℕ) (what : Move)
+pub Stands-moves : Laws → {r : Role} (near : Side (At Channels)) (out back : List LayerPacket) (far : Side (At Channels)) (error : Option ℕ) (what : Move)
     → Stands r (record { near = near; far = far; out = out; back = back; error = error })
     → Stands r (pair_moves r (record { near = near; far = far; out = out; back = back; error = error }) near what)
-Stands-moves laws r (Live x) out back far error (Acts a) h =
+Stands-moves laws {r} (Live x) out back far error (Acts a) h =
     let some = EndsRelated-some r x out back far h.top in
     record {
-      quiet = ap (λ e. first_error e (layer_acts x a).error) h.quiet ∙ (GoodLayer-acts laws r x some.0 back some.1 a some.2).quiet;
-      top = ext_step (λ z. Unit {0}) (λ z. Unit {0}) (LayersRelated r) x (layer_acts x a).next (layer_acts x a).out out back back far (λ w z k. (GoodLayer-acts laws r x w back z a k).kept) h.top;
+      quiet = ap (λ e. first_error e (layer_acts x a).error) h.quiet ∙ (GoodLayer-acts laws r a some.2).quiet;
+      top = ext_step (λ z. Unit {0}) (λ z. Unit {0}) (LayersRelated r) x (layer_acts x a).next (layer_acts x a).out out back far (λ w z k. (GoodLayer-acts laws r a k).kept) h.top;
     }
-Stands-moves laws r (Live x) out [] far error Takes h = h
-Stands-moves laws r (Live x) out (p ∷ K) far error Takes h =
+Stands-moves laws (Live x) out [] far error Takes h = h
+Stands-moves laws {r} (Live x) out (p ∷ K) far error Takes h =
     let some = EndsRelated-some r x out (p ∷ K) far h.top in
     record {
-      quiet = ap (λ e. first_error e (layer_takes r x p).error) h.quiet ∙ (GoodLayer-takes laws r x some.0 p K some.1 some.2).quiet;
-      top = ext_step (λ z. Unit {0}) (λ z. Unit {0}) (LayersRelated r) x (layer_takes r x p).next (layer_takes r x p).out out (p ∷ K) K far (λ w z k. (GoodLayer-takes laws r x w p K z k).kept) h.top;
+      quiet = ap (λ e. first_error e (layer_takes r x p).error) h.quiet ∙ (GoodLayer-takes laws r p K some.2).quiet;
+      top = ext_step (λ z. Unit {0}) (λ z. Unit {0}) (LayersRelated r) x (layer_takes r x p).next (layer_takes r x p).out out K far (λ w z k. (GoodLayer-takes laws r p K k).kept) h.top;
     }
-Stands-moves laws r (Live x) out back far error LinkDown h = record { quiet = h.quiet; top = EndsRelated-stops r x out back far h.top }
-Stands-moves laws r (Left x) out back far error what h = h
+Stands-moves laws {r} (Live x) out back far error LinkDown h = record { quiet = h.quiet; top = EndsRelated-stops r x out back far h.top }
+Stands-moves laws (Left x) out back far error what h = h
 
-Stands-if : (r : Role) (first : Bool) (u v : Pair) → Stands r u → Stands r v → Stands r (if first then u else v)
-Stands-if r true u v f g = f
-Stands-if r false u v f g = g
+Stands-if : {r : Role} (first : Bool) {u v : Pair} → Stands r u → Stands r v → Stands r (if first then u else v)
+Stands-if true f g = f
+Stands-if false f g = g
 
-pub Stands-run : Laws → (events : List Event) (w : Pair) → Stands Dte w → Stands Dte (pair_run events w)
-Stands-run laws [] w h = h
-Stands-run laws (e ∷ events) w h =
-    Stands-run laws events (pair_happens w e)
-    (Stands-if Dte e.first (pair_moves Dte w w.near e.what) (turned (pair_moves Dce (turned w) w.far e.what))
-    (Stands-moves laws Dte w.near w.out w.back w.far w.error e.what h)
-    (Stands-turned Dce (pair_moves Dce (turned w) w.far e.what)
-    (Stands-moves laws Dce w.far w.back w.out w.near w.error e.what (Stands-turned Dte w h))))
+pub Stands-run : Laws → (events : List LayerEvent) {w : Pair} → Stands Dte w → Stands Dte (pair_run events w)
+Stands-run laws [] h = h
+Stands-run laws (e ∷ events) {w} h =
+    Stands-run laws events
+    (Stands-if e.first
+    (Stands-moves laws w.near w.out w.back w.far w.error e.what h)
+    (Stands-turned
+    (Stands-moves laws w.far w.back w.out w.near w.error e.what (Stands-turned h))))
 
 pub Stands-start : Stands Dte pair_start
 Stands-start = record { quiet = refl; top = record { hand = both_requests (channels_level Dte) (record { each = λ h. ChannelRelated-fresh Dte }) Restart refl 0 } }

@@ -37,18 +37,18 @@ Did_to a m i s = CallDid (stands (as_stage a) m i) (as_peer_call s.next) s.out
 
 places_did : (m i : List CallRequest) (n : CallRequest) → Did_to Unused m i (phase_acts Unused m i (PlacesCall n))
 places_did m i n =
-    cond_both (may_propose n.params) (goes (Waiting n.params) (m ++ n ∷ []) i (Call n ∷ [])) (goes Unused m i []) (λ (s : Step Connection Packet). Did_to Unused m i s)
+    cond_both (may_propose n.params) (goes (Waiting n.params) (m ++ n ∷ []) i (Call n ∷ [])) (goes Unused m i []) (λ s. Did_to Unused m i s)
     (λ may. Something (peer.PlacesCall n) may refl refl)
     (λ _. Nothing refl refl)
 
 accepts_did : Laws → (theirs : Params) → may_propose theirs ≡ true → (m i : List CallRequest) (answer : Option Proposal) (most : ℕ) → Did_to (Offered theirs) m i (accepts theirs m i answer most)
 accepts_did laws theirs proposed m i None most =
-    let same : said_in theirs [] ≡ theirs = laws.no_field theirs in
-    Something (peer.AcceptsCall [] most) (rw same (laws.proposal theirs)) (ap (λ (q : Params). stands (called_in_data most q) m i) same) refl
+    let same = laws.no_field theirs in
+    Something (peer.AcceptsCall [] most) (rw same (laws.proposal theirs)) (ap (λ q. stands (called_in_data most q) m i) same) refl
 accepts_did laws theirs proposed m i (Some q) most =
-    cond_both (may_answer theirs q.params) (goes (called_talk most q.params) m i (Accept (field_for theirs q) most ∷ [])) (goes (Offered theirs) m i []) (λ (s : Step Connection Packet). Did_to (Offered theirs) m i s)
-    (λ may. let same : said_in theirs (field_for theirs q) ≡ q.params = answer_read laws theirs q proposed may in
-    Something (peer.AcceptsCall (field_for theirs q) most) (rw same may) (ap (λ (q : Params). stands (called_in_data most q) m i) same) refl)
+    cond_both (may_answer theirs q.params) (goes (called_talk most q.params) m i (Accept (field_for theirs q) most ∷ [])) (goes (Offered theirs) m i []) (λ s. Did_to (Offered theirs) m i s)
+    (λ may. let same = answer_read laws theirs q proposed may in
+    Something (peer.AcceptsCall (field_for theirs q) most) (rw same may) (ap (λ q. stands (called_in_data most q) m i) same) refl)
     (λ _. Nothing refl refl)
 
 pub call_did : Laws → (a : Phase) → IsKnown a → (m i : List CallRequest) (act : CallAct) → (phase_acts a m i act).error ≡ None → Did_to a m i (phase_acts a m i act)
@@ -103,11 +103,11 @@ abbrev pub IsKnownSide : Side Connection → Type 0
 IsKnownSide (Live x) = IsKnown x.phase
 IsKnownSide (Left x) = Unit {0}
 
-in_call_did : (e : ℕ) (y : PeerCall) (s : Step Connection Packet) (n : Option ℕ) → (lifted_call e s n).error ≡ None → CallDid y (as_peer_call s.next) s.out
+in_call_did : (e : ℕ) {y : PeerCall} (s : Step Connection Packet) (n : Option ℕ) → (lifted_call e s n).error ≡ None → CallDid y (as_peer_call s.next) s.out
     → ChannelDid (live e y) (as_at as_peer_call (lifted_call e s n).next) (lifted_call e s n).out
-in_call_did e y s None quiet did =
+in_call_did e {y} s None quiet did =
     did_above call_deeds channel_deeds (λ y. live e y) (λ d. InCall d) y (as_peer_call s.next) s.out (λ d may. may) (λ d. refl) (λ d. refl) did
-in_call_did e y s (Some n) quiet did = absurd (cc)
+in_call_did e s (Some n) quiet did = absurd (cc)
 
 no_error : (e : ℕ) (s : Step Connection Packet) (n : Option ℕ) → (lifted_call e s n).error ≡ None → n ≡ None
 no_error e s None quiet = refl
@@ -120,7 +120,7 @@ clears_did e x other = Something Clears tt refl refl
 pub channel_did : Laws → (e : ℕ) (x : Side Connection) → IsKnownSide x → (a : ChannelAct) → (channel_side_acts e x a).error ≡ None
     → ChannelDid (as_at as_peer_call (record { epoch = e; side = x })) (as_at as_peer_call (channel_side_acts e x a).next) (channel_side_acts e x a).out
 channel_did laws e (Live x) known (Within a) quiet =
-    in_call_did e (as_peer_call x) (call_acts x a) (call_acts x a).error quiet (call_did laws x.phase known x.made x.indicated a (no_error e (call_acts x a) (call_acts x a).error quiet))
+    in_call_did e (call_acts x a) (call_acts x a).error quiet (call_did laws x.phase known x.made x.indicated a (no_error e (call_acts x a) (call_acts x a).error quiet))
 channel_did laws e (Live x) known SendsClear quiet = clears_did e x x.phase
 channel_did laws e (Left x) known a quiet = Nothing refl refl
 
@@ -128,8 +128,8 @@ heard_in_call : (r : Role) (e : ℕ) (x : Connection) (p : Packet) → (lifted_c
     → ChannelHeard (record { next = live e (call_taking r (as_stage x.phase) x.made x.indicated p).next; out = (call_taking r (as_stage x.phase) x.made x.indicated p).out })
     (as_at as_peer_call (lifted_call e (call_takes r x p) (call_takes r x p).error).next) (lifted_call e (call_takes r x p) (call_takes r x p).error).out
 heard_in_call r e x p quiet =
-    let none : (call_takes r x p).error ≡ None = no_error e (call_takes r x p) (call_takes r x p).error quiet in
-    let h : CallHeard (call_taking r (as_stage x.phase) x.made x.indicated p) (as_peer_call (call_takes r x p).next) (call_takes r x p).out = call_heard r x.phase x.made x.indicated p none in
+    let none = no_error e (call_takes r x p) (call_takes r x p).error quiet in
+    let h = call_heard r x.phase x.made x.indicated p none in
     by (call_takes r x p).error quiet h
   where
     by : (n : Option ℕ) → (lifted_call e (call_takes r x p) n).error ≡ None → CallHeard (call_taking r (as_stage x.phase) x.made x.indicated p) (as_peer_call (call_takes r x p).next) (call_takes r x p).out
@@ -138,7 +138,7 @@ heard_in_call r e x p quiet =
     by None q h = record {
       rest = h.rest;
       split = h.split;
-      did = in_call_did e (call_taking r (as_stage x.phase) x.made x.indicated p).next (record { next = (call_takes r x p).next; out = h.rest; error = None }) None refl h.did;
+      did = in_call_did e (record { next = (call_takes r x p).next; out = h.rest; error = None }) None refl h.did;
     }
     by (Some n) q h = absurd (cc)
 

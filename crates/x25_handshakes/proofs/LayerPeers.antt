@@ -55,7 +55,7 @@ does_still longest size x = Nothing refl refl
 does_pull : (t : Terms) → t.window ≤ 7 → (x : Stretch) (ps : List Piece) → x.rest ≡ ps → AreSound t.longest t.size no_part (x.sent ++ x.rest) → Does t.longest t.size x (pulls t x ps)
 does_pull t small x [] is sound = does_still t.longest t.size x
 does_pull t small x (p ∷ ps) is sound =
-    let next : Step Stretch Packet = stretch_does (record x { sent = x.sent ++ p ∷ []; rest = ps }) (Data (length x.sent % 8) (length x.taken % 8) p ∷ []) in
+    let next = stretch_does (record x { sent = x.sent ++ p ∷ []; rest = ps }) (Data (length x.sent % 8) (length x.taken % 8) p ∷ []) in
     cond_both x.peer_ready (if nat_lt (length x.sent) (x.acked + t.window) then next else stretch_does x []) (stretch_does x []) (λ s. Does t.longest t.size x s)
     (λ _. cond_both (nat_lt (length x.sent) (x.acked + t.window)) next (stretch_does x []) (λ s. Does t.longest t.size x s)
     (λ room. let open_room = ltb-true (length x.sent) (x.acked + t.window) room in
@@ -69,7 +69,7 @@ does_pull t small x (p ∷ ps) is sound =
 
 does_interrupt : (longest size : ℕ) (x : Stretch) (xs : List ℕ) → Does longest size x (interrupts x xs)
 does_interrupt longest size x xs =
-    let next : Step Stretch Packet = stretch_does (record x { int_out = true; int_down = x.int_down ++ xs ∷ [] }) (Int xs ∷ []) in
+    let next = stretch_does (record x { int_out = true; int_down = x.int_down ++ xs ∷ [] }) (Int xs ∷ []) in
     cond_both (nat_le 1 (length xs)) (if nat_le (length xs) 32 then (if x.int_out then stretch_does x [] else next) else stretch_does x []) (stretch_does x []) (λ s. Does longest size x s)
     (λ _. cond_both (nat_le (length xs) 32) (if x.int_out then stretch_does x [] else next) (stretch_does x []) (λ s. Does longest size x s)
     (λ _. cond_both x.int_out (stretch_does x []) next (λ s. Does longest size x s) (λ _. does_still longest size x) (λ free. Something (Interrupts xs) free refl refl))
@@ -78,7 +78,7 @@ does_interrupt longest size x xs =
 
 does_send : (t : Terms) (x : Stretch) (q : Marks) (xs : List ℕ) → Does t.longest t.size x (sends t x q xs)
 does_send t x q xs =
-    let sent : Step Stretch Packet = stretch_does (record x { rest = x.rest ++ cut t.size q xs; down = x.down ++ record { marks = q; user = xs } ∷ [] }) [] in
+    let sent = stretch_does (record x { rest = x.rest ++ cut t.size q xs; down = x.down ++ record { marks = q; user = xs } ∷ [] }) [] in
     cond_both (nat_le (length xs) t.longest) (if nat_lt (wholes x.rest) 8 then sent else stretch_does x []) (stretch_does x []) (λ s. Does t.longest t.size x s)
     (λ _. cond_both (nat_lt (wholes x.rest) 8) sent (stretch_does x []) (λ s. Does t.longest t.size x s) (λ _. Nothing refl refl) (λ _. does_still t.longest t.size x))
     (λ _. does_still t.longest t.size x)
@@ -96,13 +96,13 @@ Hears longest size x p s = StretchDid longest size (taking (as_peer_stretch x) p
 
 hears_data : (longest size : ℕ) (x : Stretch) (s r : ℕ) (p : Piece) → Hears longest size x (Data s r p) (takes_data x r p)
 hears_data longest size x s r p =
-    let n : length (x.taken ++ p ∷ []) ≡ length x.taken + 1 = length_push x.taken p in
+    let n = length_push x.taken p in
     Something (Says x.own_ready (length x.taken + 1)) (record { rising = omega arith; taken = omega (arith, n) })
-    (ap (λ (k : ℕ). record (as_peer_stretch (takes_data x r p).next) { told = k }) (sym n)) refl
+    (ap (λ k. record (as_peer_stretch (takes_data x r p).next) { told = k }) (sym n)) refl
 
-by_none : (longest size : ℕ) (x : Stretch) (p : Packet) (g : Option ℕ) (good : Step Stretch Packet) → (by_ground g x good).error ≡ None → Hears longest size x p good → Hears longest size x p (by_ground g x good)
-by_none longest size x p None good quiet h = h
-by_none longest size x p (Some n) good quiet h = absurd (cc)
+by_none : {longest size : ℕ} (x : Stretch) (p : Packet) (g : Option ℕ) (good : Step Stretch Packet) → (by_ground g x good).error ≡ None → Hears longest size x p good → Hears longest size x p (by_ground g x good)
+by_none x p None good quiet h = h
+by_none x p (Some n) good quiet h = absurd (cc)
 
 hears_confirmed : (longest size : ℕ) (x : Stretch) (b : Bool) → (if b then stretch_does (record x { int_out = false }) [] else stretch_fails x 43).error ≡ None
     → Hears longest size x IntConf (if b then stretch_does (record x { int_out = false }) [] else stretch_fails x 43)
@@ -110,9 +110,9 @@ hears_confirmed longest size x true quiet = Nothing refl refl
 hears_confirmed longest size x false quiet = absurd (cc)
 
 pub stretch_heard : (longest size most b : ℕ) (x : Stretch) (p : Packet) → (stretch_takes most b x p).error ≡ None → Hears longest size x p (stretch_takes most b x p)
-stretch_heard longest size most b x (Data s r p) quiet = by_none longest size x (Data s r p) (data_ground most b x s r p) (takes_data x r p) quiet (hears_data longest size x s r p)
-stretch_heard longest size most b x (Rr r) quiet = by_none longest size x (Rr r) (ack_ground x r) (takes_status x true r) quiet (Nothing refl refl)
-stretch_heard longest size most b x (Rnr r) quiet = by_none longest size x (Rnr r) (ack_ground x r) (takes_status x false r) quiet (Nothing refl refl)
+stretch_heard longest size most b x (Data s r p) quiet = by_none x (Data s r p) (data_ground most b x s r p) (takes_data x r p) quiet (hears_data longest size x s r p)
+stretch_heard longest size most b x (Rr r) quiet = by_none x (Rr r) (ack_ground x r) (takes_status x true r) quiet (Nothing refl refl)
+stretch_heard longest size most b x (Rnr r) quiet = by_none x (Rnr r) (ack_ground x r) (takes_status x false r) quiet (Nothing refl refl)
 stretch_heard longest size most b x (Int xs) quiet = Something Confirms (omega arith) refl refl
 stretch_heard longest size most b x IntConf quiet = hears_confirmed longest size x x.int_out quiet
 stretch_heard longest size most b x p quiet = absurd (cc)
@@ -133,9 +133,9 @@ abbrev pub IsFit : ℕ → ℕ → Side Stretch → Type 0
 IsFit longest size (Live x) = AreSound longest size no_part (x.sent ++ x.rest)
 IsFit longest size (Left x) = Unit {0}
 
-lifted_did : (longest size e : ℕ) (x : Stretch) (s : Step Stretch Packet) → (lifted e s s.error).error ≡ None → StretchDid longest size (as_peer_stretch x) (as_peer_stretch s.next) s.out
+lifted_did : {longest size : ℕ} (e : ℕ) (x : Stretch) (s : Step Stretch Packet) → (lifted e s s.error).error ≡ None → StretchDid longest size (as_peer_stretch x) (as_peer_stretch s.next) s.out
     → TransferDid longest size (as_at as_peer_stretch (live e x)) (as_at as_peer_stretch (lifted e s s.error).next) (lifted e s s.error).out
-lifted_did longest size e x s quiet did = by s.error quiet
+lifted_did {longest} {size} e x s quiet did = by s.error quiet
   where
     by : (n : Option ℕ) → (lifted e s n).error ≡ None → TransferDid longest size (as_at as_peer_stretch (live e x)) (as_at as_peer_stretch (lifted e s n).next) (lifted e s n).out
     by None q =
@@ -144,7 +144,7 @@ lifted_did longest size e x s quiet did = by s.error quiet
 
 pub transfer_did : (t : Terms) → t.window ≤ 7 → (e : ℕ) (x : Side Stretch) → IsFit t.longest t.size x → (a : TransferAct) → (transfer_side_acts t e x a).error ≡ None
     → TransferDid t.longest t.size (as_at as_peer_stretch (record { epoch = e; side = x })) (as_at as_peer_stretch (transfer_side_acts t e x a).next) (transfer_side_acts t e x a).out
-transfer_did t small e (Live x) fit (Inside a) quiet = lifted_did t.longest t.size e x (stretch_acts t x a) quiet (stretch_did t small x fit a)
+transfer_did t small e (Live x) fit (Inside a) quiet = lifted_did e x (stretch_acts t x a) quiet (stretch_did t small x fit a)
 transfer_did t small e (Live x) fit SendsReset quiet = Something Resets tt refl refl
 transfer_did t small e (Left x) fit a quiet = Nothing refl refl
 

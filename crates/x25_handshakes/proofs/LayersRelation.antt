@@ -39,4 +39,4 @@ GoodLayer r s L K y = GoodStep (channels_level r) s.error s.next s.out L K y
 
 -- what is kept of the two ends
 abbrev pub EndsRelated : Role → Side (At Channels) → List LayerPacket → List LayerPacket → Side (At Channels) → Type 0
-EndsRelated r x L K y = Extended (λ (z : At Channels). Unit {0}) (λ (z : At Channels). Unit {0}) (LayersRelated r) x L K y
+EndsRelated r x L K y = Extended (λ z. Unit {0}) (λ z. Unit {0}) (LayersRelated r) x L K y

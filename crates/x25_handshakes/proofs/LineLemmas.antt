@@ -40,6 +40,6 @@ pub Numbered_push : (n : ℕ) (u : List Packet) (p : Packet) → Numbered n u �
 Numbered_push n [] p h is = rw (sym (let e : n + 0 ≡ n = omega arith in e)) is
 Numbered_push n (q ∷ u) p h is =
     number_map n (numbering q) (λ m. Numbered m u) (λ m. Numbered m (u ++ p ∷ []))
-    (λ m e k. Numbered_push m u p k (subst (λ (k : ℕ). number_at k (numbering p) (λ m. Unit {0}))
-    (let l : length (piece_of (numbering q) ++ pieces u) ≡ length (piece_of (numbering q)) + length (pieces u) = length-append (piece_of (numbering q)) (pieces u) in omega arith) is))
+    (λ m e k. Numbered_push m u p k (subst (λ k. number_at k (numbering p) (λ m. Unit {0}))
+    (let l = length-append (piece_of (numbering q)) (pieces u) in omega arith) is))
     h

@@ -4,9 +4,9 @@ use Rattle.x25_handshakes.specs.laws.Names.{Name, both, same_name, IsEarlierCoun
 
 pub name_eq : (m n : Name) → m.restarts ≡ n.restarts → m.clears ≡ n.clears → m.resets ≡ n.resets → m ≡ n
 name_eq m n p q w =
-    ap (λ (a : ℕ). record { restarts = a; clears = m.clears; resets = m.resets }) p
-    ∙ ap (λ (a : ℕ). record { restarts = n.restarts; clears = a; resets = m.resets }) q
-    ∙ ap (λ (a : ℕ). record { restarts = n.restarts; clears = n.clears; resets = a }) w
+    ap (λ a. record { restarts = a; clears = m.clears; resets = m.resets }) p
+    ∙ ap (λ a. record { restarts = n.restarts; clears = a; resets = m.resets }) q
+    ∙ ap (λ a. record { restarts = n.restarts; clears = n.clears; resets = a }) w
 
 both_are : (a b : Bool) → both a b ≡ true → (a ≡ true) × (b ≡ true)
 both_are true b h = (refl, h)
@@ -21,25 +21,25 @@ same_name-is m n h =
     let b = both_are (m.clears == n.clears) (m.resets == n.resets) a.1 in
     name_eq m n (eqb-true m.restarts n.restarts a.0) (eqb-true m.clears n.clears b.0) (eqb-true m.resets n.resets b.1)
 
-count-trans : (c s d t e u : ℕ) → IsEarlierCount c s d t → IsEarlierCount d t e u → IsEarlierCount c s e u
-count-trans c s d t e u (inl p) (inl q) = inl (omega arith)
-count-trans c s d t e u (inl p) (inr q) = inl (omega arith)
-count-trans c s d t e u (inr p) (inl q) = inl (omega arith)
-count-trans c s d t e u (inr p) (inr q) = inr (omega arith, omega arith)
+count-trans : {c s d t e u : ℕ} → IsEarlierCount c s d t → IsEarlierCount d t e u → IsEarlierCount c s e u
+count-trans (inl p) (inl q) = inl (omega arith)
+count-trans (inl p) (inr q) = inl (omega arith)
+count-trans (inr p) (inl q) = inl (omega arith)
+count-trans (inr p) (inr q) = inr (omega arith, omega arith)
 
-pub earlier-trans : (a b c : Name) → IsEarlier a b → IsEarlier b c → IsEarlier a c
-earlier-trans a b c (inl p) (inl q) = inl (omega arith)
-earlier-trans a b c (inl p) (inr q) = inl (omega (arith, q.0))
-earlier-trans a b c (inr p) (inl q) = inl (omega (arith, p.0))
-earlier-trans a b c (inr p) (inr q) = inr (p.0 ∙ q.0, count-trans a.clears a.resets b.clears b.resets c.clears c.resets p.1 q.1)
+pub earlier-trans : {a b c : Name} → IsEarlier a b → IsEarlier b c → IsEarlier a c
+earlier-trans (inl p) (inl q) = inl (omega arith)
+earlier-trans (inl p) (inr q) = inl (omega (arith, q.0))
+earlier-trans (inr p) (inl q) = inl (omega (arith, p.0))
+earlier-trans {a} {b} {c} (inr p) (inr q) = inr (p.0 ∙ q.0, count-trans p.1 q.1)
 
-count-irrefl : (c s : ℕ) → IsEarlierCount c s c s → ⊥
-count-irrefl c s (inl p) = omega arith
-count-irrefl c s (inr p) = omega (arith, p.1)
+count-irrefl : {c s : ℕ} → IsEarlierCount c s c s → ⊥
+count-irrefl (inl p) = omega arith
+count-irrefl (inr p) = omega (arith, p.1)
 
 earlier-irrefl : (n : Name) → IsEarlier n n → ⊥
 earlier-irrefl n (inl p) = omega arith
-earlier-irrefl n (inr p) = count-irrefl n.clears n.resets p.1
+earlier-irrefl n (inr p) = count-irrefl p.1
 
 pub earlier-differs : (n m : Name) → IsEarlier n m → same_name m n ≡ false
-earlier-differs n m less = false_from_ne_true (same_name m n) (λ is. earlier-irrefl n (subst (λ (j : Name). IsEarlier n j) (same_name-is m n is) less))
+earlier-differs n m less = false_from_ne_true (same_name m n) (λ is. earlier-irrefl n (subst (λ j. IsEarlier n j) (same_name-is m n is) less))

@@ -1,5 +1,5 @@
 -- What our own end does between two clears keeps what is kept of it and the other end, and finds no procedure error, whatever kind of end the other is.
-use Rattle.std.proofs.Common.{◌≡◌, inl, inr, ℕ, List, [], ◌∷◌, ◌++◌, Some, None, Bool, true, if◌then◌else◌, refl, sym, ap, subst, ◌∙◌}
+use Rattle.std.proofs.Common.{◌≡◌, inl, inr, ℕ, List, [], ◌∷◌, ◌++◌, Some, None, true, if◌then◌else◌, refl, sym, ap, subst, ◌∙◌}
 use Rattle.std.proofs.{lemmas.List.{append-nil}, lemmas.Bool.{cond_both}}
 use Rattle.x25_bits.specs.{declared.role.Role.{Role}, declared.role.Role.TheVariants.{Dte, Dce}}
 use Rattle.x25_circuit.specs.declared.params.Params.{Params}
@@ -16,9 +16,9 @@ use Rattle.x25_handshakes.specs.laws.Terms.{Terms, called_terms, calling_terms}
 -- proposals and answers
 
 -- what a CALL says is what its end proposes
-pub said : (m : List CallRequest) (n : CallRequest) (mine : Params) → m ≡ n ∷ [] → Proposes m mine → IsProposal mine n.params
-said m n mine one h =
-    let is = subst (λ (l : List CallRequest). Proposes l mine) one h in
+pub said : {m : List CallRequest} (n : CallRequest) {mine : Params} → m ≡ n ∷ [] → Proposes m mine → IsProposal mine n.params
+said n {mine} one h =
+    let is = subst (λ l. Proposes l mine) one h in
     record { same = is.0; allowed = is.1 }
 
 pub proposes : (m : List CallRequest) (n : CallRequest) → m ≡ [] → may_propose n.params ≡ true → Proposes (m ++ n ∷ []) n.params
@@ -35,12 +35,12 @@ agreed laws mine answer field most proposed allowed is = record {
   terms = answer_sound laws most mine answer proposed allowed;
 }
 
-as_proposed : Laws → (mine theirs : Params) (most : ℕ) → IsProposal mine theirs → Agreed mine theirs [] most
-as_proposed laws mine theirs most h =
+as_proposed : Laws → {mine theirs : Params} (most : ℕ) → IsProposal mine theirs → Agreed mine theirs [] most
+as_proposed laws {mine} most h =
     rw h.same (agreed laws mine mine [] most h.allowed (laws.proposal mine) (laws.no_field mine))
 
-as_answered : Laws → (mine theirs : Params) (answer : Proposal) (most : ℕ) → IsProposal mine theirs → may_answer theirs answer.params ≡ true → Agreed mine answer.params (field_for theirs answer) most
-as_answered laws mine theirs answer most h =
+as_answered : Laws → {mine theirs : Params} (answer : Proposal) (most : ℕ) → IsProposal mine theirs → may_answer theirs answer.params ≡ true → Agreed mine answer.params (field_for theirs answer) most
+as_answered laws {mine} answer most h =
     rw h.same (λ may. agreed laws mine answer.params (field_for mine answer) most h.allowed may (answer_read laws mine answer h.allowed may))
 
 pub nil_is : (u : List Packet) → Nil u → u ≡ []
@@ -56,35 +56,35 @@ pub call_first : (m : List CallRequest) (n : CallRequest) (u : List Packet) → 
 call_first m n [] h none = (ap (λ k. k ++ n ∷ []) none, tt)
 call_first m n (p ∷ u) h none = absurd h
 
-pub accept_first : (mine : Params) (t b : Terms) (R : List Packet → Type 0) (field : List ℕ) (most : ℕ) (u : List Packet) → Nil u → IsAnswer mine field most t b → R [] → Accepted mine t b R (u ++ Accept field most ∷ [])
-accept_first mine t b R field most [] h answer r = (answer, r)
-accept_first mine t b R field most (p ∷ u) h answer r = absurd h
+pub accept_first : {mine : Params} {t b : Terms} (R : List Packet → Type 0) {field : List ℕ} {most : ℕ} (u : List Packet) → Nil u → IsAnswer mine field most t b → R [] → Accepted mine t b R (u ++ Accept field most ∷ [])
+accept_first R [] h answer r = (answer, r)
+accept_first R (p ∷ u) h answer r = absurd h
 
-pub accept_behind : (m : List CallRequest) (mine : Params) (t b : Terms) (R : List Packet → Type 0) (field : List ℕ) (most : ℕ) (v : List Packet) → MaybeCall m v → IsAnswer mine field most t b → R []
+pub accept_behind : (m : List CallRequest) {mine : Params} {t b : Terms} (R : List Packet → Type 0) {field : List ℕ} {most : ℕ} (v : List Packet) → MaybeCall m v → IsAnswer mine field most t b → R []
     → CallAccepted m mine t b R (v ++ Accept field most ∷ [])
-accept_behind m mine t b R field most [] h answer r = (h, answer, r)
-accept_behind m mine t b R field most (Call n ∷ v) h answer r = (h.0, accept_first mine t b R field most v h.1 answer r)
-accept_behind m mine t b R field most (other ∷ v) h answer r = absurd h
+accept_behind m R [] h answer r = (h, answer, r)
+accept_behind m {mine} {t} {b} R {field} {most} (Call n ∷ v) h answer r = (h.0, accept_first R v h.1 answer r)
+accept_behind m R (other ∷ v) h answer r = absurd h
 
-pub Accepted-map : (mine : Params) (t b : Terms) (R Q : List Packet → Type 0) (o : List Packet) → ((w : List Packet) → R w → Q (w ++ o)) → (u : List Packet) → Accepted mine t b R u → Accepted mine t b Q (u ++ o)
-Accepted-map mine t b R Q o f (Accept field most ∷ u) h = (h.0, f u h.1)
-Accepted-map mine t b R Q o f u h = absurd h
+pub Accepted-map : (mine : Params) (t b : Terms) {R : List Packet → Type 0} (Q : List Packet → Type 0) (o : List Packet) → ((w : List Packet) → R w → Q (w ++ o)) → (u : List Packet) → Accepted mine t b R u → Accepted mine t b Q (u ++ o)
+Accepted-map mine t b Q o f (Accept field most ∷ u) h = (h.0, f u h.1)
+Accepted-map mine t b Q o f u h = absurd h
 
-pub CallAccepted-map : (mine : Params) (t b : Terms) (R Q : List Packet → Type 0) (o : List Packet) → ((w : List Packet) → R w → Q (w ++ o)) → (m : List CallRequest) (u : List Packet)
+pub CallAccepted-map : (mine : Params) (t b : Terms) {R : List Packet → Type 0} (Q : List Packet → Type 0) (o : List Packet) → ((w : List Packet) → R w → Q (w ++ o)) → (m : List CallRequest) (u : List Packet)
     → CallAccepted m mine t b R u → CallAccepted m mine t b Q (u ++ o)
-CallAccepted-map mine t b R Q o f m (Call n ∷ u) h = (h.0, Accepted-map mine t b R Q o f u h.1)
-CallAccepted-map mine t b R Q o f m (Accept field most ∷ u) h = (h.0, h.1, f u h.2)
-CallAccepted-map mine t b R Q o f m u h = absurd h
+CallAccepted-map mine t b {R} Q o f m (Call n ∷ u) h = (h.0, Accepted-map mine t b Q o f u h.1)
+CallAccepted-map mine t b Q o f m (Accept field most ∷ u) h = (h.0, h.1, f u h.2)
+CallAccepted-map mine t b Q o f m u h = absurd h
 
 -- what R says holds of some line
-pub Accepted-some : (mine : Params) (t b : Terms) (R : List Packet → Type 0) (u : List Packet) → Accepted mine t b R u → (w : List Packet) × R w
-Accepted-some mine t b R (Accept field most ∷ u) h = (u, h.1)
-Accepted-some mine t b R u h = absurd h
+pub Accepted-some : (mine : Params) (t b : Terms) {R : List Packet → Type 0} (u : List Packet) → Accepted mine t b R u → (w : List Packet) × R w
+Accepted-some mine t b (Accept field most ∷ u) h = (u, h.1)
+Accepted-some mine t b u h = absurd h
 
-pub CallAccepted-some : (mine : Params) (t b : Terms) (R : List Packet → Type 0) (m : List CallRequest) (u : List Packet) → CallAccepted m mine t b R u → (w : List Packet) × R w
-CallAccepted-some mine t b R m (Call n ∷ u) h = Accepted-some mine t b R u h.1
-CallAccepted-some mine t b R m (Accept field most ∷ u) h = (u, h.2)
-CallAccepted-some mine t b R m u h = absurd h
+pub CallAccepted-some : (mine : Params) (t b : Terms) {R : List Packet → Type 0} (m : List CallRequest) (u : List Packet) → CallAccepted m mine t b R u → (w : List Packet) × R w
+CallAccepted-some mine t b {R} m (Call n ∷ u) h = Accepted-some mine t b u h.1
+CallAccepted-some mine t b m (Accept field most ∷ u) h = (u, h.2)
+CallAccepted-some mine t b m u h = absurd h
 
 maybe_call : (m : List CallRequest) (v : List Packet) → OneCall m v → MaybeCall m v
 maybe_call m [] h = absurd h
@@ -133,12 +133,12 @@ module _ {S B : Type 0} (R : TalksOf S B) (s₀ : S) (y₀ : B) where
   pub dte_still : (a : Stage S) (b : Stage B) (ma ia mb ib : List CallRequest) (u v : List Packet) → DteIs a b ma ia mb ib u v → DteIs a b ma ia mb ib (u ++ []) v
   dte_still a b ma ia mb ib u v h = rw (append-nil u) h
 
-  dte_answered : (p : Params) (field : List ℕ) (most : ℕ) (ma ia mb ib : List CallRequest) (u v : List Packet) (t b : Terms) (y : B) → IsAnswer p field most t b → Nil u
+  dte_answered : {p : Params} {field : List ℕ} {most : ℕ} (ma ia mb ib : List CallRequest) (u v : List Packet) {t b : Terms} (y : B) → IsAnswer p field most t b → Nil u
       → R b t s₀ [] v t b y → ia ≡ [] → ib ≡ ma → (let q = said_in p field in DteIs (Talking (calling_terms most q) (called_terms most q) s₀) (Talking t b y) ma ia mb ib (u ++ []) v)
-  dte_answered p field most ma ia mb ib u v t b y answer none talk indicated there =
-      let q : Params = said_in p field in
+  dte_answered {p} {field} {most} ma ia mb ib u v {t} {b} y answer none talk indicated there =
+      let q = said_in p field in
       dte_still (Talking (calling_terms most q) (called_terms most q) s₀) (Talking t b y) ma ia mb ib u v (
-        subst (λ (s : Terms). R s (called_terms most q) s₀ u v t b y) answer.calling (rw (sym answer.called) (subst (λ (w : List Packet). R b t s₀ w v t b y) (sym (nil_is u none)) talk)),
+        subst (λ s. R s (called_terms most q) s₀ u v t b y) answer.calling (rw (sym answer.called) (subst (λ w. R b t s₀ w v t b y) (sym (nil_is u none)) talk)),
         inl (indicated, there),
       )
 
@@ -148,7 +148,7 @@ module _ {S B : Type 0} (R : TalksOf S B) (s₀ : S) (y₀ : B) where
         → (let s = taken s₀ next out Dte a ma ia p in MayCome Fine a p × DteIs s.stage b s.made s.indicated mb ib (u ++ s.out) v)
     dte_taken Unused Unused ma ia mb ib u p v h = absurd h.1
     dte_taken Unused (Waiting q) ma ia mb ib u (Call n) v h =
-        (tt, dte_still (Offered n.params) (Waiting q) ma (ia ++ n ∷ []) mb ib u v (h.0, h.1.1, push_first ia n mb h.3 h.1.0, h.4, said mb n q h.1.0 h.5))
+        (tt, dte_still (Offered n.params) (Waiting q) ma (ia ++ n ∷ []) mb ib u v (h.0, h.1.1, push_first ia n mb h.3 h.1.0, h.4, said n h.1.0 h.5))
     dte_taken Unused (Waiting q) ma ia mb ib u other v h = absurd h.1
     dte_taken (Waiting mine) Unused ma ia mb ib u p v h = absurd h.1
     dte_taken (Waiting mine) (Waiting q) ma ia mb ib u (Call n) v h = (tt, dte_still (Crossed mine) (Waiting q) ma ia mb ib u v (h.0, h.1.1, h.2, h.3, h.4))
@@ -156,12 +156,12 @@ module _ {S B : Type 0} (R : TalksOf S B) (s₀ : S) (y₀ : B) where
     dte_taken (Waiting mine) (Offered q) ma ia mb ib u (Call n) v h = (tt, dte_still (Crossed mine) (Offered q) ma ia mb ib u v (h.0, h.1.1, h.2, h.3, h.4))
     dte_taken (Waiting mine) (Offered q) ma ia mb ib u other v h = absurd h.1
     dte_taken (Waiting mine) (Talking t b y) ma ia mb ib u (Call n) v h = (tt, dte_still (Crossed mine) (Talking t b y) ma ia mb ib u v (h.0, h.1.1, h.2, h.3))
-    dte_taken (Waiting mine) (Talking t b y) ma ia mb ib u (Accept field most) v h = (h.1.1.allowed, dte_answered mine field most ma ia mb ib u v t b y h.1.1 h.0 h.1.2 h.2 h.3)
+    dte_taken (Waiting mine) (Talking t b y) ma ia mb ib u (Accept field most) v h = (h.1.1.allowed, dte_answered ma ia mb ib u v y h.1.1 h.0 h.1.2 h.2 h.3)
     dte_taken (Waiting mine) (Talking t b y) ma ia mb ib u other v h = absurd h.1
     dte_taken (Offered theirs) (Waiting q) ma ia mb ib u p v h = absurd h.1
     dte_taken (Crossed mine) (Waiting q) ma ia mb ib u p v h = absurd h.1
     dte_taken (Crossed mine) (Offered q) ma ia mb ib u p v h = absurd h.1
-    dte_taken (Crossed mine) (Talking t b y) ma ia mb ib u (Accept field most) v h = (h.1.0.allowed, dte_answered mine field most ma ia mb ib u v t b y h.1.0 h.0 h.1.1 h.2 h.3)
+    dte_taken (Crossed mine) (Talking t b y) ma ia mb ib u (Accept field most) v h = (h.1.0.allowed, dte_answered ma ia mb ib u v y h.1.0 h.0 h.1.1 h.2 h.3)
     dte_taken (Crossed mine) (Talking t b y) ma ia mb ib u other v h = absurd h.1
     dte_taken (Talking t b x) (Waiting q) ma ia mb ib u p v h = absurd h.1
     dte_taken (Talking t b x) (Talking t₂ b₂ y) ma ia mb ib u p v h = (let k = takes t b x u p v t₂ b₂ y h.0 in (k.0, (k.1, h.1)))
@@ -178,7 +178,7 @@ module _ {S B : Type 0} (R : TalksOf S B) (s₀ : S) (y₀ : B) where
       → ((t k : Terms) → IsSound t → IsSound k → R t k s₀ [] [] k t y₀) → DteIs (Offered theirs) b ma ia mb ib u v → DteIs (Talking (called_terms most q) (calling_terms most q) s₀) b ma ia mb ib (u ++ Accept field most ∷ []) v
   dte_answers (Waiting mine) theirs q field most ma ia mb ib u v agrees fresh h =
       let may = agrees mine h.4 in (
-        accept_first mine (called_terms most q) (calling_terms most q) (λ w. R (called_terms most q) (calling_terms most q) s₀ w [] (calling_terms most q) (called_terms most q) y₀) field most u h.0 may.fits
+        accept_first (λ w. R (called_terms most q) (calling_terms most q) s₀ w [] (calling_terms most q) (called_terms most q) y₀) u h.0 may.fits
             (fresh (called_terms most q) (calling_terms most q) may.terms.called may.terms.calling),
         h.1,
         h.2,
@@ -191,13 +191,13 @@ module _ {S B : Type 0} (R : TalksOf S B) (s₀ : S) (y₀ : B) where
     pub dte_moves : (b : Stage B) (x₂ : S) (o : List Packet) (ma ia mb ib : List CallRequest) (u v : List Packet) → ((w z : List Packet) (t₂ k₂ : Terms) (y : B) → R t k x w z t₂ k₂ y → R t k x₂ (w ++ o) z t₂ k₂ y)
         → DteIs (Talking t k x) b ma ia mb ib u v → DteIs (Talking t k x₂) b ma ia mb ib (u ++ o) v
     dte_moves (Waiting q) x₂ o ma ia mb ib u v goes h =
-        (Accepted-map q t k (λ w. R t k x w [] k t y₀) (λ w. R t k x₂ w [] k t y₀) o (λ w r. goes w [] k t y₀ r) u h.0, h.1, h.2, h.3)
+        (Accepted-map q t k (λ w. R t k x₂ w [] k t y₀) o (λ w r. goes w [] k t y₀ r) u h.0, h.1, h.2, h.3)
     dte_moves (Talking t₂ k₂ y) x₂ o ma ia mb ib u v goes h = (goes u v t₂ k₂ y h.0, h.1)
     dte_moves other x₂ o ma ia mb ib u v goes h = absurd h
 
     -- where that says so
     pub dte_some : (P : Type 0) (b : Stage B) (ma ia mb ib : List CallRequest) (u v : List Packet) → ((w z : List Packet) (t₂ k₂ : Terms) (y : B) → R t k x w z t₂ k₂ y → P) → DteIs (Talking t k x) b ma ia mb ib u v → P
-    dte_some P (Waiting q) ma ia mb ib u v so h = (let some = Accepted-some q t k (λ w. R t k x w [] k t y₀) u h.0 in so some.0 [] k t y₀ some.1)
+    dte_some P (Waiting q) ma ia mb ib u v so h = (let some = Accepted-some q t k u h.0 in so some.0 [] k t y₀ some.1)
     dte_some P (Talking t₂ k₂ y) ma ia mb ib u v so h = so u v t₂ k₂ y h.0
     dte_some P other ma ia mb ib u v so h = absurd h
 
@@ -213,9 +213,9 @@ module _ {A S : Type 0} (R : TalksOf A S) (x₀ : A) (s₀ : S) where
   dce_answered : (q : Params) (field : List ℕ) (most : ℕ) (ma ia mb ib : List CallRequest) (u v : List Packet) (t b : Terms) (x : A) → IsAnswer q field most t b → Nil v
       → R t b x u [] b t s₀ → ia ≡ mb → ib ≡ [] → (let p = said_in q field in DceIs (Talking t b x) (Talking (calling_terms most p) (called_terms most p) s₀) ma ia mb ib u (v ++ []))
   dce_answered q field most ma ia mb ib u v t b x answer none talk there indicated =
-      let p : Params = said_in q field in
+      let p = said_in q field in
       dce_still (Talking t b x) (Talking (calling_terms most p) (called_terms most p) s₀) ma ia mb ib u v (
-        subst (λ (s : Terms). R t b x u v s (called_terms most p) s₀) answer.calling (rw (sym answer.called) (subst (λ (w : List Packet). R t b x u w b t s₀) (sym (nil_is v none)) talk)),
+        subst (λ s. R t b x u v s (called_terms most p) s₀) answer.calling (rw (sym answer.called) (subst (λ w. R t b x u w b t s₀) (sym (nil_is v none)) talk)),
         inr (there, indicated),
       )
 
@@ -226,14 +226,14 @@ module _ {A S : Type 0} (R : TalksOf A S) (x₀ : A) (s₀ : S) where
     dce_taken (Waiting mine) Unused ma ia mb ib u (Call n) v h = (
       tt,
       dce_still (Waiting mine) (Offered n.params) ma ia mb (ib ++ n ∷ []) u v
-          (h.0.1, subst (λ (w : List Packet). MaybeCall mb w) (sym (nil_is v h.1)) h.3, h.2, push_first ib n ma h.4 h.0.0, said ma n mine h.0.0 h.5),
+          (h.0.1, subst (λ w. MaybeCall mb w) (sym (nil_is v h.1)) h.3, h.2, push_first ib n ma h.4 h.0.0, said n h.0.0 h.5),
     )
     dce_taken (Waiting mine) Unused ma ia mb ib u other v h = absurd h.0
     dce_taken (Waiting mine) (Waiting q) ma ia mb ib u (Call n) v h =
-        (tt, dce_still (Waiting mine) (Offered n.params) ma ia mb (ib ++ n ∷ []) u v (h.0.1, maybe_call mb v h.1, h.2, push_first ib n ma h.3 h.0.0, said ma n mine h.0.0 h.4))
+        (tt, dce_still (Waiting mine) (Offered n.params) ma ia mb (ib ++ n ∷ []) u v (h.0.1, maybe_call mb v h.1, h.2, push_first ib n ma h.3 h.0.0, said n h.0.0 h.4))
     dce_taken (Waiting mine) (Waiting q) ma ia mb ib u other v h = absurd h.0
     dce_taken (Crossed mine) (Waiting q) ma ia mb ib u (Call n) v h =
-        (tt, dce_still (Crossed mine) (Offered n.params) ma ia mb (ib ++ n ∷ []) u v (h.0.1, h.1, h.2, push_first ib n ma h.3 h.0.0, said ma n mine h.0.0 h.4))
+        (tt, dce_still (Crossed mine) (Offered n.params) ma ia mb (ib ++ n ∷ []) u v (h.0.1, h.1, h.2, push_first ib n ma h.3 h.0.0, said n h.0.0 h.4))
     dce_taken (Crossed mine) (Waiting q) ma ia mb ib u other v h = absurd h.0
     dce_taken (Talking t b x) (Waiting q) ma ia mb ib u (Accept field most) v h = (h.0.0.allowed, dce_answered q field most ma ia mb ib u v t b x h.0.0 h.1 h.0.1 h.2 h.3)
     dce_taken (Talking t b x) (Waiting q) ma ia mb ib u other v h = absurd h.0
@@ -259,7 +259,7 @@ module _ {A S : Type 0} (R : TalksOf A S) (x₀ : A) (s₀ : S) where
   dce_answers (Waiting mine) theirs q field most ma ia mb ib u v agrees fresh h =
       let may = agrees mine h.4 in (
         h.0,
-        accept_behind mb mine (called_terms most q) (calling_terms most q) (λ w. R (calling_terms most q) (called_terms most q) x₀ [] w (called_terms most q) (calling_terms most q) s₀) field most v h.1 may.fits
+        accept_behind mb (λ w. R (calling_terms most q) (called_terms most q) x₀ [] w (called_terms most q) (calling_terms most q) s₀) v h.1 may.fits
             (fresh (calling_terms most q) (called_terms most q) may.terms.calling may.terms.called),
         h.2,
         h.3,
@@ -267,7 +267,7 @@ module _ {A S : Type 0} (R : TalksOf A S) (x₀ : A) (s₀ : S) where
   dce_answers (Crossed mine) theirs q field most ma ia mb ib u v agrees fresh h =
       let may = agrees mine h.4 in (
         h.0,
-        accept_first mine (called_terms most q) (calling_terms most q) (λ w. R (calling_terms most q) (called_terms most q) x₀ [] w (called_terms most q) (calling_terms most q) s₀) field most v h.1 may.fits
+        accept_first (λ w. R (calling_terms most q) (called_terms most q) x₀ [] w (called_terms most q) (calling_terms most q) s₀) v h.1 may.fits
             (fresh (calling_terms most q) (called_terms most q) may.terms.calling may.terms.called),
         h.2,
         h.3,
@@ -279,16 +279,16 @@ module _ {A S : Type 0} (R : TalksOf A S) (x₀ : A) (s₀ : S) where
     pub dce_moves : (a : Stage A) (y₂ : S) (o : List Packet) (ma ia mb ib : List CallRequest) (u v : List Packet) → ((w z : List Packet) (t₁ k₁ : Terms) (x : A) → R t₁ k₁ x w z t k y → R t₁ k₁ x w (z ++ o) t k y₂)
         → DceIs a (Talking t k y) ma ia mb ib u v → DceIs a (Talking t k y₂) ma ia mb ib u (v ++ o)
     dce_moves (Waiting p) y₂ o ma ia mb ib u v goes h =
-        (h.0, CallAccepted-map p t k (λ w. R k t x₀ [] w t k y) (λ w. R k t x₀ [] w t k y₂) o (λ w r. goes [] w k t x₀ r) mb v h.1, h.2, h.3)
+        (h.0, CallAccepted-map p t k (λ w. R k t x₀ [] w t k y₂) o (λ w r. goes [] w k t x₀ r) mb v h.1, h.2, h.3)
     dce_moves (Crossed p) y₂ o ma ia mb ib u v goes h =
-        (h.0, Accepted-map p t k (λ w. R k t x₀ [] w t k y) (λ w. R k t x₀ [] w t k y₂) o (λ w r. goes [] w k t x₀ r) v h.1, h.2, h.3)
+        (h.0, Accepted-map p t k (λ w. R k t x₀ [] w t k y₂) o (λ w r. goes [] w k t x₀ r) v h.1, h.2, h.3)
     dce_moves (Talking t₁ k₁ x) y₂ o ma ia mb ib u v goes h = (goes u v t₁ k₁ x h.0, h.1)
     dce_moves other y₂ o ma ia mb ib u v goes h = absurd h
 
     -- where that says so
     pub dce_some : (P : Type 0) (a : Stage A) (ma ia mb ib : List CallRequest) (u v : List Packet) → ((w z : List Packet) (t₁ k₁ : Terms) (x : A) → R t₁ k₁ x w z t k y → P) → DceIs a (Talking t k y) ma ia mb ib u v → P
-    dce_some P (Waiting p) ma ia mb ib u v so h = (let some = CallAccepted-some p t k (λ w. R k t x₀ [] w t k y) mb v h.1 in so [] some.0 k t x₀ some.1)
-    dce_some P (Crossed p) ma ia mb ib u v so h = (let some = Accepted-some p t k (λ w. R k t x₀ [] w t k y) v h.1 in so [] some.0 k t x₀ some.1)
+    dce_some P (Waiting p) ma ia mb ib u v so h = (let some = CallAccepted-some p t k mb v h.1 in so [] some.0 k t x₀ some.1)
+    dce_some P (Crossed p) ma ia mb ib u v so h = (let some = Accepted-some p t k v h.1 in so [] some.0 k t x₀ some.1)
     dce_some P (Talking t₁ k₁ x) ma ia mb ib u v so h = so u v t₁ k₁ x h.0
     dce_some P other ma ia mb ib u v so h = absurd h
 
@@ -310,7 +310,7 @@ IsGood K s = (s.error ≡ None) × K s.next.phase s.next.made s.next.indicated s
 module _ (K : Stage (At Stretch) → List CallRequest → List CallRequest → List Packet → Type 0) (m i : List CallRequest) where
   own_answered : (a : Phase) (mine : Params) (field : List ℕ) (most : ℕ) → may_answer mine (said_in mine field) ≡ true → (let q = said_in mine field in K (Talking (calling_terms most q) (called_terms most q) fresh_transfer) m i [])
       → IsGood K (is_answered a mine m i most (said_in mine field))
-  own_answered a mine field most may k = (let q = said_in mine field in subst (λ (c : Bool). IsGood K (if c then goes (calling_talk most q) m i [] else unexpected a m i)) (sym may) (refl, k))
+  own_answered a mine field most may k = (let q = said_in mine field in subst (λ c. IsGood K (if c then goes (calling_talk most q) m i [] else unexpected a m i)) (sym may) (refl, k))
 
   own_taken : (r : Role) (a : Phase) (p : Packet) → MayCome OwnFine a p → (let s = taken fresh_transfer own_next own_out r a m i p in K s.stage s.made s.indicated s.out) → IsGood K (phase_takes r a m i p)
   own_taken r Unused (Call n) may k = (refl, k)
@@ -327,10 +327,10 @@ module _ (K : Stage (At Stretch) → List CallRequest → List CallRequest → L
       → ((t b : Terms) (x : At Stretch) → a ≡ Talking t b x → (act : TransferAct) → (let s = transfer_acts t x act in (s.error ≡ None) × K (Talking t b s.next) m i s.out)) → IsGood K (phase_acts a m i act)
   own_done laws Unused (PlacesCall n) stays calls answers moves =
       cond_both (may_propose n.params) (goes (Waiting n.params) (m ++ n ∷ []) i (Call n ∷ [])) (goes Unused m i []) (IsGood K) (λ may. (refl, calls refl n may)) (λ _. (refl, stays))
-  own_done laws (Offered theirs) (AcceptsCall None most) stays calls answers moves = (refl, answers theirs refl theirs [] most (λ mine is. as_proposed laws mine theirs most is))
+  own_done laws (Offered theirs) (AcceptsCall None most) stays calls answers moves = (refl, answers theirs refl theirs [] most (λ mine is. as_proposed laws most is))
   own_done laws (Offered theirs) (AcceptsCall (Some answer) most) stays calls answers moves =
       cond_both (may_answer theirs answer.params) (goes (called_talk most answer.params) m i (Accept (field_for theirs answer) most ∷ [])) (goes (Offered theirs) m i []) (IsGood K)
-      (λ may. (refl, answers theirs refl answer.params (field_for theirs answer) most (λ mine is. as_answered laws mine theirs answer most is may))) (λ _. (refl, stays))
+      (λ may. (refl, answers theirs refl answer.params (field_for theirs answer) most (λ mine is. as_answered laws answer most is may))) (λ _. (refl, stays))
   own_done laws (Talking t b x) (Talks act) stays calls answers moves = moves t b x refl act
   own_done laws a act stays calls answers moves = (refl, stays)
 
@@ -347,7 +347,7 @@ pub record DteTalks {B : Type 0} (R : TalksOf (At Stretch) B) (y₀ : B) : Type 
   pub acts : (t b : Terms) (x : At Stretch) (u v : List Packet) (t₂ b₂ : Terms) (y : B) (act : TransferAct) → R t b x u v t₂ b₂ y
       → OwnTalk R t b (transfer_acts t x act) u v t₂ b₂ y
 
-module _ {B : Type 0} (R : TalksOf (At Stretch) B) (y₀ : B) (talks : DteTalks R y₀) (x : Connection) (b : Stage B) (mb ib : List CallRequest) (u : List Packet) where
+module _ {B : Type 0} {R : TalksOf (At Stretch) B} {y₀ : B} (talks : DteTalks R y₀) (x : Connection) (b : Stage B) (mb ib : List CallRequest) (u : List Packet) where
   abbrev OwnDte : List Packet → Stage (At Stretch) → List CallRequest → List CallRequest → List Packet → Type 0
   OwnDte v a m i o = JointOf R fresh_transfer y₀ a b m i mb ib (u ++ o) v
 
@@ -382,7 +382,7 @@ pub record DceTalks {A : Type 0} (R : TalksOf A (At Stretch)) (x₀ : A) : Type 
   pub acts : (t b : Terms) (x : A) (u v : List Packet) (t₂ b₂ : Terms) (y : At Stretch) (act : TransferAct) → R t b x u v t₂ b₂ y
       → OwnTalkBack R t b x u v t₂ b₂ (transfer_acts t₂ y act)
 
-module _ {A : Type 0} (R : TalksOf A (At Stretch)) (x₀ : A) (talks : DceTalks R x₀) (y : Connection) (a : Stage A) (ma ia : List CallRequest) (v : List Packet) where
+module _ {A : Type 0} {R : TalksOf A (At Stretch)} {x₀ : A} (talks : DceTalks R x₀) (y : Connection) (a : Stage A) (ma ia : List CallRequest) (v : List Packet) where
   abbrev OwnDce : List Packet → Stage (At Stretch) → List CallRequest → List CallRequest → List Packet → Type 0
   OwnDce u b m i o = JointOf R x₀ fresh_transfer a b ma ia m i u (v ++ o)
 
@@ -417,12 +417,12 @@ module _ {T : Type 0} (R : Terms → Terms → Stretch → List Packet → List 
 
   talk_takes : (t b : Terms) (x : At Stretch) (u : List Packet) (p : Packet) (v : List Packet) (t₂ b₂ : Terms) (y : At T) → Talk t b x u (p ∷ v) t₂ b₂ y → OwnTalk Talk t b (transfer_takes b.longest b.size x p) u v t₂ b₂ y
   talk_takes t b x u p v t₂ b₂ y h =
-      let good = own_takes (R t b) y₀ t b.longest b.size (own t b h.sound h.sound_back) x u p v y h.related in
+      let good = own_takes (R t b) y₀ t b.longest b.size (own t b h.sound h.sound_back) p v h.related in
       record { quiet = good.quiet; kept = record { there = h.there; back = h.back; sound = h.sound; sound_back = h.sound_back; related = good.kept } }
 
   talk_acts : (t b : Terms) (x : At Stretch) (u v : List Packet) (t₂ b₂ : Terms) (y : At T) (act : TransferAct) → Talk t b x u v t₂ b₂ y → OwnTalk Talk t b (transfer_acts t x act) u v t₂ b₂ y
   talk_acts t b x u v t₂ b₂ y act h =
-      let good = own_acts (R t b) y₀ t b.longest b.size (own t b h.sound h.sound_back) x u v y act h.related in
+      let good = own_acts (R t b) y₀ t b.longest b.size (own t b h.sound h.sound_back) act h.related in
       record { quiet = good.quiet; kept = record { there = h.there; back = h.back; sound = h.sound; sound_back = h.sound_back; related = good.kept } }
 
   pub own_dte_talks : DteTalks Talk (record { epoch = 0; side = Live y₀ })

@@ -1,6 +1,6 @@
 -- What our own circuit does between two restarts keeps what is kept of it and the other end, whatever kind of end that is.
 use Rattle.std.proofs.Common.{◌≡◌, ℕ, List, [], ◌∷◌, ◌++◌, Option, None, refl, sym, ◌∙◌}
-use Rattle.x25_handshakes.specs.{laws.Handshake.{Inner, Side, Live, Left, At, Step, live, left}, laws.Stretch.{Packet, Clear, ClearConf}}
+use Rattle.x25_handshakes.specs.{laws.Handshake.{Inner, Side, Live, Left, At, Step, live}, laws.Stretch.{Packet, Clear, ClearConf}}
 use Rattle.x25_handshakes.specs.laws.Calls.{Phase, Unused, Connection, call_takes, CallAct, call_acts, fresh_call}
 use Rattle.x25_handshakes.specs.laws.Channel.{lifted_call, in_p1, channel_side_takes, channel_takes, ChannelAct, Within, SendsClear, clears, channel_side_acts, channel_acts}
 use Rattle.x25_bits.specs.declared.role.Role.{Role}
@@ -45,19 +45,19 @@ module _ {T : Type 0} (gone : Connection → Type 0) (gone_there : T → Type 0)
   answers e (Left x) Clear = (refl, refl, own.none Clear)
   answers e (Left x) p = (refl, refl, own.none p)
 
-  pub channel_takes_good : (x : At Connection) (L : List Packet) (p : Packet) (K : List Packet) (y : At T) → Handshaken level x L (p ∷ K) y → Good (finds p (channel_takes r x p).error) (channel_takes r x p) L K y
-  channel_takes_good x L p K y h =
-      let s : Step (At Connection) Packet = channel_takes r x p in
-      (answered level Any tt own.empty x.epoch x.side p s.next s.out (finds p s.error) (answers x.epoch x.side p) L K y h).0
+  pub channel_takes_good : {x : At Connection} {L : List Packet} (p : Packet) (K : List Packet) {y : At T} → Handshaken level x L (p ∷ K) y → Good (finds p (channel_takes r x p).error) (channel_takes r x p) L K y
+  channel_takes_good {x} {L} p K {y} h =
+      let s = channel_takes r x p in
+      (answered level Any tt own.empty (answers x.epoch x.side p) K h).0
 
   own_clears : (e : ℕ) (x : Connection) (a : Phase) (L K : List Packet) (y : At T) → x.phase ≡ a → Handshaken level (live e x) L K y → Good (clears e x a).error (clears e x a) L K y
-  own_clears e x Unused L K y is h = stays level Any (live e x) L K y h
-  own_clears e x other L K y is h = leaves level Any Clear refl e x (own.called x (λ free. let no : other ≡ Unused = sym is ∙ free in cc)) L K y h
+  own_clears e x Unused L K y is h = stays level Any h
+  own_clears e x other L K y is h = leaves level Any Clear refl e x (own.called x (λ free. let no : other ≡ Unused = sym is ∙ free in cc)) h
 
   own_side_acts : (e : ℕ) (x : Side Connection) (L K : List Packet) (y : At T) (a : ChannelAct) → Handshaken level (record { epoch = e; side = x }) L K y → Good (channel_side_acts e x a).error (channel_side_acts e x a) L K y
   own_side_acts e (Live x) L K y (Within a) h = (acts_inside level Any e x _ _ _ (inside (λ n. n) refl e x (call_acts x a) [] (λ u v y h. own.acts x u v y a h)) L K y h).0
   own_side_acts e (Live x) L K y SendsClear h = own_clears e x x.phase L K y refl h
-  own_side_acts e (Left x) L K y a h = stays level Any (left e x) L K y h
+  own_side_acts e (Left x) L K y a h = stays level Any h
 
-  pub channel_acts_good : (x : At Connection) (L K : List Packet) (y : At T) (a : ChannelAct) → Handshaken level x L K y → Good (channel_acts x a).error (channel_acts x a) L K y
-  channel_acts_good x L K y a h = own_side_acts x.epoch x.side L K y a h
+  pub channel_acts_good : {x : At Connection} {L K : List Packet} {y : At T} (a : ChannelAct) → Handshaken level x L K y → Good (channel_acts x a).error (channel_acts x a) L K y
+  channel_acts_good {x} {L} {K} {y} a h = own_side_acts x.epoch x.side L K y a h

@@ -1,7 +1,7 @@
 -- What our own layer does keeps what is kept of it and the other end, whatever kind of end that is.
 use Rattle.std.proofs.Common.{◌≡◌, ℕ, List, [], ◌∷◌, ◌++◌, Option, None, Bool, true, false, if◌then◌else◌, refl, sym, ap, subst, ◌∙◌, ◌==◌, eq-eqb}
 use Rattle.std.proofs.{lemmas.Bool.{eqb-true}, lemmas.List.{append-nil}}
-use Rattle.x25_handshakes.specs.{laws.Handshake.{Side, Live, Left, At, Step, live, left}, laws.Stretch.{Packet}, laws.Calls.{Connection}}
+use Rattle.x25_handshakes.specs.{laws.Handshake.{Side, Live, Left, At, Step, live}, laws.Stretch.{Packet}, laws.Calls.{Connection}}
 use Rattle.x25_handshakes.specs.laws.Channel.{fresh_channel, channel_takes, ChannelAct, channel_acts}
 use Rattle.x25_handshakes.specs.laws.Layers.{LayerPacket, On, Restart, RestartConf, Channels, put, addressed, layer_side_takes, layer_takes, LayerAct, OnChannel, SendsRestart, layer_side_acts, layer_acts}
 use Rattle.x25_bits.specs.declared.role.Role.{Role}
@@ -39,11 +39,11 @@ put_kept {X} R x x₂ o L K M y h each others here k = at (k == h) refl
   where
     at : (c : Bool) → (k == h) ≡ c → R (if k == h then x₂ else x k) (on k (L ++ addressed h o)) (on k K) (y k)
     at true is =
-        subst (λ (j : ℕ). R (if j == h then x₂ else x j) (on j (L ++ addressed h o)) (on j K) (y j)) (sym (eqb-true k h is))
-        (rw (eq-eqb h h refl) (subst (λ (l : List Packet). R x₂ l (on h K) (y h)) (sym (on-append h L (addressed h o) ∙ ap (λ l. on h L ++ l) (on-same h o))) here))
+        subst (λ j. R (if j == h then x₂ else x j) (on j (L ++ addressed h o)) (on j K) (y j)) (sym (eqb-true k h is))
+        (rw (eq-eqb h h refl) (subst (λ l. R x₂ l (on h K) (y h)) (sym (on-append h L (addressed h o) ∙ ap (λ l. on h L ++ l) (on-same h o))) here))
     at false is =
-        rw is (subst (λ (l : List Packet). R (x k) l (on k K) (y k)) (sym (on-append k L (addressed h o) ∙ ap (λ l. on k L ++ l) (on-other k h o is) ∙ append-nil (on k L)))
-        (subst (λ (l : List Packet). R (x k) (on k L) l (y k)) (others k is) (each k)))
+        rw is (subst (λ l. R (x k) l (on k K) (y k)) (sym (on-append k L (addressed h o) ∙ ap (λ l. on k L ++ l) (on-other k h o is) ∙ append-nil (on k L)))
+        (subst (λ l. R (x k) (on k L) l (y k)) (others k is) (each k)))
 
 pub on-front : (h : ℕ) (p : Packet) (K : List LayerPacket) → on h (On h p ∷ K) ≡ p ∷ on h K
 on-front h p K = rw (eq-eqb h h refl) refl
@@ -90,16 +90,16 @@ module _ {Z : Type 0} (R : At Connection → List Packet → List Packet → Z �
   answers e (Left x) Restart = (refl, refl, own.none Restart)
   answers e (Left x) p = (refl, refl, own.none p)
 
-  pub layer_takes_good : (x : At Channels) (L : List LayerPacket) (p : LayerPacket) (K : List LayerPacket) (y : At (ℕ → Z)) → Handshaken level x L (p ∷ K) y → Good (finds p (layer_takes r x p).error) (layer_takes r x p) L K y
-  layer_takes_good x L p K y h =
-      let s : Step (At Channels) LayerPacket = layer_takes r x p in
-      (answered level Any tt (record { each = own.empty }) x.epoch x.side p s.next s.out (finds p s.error) (answers x.epoch x.side p) L K y h).0
+  pub layer_takes_good : {x : At Channels} {L : List LayerPacket} (p : LayerPacket) (K : List LayerPacket) {y : At (ℕ → Z)} → Handshaken level x L (p ∷ K) y → Good (finds p (layer_takes r x p).error) (layer_takes r x p) L K y
+  layer_takes_good {x} {L} p K {y} h =
+      let s = layer_takes r x p in
+      (answered level Any tt (record { each = own.empty }) (answers x.epoch x.side p) K h).0
 
   own_side_acts : (e : ℕ) (x : Side Channels) (L K : List LayerPacket) (y : At (ℕ → Z)) (a : LayerAct) → Handshaken level (record { epoch = e; side = x }) L K y → Good (layer_side_acts e x a).error (layer_side_acts e x a) L K y
   own_side_acts e (Live x) L K y (OnChannel h a) k =
       (acts_inside level Any e x _ _ _ (inside e x h (channel_acts (x h) a) [] _ (λ k K not. refl) (λ L K y all. own.acts (x h) (on h L) (on h K) (y h) a (all.each h))) L K y k).0
-  own_side_acts e (Live x) L K y SendsRestart k = leaves level Any Restart refl e x tt L K y k
-  own_side_acts e (Left x) L K y a k = stays level Any (left e x) L K y k
+  own_side_acts e (Live x) L K y SendsRestart k = leaves level Any Restart refl e x tt k
+  own_side_acts e (Left x) L K y a k = stays level Any k
 
-  pub layer_acts_good : (x : At Channels) (L K : List LayerPacket) (y : At (ℕ → Z)) (a : LayerAct) → Handshaken level x L K y → Good (layer_acts x a).error (layer_acts x a) L K y
-  layer_acts_good x L K y a h = own_side_acts x.epoch x.side L K y a h
+  pub layer_acts_good : {x : At Channels} {L K : List LayerPacket} {y : At (ℕ → Z)} (a : LayerAct) → Handshaken level x L K y → Good (layer_acts x a).error (layer_acts x a) L K y
+  layer_acts_good {x} {L} {K} {y} a h = own_side_acts x.epoch x.side L K y a h

@@ -2,10 +2,10 @@
 use Rattle.std.proofs.Common.{◌≡◌, false, true, [], ◌∷◌, None, refl, sym, subst, arith}
 use Rattle.x25_bits.specs.declared.role.Role.TheVariants.{Dte}
 use Rattle.x25_packet.specs.Marks.{with_q}
-use Rattle.x25_circuit.specs.{declared.params.Params.{Params}, Params.{default_params}, laws.ParamsLaws.{NoFieldIsKnown}}
+use Rattle.x25_circuit.specs.{Params.{default_params}, laws.ParamsLaws.{NoFieldIsKnown}}
 use Rattle.x25_circuit.specs.Message.{Last, no_part, piece_ground}
 use Rattle.x25_handshakes.specs.{laws.Stretch.{Data, Call, Accept, Send, Pull}, laws.Transfer.{Inside}, laws.PeerStretch.{Sends, Says}}
-use Rattle.x25_handshakes.specs.{laws.PeerTransfer.{InStretch}, laws.PeerJoined.{start, Acts, Takes, Does, Hears, IsReached, at_start, goes_on}}
+use Rattle.x25_handshakes.specs.{laws.PeerTransfer.{InStretch}, laws.PeerJoined.{start, Acts, Takes, Does, Hears, ReachedInCall, at_start, goes_on}}
 use Rattle.x25_handshakes.specs.{laws.Calls.{AcceptsCall}, laws.Channel.{Within}, laws.Layers.{On, Restart, RestartConf, OnChannel}}
 use Rattle.x25_handshakes.specs.{laws.PeerCalls.{PlacesCall}, laws.PeerChannel.{InCall}, laws.PeerLayer.{InChannel}}
 use Rattle.x25_handshakes.specs.rows.PeerRows.{terms, handed_down, pulled, heard, answered, taken, acknowledged, LatePeerMoves, proposal, layer_does, peer_hears, layer_does_itself, restarted, called, accepted, message, came, PeerLayerMoves}
@@ -14,12 +14,12 @@ use Rattle.x25_handshakes.specs.laws.Terms.{calling_terms}
 
 pub late_peer_moves : LatePeerMoves
 late_peer_moves =
-    let r1 : IsReached terms 1 128 handed_down = goes_on start handed_down at_start (Acts (Inside (Send (with_q false) (5 ∷ [])))) in
-    let r2 : IsReached terms 1 128 pulled = goes_on handed_down pulled r1 (Acts (Inside Pull)) in
-    let r3 : IsReached terms 1 128 heard = goes_on pulled heard r2 (Hears (Data 0 0 (Last (with_q false) (5 ∷ []))) [] refl) in
-    let r4 : IsReached terms 1 128 answered =
+    let r1 = goes_on start handed_down at_start (Acts (Inside (Send (with_q false) (5 ∷ [])))) in
+    let r2 = goes_on handed_down pulled r1 (Acts (Inside Pull)) in
+    let r3 = goes_on pulled heard r2 (Hears (Data 0 0 (Last (with_q false) (5 ∷ []))) [] refl) in
+    let r4 : ReachedInCall terms 1 128 answered =
     goes_on heard answered r3 (Does (InStretch (Sends (Last (with_q false) (7 ∷ [])) 0)) (record { rising = omega arith; taken = omega arith }, record { window = omega arith; fits = refl })) in
-    let r5 : IsReached terms 1 128 taken = goes_on answered taken r4 (Takes (Data 0 0 (Last (with_q false) (7 ∷ []))) [] refl) in
+    let r5 = goes_on answered taken r4 (Takes (Data 0 0 (Last (with_q false) (7 ∷ []))) [] refl) in
     record {
       reached = goes_on taken acknowledged r5 (Does (InStretch (Says true 1)) (record { rising = omega arith; taken = omega arith }));
       up = refl;
@@ -30,18 +30,18 @@ late_peer_moves =
 pub peer_layer_moves : NoFieldIsKnown → PeerLayerMoves
 peer_layer_moves no_field =
     let w1 = peer_hears layers.start Restart in
-    let r1 : layers.IsReached Dte w1 = layers.goes_on layers.start w1 layers.at_start (layers.Hears Restart [] refl) in
-    let r2 : layers.IsReached Dte restarted = layers.goes_on w1 restarted r1 (layers.Takes RestartConf [] refl) in
+    let r1 = layers.goes_on layers.start w1 layers.at_start (layers.Hears Restart [] refl) in
+    let r2 = layers.goes_on w1 restarted r1 (layers.Takes RestartConf [] refl) in
     let call = InChannel 1 (InCall (PlacesCall proposal)) in
     let w3 = layer_does restarted call in
-    let r3 : layers.IsReached Dte w3 = layers.goes_on restarted w3 r2 (layers.Does call refl) in
-    let r4 : layers.IsReached Dte called = layers.goes_on w3 called r3 (layers.Takes (On 1 (Call proposal)) [] refl) in
+    let r3 = layers.goes_on restarted w3 r2 (layers.Does call refl) in
+    let r4 = layers.goes_on w3 called r3 (layers.Takes (On 1 (Call proposal)) [] refl) in
     let accepts = OnChannel 1 (Within (AcceptsCall None 1)) in
     let w5 = layer_does_itself called accepts in
-    let r5 : layers.IsReached Dte w5 = layers.goes_on called w5 r4 (layers.Acts accepts) in
-    let r6 : layers.IsReached Dte accepted = layers.goes_on w5 accepted r5 (layers.Hears (On 1 (Accept [] 1)) [] refl) in
+    let r5 = layers.goes_on called w5 r4 (layers.Acts accepts) in
+    let r6 = layers.goes_on w5 accepted r5 (layers.Hears (On 1 (Accept [] 1)) [] refl) in
     let w7 = layer_does accepted message in
-    let fits = subst (λ (p : Params). piece_ground 1 (calling_terms 1 p).size no_part (Last (with_q false) (7 ∷ [])) ≡ None) (sym (no_field default_params)) refl in
-    let r7 : layers.IsReached Dte w7 =
+    let fits = subst (λ p. piece_ground 1 (calling_terms 1 p).size no_part (Last (with_q false) (7 ∷ [])) ≡ None) (sym (no_field default_params)) refl in
+    let r7 : layers.ReachedInLayers Dte w7 =
     layers.goes_on accepted w7 r6 (layers.Does message (record { rising = omega arith; taken = omega arith }, record { window = omega arith; fits = fits })) in
     record { reached = layers.goes_on w7 came r7 (layers.Takes (On 1 (Data 0 0 (Last (with_q false) (7 ∷ [])))) [] refl); calls = refl; up = refl }

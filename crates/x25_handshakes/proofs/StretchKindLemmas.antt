@@ -4,9 +4,9 @@ use Rattle.std.proofs.{lemmas.List.{append-nil}, lemmas.Bool.{cond_both}}
 use Rattle.x25_circuit.specs.{Message.{Piece, wholes}, declared.params.Params.{Params}, Params.{Proposal, may_propose, may_answer, field_for, said_in}}
 use Rattle.x25_circuit.specs.Notice.{CallRequest}
 use Rattle.x25_bits.specs.{declared.role.Role.{Role}, declared.role.Role.TheVariants.{Dte, Dce}}
-use Rattle.x25_handshakes.proofs.{TermsLemmas.{IsSound}, HandshakeLemmas.{meets}, StretchRelation.{InFlowControl, StretchesRelated, FollowsFrom, GoodStretch}}
+use Rattle.x25_handshakes.proofs.{TermsLemmas.{IsSound}, HandshakeLemmas.{meets}, StretchRelation.{InFlowControl, FollowsFrom}}
 use Rattle.x25_handshakes.proofs.{TransferRelation.{stretch_level, TransfersRelated}, ChannelRelation.{clear_mark, Seen}}
-use Rattle.x25_handshakes.proofs.{OwnTransferLemmas.{inner_mark}, StretchLemmas.{GoodStretch-takes, FollowsFrom-from_Dir}, ClaimLemmas.{BothTalk, Seen-joint}}
+use Rattle.x25_handshakes.proofs.{OwnTransferLemmas.{inner_mark}, StretchLemmas.{GoodStretch-takes, FollowsFrom-from_Dir}, ClaimLemmas.{Seen-joint}}
 use Rattle.x25_handshakes.proofs.{HistoryLemmas.{Change, Stays, MoreResets, alike}, TurnLemmas.{MayIndicate, WithinCall, IsHandled}}
 use Rattle.x25_handshakes.specs.laws.Handshake.{Inner, Side, Live, Left, At, state_of, Step, live, left}
 use Rattle.x25_handshakes.specs.laws.Stretch.{Packet, Data, Rr, Rnr, IntConf, Reset, ResetConf, Call, Accept, Clear, ClearConf, Stretch, fresh, stretch_does, stretch_fails, StretchAct, Send, Pull, Interrupt, pulls, stretch_acts, by_ground, data_ground, ack_ground, takes_data, takes_status, stretch_takes}
@@ -24,10 +24,10 @@ pub record IsKept {M : Type 0} (down up : Stretch → List M) : Type 0 where
   pub begins : (giver : Stretch) (u : List Packet) (taker : Stretch) → FollowsFrom giver u taker → IsPrefix (up taker) (down giver)
 
 lists_are : {M : Type 0} (d d₂ u u₂ : List M) → d ≡ d₂ → u ≡ u₂ → ◌≡◌ {A = Lists M} (record { down = d; up = u }) (record { down = d₂; up = u₂ })
-lists_are {M} d d₂ u u₂ p q = ap (λ (a : List M). record { down = a; up = u }) p ∙ ap (λ (a : List M). record { down = d₂; up = a }) q
+lists_are {M} d d₂ u u₂ p q = ap (λ a. record { down = a; up = u }) p ∙ ap (λ a. record { down = d₂; up = a }) q
 
-held_fresh : {M : Type 0} (down up : Stretch → List M) → IsKept down up → ◌≡◌ {A = Lists M} (record { down = down fresh; up = up fresh }) none
-held_fresh down up k = lists_are (down fresh) [] (up fresh) [] k.down_fresh k.up_fresh
+held_fresh : {M : Type 0} {down up : Stretch → List M} → IsKept down up → ◌≡◌ {A = Lists M} (record { down = down fresh; up = up fresh }) none
+held_fresh {down} {up} k = lists_are (down fresh) [] (up fresh) [] k.down_fresh k.up_fresh
 
 -- in p4, whatever the terms
 abbrev held_of : {M : Type 0} → (Stretch → List M) → (Stretch → List M) → At Stretch → Lists M
@@ -46,29 +46,29 @@ lifted_taken down up A e s x st (Some n) same may = Stays refl refl ([], append-
 
 transfer_taken : {M : Type 0} (down up : Stretch → List M) → IsKept down up → (A : List M → Type 0) (longest size e s : ℕ) (x : Side Stretch) (p : Packet)
     → ((a : Stretch) → x ≡ Live a → InFlowControl p → A (up (stretch_takes longest size a p).next)) → TransferChange down up A e (record { epoch = s; side = x }) (transfer_side_takes longest size s x p).next
-transfer_taken down up k A longest size e s (Live x) Reset f = MoreResets refl (omega arith) (held_fresh down up k)
+transfer_taken down up k A longest size e s (Live x) Reset f = MoreResets refl (omega arith) (held_fresh k)
 transfer_taken down up k A longest size e s (Live x) ResetConf f = still down up A e (live s x)
 transfer_taken down up k A longest size e s (Live x) (Call i) f = still down up A e (live s x)
 transfer_taken down up k A longest size e s (Live x) (Accept field most) f = still down up A e (live s x)
 transfer_taken down up k A longest size e s (Live x) Clear f = still down up A e (live s x)
 transfer_taken down up k A longest size e s (Live x) ClearConf f = still down up A e (live s x)
 transfer_taken down up k A longest size e s (Live x) other f = lifted_taken down up A e s x (stretch_takes longest size x other) (stretch_takes longest size x other).error (k.takes longest size x other) (f x refl tt)
-transfer_taken down up k A longest size e s (Left x) Reset f = MoreResets refl (omega arith) (held_fresh down up k)
-transfer_taken down up k A longest size e s (Left x) ResetConf f = MoreResets refl (omega arith) (held_fresh down up k)
+transfer_taken down up k A longest size e s (Left x) Reset f = MoreResets refl (omega arith) (held_fresh k)
+transfer_taken down up k A longest size e s (Left x) ResetConf f = MoreResets refl (omega arith) (held_fresh k)
 transfer_taken down up k A longest size e s (Left x) other f = still down up A e (left s x)
 
 -- in p4: the packet is taken in the stretch in which the other end is, or which it left
-in_its_stretch : {M : Type 0} (down up : Stretch → List M) → IsKept down up → (t b : Terms) → IsSound b → (e : ℕ) (x : At Stretch) (u : List Packet) (p : Packet) (v : List Packet) (z : At Stretch)
+in_its_stretch : {M : Type 0} {down up : Stretch → List M} → IsKept down up → {t b : Terms} → IsSound b → (e : ℕ) {x : At Stretch} {u : List Packet} (p : Packet) (v : List Packet) {z : At Stretch}
     → TransfersRelated t b x u (p ∷ v) z → TransferChange down up (λ l. (z.epoch ≡ x.epoch) × IsPrefix l (down (state_of z.side))) e x (transfer_takes b.longest b.size x p).next
-in_its_stretch down up k t b sound e x u p v z h =
+in_its_stretch {down} {up} k {t} {b} sound e {x} {u} p v {z} h =
     transfer_taken down up k (λ l. (z.epoch ≡ x.epoch) × IsPrefix l (down (state_of z.side))) b.longest b.size e x.epoch x.side p
     (λ a is open_p.
-    let hand = subst (λ (s : Side Stretch). TransfersRelated t b (record { epoch = x.epoch; side = s }) u (p ∷ v) z) is h in
+    let hand = subst (λ s. TransfersRelated t b (record { epoch = x.epoch; side = s }) u (p ∷ v) z) is h in
     let inside = meets (stretch_level t b) p (inner_mark p open_p) x.epoch z.epoch a z.side u v hand.hand in
-    let good : GoodStretch (StretchesRelated t b) (stretch_takes b.longest b.size a p) inside.1 inside.2 (state_of z.side) = GoodStretch-takes t b sound a inside.1 p inside.2 (state_of z.side) inside.3 in (
+    let good = GoodStretch-takes sound p inside.2 inside.3 in (
       sym inside.0,
       k.begins (state_of z.side) inside.2 (stretch_takes b.longest b.size a p).next
-          (FollowsFrom-from_Dir b (state_of z.side) inside.2 (inside.1 ++ (stretch_takes b.longest b.size a p).out) (stretch_takes b.longest b.size a p).next good.kept.back),
+          (FollowsFrom-from_Dir good.kept.back),
     ))
 
 -- outside of p4 nothing is held
@@ -82,9 +82,9 @@ connects down up k A e = Stays refl refl (down fresh, refl) (inl k.up_fresh)
 answered : {M : Type 0} (down up : Stretch → List M) → IsKept down up → (A : List M → Type 0) (e : ℕ) (a : Phase) (mine : Params) (m i : List CallRequest) (most : ℕ) (q : Params) → resets_in a ≡ 0 → held_in down up a ≡ none
     → Change A e 0 none e (resets_in (is_answered a mine m i most q).next.phase) (held_in down up (is_answered a mine m i most q).next.phase)
 answered {M} down up k A e a mine m i most q resets held =
-    cond_both (may_answer mine q) (goes (calling_talk most q) m i []) (unexpected a m i) (λ (s : Step Connection Packet). Change A e 0 none e (resets_in s.next.phase) (held_in down up s.next.phase))
+    cond_both (may_answer mine q) (goes (calling_talk most q) m i []) (unexpected a m i) (λ s. Change A e 0 none e (resets_in s.next.phase) (held_in down up s.next.phase))
     (λ _. connects down up k A e)
-    (λ _. rw resets (subst (λ (l : Lists M). Change A e 0 none e 0 l) (sym held) (idle down up A e)))
+    (λ _. rw resets (subst (λ l. Change A e 0 none e 0 l) (sym held) (idle down up A e)))
 
 -- the change by a packet within a call, where the other end is y
 phase_taken : {M : Type 0} (down up : Stretch → List M) → IsKept down up → (r : Role) (e : ℕ) (a : Phase) (m i : List CallRequest) (u : List Packet) (p : Packet) (v : List Packet) (y : Connection)
@@ -100,10 +100,10 @@ phase_taken down up k r e (Offered theirs) m i u p v y h = idle down up _ e
 phase_taken down up k r e (Crossed mine) m i u (Accept field most) v y h = answered down up k _ e (Crossed mine) mine m i most (said_in mine field) refl refl
 phase_taken down up k r e (Crossed mine) m i u other v y h = idle down up _ e
 phase_taken {M} down up k r e (Talking t b x) m i u p v y h =
-    let joint : BothTalk t b x u (p ∷ v) y.phase = Seen-joint r t b m i x y u p v h in
-    subst (λ (a : Phase). Change (λ (l : List M). (resets_in a ≡ x.epoch) × IsPrefix l (held_in down up a).down) e x.epoch (held_of down up x) e (transfer_takes b.longest b.size x p).next.epoch
+    let joint = Seen-joint r t b m i x y u p v h in
+    subst (λ a. Change (λ l. (resets_in a ≡ x.epoch) × IsPrefix l (held_in down up a).down) e x.epoch (held_of down up x) e (transfer_takes b.longest b.size x p).next.epoch
     (held_of down up (transfer_takes b.longest b.size x p).next)) (sym joint.phase)
-    (in_its_stretch down up k t b joint.talks.sound_back e x u p v joint.other joint.talks.related)
+    (in_its_stretch k joint.talks.sound_back e p v joint.talks.related)
 
 call_taken : {M : Type 0} (down up : Stretch → List M) → IsKept down up → (r : Role) (e : ℕ) (c : Connection) (u : List Packet) (p : Packet) (v : List Packet) (y : Connection)
     → clear_mark p ≡ Inner → Seen r c u (p ∷ v) y → WithinCall (of_stretch down up) (MayIndicate (of_stretch down up) c y) e c (call_takes r c p).next
@@ -129,13 +129,13 @@ unmoved down up a = (refl, alike (held_in down up a).down, refl)
 accepted : {M : Type 0} (down up : Stretch → List M) → IsKept down up → (theirs : Params) (m i : List CallRequest) (answer : Option Proposal) (most : ℕ) → Acted down up (Offered theirs) (accepts theirs m i answer most).next.phase
 accepted down up k theirs m i None most = (refl, (down fresh, refl), k.up_fresh)
 accepted down up k theirs m i (Some q) most =
-    cond_both (may_answer theirs q.params) (goes (called_talk most q.params) m i (Accept (field_for theirs q) most ∷ [])) (goes (Offered theirs) m i []) (λ (s : Step Connection Packet). Acted down up (Offered theirs) s.next.phase)
+    cond_both (may_answer theirs q.params) (goes (called_talk most q.params) m i (Accept (field_for theirs q) most ∷ [])) (goes (Offered theirs) m i []) (λ s. Acted down up (Offered theirs) s.next.phase)
     (λ _. (refl, (down fresh, refl), k.up_fresh))
     (λ _. unmoved down up (Offered theirs))
 
 phase_acted : {M : Type 0} (down up : Stretch → List M) → IsKept down up → (a : Phase) (m i : List CallRequest) (act : CallAct) → Acted down up a (phase_acts a m i act).next.phase
 phase_acted down up k Unused m i (PlacesCall n) =
-    cond_both (may_propose n.params) (goes (Waiting n.params) (m ++ n ∷ []) i (Call n ∷ [])) (goes Unused m i []) (λ (s : Step Connection Packet). Acted down up Unused s.next.phase)
+    cond_both (may_propose n.params) (goes (Waiting n.params) (m ++ n ∷ []) i (Call n ∷ [])) (goes Unused m i []) (λ s. Acted down up Unused s.next.phase)
     (λ _. (refl, ([], refl), refl))
     (λ _. unmoved down up Unused)
 phase_acted down up k Unused m i other = unmoved down up Unused
@@ -146,8 +146,8 @@ phase_acted down up k (Crossed mine) m i act = unmoved down up (Crossed mine)
 phase_acted down up k (Talking t b x) m i (Talks a) = transfer_acted down up k t b x.epoch x.side a
 phase_acted down up k (Talking t b x) m i other = unmoved down up (Talking t b x)
 
-handled : {M : Type 0} (down up : Stretch → List M) → IsKept down up → IsHandled (of_stretch down up)
-handled down up k = record { fresh = refl; takes = call_taken down up k; acts = λ c a. phase_acted down up k c.phase c.made c.indicated a }
+handled : {M : Type 0} {down up : Stretch → List M} → IsKept down up → IsHandled (of_stretch down up)
+handled {down} {up} k = record { fresh = refl; takes = call_taken down up k; acts = λ c a. phase_acted down up k c.phase c.made c.indicated a }
 
 -- messages and interrupts are such lists
 
@@ -173,9 +173,9 @@ record Quiet (x : Stretch) (s : Step Stretch Packet) : Type 0 where
   messages : IsPrefix x.down s.next.down × (s.next.up ≡ x.up)
   interrupts : IsPrefix x.int_down s.next.int_down × (s.next.int_up ≡ x.int_up)
 
-if_quiet : (x : Stretch) (b : Bool) (u v : Step Stretch Packet) → Quiet x u → Quiet x v → Quiet x (if b then u else v)
-if_quiet x true u v h g = h
-if_quiet x false u v h g = g
+if_quiet : {x : Stretch} (b : Bool) {u v : Step Stretch Packet} → Quiet x u → Quiet x v → Quiet x (if b then u else v)
+if_quiet true h g = h
+if_quiet false h g = g
 
 none_done : (x : Stretch) → Quiet x (stretch_does x [])
 none_done x = record { messages = (alike x.down, refl); interrupts = (alike x.int_down, refl) }
@@ -183,21 +183,21 @@ none_done x = record { messages = (alike x.down, refl); interrupts = (alike x.in
 pulled : (t : Terms) (x : Stretch) (ps : List Piece) → Quiet x (pulls t x ps)
 pulled t x [] = none_done x
 pulled t x (p ∷ ps) =
-    if_quiet x x.peer_ready _ _ (if_quiet x (nat_lt (length x.sent) (x.acked + t.window)) _ _ (record { messages = (alike x.down, refl); interrupts = (alike x.int_down, refl) }) (none_done x)) (none_done x)
+    if_quiet x.peer_ready (if_quiet (nat_lt (length x.sent) (x.acked + t.window)) (record { messages = (alike x.down, refl); interrupts = (alike x.int_down, refl) }) (none_done x)) (none_done x)
 
 acted : (t : Terms) (x : Stretch) (a : StretchAct) → Quiet x (stretch_acts t x a)
 acted t x (Send q xs) =
-    if_quiet x (nat_le (length xs) t.longest) _ _
-    (if_quiet x (nat_lt (wholes x.rest) 8) _ _ (record { messages = ((record { marks = q; user = xs } ∷ [], refl), refl); interrupts = (alike x.int_down, refl) }) (none_done x)) (none_done x)
+    if_quiet (nat_le (length xs) t.longest)
+    (if_quiet (nat_lt (wholes x.rest) 8) (record { messages = ((record { marks = q; user = xs } ∷ [], refl), refl); interrupts = (alike x.int_down, refl) }) (none_done x)) (none_done x)
 acted t x Pull = pulled t x x.rest
 acted t x (Interrupt xs) =
-    if_quiet x (nat_le 1 (length xs)) _ _
-    (if_quiet x (nat_le (length xs) 32) _ _ (if_quiet x x.int_out _ _ (none_done x) (record { messages = (alike x.down, refl); interrupts = ((xs ∷ [], refl), refl) })) (none_done x)) (none_done x)
+    if_quiet (nat_le 1 (length xs))
+    (if_quiet (nat_le (length xs) 32) (if_quiet x.int_out (none_done x) (record { messages = (alike x.down, refl); interrupts = ((xs ∷ [], refl), refl) })) (none_done x)) (none_done x)
 acted t x a = record { messages = (alike x.down, refl); interrupts = (alike x.int_down, refl) }
 
 pub messages_handled : IsHandled messages
-messages_handled = handled (λ x. x.down) (λ x. x.up) (record { down_fresh = refl; up_fresh = refl; takes = λ longest size x p. (taken longest size x p).0; acts = λ t x a. (acted t x a).messages; begins = λ giver u taker h. h.begins })
+messages_handled = handled (record { down_fresh = refl; up_fresh = refl; takes = λ longest size x p. (taken longest size x p).0; acts = λ t x a. (acted t x a).messages; begins = λ giver u taker h. h.begins })
 
 pub interrupts_handled : IsHandled interrupts
 interrupts_handled =
-    handled (λ x. x.int_down) (λ x. x.int_up) (record { down_fresh = refl; up_fresh = refl; takes = λ longest size x p. (taken longest size x p).1; acts = λ t x a. (acted t x a).interrupts; begins = λ giver u taker h. h.int_begins })
+    handled (record { down_fresh = refl; up_fresh = refl; takes = λ longest size x p. (taken longest size x p).1; acts = λ t x a. (acted t x a).interrupts; begins = λ giver u taker h. h.int_begins })

@@ -8,8 +8,8 @@ use Rattle.x25_handshakes.specs.{laws.Stretch.{Packet, Stretch, fresh, StretchAc
 use Rattle.x25_handshakes.specs.laws.Handshake.{Step}
 use Rattle.x25_handshakes.specs.laws.Terms.{Terms}
 
-pub StretchesRelated-flip : (t b : Terms) (x : Stretch) (u v : List Packet) (y : Stretch) → StretchesRelated t b x u v y → StretchesRelated b t y v u x
-StretchesRelated-flip t b x u v y h = record { there = h.back; back = h.there; told = h.told_back; told_back = h.told }
+pub StretchesRelated-flip : {t b : Terms} {x : Stretch} {u v : List Packet} {y : Stretch} → StretchesRelated t b x u v y → StretchesRelated b t y v u x
+StretchesRelated-flip h = record { there = h.back; back = h.there; told = h.told_back; told_back = h.told }
 
 pub StretchesRelated-fresh : (t b : Terms) → StretchesRelated t b fresh [] [] fresh
 StretchesRelated-fresh t b = record { there = none t; back = none b; told = record { acks = refl; ready = refl }; told_back = record { acks = refl; ready = refl } }
@@ -29,21 +29,20 @@ StretchesRelated-fresh t b = record { there = none t; back = none b; told = reco
 kept : (t b : Terms) (x : Stretch) (u v : List Packet) (y : Stretch) → IsSound b → StretchesRelated t b x u v y → Kept t b.longest b.size x u v (as_peer_stretch y)
 kept t b x u v y sound h =
     let room = h.back.acks.room in
-    let most = sound.window in
     record {
       there = record { line = h.there.line; acks = record { acks = h.there.acks; late = omega arith }; ints = h.there.ints; text = h.there.text };
       back = record {
         line = h.back.line;
-        acks = record { room = omega (arith, room, most); acks = h.back.acks.acks };
+        acks = record { room = omega (arith, room, sound.window); acks = h.back.acks.acks };
         ints = h.back.ints;
         text = record { sound = AreSound-front b.longest b.size no_part y.sent y.rest h.back.text.fits; up = h.back.up };
       };
     }
 
 -- it stays as it was
-goes_on : (t b : Terms) (x : Stretch) (u v : List Packet) (y : Stretch) (s : Step Stretch Packet) (w : List Packet) → StretchesRelated t b x u v y → Good t b.longest b.size s u w (as_peer_stretch y) → Told s.next w y → Told y (u ++ s.out) s.next
+goes_on : {t b : Terms} {x : Stretch} {u v : List Packet} {y : Stretch} {s : Step Stretch Packet} {w : List Packet} → StretchesRelated t b x u v y → Good t b.longest b.size s u w (as_peer_stretch y) → Told s.next w y → Told y (u ++ s.out) s.next
     → GoodStretch (StretchesRelated t b) s u w y
-goes_on t b x u v y s w h good told told_back =
+goes_on h good told told_back =
     let there = good.kept.there in
     let back = good.kept.back in
     record {
@@ -59,18 +58,18 @@ goes_on t b x u v y s w h good told told_back =
 pub GoodStretch-acts : (t b : Terms) → IsSound t → IsSound b → (x : Stretch) (u v : List Packet) (y : Stretch) (a : StretchAct) → StretchesRelated t b x u v y → GoodStretch (StretchesRelated t b) (stretch_acts t x a) u v y
 GoodStretch-acts t b st sb x u v y a h =
     let told = tells_act t x u v y a h.told h.told_back in
-    goes_on t b x u v y (stretch_acts t x a) v h (Good-acts t b.longest b.size st.size x u v (as_peer_stretch y) a (kept t b x u v y sb h)) told.0 told.1
+    goes_on h (Good-acts t b.longest b.size st.size x u v (as_peer_stretch y) a (kept t b x u v y sb h)) told.0 told.1
 
-pub GoodStretch-takes : (t b : Terms) → IsSound b → (x : Stretch) (u : List Packet) (p : Packet) (v : List Packet) (y : Stretch) → StretchesRelated t b x u (p ∷ v) y → GoodStretch (StretchesRelated t b) (stretch_takes b.longest b.size x p) u v y
-GoodStretch-takes t b sound x u p v y h =
-    let good = Good-takes t b.longest b.size x u p v (as_peer_stretch y) (kept t b x u (p ∷ v) y sound h) in
+pub GoodStretch-takes : {t b : Terms} → IsSound b → {x : Stretch} {u : List Packet} (p : Packet) (v : List Packet) {y : Stretch} → StretchesRelated t b x u (p ∷ v) y → GoodStretch (StretchesRelated t b) (stretch_takes b.longest b.size x p) u v y
+GoodStretch-takes {t} {b} sound {x} {u} p v {y} h =
+    let good = Good-takes p v (kept t b x u (p ∷ v) y sound h) in
     let told = tells_take b.longest b.size x u p v y good.quiet h.told h.told_back in
-    goes_on t b x u (p ∷ v) y (stretch_takes b.longest b.size x p) v h good told.0 told.1
+    goes_on h good told.0 told.1
 
 -- ---- what is claimed
 
-pub FollowsFrom-from_Dir : (t : Terms) (x : Stretch) (u v : List Packet) (y : Stretch) → Direction t x u v y → FollowsFrom x u y
-FollowsFrom-from_Dir t x u v y h =
+pub FollowsFrom-from_Dir : {t : Terms} {x : Stretch} {u v : List Packet} {y : Stretch} → Direction t x u v y → FollowsFrom x u y
+FollowsFrom-from_Dir {x} {u} {y} h =
     let down : x.down ≡ carried y.taken ++ carried_from (joining no_part y.taken) (pieces u ++ x.rest) =
     h.text.messages ∙ ap (λ l. carried (l ++ x.rest)) h.line.flow ∙ ap carried (append_assoc y.taken (pieces u) x.rest)
     ∙ carried-append no_part y.taken (pieces u ++ x.rest)

@@ -12,8 +12,8 @@ pub record IsSound (t : Terms) : Type 0 where
   pub window : t.window ≤ 7
   pub size : 1 ≤ t.size
 
-sound : (most : ℕ) (t : agreed.Terms) → AreTerms t → IsSound (with_longest most t)
-sound most t h = record { least = h.window_least; window = h.window_most; size = let least = h.size_least in omega arith }
+sound : (most : ℕ) {t : agreed.Terms} → AreTerms t → IsSound (with_longest most t)
+sound most h = record { least = h.window_least; window = h.window_most; size = let least = h.size_least in omega arith }
 
 -- of what each end sends
 pub record AreSound (most : ℕ) (q : Params) : Type 0 where
@@ -23,7 +23,7 @@ pub record AreSound (most : ℕ) (q : Params) : Type 0 where
 pub answer_sound : Laws → (most : ℕ) (p q : Params) → may_propose p ≡ true → may_answer p q ≡ true → AreSound most q
 answer_sound laws most p q proposed answered =
     let terms = laws.terms q (laws.answer p q proposed answered) in
-    record { called = sound most (agreed.called_terms q) terms.0; calling = sound most (agreed.calling_terms q) terms.1 }
+    record { called = sound most terms.0; calling = sound most terms.1 }
 
 pub answer_read : Laws → (p : Params) (q : Proposal) → may_propose p ≡ true → may_answer p q.params ≡ true → said_in p (field_for p q) ≡ q.params
 answer_read laws p q proposed answered = laws.said p q (laws.answer p q.params proposed answered)

@@ -61,4 +61,4 @@ carried-cut (suc n) size q xs j =
     cond_both (nat_le (length xs) size) (Last q xs ∷ []) (More (with_q q.q) (take size xs) ∷ cut_from n size q (drop size xs)) (λ ps. carried_from j ps ≡ record { marks = q; user = j.user ++ xs } ∷ [])
     (λ _. refl)
     (λ _. carried-cut n size q (drop size xs) (record { begun = Some q.q; user = j.user ++ take size xs })
-    ∙ ap (λ (l : List ℕ). record { marks = q; user = l } ∷ []) (append_assoc j.user (take size xs) (drop size xs) ∙ ap (λ l. j.user ++ l) (take-append-drop size xs)))
+    ∙ ap (λ l. record { marks = q; user = l } ∷ []) (append_assoc j.user (take size xs) (drop size xs) ∙ ap (λ l. j.user ++ l) (take-append-drop size xs)))

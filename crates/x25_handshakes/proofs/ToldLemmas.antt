@@ -17,12 +17,12 @@ abbrev BothTold : Step Stretch Packet → List Packet → List Packet → Stretc
 BothTold s u v y = Told s.next v y × Told y (u ++ s.out) s.next
 
 -- a step that sends nothing
-told_still : (x : Stretch) (u v : List Packet) (y : Stretch) → Told x v y → Told y u x → BothTold (stretch_does x []) u v y
-told_still x u v y told told_back = (told, subst (λ (w : List Packet). Told y w x) (sym (append-nil u)) told_back)
+told_still : {x : Stretch} {u v : List Packet} {y : Stretch} → Told x v y → Told y u x → BothTold (stretch_does x []) u v y
+told_still {x} {u} {y} told told_back = (told, subst (λ w. Told y w x) (sym (append-nil u)) told_back)
 
 -- a packet that tells nothing new
-told_pass : (x : Stretch) (u : List Packet) (y : Stretch) (q : Packet) → ack_in q ≡ None → ((b : Bool) → readied b q ≡ b) → Told y u x → Told y (u ++ q ∷ []) x
-told_pass x u y q none same told = record {
+told_pass : {x : Stretch} {u : List Packet} {y : Stretch} (q : Packet) → ack_in q ≡ None → ((b : Bool) → readied b q ≡ b) → Told y u x → Told y (u ++ q ∷ []) x
+told_pass {u} {y} q none same told = record {
   acks = heard_push y.acked u q ∙ ap (λ r. hears (heard y.acked u) r) none ∙ told.acks;
   ready = readied_push y.peer_ready u q ∙ same (all_readied y.peer_ready u) ∙ told.ready;
 }
@@ -48,38 +48,38 @@ told_sends t x u v y q xs told told_back =
     let sent : Stretch = record x { rest = x.rest ++ cut t.size q xs; down = x.down ++ record { marks = q; user = xs } ∷ [] } in
     cond_both (nat_le (length xs) t.longest) (if nat_lt (wholes x.rest) 8 then stretch_does sent [] else stretch_does x []) (stretch_does x []) (λ s. BothTold s u v y)
     (λ _. cond_both (nat_lt (wholes x.rest) 8) (stretch_does sent []) (stretch_does x []) (λ s. BothTold s u v y)
-    (λ _. told_still sent u v y (record { acks = told.acks; ready = told.ready }) (record { acks = told_back.acks; ready = told_back.ready }))
-    (λ _. told_still x u v y told told_back))
-    (λ _. told_still x u v y told told_back)
+    (λ _. told_still (record { acks = told.acks; ready = told.ready }) (record { acks = told_back.acks; ready = told_back.ready }))
+    (λ _. told_still told told_back))
+    (λ _. told_still told told_back)
 
 told_pulls : (t : Terms) (x : Stretch) (u v : List Packet) (y : Stretch) (ps : List Piece) → Told x v y → Told y u x → BothTold (pulls t x ps) u v y
-told_pulls t x u v y [] told told_back = told_still x u v y told told_back
+told_pulls t x u v y [] told told_back = told_still told told_back
 told_pulls t x u v y (p ∷ ps) told told_back =
     let after : Stretch = record x { sent = x.sent ++ p ∷ []; rest = ps } in
-    let d : Packet = Data (length x.sent % 8) (length x.taken % 8) p in
+    let d = Data (length x.sent % 8) (length x.taken % 8) p in
     cond_both x.peer_ready (if nat_lt (length x.sent) (x.acked + t.window) then stretch_does after (d ∷ []) else stretch_does x []) (stretch_does x []) (λ s. BothTold s u v y)
     (λ _. cond_both (nat_lt (length x.sent) (x.acked + t.window)) (stretch_does after (d ∷ [])) (stretch_does x []) (λ s. BothTold s u v y)
     (λ _. (
       record { acks = told.acks; ready = told.ready },
       told_number after u y d (length x.taken) 0 told_back.acks (omega arith) (omega arith) refl told_back.ready,
     ))
-    (λ _. told_still x u v y told told_back))
-    (λ _. told_still x u v y told told_back)
+    (λ _. told_still told told_back))
+    (λ _. told_still told told_back)
 
 told_interrupts : (x : Stretch) (u v : List Packet) (y : Stretch) (xs : List ℕ) → Told x v y → Told y u x → BothTold (interrupts x xs) u v y
 told_interrupts x u v y xs told told_back =
     let after : Stretch = record x { int_out = true; int_down = x.int_down ++ xs ∷ [] } in
-    let next : Step Stretch Packet = stretch_does after (Int xs ∷ []) in
+    let next = stretch_does after (Int xs ∷ []) in
     cond_both (nat_le 1 (length xs)) (if nat_le (length xs) 32 then (if x.int_out then stretch_does x [] else next) else stretch_does x []) (stretch_does x []) (λ s. BothTold s u v y)
     (λ _. cond_both (nat_le (length xs) 32) (if x.int_out then stretch_does x [] else next) (stretch_does x []) (λ s. BothTold s u v y)
     (λ _. cond_both x.int_out (stretch_does x []) next (λ s. BothTold s u v y)
-    (λ _. told_still x u v y told told_back)
+    (λ _. told_still told told_back)
     (λ _. (
       record { acks = told.acks; ready = told.ready },
-      told_pass after u y (Int xs) refl (λ b. refl) (record { acks = told_back.acks; ready = told_back.ready }),
+      told_pass (Int xs) refl (λ b. refl) (record { acks = told_back.acks; ready = told_back.ready }),
     )))
-    (λ _. told_still x u v y told told_back))
-    (λ _. told_still x u v y told told_back)
+    (λ _. told_still told told_back))
+    (λ _. told_still told told_back)
 
 pub tells_act : (t : Terms) (x : Stretch) (u v : List Packet) (y : Stretch) (a : StretchAct) → Told x v y → Told y u x → BothTold (stretch_acts t x a) u v y
 tells_act t x u v y (Send q xs) told told_back = told_sends t x u v y q xs told told_back
@@ -100,10 +100,10 @@ no_ground : (g : Option ℕ) (x : Stretch) (good : Step Stretch Packet) (P : Ste
 no_ground None x good P quiet h = h
 no_ground (Some n) x good P quiet h = absurd (none-some n (sym quiet))
 
-told_take_conf : (x : Stretch) (u v : List Packet) (y : Stretch) (b : Bool) → (if b then stretch_does (record x { int_out = false }) [] else stretch_fails x 43).error ≡ None → Told x v y → Told y u x
+told_take_conf : {x : Stretch} {u v : List Packet} {y : Stretch} (b : Bool) → (if b then stretch_does (record x { int_out = false }) [] else stretch_fails x 43).error ≡ None → Told x v y → Told y u x
     → BothTold (if b then stretch_does (record x { int_out = false }) [] else stretch_fails x 43) u v y
-told_take_conf x u v y true quiet told told_back = told_still (record x { int_out = false }) u v y (record { acks = told.acks; ready = told.ready }) (record { acks = told_back.acks; ready = told_back.ready })
-told_take_conf x u v y false quiet told told_back = absurd (none-some 43 (sym quiet))
+told_take_conf {x} {u} {v} {y} true quiet told told_back = told_still (record { acks = told.acks; ready = told.ready }) (record { acks = told_back.acks; ready = told_back.ready })
+told_take_conf false quiet told told_back = absurd (none-some 43 (sym quiet))
 
 pub tells_take : (longest size : ℕ) (x : Stretch) (u : List Packet) (p : Packet) (v : List Packet) (y : Stretch) → (stretch_takes longest size x p).error ≡ None → Told x (p ∷ v) y → Told y u x
     → BothTold (stretch_takes longest size x p) u v y
@@ -114,13 +114,13 @@ tells_take longest size x u (Data s r p) v y quiet told told_back =
     )
 tells_take longest size x u (Rr r) v y quiet told told_back =
     no_ground (ack_ground x r) x (takes_status x true r) (λ g. BothTold g u v y) quiet
-    (told_still (takes_status x true r).next u v y (record { acks = told.acks; ready = told.ready }) (record { acks = told_back.acks; ready = told_back.ready }))
+    (told_still (record { acks = told.acks; ready = told.ready }) (record { acks = told_back.acks; ready = told_back.ready }))
 tells_take longest size x u (Rnr r) v y quiet told told_back =
     no_ground (ack_ground x r) x (takes_status x false r) (λ g. BothTold g u v y) quiet
-    (told_still (takes_status x false r).next u v y (record { acks = told.acks; ready = told.ready }) (record { acks = told_back.acks; ready = told_back.ready }))
+    (told_still (record { acks = told.acks; ready = told.ready }) (record { acks = told_back.acks; ready = told_back.ready }))
 tells_take longest size x u (Int xs) v y quiet told told_back = (
   record { acks = told.acks; ready = told.ready },
-  told_pass (record x { int_up = x.int_up ++ xs ∷ [] }) u y IntConf refl (λ b. refl) (record { acks = told_back.acks; ready = told_back.ready }),
+  told_pass IntConf refl (λ b. refl) (record { acks = told_back.acks; ready = told_back.ready }),
 )
-tells_take longest size x u IntConf v y quiet told told_back = told_take_conf x u v y x.int_out quiet (record { acks = told.acks; ready = told.ready }) told_back
+tells_take longest size x u IntConf v y quiet told told_back = told_take_conf x.int_out quiet (record { acks = told.acks; ready = told.ready }) told_back
 tells_take longest size x u p v y quiet told told_back = absurd (none-some 0 (sym quiet))

@@ -38,16 +38,16 @@ change_map A B c s l c₂ s₂ l₂ f (Stays p q down (inr new)) = Stays p q dow
 change_map A B c s l c₂ s₂ l₂ f (MoreResets p q empty) = MoreResets p q empty
 change_map A B c s l c₂ s₂ l₂ f (MoreClears p empty) = MoreClears p empty
 
-lifted : {M : Type 0} (kind : Kind M) (A : List M → Type 0) (e : ℕ) (c : Connection) (s : Step Connection Packet) (n : Option ℕ) → WithinCall kind A e c s.next → ChannelChange kind A (live e c) (lifted_call e s n).next
-lifted kind A e c s None h = h
-lifted kind A e c s (Some n) h = h
+lifted : {M : Type 0} (kind : Kind M) {A : List M → Type 0} {e : ℕ} {c : Connection} (s : Step Connection Packet) (n : Option ℕ) → WithinCall kind A e c s.next → ChannelChange kind A (live e c) (lifted_call e s n).next
+lifted kind s None h = h
+lifted kind s (Some n) h = h
 
 channel_taken : {M : Type 0} (kind : Kind M) → IsHandled kind → (A : List M → Type 0) (r : Role) (e : ℕ) (x : Side Connection) (p : Packet)
     → ((c : Connection) → x ≡ Live c → clear_mark p ≡ Inner → WithinCall kind A e c (call_takes r c p).next)
     → ChannelChange kind A (record { epoch = e; side = x }) (channel_side_takes r e x p).next
 channel_taken kind h A r e (Live c) Clear f = MoreClears (omega arith) h.fresh
 channel_taken kind h A r e (Live c) ClearConf f = still kind A (live e c)
-channel_taken kind h A r e (Live c) other f = lifted kind A e c (call_takes r c other) (call_takes r c other).error (f c refl refl)
+channel_taken kind h A r e (Live c) other f = lifted kind (call_takes r c other) (call_takes r c other).error (f c refl refl)
 channel_taken kind h A r e (Left c) Clear f = MoreClears (omega arith) h.fresh
 channel_taken kind h A r e (Left c) ClearConf f = MoreClears (omega arith) h.fresh
 channel_taken kind h A r e (Left c) other f = still kind A (live e c)
@@ -60,7 +60,7 @@ channel_acted : {M : Type 0} (kind : Kind M) → IsHandled kind → (A : List M 
     → ChannelChange kind A (record { epoch = e; side = x }) (channel_side_acts e x a).next
 channel_acted kind h A e (Live c) (Within a) =
     let did = h.acts c a in
-    lifted kind A e c (call_acts c a) (call_acts c a).error (Stays refl did.0 did.1 (inl did.2))
+    lifted kind (call_acts c a) (call_acts c a).error (Stays refl did.0 did.1 (inl did.2))
 channel_acted kind h A e (Live c) SendsClear = channel_cleared kind A e c c.phase
 channel_acted kind h A e (Left c) a = still kind A (live e c)
 
@@ -68,7 +68,7 @@ put_changed : {M : Type 0} (kind : Kind M) (A : List M → Type 0) (x : Channels
 put_changed kind A x h z k f = test (k == h) refl
   where
     test : (b : Bool) → (k == h) ≡ b → ChannelChange kind A (x k) (if b then z else x k)
-    test true is = subst (λ (j : ℕ). ChannelChange kind A (x j) z) (sym (eqb-true k h is)) (f (eqb-true k h is))
+    test true is = subst (λ j. ChannelChange kind A (x j) z) (sym (eqb-true k h is)) (f (eqb-true k h is))
     test false is = still kind A (x k)
 
 pub turn_still : {M : Type 0} (kind : Kind M) (A : List M → Type 0) (k : ℕ) (x : At Channels) → Turn kind A k x x
@@ -91,26 +91,26 @@ turn_acted kind handled A k e (Live x) (OnChannel h a) = Remained refl (put_chan
 turn_acted kind handled A k e (Live x) SendsRestart = Remained refl (still kind A (x k))
 turn_acted kind handled A k e (Left x) a = Remained refl (still kind A (x k))
 
-pub Ends-meet : (r : Role) (x : At Channels) (L K : List LayerPacket) (y : Side (At Channels)) → EndsRelated r (Live x) L K y → (w : List LayerPacket) × LayersRelated r x w K (state_of y)
-Ends-meet r x L K (Live z) h = (L, h)
-Ends-meet r x L K (Left z) h = (h.0, h.2)
+pub Ends-meet : (r : Role) (x : At Channels) (L : List LayerPacket) {K : List LayerPacket} (y : Side (At Channels)) → EndsRelated r (Live x) L K y → (w : List LayerPacket) × LayersRelated r x w K (state_of y)
+Ends-meet r x L (Live z) h = (L, h)
+Ends-meet r x L (Left z) h = (h.0, h.2)
 
 -- A packet of a call is taken only in the epochs of the other end, live or stopped; so what it has this end hand up, the other end handed down under the same name.
 pub taken_in_its_epoch : {M : Type 0} (kind : Kind M) → IsHandled kind → (r : Role) (rs : ℕ) (x : Channels) (k : ℕ) (c : Connection) (p : Packet) (L K : List LayerPacket)
     (far : Side (At Channels)) (history : Name → Lists M) → clear_mark p ≡ Inner → (x k).side ≡ Live c → EndsRelated r (Live (live rs x)) L (On k p ∷ K) far
     → WithinCall kind (MayHandUp (name_at kind (live rs x) k) (channel_view kind (state_of far) k history)) (x k).epoch c (call_takes r c p).next
 taken_in_its_epoch kind handled r rs x k c p L K far history inner side top =
-    let layers = Ends-meet r (live rs x) L (On k p ∷ K) far top in
-    let y : At Channels = state_of far in
+    let layers = Ends-meet r (live rs x) L far top in
+    let y = state_of far in
     let channels = meets (channels_level r) (On k p) refl rs y.epoch x y.side layers.0 K layers.1.hand in
-    let v : List Packet = on k channels.2 in
-    let u : List Packet = on k channels.1 in
-    let z : At Connection = circuit_at y k in
-    let is_x : x k ≡ live (x k).epoch c = ap (λ (s : Side Connection). record { epoch = (x k).epoch; side = s }) side in
+    let v = on k channels.2 in
+    let u = on k channels.1 in
+    let z = circuit_at y k in
+    let is_x : x k ≡ live (x k).epoch c = ap (λ s. record { epoch = (x k).epoch; side = s }) side in
     let channel : ChannelRelated r (live (x k).epoch c) u (p ∷ v) z =
-    subst (λ (j : At Connection). ChannelRelated r j u (p ∷ v) z) is_x (rw (sym (on-front k p channels.2)) (channels.3.each k)) in
+    subst (λ j. ChannelRelated r j u (p ∷ v) z) is_x (rw (sym (on-front k p channels.2)) (channels.3.each k)) in
     let call = meets (connection_level r) p inner (x k).epoch z.epoch c z.side u v channel.hand in
-    let counted : kind.resets c ≡ kind.resets (state_of (x k).side) = ap (λ (s : Side Connection). kind.resets (state_of s)) (sym side) in
+    let counted : kind.resets c ≡ kind.resets (state_of (x k).side) = ap (λ s. kind.resets (state_of s)) (sym side) in
     let n : Connection = (call_takes r c p).next in
     change_map (MayIndicate kind c (state_of z.side)) (MayHandUp (name_at kind (live rs x) k) (channel_view kind (state_of far) k history))
     (x k).epoch (kind.resets c) (kind.held c) (x k).epoch (kind.resets n) (kind.held n)

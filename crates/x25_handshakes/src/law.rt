@@ -1,6 +1,6 @@
 ghost use Rattle.std.specs.Prelude.{◌≡◌, List, None};
 ghost use Rattle.x25_handshakes.specs.laws.LawsBelow.{Laws};
-ghost use Rattle.x25_handshakes.specs.laws.Layers.{Event, pair_run, pair_start};
+ghost use Rattle.x25_handshakes.specs.laws.Layers.{LayerEvent, pair_run, pair_start};
 ghost use Rattle.x25_handshakes.specs.laws.Histories.{messages, interrupts, calls, AreInOrder};
 ghost use Rattle.x25_handshakes.specs.laws.Arrivals.{AllArrives};
 ghost use Rattle.x25_handshakes.specs.laws.Acknowledged.{AcknowledgedAreHandedUp};
@@ -24,7 +24,7 @@ fn laws_below()
 /// up is a beginning of what the other handed down, of messages, of interrupts and of calls; and all of it where
 /// nothing is on the way and nothing waits, with the stretch open at both ends.
 pub fn keeps_order()
-    ensures quiet { (events : List Event) → (pair_run events pair_start).error ≡ None }
+    ensures quiet { (events : List LayerEvent) → (pair_run events pair_start).error ≡ None }
     ensures messages { AreInOrder messages }
     ensures interrupts { AreInOrder interrupts }
     ensures calls { AreInOrder calls }

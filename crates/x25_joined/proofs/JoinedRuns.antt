@@ -19,7 +19,7 @@ use Rattle.x25_world.specs.laws.Claims as claims
 use Rattle.x25_world.specs.laws.Claims.{AreInOctets, IsLawful, ArrivesAll, station_at, entries_at, ups_in}
 use Rattle.x25_world.specs.laws.SessionClaims.{Throughout}
 use Rattle.x25_world.specs.laws.TapOctets.{AreOfFrame, IsTapOfOctets}
-use Rattle.x25_joined.specs.laws.Joined.{Joined, swapped, nothing_read, Act, acts, Happening, acts_at, IsPossibleAt, run, ArePossible, entries_in, frames_in}
+use Rattle.x25_joined.specs.laws.Joined.{Joined, exchanged, nothing_read, Act, acts, Happening, acts_at, IsPossibleAt, run, ArePossible, entries_in, frames_in}
 use Rattle.x25_joined.specs.laws.JoinedClaims.{station_by, entries_by, frames_by, put_by, Tells, OfPrograms, AreWorlds, OfProgramsUpOnce, UntilSecondUp, AreLawful, Arrive}
 use Rattle.x25_joined.proofs.LineText.{none_whole, first_said}
 use Rattle.x25_joined.proofs.JoinedShows.{IsEnd, Shows, Fits, Mirrors, stays, moves, pulls, all_pulled, act_shows}
@@ -28,10 +28,10 @@ use Rattle.x25_world.proofs.WorldLemmas.{run_append, accepted_append, octets_app
 
 -- ---- as the other end sees it
 
-shows_back : (cfg : Cfg) (j : Joined) (w : World) → Shows cfg Dce j w → Shows cfg Dte (swapped j) (world.swapped w)
+shows_back : (cfg : Cfg) (j : Joined) (w : World) → Shows cfg Dce j w → Shows cfg Dte (exchanged j) (world.mirrored w)
 shows_back cfg j w h = record { near = h.far; far = h.near; out = h.back; back = h.out }
 
-shows_over : (cfg : Cfg) (j : Joined) (w : World) → Shows cfg Dte j w → Shows cfg Dce (swapped j) (world.swapped w)
+shows_over : (cfg : Cfg) (j : Joined) (w : World) → Shows cfg Dte j w → Shows cfg Dce (exchanged j) (world.mirrored w)
 shows_over cfg j w h = record { near = h.far; far = h.near; out = h.back; back = h.out }
 
 -- ---- one event behind others
@@ -93,35 +93,35 @@ module _ (reads : ReadsOctets) (tapped : Throughout IsTapOfOctets) (cfg : Cfg) (
       let leads = two k.w between next e f is later in
       moved j there k (e ∷ f ∷ []) next leads.0 leads.1 (octets, (tt, tt)) shows (λ handed reached. fits (on_tap (k.events ++ e ∷ f ∷ []) next handed reached))
 
-  dce_kept : (j there : Joined) (k : Kept cfg j) → Mirrors cfg Dce (world.swapped k.w) there → Kept cfg (swapped there)
+  dce_kept : (j there : Joined) (k : Kept cfg j) → Mirrors cfg Dce (world.mirrored k.w) there → Kept cfg (exchanged there)
   dce_kept j there k (stays shows) = record {
     w = k.w;
     events = k.events;
     accepted = k.accepted;
     octets = k.octets;
     reached = k.reached;
-    shows = shows_back cfg there (world.swapped k.w) shows;
+    shows = shows_back cfg there (world.mirrored k.w) shows;
     fits = k.fits;
   }
   dce_kept j there k (moves act next is octets shows fits) =
       let e : Event = record { at = Dce; act = act } in
-      let leads = one k.w (world.swapped next) e (ap swapped_back is) in
-      moved j (swapped there) k (e ∷ []) (world.swapped next) leads.0 leads.1 (octets, tt) (shows_back cfg there next shows) (λ handed reached.
-      let f = fits (on_tap (k.events ++ e ∷ []) (world.swapped next) handed reached) in
+      let leads = one k.w (world.mirrored next) e (ap swapped_back is) in
+      moved j (exchanged there) k (e ∷ []) (world.mirrored next) leads.0 leads.1 (octets, tt) (shows_back cfg there next shows) (λ handed reached.
+      let f = fits (on_tap (k.events ++ e ∷ []) (world.mirrored next) handed reached) in
       record { out = f.back; back = f.out })
   dce_kept j there k (pulls act between next is later octets shows fits) =
       let e : Event = record { at = Dce; act = act } in
       let f : Event = record { at = Dce; act = all_pulled } in
-      let leads = two k.w (world.swapped between) (world.swapped next) e f (ap swapped_back is) (ap swapped_back later) in
-      moved j (swapped there) k (e ∷ f ∷ []) (world.swapped next) leads.0 leads.1 (octets, (tt, tt)) (shows_back cfg there next shows) (λ handed reached.
-      let g = fits (on_tap (k.events ++ e ∷ f ∷ []) (world.swapped next) handed reached) in
+      let leads = two k.w (world.mirrored between) (world.mirrored next) e f (ap swapped_back is) (ap swapped_back later) in
+      moved j (exchanged there) k (e ∷ f ∷ []) (world.mirrored next) leads.0 leads.1 (octets, (tt, tt)) (shows_back cfg there next shows) (λ handed reached.
+      let g = fits (on_tap (k.events ++ e ∷ f ∷ []) (world.mirrored next) handed reached) in
       record { out = g.back; back = g.out })
 
   act_kept : (at : Role) (act : Act) (j : Joined) → Kept cfg j → IsPossibleAt cfg j at act → Kept cfg (acts_at cfg j at act)
   act_kept Dte act j k may = dte_kept j (acts (settings_from Dte cfg) j act) k (act_shows cfg Dte k.w k.fits j k.shows reads act may)
   act_kept Dce act j k may =
-      dce_kept j (acts (settings_from Dce cfg) (swapped j) act) k
-      (act_shows cfg Dce (world.swapped k.w) (record { out = k.fits.back; back = k.fits.out }) (swapped j) (shows_over cfg j k.w k.shows) reads act may)
+      dce_kept j (acts (settings_from Dce cfg) (exchanged j) act) k
+      (act_shows cfg Dce (world.mirrored k.w) (record { out = k.fits.back; back = k.fits.out }) (exchanged j) (shows_over cfg j k.w k.shows) reads act may)
 
   run_kept : (history : List Happening) (j : Joined) → Kept cfg j → ArePossible cfg history j → Kept cfg (run cfg history j)
   run_kept [] j k may = k

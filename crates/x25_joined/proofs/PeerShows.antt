@@ -29,7 +29,7 @@ use Rattle.x25_peer.specs.laws.BesideSessions as beside
 use Rattle.x25_peer.specs.laws.BesideSessions.{Own, BesideSessions, in_session, own_anew, stepped, followed, heard_here}
 use Rattle.x25_peer.specs.laws.BesideSessionClaims as over_sessions
 use Rattle.x25_joined.specs.laws.Joined.{written, written_more, station_of, entries_in, frames_in, IsNoFrame}
-use Rattle.x25_joined.specs.laws.BesidePeer.{Program, nothing_read, begun_in, seen, bare, sent_then, reads, met_by, IsInTime, IsElsewhere, Happens, Reads, Takes, Elsewhere, IsReached, at_start, goes_on}
+use Rattle.x25_joined.specs.laws.BesidePeer.{Program, nothing_read, begun_in, seen, bare, sent_then, reads, met_by, IsInTime, IsElsewhere, HappensToProgram, Reads, Takes, Elsewhere, ReachedProgram, at_start, goes_on}
 use Rattle.x25_joined.specs.laws.BesidePeerClaims.{entries_to, OfProgram}
 use Rattle.x25_joined.proofs.LineText.{AreWhole, none_whole, more_whole, one_more, said_more, first_said}
 use Rattle.x25_joined.proofs.FrameText.{frame_words, frame_text, frame_open, frame_comes}
@@ -72,12 +72,12 @@ more_next n x own es none is =
 
 -- it is reached, these are the entries of its sessions, and those that aren't begun have none
 record KeptWorld (c : Settings) (w : BesideSessions) (es : List StationEntry) : Type 0 where
-  reached : beside.IsReached c w
+  reached : beside.ReachedBeside c w
   entries : entries_to w.begun w.own ≡ es
   later : (n : ℕ) → w.begun < n → (w.own n).entries ≡ []
 
 -- the station steps, in the session that stands or as the next begins
-kept_steps : (c : Settings) (w : BesideSessions) (es : List StationEntry) (up : Bool) (left : List Entry) (met : List Meeting) (step : Step) → KeptWorld c w es → beside.IsReached c (stepped c w (begun_by up w.begun) left met step)
+kept_steps : (c : Settings) (w : BesideSessions) (es : List StationEntry) (up : Bool) (left : List Entry) (met : List Meeting) (step : Step) → KeptWorld c w es → beside.ReachedBeside c (stepped c w (begun_by up w.begun) left met step)
     → KeptWorld c (stepped c w (begun_by up w.begun) left met step) (es ++ step.entries)
 kept_steps c w es up left met step k reached = record {
   reached = reached;
@@ -166,7 +166,7 @@ module _ (c : Settings) (p : Program) (k : Kept c p) where
   -- a step, and then what is pulled
   something_happens : (line : List ℕ) → IsOpen line → (up : Bool) (left : List Entry) (met : List Meeting) (step : Step)
       → TurnIs (turn c line s) (and_pulls c step).near (and_pulls c step).entries (map (spelling_of c.role) (and_pulls c step).out) → begun_by up b ≡ b + ups_in step.entries
-      → beside.IsReached c (stepped c w (begun_by up b) left met step) → Kept c (reads c p (line ++ 10 ∷ []) left met)
+      → beside.ReachedBeside c (stepped c w (begun_by up b) left met step) → Kept c (reads c p (line ++ 10 ∷ []) left met)
   something_happens line none up left met step is ups reached = by (commands c step.near (Requests PullsAll)) refl
     where
       kept : KeptWorld c (stepped c w (begun_by up b) left met step) (entries_in (written c p.read) ++ step.entries)
@@ -196,7 +196,7 @@ module _ (c : Settings) (p : Program) (k : Kept c p) where
   -- a step of the link, and then the layer
   link_happens : (line : List ℕ) → IsOpen line → (event : Event) → event_in c.wide c.role line ≡ Some event → (asked : List StationEntry) → ups_in asked ≡ 0 → (left : List Entry) (met : List Meeting) (l : LinkStep)
       → (let step = led_by asked (follows c s.layer l) in with_pulls c (outcome c s event) ≡ Did (and_pulls c step))
-      → beside.Happens c w (followed c w asked left met l) → Kept c (reads c p (line ++ 10 ∷ []) left met)
+      → beside.HappensBeside c w (followed c w asked left met l) → Kept c (reads c p (line ++ 10 ∷ []) left met)
   link_happens line none event asks asked quiet left met l is happens =
       let step : Step = led_by asked (follows c s.layer l) in
       let ups = follows_ups c s.layer l b in
@@ -274,20 +274,20 @@ module _ (c : Settings) (p : Program) (k : Kept c p) where
   -- ---- the peer and the line
 
   -- where the world goes on to this one, with the same station
-  passes : (v : BesideSessions) → beside.Happens c w v → v.near ≡ s → v.begun ≡ b → v.own ≡ k.own → Kept c (record p { peer = v.peer; theirs = v.theirs; out = v.out; back = v.back; met = v.met })
+  passes : (v : BesideSessions) → beside.HappensBeside c w v → v.near ≡ s → v.begun ≡ b → v.own ≡ k.own → Kept c (record p { peer = v.peer; theirs = v.theirs; out = v.out; back = v.back; met = v.met })
   passes v h near begun own = record {
     own = k.own;
     whole = k.whole;
     world = record {
-      reached = subst (λ (o : ℕ → Own). beside.IsReached c (record v { near = s; begun = b; own = o })) own
-          (subst (λ (n : ℕ). beside.IsReached c (record v { near = s; begun = n })) begun
-          (subst (λ (x : Station). beside.IsReached c (record v { near = x })) near (beside.goes_on w v k.world.reached h)));
+      reached = subst (λ (o : ℕ → Own). beside.ReachedBeside c (record v { near = s; begun = b; own = o })) own
+          (subst (λ (n : ℕ). beside.ReachedBeside c (record v { near = s; begun = n })) begun
+          (subst (λ (x : Station). beside.ReachedBeside c (record v { near = x })) near (beside.goes_on w v k.world.reached h)));
       entries = k.world.entries;
       later = k.world.later;
     };
   }
 
-  elsewhere : (v : BesideSessions) (h : beside.Happens c (bare c p) v) → IsElsewhere h → Kept c (record p { peer = v.peer; theirs = v.theirs; out = v.out; back = v.back; met = v.met })
+  elsewhere : (v : BesideSessions) (h : beside.HappensBeside c (bare c p) v) → IsElsewhere h → Kept c (record p { peer = v.peer; theirs = v.theirs; out = v.out; back = v.back; met = v.met })
   elsewhere v (beside.Loses place) there = passes (record w { back = v.back }) (beside.Loses place) refl refl refl
   elsewhere v (beside.Damages place octets visible) there = passes (record w { back = v.back }) (beside.Damages place octets visible) refl refl refl
   elsewhere v (beside.Links links happens) there = passes (record w { peer = v.peer; out = v.out; back = v.back; met = v.met }) (beside.Links links happens) refl refl refl
@@ -302,7 +302,7 @@ module _ (c : Settings) (p : Program) (k : Kept c p) where
 -- ---- all that happens
 
 module _ (octets : ReadsOctets) (c : Settings) where
-  step_kept : (p q : Program) → Kept c p → Happens c p q → Kept c q
+  step_kept : (p q : Program) → Kept c p → HappensToProgram c p q → Kept c q
   step_kept p q k (Reads line may) = asked_kept c p k line (event_in c.wide c.role line) may.is_line refl may.is_no_frame may.in_time (asks_octets octets c.wide c.role line)
   step_kept p q k (Takes e rest front fits) =
       subst (λ (text : List ℕ). Kept c (reads c p text rest (met_by c p e))) (sym (frame_text (other c.role) e.octets)) (comes_kept c p k e rest front fits)
@@ -321,7 +321,7 @@ module _ (octets : ReadsOctets) (c : Settings) where
             (record { reached = beside.at_start; entries = refl; later = λ n over. refl }));
       }
 
-  along : (p : Program) → IsReached c p → Kept c p
+  along : (p : Program) → ReachedProgram c p → Kept c p
   along p at_start = kept_first
   along p (goes_on o q h e) = step_kept o q (along o h) e
 

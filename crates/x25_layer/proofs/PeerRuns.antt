@@ -37,7 +37,7 @@ pub record PeerPremises : Type 0 where
 record Stands (r : Role) (channels : Ranges) (w : Joined) : Type 0 where
   nested_end : At Channels
   error : Option ℕ
-  reached : nested.IsReached r (record { near = nested_end; peer = w.peer; out = bare_layers channels.message w.out; back = bare_layers channels.message w.back; error = error })
+  reached : nested.ReachedInLayers r (record { near = nested_end; peer = w.peer; out = bare_layers channels.message w.out; back = bare_layers channels.message w.back; error = error })
   up : w.near.is_out ≡ false
   sees : SeesLayer channels.message w.near.layer nested_end
   configured : AreConfigured channels w.back
@@ -46,11 +46,11 @@ record Stands (r : Role) (channels : Ranges) (w : Joined) : Type 0 where
   of_interrupts : Written interrupts interrupts_in w.near.entries nested_end
   of_calls : Written calls calls_in w.near.entries nested_end
 
-reached_at : (r : Role) (z : At Channels) (y : At PeerChannels) (u u₂ v v₂ : List LayerPacket) (e : Option ℕ) → u ≡ u₂ → v ≡ v₂ → nested.IsReached r (record { near = z; peer = y; out = u; back = v; error = e })
-    → nested.IsReached r (record { near = z; peer = y; out = u₂; back = v₂; error = e })
+reached_at : (r : Role) (z : At Channels) (y : At PeerChannels) (u u₂ v v₂ : List LayerPacket) (e : Option ℕ) → u ≡ u₂ → v ≡ v₂ → nested.ReachedInLayers r (record { near = z; peer = y; out = u; back = v; error = e })
+    → nested.ReachedInLayers r (record { near = z; peer = y; out = u₂; back = v₂; error = e })
 reached_at r z y u u₂ v v₂ e p q h =
-    subst (λ (b : List LayerPacket). nested.IsReached r (record { near = z; peer = y; out = u₂; back = b; error = e })) q
-    (subst (λ (o : List LayerPacket). nested.IsReached r (record { near = z; peer = y; out = o; back = v; error = e })) p h)
+    subst (λ (b : List LayerPacket). nested.ReachedInLayers r (record { near = z; peer = y; out = u₂; back = b; error = e })) q
+    (subst (λ (o : List LayerPacket). nested.ReachedInLayers r (record { near = z; peer = y; out = o; back = v; error = e })) p h)
 
 configured_more : (channels : Ranges) (L o : List PlainPacket) → AreConfigured channels L → AreConfigured channels o → AreConfigured channels (L ++ o)
 configured_more channels [] o p q = q
@@ -109,7 +109,7 @@ module _ (p : PeerPremises) (r : Role) (long_data : Bool) (channels : Ranges) wh
       let back : bare_layers channels.message w.back ≡ bare_layer channels.message packet ∷ bare_layers channels.message K = ap (bare_layers channels.message) front in
       let j : JoinedLayers = record { near = h.nested_end; peer = w.peer; out = bare_layers channels.message w.out; back = bare_layers channels.message w.back; error = h.error } in
       let found : Option ℕ = layer_found (bare_layer channels.message packet) s.error in
-      let next : nested.IsReached r (near_stepped j (bare_layers channels.message K) s found) = nested.goes_on j _ h.reached (nested.Takes (bare_layer channels.message packet) (bare_layers channels.message K) back) in
+      let next : nested.ReachedInLayers r (near_stepped j (bare_layers channels.message K) s found) = nested.goes_on j _ h.reached (nested.Takes (bare_layer channels.message packet) (bare_layers channels.message K) back) in
       let clean : found ≡ None = second h.error found (p.quiet r (near_stepped j (bare_layers channels.message K) s found) next) in
       let ok = subst (λ (l : List PlainPacket). AreConfigured channels l) front h.configured in
       let a : LayerAnswer = layer_answers c w.near.layer packet in
@@ -137,7 +137,7 @@ module _ (p : PeerPremises) (r : Role) (long_data : Bool) (channels : Ranges) wh
 
   -- the peer has gone to this, and put these packets
   peer_stands : (w : Joined) (h : Stands r channels w) (y : At PeerChannels) (out packets : List PlainPacket) (o : List LayerPacket) → bare_layers channels.message packets ≡ o → AreConfigured channels packets
-      → nested.IsReached r (record { near = h.nested_end; peer = y; out = bare_layers channels.message out; back = bare_layers channels.message w.back ++ o; error = h.error })
+      → nested.ReachedInLayers r (record { near = h.nested_end; peer = y; out = bare_layers channels.message out; back = bare_layers channels.message w.back ++ o; error = h.error })
       → Stands r channels (record { near = w.near; peer = y; out = out; back = w.back ++ packets })
   peer_stands w h y out packets o put is reached = record {
     nested_end = h.nested_end;

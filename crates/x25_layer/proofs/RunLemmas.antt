@@ -18,7 +18,7 @@ use Rattle.x25_layer.proofs.TwoLayerLemmas.{Sees, Stepped, world_moves, sees_tur
 
 -- what is known of the nested handshakes, and of packet sizes and windows
 pub record Premises : Type 0 where
-  pub quiet : (events : List nested.Event) → (pair_run events pair_start).error ≡ None
+  pub quiet : (events : List nested.LayerEvent) → (pair_run events pair_start).error ≡ None
   pub messages : AreInOrder messages
   pub interrupts : AreInOrder interrupts
   pub calls : AreInOrder calls
@@ -27,15 +27,15 @@ pub record Premises : Type 0 where
 
 -- one event more
 
-pub run_more : (es : List nested.Event) (e : nested.Event) (w : Pair) → pair_run (es ++ e ∷ []) w ≡ pair_happens (pair_run es w) e
+pub run_more : (es : List nested.LayerEvent) (e : nested.LayerEvent) (w : Pair) → pair_run (es ++ e ∷ []) w ≡ pair_happens (pair_run es w) e
 run_more [] e w = refl
 run_more (d ∷ es) e w = run_more es e (pair_happens w d)
 
-histories_more : {M : Type 0} (kind : Kind M) (es : List nested.Event) (e : nested.Event) (g : Histories M) → histories_run kind (es ++ e ∷ []) g ≡ histories_happens kind (histories_run kind es g) e
+histories_more : {M : Type 0} (kind : Kind M) (es : List nested.LayerEvent) (e : nested.LayerEvent) (g : Histories M) → histories_run kind (es ++ e ∷ []) g ≡ histories_happens kind (histories_run kind es g) e
 histories_more kind [] e g = refl
 histories_more kind (d ∷ es) e g = histories_more kind es e (histories_happens kind g d)
 
-pub histories_pair : {M : Type 0} (kind : Kind M) (es : List nested.Event) (g : Histories M) → (histories_run kind es g).pair ≡ pair_run es g.pair
+pub histories_pair : {M : Type 0} (kind : Kind M) (es : List nested.LayerEvent) (g : Histories M) → (histories_run kind es g).pair ≡ pair_run es g.pair
 histories_pair kind [] g = refl
 histories_pair {M} kind (e ∷ es) g = histories_pair kind es (histories_happens kind g e) ∙ ap (λ (w : Pair). pair_run es w) (one e.first)
   where
@@ -68,16 +68,16 @@ histories_turned kind lists w g b = record { near = b.far; far = b.near }
 
 -- a run of two layers, as a run of the nested handshakes
 pub record InRun (channels : Ranges) (w : TwoLayers) : Type 0 where
-  pub events : List nested.Event
+  pub events : List nested.LayerEvent
   pub sees : Sees channels w (pair_run events pair_start)
   pub messages : AreHistories messages messages_in w (histories_run messages events histories_start)
   pub interrupts : AreHistories interrupts interrupts_in w (histories_run interrupts events histories_start)
   pub calls : AreHistories calls calls_in w (histories_run calls events histories_start)
 
-abbrev event : Bool → nested.Move → nested.Event
+abbrev event : Bool → nested.Move → nested.LayerEvent
 event first what = record { first = first; what = what }
 
-near_kept : {M : Type 0} (kind : Kind M) (lists : Handed → Lists M) → IsListed kind lists → AreInOrder kind → (channels : Ranges) (w w₂ : TwoLayers) (es : List nested.Event)
+near_kept : {M : Type 0} (kind : Kind M) (lists : Handed → Lists M) → IsListed kind lists → AreInOrder kind → (channels : Ranges) (w w₂ : TwoLayers) (es : List nested.LayerEvent)
     → AreHistories kind lists w (histories_run kind es histories_start) → (s : Stepped Dte channels w (pair_run es pair_start) w₂)
     → AreHistories kind lists w₂ (histories_run kind (es ++ event true s.move ∷ []) histories_start)
 near_kept {M} kind lists listed order channels w w₂ es histories s =
@@ -86,7 +86,7 @@ near_kept {M} kind lists listed order channels w w₂ es histories s =
     (near_histories kind lists listed Dte channels w w₂ (pair_run es pair_start) g (histories_pair kind es histories_start)
     (λ k. (order es k).held) (λ k m. (order es k).later m) histories s)
 
-far_kept : {M : Type 0} (kind : Kind M) (lists : Handed → Lists M) → IsListed kind lists → AreInOrder kind → (channels : Ranges) (w w₂ : TwoLayers) (es : List nested.Event)
+far_kept : {M : Type 0} (kind : Kind M) (lists : Handed → Lists M) → IsListed kind lists → AreInOrder kind → (channels : Ranges) (w w₂ : TwoLayers) (es : List nested.LayerEvent)
     → AreHistories kind lists w (histories_run kind es histories_start) → (s : Stepped Dce channels (turned w) (nested.turned (pair_run es pair_start)) w₂)
     → AreHistories kind lists (turned w₂) (histories_run kind (es ++ event false s.move ∷ []) histories_start)
 far_kept {M} kind lists listed order channels w w₂ es histories s =

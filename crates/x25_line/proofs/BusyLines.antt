@@ -5,11 +5,11 @@ use Rattle.x25_link.specs.{Station.{LinkStation, is_busy}, laws.AnswerLaw.{says,
 use Rattle.x25_line.proofs.{StationSteps.{not_both}, HealingLines.{LastTells}}
 
 -- where no I frame went, V(S) stays
-pub silent_stays : (r n : ℕ) (fs : List PlainFrame) (m : ℕ) → AreNext r n fs m → NoInfo fs → m ≡ n
-silent_stays r n [] m h none = sym h
-silent_stays r n (rr command nr pf ∷ fs) m h none = silent_stays r n fs m h.3 none
-silent_stays r n (info ns nr p x ∷ fs) m h none = absurd none
-silent_stays r n (frame ∷ fs) m h none = absurd h
+pub silent_stays : (r : ℕ) {n : ℕ} (fs : List PlainFrame) {m : ℕ} → AreNext r n fs m → NoInfo fs → m ≡ n
+silent_stays r [] h none = sym h
+silent_stays r {n} (rr command nr pf ∷ fs) {m} h none = silent_stays r fs h.3 none
+silent_stays r (info ns nr p x ∷ fs) h none = absurd none
+silent_stays r (frame ∷ fs) h none = absurd h
 
 pub none_behind : (fs es : List PlainFrame) → NoInfo (fs ++ es) → NoInfo es
 none_behind [] es h = h
@@ -69,6 +69,6 @@ told_on true s t out told h stays = by_told (hears_busy true out) t (λ e. h.sai
 told_on false s t out told h stays = by_told (hears_busy false out) t (λ e. h.said ∙ busy_said false s.said_busy out (λ g. not_both true refl (sym g)) e) (λ _. stays told)
 
 -- RR or RNR goes first
-pub told_first : (b before : Bool) (t : LinkStation) (n : ℕ) (next : List PlainFrame) → Says before t.said_busy (is_busy t) t.peer_busy (says b false n true ∷ next) → Told (hears_busy b next) t
-told_first true before t n next h = by_told (hears_busy true next) t (λ e. h.said ∙ busy_said true true next (λ g. g) e) (λ e. h.free (free_said next e))
-told_first false before t n next h = by_told (hears_busy false next) t (λ e. h.said ∙ busy_said false false next (λ g. g) e) (λ _. h.free refl)
+pub told_first : (b : Bool) {before : Bool} (t : LinkStation) (n : ℕ) (next : List PlainFrame) → Says before t.said_busy (is_busy t) t.peer_busy (says b false n true ∷ next) → Told (hears_busy b next) t
+told_first true t n next h = by_told (hears_busy true next) t (λ e. h.said ∙ busy_said true true next (λ g. g) e) (λ e. h.free (free_said next e))
+told_first false t n next h = by_told (hears_busy false next) t (λ e. h.said ∙ busy_said false false next (λ g. g) e) (λ _. h.free refl)

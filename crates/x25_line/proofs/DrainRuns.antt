@@ -5,8 +5,8 @@ use Rattle.x25_bits.specs.declared.role.Role.{Role}
 use Rattle.x25_frame.specs.{Frame.{PlainFrame, info}, Spelling.{spelling_of}, Reading.{frame_of}, laws.ReadingLaw.{ReadsSpelled}}
 use Rattle.x25_frame.specs.declared.error.FrameError.{FrameError}
 use Rattle.x25_link.specs.{Station.{Settings, LinkStation}, Hearing.{other}, Link.{take_step}}
-use Rattle.x25_line.specs.laws.Stations.{Deliver, Event, Near, Far}
-use Rattle.x25_line.specs.laws.Sessions.{Entry, Meeting, Sessions, sent_in, begun_by, after_step, delivered, acts, swapped, run, from_nothing, from_set_up}
+use Rattle.x25_line.specs.laws.Stations.{Deliver, LinkEvent, Near, Far}
+use Rattle.x25_line.specs.laws.Sessions.{Entry, Meeting, Sessions, sent_in, begun_by, after_step, delivered, acts, swapped, run, IsStart}
 use Rattle.x25_line.specs.{laws.StationClaims.{AreJoined}, Healing.{IsDelivery, EachFindsIn, SessionsDrainEnd, SomeSessionsDrain}, laws.LawsBelow.{HealingLaws}}
 use Rattle.x25_line.specs.laws.SessionClaims.{Each}
 use Rattle.x25_line.proofs.{StationSends.{AllWithin}, StationRuns.{joined_swapped}, HealingRuns.{within_of, fit_from}, HealingSteps.{IsDrained}}
@@ -53,10 +53,8 @@ read_other back low now r = omega arith
 line_other : (back low now : ℕ) → 2 ≤ back → (from : Role) (n1 : ℕ) (es : List Entry) → line_weight back now from n1 es ≤ line_weight back low from n1 es + times (8 * back) (line_weight back low from n1 es)
 line_other back low now some from n1 [] = omega arith
 line_other back low now some from n1 (e ∷ es) =
-    let w = read_weight back low (frame_of from n1 e.octets) in
     let l = line_weight back low from n1 es in
-    let one = read_weight_some back low some (frame_of from n1 e.octets) in
-    omega (arith, read_other back low now (frame_of from n1 e.octets), line_other back low now some from n1 es, times_more (8 * back) (suc l) (w + l) (omega (arith, one)))
+    omega (arith, read_other back low now (frame_of from n1 e.octets), line_other back low now some from n1 es, times_more (8 * back) (suc l) ((read_weight back low (frame_of from n1 e.octets)) + l) (omega (arith, read_weight_some back low some (frame_of from n1 e.octets))))
 
 station_other : (back low now : ℕ) (s : LinkStation) → station_weight back now s ≤ station_weight back low s + 7 * back
 station_other back low now s =
@@ -104,8 +102,8 @@ pub record Fit (c d : Settings) (w : Sessions) : Type 0 where
   pub near_within : AllWithin d.longest w.near.station.outgoing.given
   pub far_within : AllWithin c.longest w.far.station.outgoing.given
 
-fit_swapped : (c d : Settings) (w : Sessions) → Fit c d w → Fit d c (swapped w)
-fit_swapped c d w h = record { near_place = h.far_place; far_place = h.near_place; near_within = h.far_within; far_within = h.near_within }
+fit_swapped : {c d : Settings} {w : Sessions} → Fit c d w → Fit d c (swapped w)
+fit_swapped h = record { near_place = h.far_place; far_place = h.near_place; near_within = h.far_within; far_within = h.near_within }
 
 -- `back` is enough for each packet to be sent again
 pub record Enough (back : ℕ) (w : Sessions) : Type 0 where
@@ -127,7 +125,7 @@ most_swapped : (back : ℕ) (c d : Settings) (w : Sessions) → at_most back d c
 most_swapped back c d w =
     let one : to_change d c (swapped w) ≡ to_change c d w = omega arith in
     let two : heap back d c (swapped w) ≡ heap back c d w = omega arith in
-    ap (λ (i : ℕ). most back i (heap back d c (swapped w))) one ∙ ap (λ (n : ℕ). most back (to_change c d w) n) two
+    ap (λ i. most back i (heap back d c (swapped w))) one ∙ ap (λ n. most back (to_change c d w) n) two
 
 -- ---- one delivery to the near end
 
@@ -140,12 +138,12 @@ enough_of : (back : ℕ) (old new : List (List ℕ)) → (new ≡ old) ⊎ (new 
 enough_of back old new (inl same) h = omega (arith, h, ap length same)
 enough_of back old new (inr none) h = omega (arith, h, ap length none)
 
-module _ (reads : ReadsSpelled) (c d : Settings) (joined : AreJoined c d) (back : ℕ) where
+module _ (reads : ReadsSpelled) {c d : Settings} (joined : AreJoined c d) (back : ℕ) where
   -- the front octets are taken
   takes_front : (w : Sessions) → Fit c d w → Enough back w → (e : Entry) (es : List Entry) (met : List Meeting) → w.back ≡ e ∷ es → Falls back c d w (after_step c w es met [] (take_step c e.octets w.near.station))
   takes_front w fit enough e es met is =
       record {
-        fit = record { near_place = t.place; far_place = fit.far_place; near_within = within_of d.longest s.outgoing.given v.near.station.outgoing.given t.given fit.near_within; far_within = fit.far_within };
+        fit = record { near_place = t.place; far_place = fit.far_place; near_within = within_of d.longest v.near.station.outgoing.given t.given fit.near_within; far_within = fit.far_within };
         enough = record { near = enough_of back s.outgoing.given v.near.station.outgoing.given t.given enough.near; far = enough.far };
         less = by t.by;
       }
@@ -179,7 +177,7 @@ module _ (reads : ReadsSpelled) (c d : Settings) (joined : AreJoined c d) (back 
 
       wrote : (line_weight back now (other d.role) d.longest (sent_in session c.role put) ≡ weights back now put) × (asks_on (other d.role) d.longest (sent_in session c.role put) ≡ 0)
       wrote =
-          subst (λ (from : Role). (line_weight back now (other d.role) d.longest (sent_in session from put) ≡ weights back now put) × (asks_on (other d.role) d.longest (sent_in session from put) ≡ 0)) joined.near_role
+          subst (λ from. (line_weight back now (other d.role) d.longest (sent_in session from put) ≡ weights back now put) × (asks_on (other d.role) d.longest (sent_in session from put) ≡ 0)) joined.near_role
           (spelled_weight reads back now (other d.role) d.longest session put t.spelled)
 
       out_is : line_weight back now (other d.role) d.longest v.out ≡ line_weight back now (other d.role) d.longest w.out + weights back now put
@@ -196,49 +194,43 @@ module _ (reads : ReadsSpelled) (c d : Settings) (joined : AreJoined c d) (back 
 
       by : GoesOn back low (read_weight back low read) s (take_step c o s).side ⊎ Changes back low (read_weight back low read) (asks_in read) s (take_step c o s).side → at_most back c d v + 1 ≤ at_most back c d w
       by (inl g) =
-          let line_same = ap (λ (m : ℕ). line_weight back m (other d.role) d.longest w.out) g.acked in
-          let far_same = ap (λ (m : ℕ). station_weight back m w.far.station) g.acked in
-          falls_on back (to_change c d v) (to_change c d w) (heap back c d w) (heap back c d v) (omega (arith, g.changes, asks_is, asked)) (omega (arith, g.load, out_is, came, line_same, far_same))
+          falls_on back (to_change c d v) (to_change c d w) (heap back c d w) (heap back c d v) (omega (arith, g.changes, asks_is, asked)) (omega (arith, g.load, out_is, came, (ap (λ m. line_weight back m (other d.role) d.longest w.out) g.acked), ap (λ m. station_weight back m w.far.station) g.acked))
       by (inr g) =
           let some : 2 ≤ back = omega (arith, enough.near) in
-          let old = line_weight back s.outgoing.acked (other d.role) d.longest w.out in
-          let line_now = line_other back s.outgoing.acked now some (other d.role) d.longest w.out in
-          let far_now = station_other back s.outgoing.acked now w.far.station in
-          let more = times_more (8 * back) old (heap back c d w) (omega arith) in
-          falls_by back (to_change c d v) (to_change c d w) (heap back c d w) (heap back c d v) (omega (arith, g.fewer, asks_is, asked)) (omega (arith, g.load, out_is, came, line_now, far_now, more))
+          falls_by back (to_change c d v) (to_change c d w) (heap back c d w) (heap back c d v) (omega (arith, g.fewer, asks_is, asked)) (omega (arith, g.load, out_is, came, line_other back s.outgoing.acked now some (other d.role) d.longest w.out, station_other back s.outgoing.acked now w.far.station, times_more (8 * back) (line_weight back s.outgoing.acked (other d.role) d.longest w.out) (heap back c d w) (omega arith)))
 
-  pub near_falls : (w : Sessions) → Fit c d w → Enough back w → (w.back ≡ [] → ⊥) → Falls back c d w (acts c Deliver w)
-  near_falls w fit enough finds = by w.back refl
+  pub near_falls : {w : Sessions} → Fit c d w → Enough back w → (w.back ≡ [] → ⊥) → Falls back c d w (acts c Deliver w)
+  near_falls {w} fit enough finds = by w.back refl
     where
       by : (es : List Entry) → w.back ≡ es → Falls back c d w (delivered c es w)
       by [] is = absurd (finds is)
       by (e ∷ es) is = takes_front w fit enough e es _ is
 
-module _ (reads : ReadsSpelled) (c d : Settings) (joined : AreJoined c d) (back : ℕ) where
+module _ (reads : ReadsSpelled) {c d : Settings} (joined : AreJoined c d) (back : ℕ) where
   far_falls : (w : Sessions) → Fit c d w → Enough back w → (w.out ≡ [] → ⊥) → Falls back c d w (swapped (acts d Deliver (swapped w)))
   far_falls w fit enough finds =
-      let f = near_falls reads d c (joined_swapped c d joined) back (swapped w) (fit_swapped c d w fit) (record { near = enough.far; far = enough.near }) finds in
+      let f = near_falls reads (joined_swapped joined) back (fit_swapped fit) (record { near = enough.far; far = enough.near }) finds in
       let v : Sessions = acts d Deliver (swapped w) in
       record {
-        fit = fit_swapped d c v f.fit;
+        fit = fit_swapped f.fit;
         enough = record { near = f.enough.far; far = f.enough.near };
         less = omega (arith, f.less, most_swapped back c d w, most_swapped back d c v);
       }
 
-  pub count : (es : List Event) (w : Sessions) → Each IsDelivery es → Fit c d w → Enough back w → EachFindsIn c d es w → length es ≤ at_most back c d w
-  count [] w are fit enough finds = omega arith
-  count (Near Deliver ∷ es) w are fit enough finds =
-      let f = near_falls reads c d joined back w fit enough finds.0 in
-      omega (arith, f.less, count es (acts c Deliver w) are.1 f.fit f.enough finds.1)
-  count (Far Deliver ∷ es) w are fit enough finds =
+  pub count : (es : List LinkEvent) {w : Sessions} → Each IsDelivery es → Fit c d w → Enough back w → EachFindsIn c d es w → length es ≤ at_most back c d w
+  count [] are fit enough finds = omega arith
+  count (Near Deliver ∷ es) {w} are fit enough finds =
+      let f = near_falls reads joined back fit enough finds.0 in
+      omega (arith, f.less, count es are.1 f.fit f.enough finds.1)
+  count (Far Deliver ∷ es) {w} are fit enough finds =
       let f = far_falls w fit enough finds.0 in
-      omega (arith, f.less, count es (swapped (acts d Deliver (swapped w))) are.1 f.fit f.enough finds.1)
-  count (Near a ∷ es) w are fit enough finds = absurd are.0
-  count (Far a ∷ es) w are fit enough finds = absurd are.0
+      omega (arith, f.less, count es are.1 f.fit f.enough finds.1)
+  count (Near a ∷ es) are fit enough finds = absurd are.0
+  count (Far a ∷ es) are fit enough finds = absurd are.0
 
   -- some deliveries drain the line
   pub record Drains (w : Sessions) : Type 0 where
-    pub deliveries : List Event
+    pub deliveries : List LinkEvent
     pub are : Each IsDelivery deliveries
     pub drained : IsDrained (run c d deliveries w)
 
@@ -252,7 +244,7 @@ module _ (reads : ReadsSpelled) (c d : Settings) (joined : AreJoined c d) (back 
       by : (out : List Entry) → w.out ≡ out → (bs : List Entry) → w.back ≡ bs → Drains w
       by [] no_out [] no_back = record { deliveries = []; are = tt; drained = record { out = no_out; back = no_back } }
       by [] no_out (o ∷ os) is =
-          let rest = go (acts c Deliver w) (near_falls reads c d joined back w fit enough (not_nil o os w.back is)) in
+          let rest = go (acts c Deliver w) (near_falls reads joined back fit enough (not_nil o os w.back is)) in
           record { deliveries = Near Deliver ∷ rest.deliveries; are = (tt, rest.are); drained = rest.drained }
       by (o ∷ os) is bs any =
           let rest = go (swapped (acts d Deliver (swapped w))) (far_falls w fit enough (not_nil o os w.out is)) in
@@ -271,18 +263,18 @@ enough_for : (w : Sessions) → Enough (back_of w) w
 enough_for w = record { near = omega arith; far = omega arith }
 
 module _ (reads : ReadsSpelled) (laws : HealingLaws) where
-  fit_after : (c d : Settings) → AreJoined c d → (begin : Sessions) → (begin ≡ from_nothing) ⊎ (begin ≡ from_set_up) → (events : List Event) → Fit c d (run c d events begin)
-  fit_after c d joined begin is events =
-      let fit = fit_from laws c d joined begin is events in
+  fit_after : {c d : Settings} → AreJoined c d → {begin : Sessions} → IsStart begin → (events : List LinkEvent) → Fit c d (run c d events begin)
+  fit_after {c} {d} joined {begin} is events =
+      let fit = fit_from laws joined is events in
       record { near_place = fit.0.said.low; far_place = fit.1.said.low; near_within = fit.0.within; far_within = fit.1.within }
 
   pub sessions_drain_end : SessionsDrainEnd
   sessions_drain_end c d joined begin is events =
       let w : Sessions = run c d events begin in
-      (at_most (back_of w) c d w, λ es are finds. count reads c d joined (back_of w) es w are (fit_after c d joined begin is events) (enough_for w) finds)
+      (at_most (back_of w) c d w, λ es are finds. count reads joined (back_of w) es are (fit_after joined is events) (enough_for w) finds)
 
   pub some_sessions_drain : SomeSessionsDrain
   some_sessions_drain c d joined begin is events =
       let w : Sessions = run c d events begin in
-      let some = drains reads c d joined (back_of w) (at_most (back_of w) c d w) w (fit_after c d joined begin is events) (enough_for w) (omega arith) in
+      let some = drains reads joined (back_of w) (at_most (back_of w) c d w) w (fit_after joined is events) (enough_for w) (omega arith) in
       (some.deliveries, some.are, (some.drained.out, some.drained.back))

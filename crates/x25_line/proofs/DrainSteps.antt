@@ -102,9 +102,9 @@ module _ (c : Settings) (n1 back low : ℕ) (s : LinkStation) (small : c.window 
   begins : W s.outgoing.acked before (alone s)
   begins = record { load = omega arith; acked = refl; place = low_place; given = refl; sent = omega arith; phase = refl; spelled = tt }
 
-  goes_on : (cost asks n : ℕ) (t : Side) → n + 1 ≤ cost + before → W s.outgoing.acked n t → T cost asks t
-  goes_on cost asks n t le h =
-      let e = W-ended n1 c.window back low s.outgoing.acked (top_of s) s.outgoing.given s.phase small within many heavy n t h in
+  goes_on : (cost asks : ℕ) {n : ℕ} {t : Side} → n + 1 ≤ cost + before → W s.outgoing.acked n t → T cost asks t
+  goes_on cost asks {n} {t} le h =
+      let e = W-ended n1 c.window back low s.outgoing.acked (top_of s) s.outgoing.given s.phase small within many heavy n h in
       let u : Side = ended c.window t in
       record {
         place = omega (arith, e.acked, e.place);
@@ -113,14 +113,14 @@ module _ (c : Settings) (n1 back low : ℕ) (s : LinkStation) (small : c.window 
         by = inl (record {
           acked = e.acked;
           changes = omega (arith, e.acked, e.sent, ap length e.given, ap phase_weight e.phase);
-          load = omega (arith, le, e.load, ap (λ (m : ℕ). weights back m u.out) e.acked);
+          load = omega (arith, le, e.load, ap (λ m. weights back m u.out) e.acked);
         });
       }
 
   -- a new number is heard
   moves : (cost a n : ℕ) (t : Side) → n + 1 ≤ cost + before → s.outgoing.acked < a → a ≤ s.outgoing.sent → W a n t → T cost 0 t
   moves cost a n t le more high h =
-      let e = W-ended n1 c.window back low a (top_of s) s.outgoing.given s.phase small within many heavy n t h in
+      let e = W-ended n1 c.window back low a (top_of s) s.outgoing.given s.phase small within many heavy n h in
       let u : Side = ended c.window t in
       record {
         place = omega (arith, e.acked, e.place);
@@ -128,7 +128,7 @@ module _ (c : Settings) (n1 back low : ℕ) (s : LinkStation) (small : c.window 
         spelled = e.spelled;
         by = inr (record {
           fewer = omega (arith, e.acked, e.sent, ap length e.given, ap phase_weight e.phase, more, high);
-          load = omega (arith, le, e.load, ap (λ (m : ℕ). weights back m u.out) e.acked);
+          load = omega (arith, le, e.load, ap (λ m. weights back m u.out) e.acked);
         });
       }
 
@@ -139,7 +139,7 @@ module _ (c : Settings) (n1 back low : ℕ) (s : LinkStation) (small : c.window 
   anew cost asks tries p out le spelled fewer =
       let t : Side = record { near = with_nothing p tries; out = out } in
       let first : to_take low 0 ≤ 7 = omega arith in
-      let e = W-ended n1 c.window back low 0 0 [] p small tt (omega arith) some (cost + 8 * back) t
+      let e = W-ended n1 c.window back low 0 0 [] p small tt (omega arith) some (cost + 8 * back)
       (record { load = omega (arith, le, times_more back (to_take low 0) 7 first, seven_times back); acked = refl; place = omega arith; given = refl; sent = omega arith; phase = refl; spelled = spelled }) in
       let u : Side = ended c.window t in
       record {
@@ -148,7 +148,7 @@ module _ (c : Settings) (n1 back low : ℕ) (s : LinkStation) (small : c.window 
         spelled = e.spelled;
         by = inr (record {
           fewer = omega (arith, e.acked, e.sent, ap length e.given, ap phase_weight e.phase, fewer);
-          load = omega (arith, e.load, ap (λ (m : ℕ). weights back m u.out) e.acked);
+          load = omega (arith, e.load, ap (λ m. weights back m u.out) e.acked);
         });
       }
 
@@ -157,14 +157,14 @@ module _ (c : Settings) (n1 back low : ℕ) (s : LinkStation) (small : c.window 
   hears_number : (nr : ℕ) → W (heard nr s) before (acknowledged nr (alone s))
   hears_number nr = record { load = omega arith; acked = refl; place = omega arith; given = refl; sent = omega arith; phase = refl; spelled = tt }
 
-  went : (cost nr n : ℕ) (t : Side) → n + 1 ≤ cost + before → is_valid nr s ≡ true → W (heard nr s) n t → T cost 0 t
-  went cost nr n t le valid h = by (heard nr s == s.outgoing.acked) refl
+  went : (cost nr : ℕ) {n : ℕ} {t : Side} → n + 1 ≤ cost + before → is_valid nr s ≡ true → W (heard nr s) n t → T cost 0 t
+  went cost nr {n} {t} le valid h = by (heard nr s == s.outgoing.acked) refl
     where
       high : heard nr s ≤ s.outgoing.sent
       high = leb-true _ _ valid
 
       same : heard nr s ≡ s.outgoing.acked → T cost 0 t
-      same e = goes_on cost 0 n t le (subst (λ (a : ℕ). W a n t) e h)
+      same e = goes_on cost 0 le (subst (λ a. W a n t) e h)
 
       other_one : (heard nr s ≡ s.outgoing.acked → ⊥) → (i : ℕ) → heard nr s ≡ s.outgoing.acked + i → T cost 0 t
       other_one apart zero e = absurd (apart (omega (arith, e)))
@@ -186,7 +186,7 @@ module _ (c : Settings) (n1 back low : ℕ) (s : LinkStation) (small : c.window 
       by : (b : Bool) → is_valid nr s ≡ b → T cost 0 (let z : Step = if b then row (acknowledged nr (alone s)) else rejects c octets 8 (alone s) in z.side)
       by true valid =
           let r = does (acknowledged nr (alone s)) (hears_number nr) in
-          went cost nr r.0 (row (acknowledged nr (alone s))).side r.1 valid r.2
+          went cost nr r.1 valid r.2
       by false valid = left_with octets 8 cost le up
 
   abbrev cost_of : PlainFrame → ℕ
@@ -203,8 +203,8 @@ module _ (c : Settings) (n1 back low : ℕ) (s : LinkStation) (small : c.window 
       (λ t h. (
         before + (w - 1),
         omega (arith, le),
-        W-polls n1 c.window back low (heard nr s) (top_of s) s.outgoing.given s.phase small within many heavy before (before + (w - 1)) command pf (peer_is false t) (omega (arith, le))
-            (W-peer n1 c.window back low (heard nr s) (top_of s) s.outgoing.given s.phase small within many heavy before false t h),
+        W-polls n1 c.window back low (heard nr s) (top_of s) s.outgoing.given s.phase small within many heavy (before + (w - 1)) command pf (omega (arith, le))
+            (W-peer n1 c.window back low (heard nr s) (top_of s) s.outgoing.given s.phase small within many heavy false h),
       ))
   frame_took octets (rnr command nr pf) up =
       let w = ready_weight back command pf in
@@ -213,8 +213,8 @@ module _ (c : Settings) (n1 back low : ℕ) (s : LinkStation) (small : c.window 
       (λ t h. (
         before + (w - 1),
         omega (arith, le),
-        W-polls n1 c.window back low (heard nr s) (top_of s) s.outgoing.given s.phase small within many heavy before (before + (w - 1)) command pf (peer_is true t) (omega (arith, le))
-            (W-peer n1 c.window back low (heard nr s) (top_of s) s.outgoing.given s.phase small within many heavy before true t h),
+        W-polls n1 c.window back low (heard nr s) (top_of s) s.outgoing.given s.phase small within many heavy (before + (w - 1)) command pf (omega (arith, le))
+            (W-peer n1 c.window back low (heard nr s) (top_of s) s.outgoing.given s.phase small within many heavy true h),
       ))
   frame_took octets (rej command nr pf) up =
       let w = rej_weight back command pf in
@@ -226,7 +226,7 @@ module _ (c : Settings) (n1 back low : ℕ) (s : LinkStation) (small : c.window 
       said : IsSpelled n1 (ua p)
       said = record { in_range = tt; carries = refl; within = tt; asks_not = refl }
   frame_took octets (disc p) up = anew 2 0 s.tries Down (ua p ∷ []) (omega arith) (record { in_range = tt; carries = refl; within = tt; asks_not = refl }, tt) (omega (arith, ap phase_weight up))
-  frame_took octets (ua f) up = goes_on 1 0 before (alone s) (omega arith) begins
+  frame_took octets (ua f) up = goes_on 1 0 (omega arith) begins
   frame_took octets f up = anew 1 0 s.tries Down [] (omega arith) tt (omega (arith, ap phase_weight up))
 
   read_took : (octets : List ℕ) (r : Result PlainFrame FrameError) → s.phase ≡ Up → T (read_weight back low r) (asks_in r) (row_of c octets r (alone s)).side
@@ -234,24 +234,24 @@ module _ (c : Settings) (n1 back low : ℕ) (s : LinkStation) (small : c.window 
   read_took octets (Err (Undefined control)) up = left_with octets 1 1 (omega arith) up
   read_took octets (Err (NoInfoAllowed control)) up = left_with octets 3 1 (omega arith) up
   read_took octets (Err TooLong) up = left_with octets 4 1 (omega arith) up
-  read_took octets (Err error) up = goes_on 1 0 before (alone s) (omega arith) begins
+  read_took octets (Err error) up = goes_on 1 0 (omega arith) begins
 
   -- ---- outside of Up
 
   -- nothing is said, or one frame in a word
   silent : (f : PlainFrame) (asks : ℕ) → T (cost_of f) asks (alone s)
-  silent f asks = goes_on (cost_of f) asks before (alone s) (omega (arith, weight_some back low some f)) begins
+  silent f asks = goes_on (cost_of f) asks (omega (arith, weight_some back low some f)) begins
 
-  says_one : (cost asks : ℕ) (g : PlainFrame) → 2 ≤ cost → weight back s.outgoing.acked g ≡ 1 → IsSpelled n1 g → T cost asks (sends g (alone s))
-  says_one cost asks g le one spelled =
-      goes_on cost asks (before + weight back s.outgoing.acked g) (sends g (alone s)) (omega (arith, le, one))
-      (W-sends n1 c.window back low s.outgoing.acked (top_of s) s.outgoing.given s.phase small within many heavy before g (alone s) spelled begins)
+  says_one : (cost asks : ℕ) {g : PlainFrame} → 2 ≤ cost → weight back s.outgoing.acked g ≡ 1 → IsSpelled n1 g → T cost asks (sends g (alone s))
+  says_one cost asks {g} le one spelled =
+      goes_on cost asks (omega (arith, le, one))
+      (W-sends n1 c.window back low s.outgoing.acked (top_of s) s.outgoing.given s.phase small within many heavy spelled begins)
 
   declined : (f : PlainFrame) → T (cost_of f) (asks_set_up f) (declines f (alone s))
   declined f = by (is_command f && poll_or_final f) refl
     where
       by : (b : Bool) → (is_command f && poll_or_final f) ≡ b → T (cost_of f) (asks_set_up f) (if b then sends (dm true) (alone s) else alone s)
-      by true e = says_one (cost_of f) (asks_set_up f) (dm true) (asking_weight back low some f e) refl (record { in_range = tt; carries = refl; within = tt; asks_not = refl })
+      by true e = says_one (cost_of f) (asks_set_up f) (asking_weight back low some f e) refl (record { in_range = tt; carries = refl; within = tt; asks_not = refl })
       by false e = silent f (asks_set_up f)
 
   down_took : (f : PlainFrame) → s.phase ≡ Down → T (cost_of f) (asks_set_up f) (when_down f (alone s)).side
@@ -260,7 +260,7 @@ module _ (c : Settings) (n1 back low : ℕ) (s : LinkStation) (small : c.window 
   down_took (rnr command nr pf) is = declined (rnr command nr pf)
   down_took (rej command nr pf) is = declined (rej command nr pf)
   down_took (sabm p) is = anew 2 1 0 Up (ua p ∷ []) (omega arith) (record { in_range = tt; carries = refl; within = tt; asks_not = refl }, tt) (omega arith)
-  down_took (disc p) is = says_one 2 0 (dm p) (omega arith) refl (record { in_range = tt; carries = refl; within = tt; asks_not = refl })
+  down_took (disc p) is = says_one 2 0 (omega arith) refl (record { in_range = tt; carries = refl; within = tt; asks_not = refl })
   down_took (ua f) is = declined (ua f)
   down_took (dm f) is = declined (dm f)
   down_took (frmr f why) is = declined (frmr f why)
@@ -270,15 +270,15 @@ module _ (c : Settings) (n1 back low : ℕ) (s : LinkStation) (small : c.window 
   waiting_took (rr command nr pf) is = silent (rr command nr pf) 0
   waiting_took (rnr command nr pf) is = silent (rnr command nr pf) 0
   waiting_took (rej command nr pf) is = silent (rej command nr pf) 0
-  waiting_took (sabm p) is = says_one 2 1 (ua p) (omega arith) refl (record { in_range = tt; carries = refl; within = tt; asks_not = refl })
-  waiting_took (disc p) is = says_one 2 0 (dm p) (omega arith) refl (record { in_range = tt; carries = refl; within = tt; asks_not = refl })
+  waiting_took (sabm p) is = says_one 2 1 (omega arith) refl (record { in_range = tt; carries = refl; within = tt; asks_not = refl })
+  waiting_took (disc p) is = says_one 2 0 (omega arith) refl (record { in_range = tt; carries = refl; within = tt; asks_not = refl })
   waiting_took (ua true) is = anew 1 0 0 Up [] (omega arith) tt (omega (arith, ap phase_weight is))
   waiting_took (ua false) is = silent (ua false) 0
   waiting_took (dm f) is = silent (dm f) 0
   waiting_took (frmr f why) is = silent (frmr f why) 0
 
   not_read : (asks : ℕ) → T 1 asks (alone s)
-  not_read asks = goes_on 1 asks before (alone s) (omega arith) begins
+  not_read asks = goes_on 1 asks (omega arith) begins
 
   hears_took : (octets : List ℕ) (r : Result PlainFrame FrameError) (p : Phase) → s.phase ≡ p → T (read_weight back low r) (asks_in r) (hears c octets r p (alone s)).side
   hears_took octets r Up is = read_took octets r is

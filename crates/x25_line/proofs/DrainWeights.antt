@@ -86,13 +86,13 @@ pub record IsSpelled (n1 : ℕ) (f : PlainFrame) : Type 0 where
 abbrev pub AreSpelled : ℕ → List PlainFrame → Type 0
 AreSpelled n1 fs = Each (IsSpelled n1) fs
 
-spelled_more : (n1 : ℕ) (fs : List PlainFrame) (f : PlainFrame) → AreSpelled n1 fs → IsSpelled n1 f → AreSpelled n1 (fs ++ f ∷ [])
-spelled_more n1 fs f h g = each_append (IsSpelled n1) fs (f ∷ []) h (g, tt)
+spelled_more : {n1 : ℕ} (fs : List PlainFrame) {f : PlainFrame} → AreSpelled n1 fs → IsSpelled n1 f → AreSpelled n1 (fs ++ f ∷ [])
+spelled_more {n1} fs {f} h g = each_append (IsSpelled n1) fs (f ∷ []) h (g, tt)
 
-packet_within : (n1 : ℕ) (xs : List (List ℕ)) (n : ℕ) → AllWithin n1 xs → length (slice_index_or xs n []) ≤ n1
-packet_within n1 [] n h = omega arith
-packet_within n1 (x ∷ xs) zero h = h.0
-packet_within n1 (x ∷ xs) (suc n) h = packet_within n1 xs n h.1
+packet_within : {n1 : ℕ} (xs : List (List ℕ)) (n : ℕ) → AllWithin n1 xs → length (slice_index_or xs n []) ≤ n1
+packet_within [] n h = omega arith
+packet_within (x ∷ xs) zero h = h.0
+packet_within {n1} (x ∷ xs) (suc n) h = packet_within xs n h.1
 
 pub below_eight : (n : ℕ) → n % 8 < 8
 below_eight n = omega arith
@@ -119,8 +119,7 @@ not_none low n (suc t) e apart = omega arith
 once_more : (back low n : ℕ) (b : Bool) → (n % 8 == (low + 7) % 8) ≡ b → times back (to_take low (n + 1)) + back ≤ times back (to_take low n) + more_if (8 * back) b
 once_more back low n true e = omega (arith, seven_times back, times_more back (to_take low (n + 1)) 7 (omega arith))
 once_more back low n false e =
-    let some = not_none low n (to_take low n) refl (eqb-false _ _ e) in
-    let fewer : to_take low n ≡ suc (to_take low (n + 1)) = omega (arith, some) in
+    let fewer : to_take low n ≡ suc (to_take low (n + 1)) = omega (arith, not_none low n (to_take low n) refl (eqb-false _ _ e)) in
     omega (arith, ap (times back) fewer)
 
 -- ---- a side of a step that weighs at most so much
@@ -135,101 +134,98 @@ module _ (n1 k back low a top : ℕ) (gs : List (List ℕ)) (p : Phase) (small :
     pub phase : t.near.phase ≡ p
     pub spelled : AreSpelled n1 t.out
 
-  pub W-more : (n m : ℕ) (t : Side) → n ≤ m → Weighs n t → Weighs m t
-  W-more n m t le h = record { load = omega (arith, le, h.load); acked = h.acked; place = h.place; given = h.given; sent = h.sent; phase = h.phase; spelled = h.spelled }
+  pub W-more : {n : ℕ} (m : ℕ) {t : Side} → n ≤ m → Weighs n t → Weighs m t
+  W-more m le h = record { load = omega (arith, le, h.load); acked = h.acked; place = h.place; given = h.given; sent = h.sent; phase = h.phase; spelled = h.spelled }
 
   by_if : (n : ℕ) (b : Bool) (u v : Side) → (b ≡ true → Weighs n u) → (b ≡ false → Weighs n v) → Weighs n (if b then u else v)
   by_if n true u v f g = f refl
   by_if n false u v f g = g refl
 
   -- a frame goes
-  pub W-sends : (n : ℕ) (f : PlainFrame) (t : Side) → IsSpelled n1 f → Weighs n t → Weighs (n + weight back a f) (sends f t)
-  W-sends n f t spelled h = record {
+  pub W-sends : {n : ℕ} {f : PlainFrame} {t : Side} → IsSpelled n1 f → Weighs n t → Weighs (n + weight back a f) (sends f t)
+  W-sends {f = f} {t} spelled h = record {
     load = omega (arith, weights_more back a t.out (f ∷ []), h.load);
     acked = h.acked;
     place = h.place;
     given = h.given;
     sent = h.sent;
     phase = h.phase;
-    spelled = spelled_more n1 t.out f h.spelled spelled;
+    spelled = spelled_more t.out h.spelled spelled;
   }
 
   -- RNR was said last, or not
-  W-said : (n : ℕ) (b : Bool) (t : Side) → Weighs n t → Weighs (n + 1) (with_near t (record t.near { said_busy = b }))
-  W-said n true t h = record { load = omega (arith, h.load); acked = h.acked; place = h.place; given = h.given; sent = h.sent; phase = h.phase; spelled = h.spelled }
-  W-said n false t h = record { load = omega (arith, h.load); acked = h.acked; place = h.place; given = h.given; sent = h.sent; phase = h.phase; spelled = h.spelled }
+  W-said : {n : ℕ} (b : Bool) {t : Side} → Weighs n t → Weighs (n + 1) (with_near t (record t.near { said_busy = b }))
+  W-said true h = record { load = omega (arith, h.load); acked = h.acked; place = h.place; given = h.given; sent = h.sent; phase = h.phase; spelled = h.spelled }
+  W-said false h = record { load = omega (arith, h.load); acked = h.acked; place = h.place; given = h.given; sent = h.sent; phase = h.phase; spelled = h.spelled }
 
-  W-ended_busy : (n : ℕ) (t : Side) → t.near.said_busy ≡ true → Weighs (n + 1) t → Weighs n (with_near t (record t.near { said_busy = false }))
-  W-ended_busy n t said h =
+  W-ended_busy : (n : ℕ) {t : Side} → t.near.said_busy ≡ true → Weighs (n + 1) t → Weighs n (with_near t (record t.near { said_busy = false }))
+  W-ended_busy n said h =
       record { load = omega (arith, h.load, ap (more_if 1) said); acked = h.acked; place = h.place; given = h.given; sent = h.sent; phase = h.phase; spelled = h.spelled }
 
-  W-ready : (n : ℕ) (command pf : Bool) (t : Side) → Weighs n t → Weighs (n + ready_weight back command pf + 1) (ready command pf t)
-  W-ready n command pf t h =
+  W-ready : {n : ℕ} (command pf : Bool) {t : Side} → Weighs n t → Weighs (n + ready_weight back command pf + 1) (ready command pf t)
+  W-ready {n} command pf {t} h =
       let r = ready_weight back command pf in
       by_if (n + r + 1) (is_busy t.near) _ _
-      (λ _. W-more (n + 1 + r) (n + r + 1) _ (omega arith) (W-sends (n + 1) (rnr command (wanted t.near) pf) _ (rnr_spelled n1 (length t.near.taken) command pf) (W-said n true t h)))
-      (λ _. W-more (n + 1 + r) (n + r + 1) _ (omega arith) (W-sends (n + 1) (rr command (wanted t.near) pf) _ (rr_spelled n1 (length t.near.taken) command pf) (W-said n false t h)))
+      (λ _. W-more (n + r + 1) (omega arith) (W-sends (rnr_spelled n1 (length t.near.taken) command pf) (W-said true h)))
+      (λ _. W-more (n + r + 1) (omega arith) (W-sends (rr_spelled n1 (length t.near.taken) command pf) (W-said false h)))
 
   -- the RR that ends an RNR
   ends_busy : (n : ℕ) (t : Side) → is_busy t.near ≡ false → t.near.said_busy ≡ true → Weighs n t → Weighs n (ready false false t)
   ends_busy zero t free said h = absurd (omega (arith, h.load, ap (more_if 1) said))
   ends_busy (suc n) t free said h =
-      rw free (W-more (n + 1) (suc n) _ (omega arith) (W-sends n (rr false (wanted t.near) false) _ (rr_spelled n1 (length t.near.taken) false false) (W-ended_busy n t said (W-more (suc n) (n + 1) t (omega arith) h))))
+      rw free (W-more (suc n) (omega arith) (W-sends (rr_spelled n1 (length t.near.taken) false false) (W-ended_busy n said (W-more (n + 1) (omega arith) h))))
 
-  W-finished : (n : ℕ) (t : Side) → Weighs n t → Weighs n (finished t)
-  W-finished n t h = by_if n (owes_ready t.near) (ready false false t) t
+  W-finished : {n : ℕ} {t : Side} → Weighs n t → Weighs n (finished t)
+  W-finished {n} {t} h = by_if n (owes_ready t.near) (ready false false t) t
       (λ owes. (let parts = and_parts t.near.said_busy _ (and_parts (is_up t.near.phase) _ owes).1 in ends_busy n t (not-true _ parts.1) parts.0 h))
       (λ _. h)
 
-  W-send_next : (n : ℕ) (t : Side) → may_send k t.near ≡ true → Weighs n t → Weighs n (send_next t)
-  W-send_next n t may h =
-      let frame = next_frame t.near in
+  W-send_next : {n : ℕ} {t : Side} → may_send k t.near ≡ true → Weighs n t → Weighs n (send_next t)
+  W-send_next {t = t} may h =
       let o = open_is k t.near may in
-      let many = ap length h.given in
       let number : (t.near.outgoing.place % 8 == (a + 7) % 8) ≡ false = not_eighth a t.near.outgoing.place h.place (omega (arith, small, o.room, h.acked)) _ refl in
       record {
-        load = omega (arith, weights_more back a t.out (frame ∷ []), ap (more_if (8 * back)) number, o.packet, h.load);
+        load = omega (arith, weights_more back a t.out ((next_frame t.near) ∷ []), ap (more_if (8 * back)) number, o.packet, h.load);
         acked = h.acked;
         place = omega (arith, h.place);
         given = h.given;
-        sent = omega (arith, h.sent, o.packet, many, high);
+        sent = omega (arith, h.sent, o.packet, ap length h.given, high);
         phase = h.phase;
-        spelled = spelled_more n1 t.out frame h.spelled (record {
+        spelled = spelled_more t.out h.spelled (record {
           in_range = (below_eight t.near.outgoing.place, below_eight (length t.near.taken));
           carries = tt;
-          within = packet_within n1 t.near.outgoing.given t.near.outgoing.place (subst (AllWithin n1) (sym h.given) within);
+          within = packet_within t.near.outgoing.given t.near.outgoing.place (subst (AllWithin n1) (sym h.given) within);
           asks_not = refl;
         });
       }
 
-  W-pumped : (i n : ℕ) (t : Side) → Weighs n t → Weighs n (pumped i k t)
+  W-pumped : (i : ℕ) {n : ℕ} {t : Side} → Weighs n t → Weighs n (pumped i k t)
   unfolding pumped
-  W-pumped zero n t h = h
-  W-pumped (suc i) n t h = by_if n (may_send k (pumped i k t).near) (send_next (pumped i k t)) (pumped i k t) (λ may. W-send_next n (pumped i k t) may (W-pumped i n t h)) (λ _. W-pumped i n t h)
+  W-pumped zero h = h
+  W-pumped (suc i) {n} {t} h = by_if n (may_send k (pumped i k t).near) (send_next (pumped i k t)) (pumped i k t) (λ may. W-send_next may (W-pumped i h)) (λ _. W-pumped i h)
 
-  pub W-ended : (n : ℕ) (t : Side) → Weighs n t → Weighs n (ended k t)
-  W-ended n t h = W-finished n (pumped 7 k t) (W-pumped 7 n t h)
+  pub W-ended : (n : ℕ) {t : Side} → Weighs n t → Weighs n (ended k t)
+  W-ended n {t} h = W-finished (W-pumped 7 h)
 
   -- ---- I frames
 
-  W-answers : (n : ℕ) (q : Bool) (t : Side) → Weighs n t → Weighs (n + more_if back q + 2) (answers k q t)
-  W-answers n true t h = W-more (n + back + 1) (n + back + 2) _ (omega arith) (W-ready n false true t h)
-  W-answers n false t h =
+  W-answers : {n : ℕ} (q : Bool) {t : Side} → Weighs n t → Weighs (n + more_if back q + 2) (answers k q t)
+  W-answers {n} true {t} h = W-more (n + back + 2) (omega arith) (W-ready false true h)
+  W-answers {n} false {t} h =
       by_if (n + 0 + 2) (may_send k t.near) (send_next t) (ready false false t)
-      (λ may. W-more n (n + 0 + 2) _ (omega arith) (W-send_next n t may h))
-      (λ _. W-more (n + 1 + 1) (n + 0 + 2) _ (omega arith) (W-ready n false false t h))
+      (λ may. W-more (n + 0 + 2) (omega arith) (W-send_next may h))
+      (λ _. W-more (n + 0 + 2) (omega arith) (W-ready false false h))
 
-  W-gap : (n : ℕ) (q : Bool) (t : Side) → not t.near.rejecting ≡ true → Weighs n t → Weighs (n + more_if back q) (rejects_gap q t)
-  W-gap n q t none h =
-      let frame = rej false (wanted t.near) q in
+  W-gap : {n : ℕ} (q : Bool) {t : Side} → not t.near.rejecting ≡ true → Weighs n t → Weighs (n + more_if back q) (rejects_gap q t)
+  W-gap q {t} none h =
       record {
-        load = omega (arith, weights_more back a t.out (frame ∷ []), rej_is q, ap (more_if back) none, h.load);
+        load = omega (arith, weights_more back a t.out ((rej false (wanted t.near) q) ∷ []), rej_is q, ap (more_if back) none, h.load);
         acked = h.acked;
         place = h.place;
         given = h.given;
         sent = h.sent;
         phase = h.phase;
-        spelled = spelled_more n1 t.out frame h.spelled (rej_spelled n1 (length t.near.taken) false q);
+        spelled = spelled_more t.out h.spelled (rej_spelled n1 (length t.near.taken) false q);
       }
     where
       rej_is : (q : Bool) → rej_weight back false q ≡ back + more_if back q
@@ -239,9 +235,9 @@ module _ (n1 k back low a top : ℕ) (gs : List (List ℕ)) (p : Phase) (small :
   W-passes_over : (n : ℕ) (q : Bool) (t : Side) → Weighs n t → Weighs (n + more_if back q + 2) (passes_over q t)
   W-passes_over n q t h =
       by_if (n + more_if back q + 2) (is_busy t.near) _ _
-      (λ _. W-more (n + ready_weight back false q + 1) (n + more_if back q + 2) _ (says_little q) (W-ready n false q t h))
+      (λ _. W-more (n + more_if back q + 2) (says_little q) (W-ready false q h))
       (λ _. by_if (n + more_if back q + 2) (not t.near.rejecting) _ _
-      (λ none. W-more (n + more_if back q) (n + more_if back q + 2) _ (omega arith) (W-gap n q t none h))
+      (λ none. W-more (n + more_if back q + 2) (omega arith) (W-gap q none h))
       (λ _. answers_poll q))
     where
       says_little : (q : Bool) → n + ready_weight back false q + 1 ≤ n + more_if back q + 2
@@ -249,15 +245,15 @@ module _ (n1 k back low a top : ℕ) (gs : List (List ℕ)) (p : Phase) (small :
       says_little false = omega arith
 
       answers_poll : (q : Bool) → Weighs (n + more_if back q + 2) (if q then ready false true t else t)
-      answers_poll true = W-more (n + back + 1) (n + back + 2) _ (omega arith) (W-ready n false true t h)
-      answers_poll false = W-more n (n + 0 + 2) _ (omega arith) h
+      answers_poll true = W-more (n + back + 2) (omega arith) (W-ready false true h)
+      answers_poll false = W-more (n + 0 + 2) (omega arith) h
 
   W-takes : (n ns : ℕ) (x : List ℕ) (t : Side) → ns ≡ wanted t.near → Weighs n t → Weighs (n + more_if (8 * back) (ns == (low + 7) % 8)) (takes x t)
   W-takes n ns x t is h =
       let r = length t.near.taken in
       let grown : length (t.near.taken ++ x ∷ []) ≡ r + 1 = length-append t.near.taken (x ∷ []) in
-      let more = once_more back low r (ns == (low + 7) % 8) (ap (λ (m : ℕ). m == (low + 7) % 8) (sym is)) in
-      let same : times back (to_take low (length (t.near.taken ++ x ∷ []))) ≡ times back (to_take low (r + 1)) = ap (λ (m : ℕ). times back (to_take low m)) grown in
+      let more = once_more back low r (ns == (low + 7) % 8) (ap (λ m. m == (low + 7) % 8) (sym is)) in
+      let same : times back (to_take low (length (t.near.taken ++ x ∷ []))) ≡ times back (to_take low (r + 1)) = ap (λ m. times back (to_take low m)) grown in
       record { load = omega (arith, h.load, more, same); acked = h.acked; place = h.place; given = h.given; sent = h.sent; phase = h.phase; spelled = h.spelled }
 
   side_if : (n : ℕ) (b : Bool) (x y : Step) → (b ≡ true → Weighs n x.side) → (b ≡ false → Weighs n y.side) → (let z : Step = if b then x else y in Weighs n z.side)
@@ -268,33 +264,32 @@ module _ (n1 k back low a top : ℕ) (gs : List (List ℕ)) (p : Phase) (small :
   W-info n ns q x t h =
       let extra = more_if (8 * back) (ns == (low + 7) % 8) in
       side_if (n + more_if back q + extra + 2) (is_taken ns t.near) _ _
-      (λ is. (let wants = eqb-true ns (wanted t.near) (and_parts (not (is_busy t.near)) _ is).1 in
-      W-more (n + extra + more_if back q + 2) (n + more_if back q + extra + 2) _ (omega arith) (W-answers (n + extra) q (takes x t) (W-takes n ns x t wants h))))
-      (λ _. W-more (n + more_if back q + 2) (n + more_if back q + extra + 2) _ (omega arith) (W-passes_over n q t h))
+      (λ is. (W-more (n + more_if back q + extra + 2) (omega arith) (W-answers q (W-takes n ns x t (eqb-true ns (wanted t.near) (and_parts (not (is_busy t.near)) _ is).1) h))))
+      (λ _. W-more (n + more_if back q + extra + 2) (omega arith) (W-passes_over n q t h))
 
   -- ---- RR, RNR and REJ
 
-  pub W-peer : (n : ℕ) (b : Bool) (t : Side) → Weighs n t → Weighs n (peer_is b t)
-  W-peer n b t h = record { load = h.load; acked = h.acked; place = h.place; given = h.given; sent = h.sent; phase = h.phase; spelled = h.spelled }
+  pub W-peer : {n : ℕ} (b : Bool) {t : Side} → Weighs n t → Weighs n (peer_is b t)
+  W-peer b h = record { load = h.load; acked = h.acked; place = h.place; given = h.given; sent = h.sent; phase = h.phase; spelled = h.spelled }
 
-  pub W-goes_back : (n : ℕ) (t : Side) → Weighs n t → Weighs (n + 4 * length gs) (goes_back t)
-  W-goes_back n t h =
+  pub W-goes_back : {n : ℕ} {t : Side} → Weighs n t → Weighs (n + 4 * length gs) (goes_back t)
+  W-goes_back h =
       let many = ap length h.given in
       record { load = omega (arith, h.load, many); acked = h.acked; place = omega (arith, h.acked); given = h.given; sent = h.sent; phase = h.phase; spelled = h.spelled }
 
   -- with one to spare
-  pub W-polls : (n m : ℕ) (command pf : Bool) (t : Side) → n + ready_weight back command pf ≤ m + 1 → Weighs n t → Weighs m (polls command pf t)
-  W-polls n m true true t le h = W-more (n + back + 1) m _ (omega (arith, le)) (W-ready n false true t h)
-  W-polls n m true false t le h = W-more n m _ (omega (arith, le)) h
-  W-polls n m false true t le h =
-      W-more (n + 4 * length gs) m _ (omega (arith, le, heavy))
-      (W-goes_back n (with_near t (record t.near { recovery = false; tries = 0 }))
+  pub W-polls : {n : ℕ} (m : ℕ) (command pf : Bool) {t : Side} → n + ready_weight back command pf ≤ m + 1 → Weighs n t → Weighs m (polls command pf t)
+  W-polls {n} m true true {t} le h = W-more m (omega (arith, le)) (W-ready false true h)
+  W-polls {n} m true false le h = W-more m (omega (arith, le)) h
+  W-polls {n} m false true {t} le h =
+      W-more m (omega (arith, le, heavy))
+      (W-goes_back
       (record { load = h.load; acked = h.acked; place = h.place; given = h.given; sent = h.sent; phase = h.phase; spelled = h.spelled }))
-  W-polls n m false false t le h = W-more n m _ (omega (arith, le)) h
+  W-polls {n} m false false le h = W-more m (omega (arith, le)) h
 
   pub W-rej : (n m : ℕ) (command pf : Bool) (t : Side) → n + rej_weight back command pf ≤ m + 1 → Weighs n t → Weighs m (polls command pf (goes_back (peer_is false t)))
   W-rej n m command pf t le h =
-      W-polls (n + 4 * length gs) m command pf (goes_back (peer_is false t)) (by command pf le) (W-goes_back n (peer_is false t) (W-peer n false t h))
+      W-polls m command pf (by command pf le) (W-goes_back (W-peer false h))
     where
       by : (command pf : Bool) → n + rej_weight back command pf ≤ m + 1 → n + 4 * length gs + ready_weight back command pf ≤ m + 1
       by true true le = omega (arith, le, heavy)

@@ -1,12 +1,12 @@
 -- Whatever the two ends are at a quiet moment, once both have fired and all has come each is at rest or not Up.
-use Rattle.std.proofs.Common.{◌≡◌, List, [], ◌∷◌, ◌⊎◌, inl, inr, length, Bool, true, false, if◌then◌else◌, ℕ, suc, ◌+◌, ◌<◌, Some, None, refl, sym, ap, ◌∙◌, subst, arith}
+use Rattle.std.proofs.Common.{◌≡◌, List, [], ◌∷◌, ◌⊎◌, inl, inr, length, Bool, true, false, if◌then◌else◌, ℕ, suc, ◌<◌, Some, None, refl, sym, ap, ◌∙◌, subst, arith}
 use Rattle.std.proofs.lemmas.Bool.{ltb-true, ltb-false}
 use Rattle.std.specs.Prelude.{nat_lt}
 use Rattle.x25_frame.specs.{Frame.{PlainFrame, sabm}, laws.ReadingLaw.{ReadsSpelled}}
 use Rattle.x25_link.specs.{declared.phase.Phase.{Phase}, declared.phase.Phase.TheVariants.{Down, Waiting, Up}, declared.phase.Reason.TheVariants.{Retries}}
 use Rattle.x25_link.specs.{Station.{Settings, LinkStation, is_up, is_busy, wanted, with_nothing}, Hearing.{Step, other}, Link.{timer_step, timer_runs}}
 use Rattle.x25_link.specs.{laws.SetUp.{Is}, laws.WindowMachine.{nothing}, laws.WindowLaw.{Follows, IsOut}, laws.RestLaw.{IsAtRest}, laws.AnswerLaw.{says}}
-use Rattle.x25_line.specs.{laws.Stations.{T1, Event}, laws.Sessions.{SessionEnd, Sessions, begun_by, acts, swapped, run}}
+use Rattle.x25_line.specs.{laws.Stations.{T1, LinkEvent}, laws.Sessions.{SessionEnd, Sessions, begun_by, acts, swapped, run}}
 use Rattle.x25_line.specs.{laws.StationClaims.{AreJoined, IsWhole, AreWhole}, Healing.{IsDelivery, HasTries}, laws.SessionClaims.{Each}, laws.LawsBelow.{HealingLaws}}
 use Rattle.x25_line.proofs.{DrainWeights.{below_eight}, StationSteps.{not_both, out_not_up}, StationRuns.{joined_swapped}, HealingLines.{Reads}}
 use Rattle.x25_line.proofs.{StationEvents.{timer_up}, HealingSteps.{IsDrained, IsInOrderIfUp, refused, fires_is, reads_put}}
@@ -28,13 +28,13 @@ pub data IsOff (s : LinkStation) : List PlainFrame → Type 0 where
   asks : s.phase ≡ Waiting → IsOff s (sabm true ∷ [])
   out : IsOut s.phase → IsOff s []
 
-off_not_up : (s : LinkStation) (fs : List PlainFrame) → IsOff s fs → is_up s.phase ≡ false
-off_not_up s fs (asks waits) = ap is_up waits
-off_not_up s fs (out gone) = out_not_up s.phase gone
+off_not_up : {s : LinkStation} {fs : List PlainFrame} → IsOff s fs → is_up s.phase ≡ false
+off_not_up (asks waits) = ap is_up waits
+off_not_up {s} (out gone) = out_not_up s.phase gone
 
-off_sets_up : (s : LinkStation) (fs : List PlainFrame) → IsOff s fs → AreOfSetUp fs
-off_sets_up s fs (asks waits) = (tt, tt)
-off_sets_up s fs (out gone) = tt
+off_sets_up : {s : LinkStation} {fs : List PlainFrame} → IsOff s fs → AreOfSetUp fs
+off_sets_up (asks waits) = (tt, tt)
+off_sets_up (out gone) = tt
 
 -- it goes on where it had tries left, and is as busy
 pub record WentOn (c : Settings) (e : SessionEnd) (s : LinkStation) (fs : List PlainFrame) : Type 0 where
@@ -73,16 +73,16 @@ module _ (c d : Settings) (joined : AreJoined c d) (reads : ReadsSpelled) (laws 
     stands stopped is = subst (HasFired c d w) (sym (refused c w stopped)) (record { frames = []; is = is; out = none; back = refl; far = refl; begun = refl })
 
     -- the end becomes so and sends so
-    fires : timer_runs s.phase s ≡ true → (t : LinkStation) (fs : List PlainFrame) → step.side.near ≡ t → step.side.out ≡ fs → AreWhole d.longest [] fs → Fired c w.near t fs
+    fires : timer_runs s.phase s ≡ true → {t : LinkStation} {fs : List PlainFrame} → step.side.near ≡ t → step.side.out ≡ fs → AreWhole d.longest [] fs → Fired c w.near t fs
         → HasFired c d w (acts c T1 w)
-    fires running t fs near sent whole is =
+    fires running {fs = fs} near sent whole is =
         subst (HasFired c d w) (sym (fires_is c w running)) (record {
           frames = fs;
           is = rw near is;
-          out = rw sent (reads_put reads c d joined [] (begun_by step.notes.up w.near.begun) w.out [] fs whole none);
+          out = rw sent (reads_put reads joined [] (begun_by step.notes.up w.near.begun) w.out [] fs whole none);
           back = refl;
           far = refl;
-          begun = ap (λ (b : Bool). begun_by b w.near.begun) (timer_up c s);
+          begun = ap (λ b. begun_by b w.near.begun) (timer_up c s);
         })
 
     -- an end that awaits UA
@@ -93,28 +93,28 @@ module _ (c d : Settings) (joined : AreJoined c d) (reads : ReadsSpelled) (laws 
         After b = Is (if b then record s { tries = suc s.tries } else with_nothing Down s.tries) (if b then sabm true ∷ [] else []) (if b then None else Some Retries) false step
 
         running : timer_runs s.phase s ≡ true
-        running = ap (λ (p : Phase). timer_runs p s) waits
+        running = ap (λ p. timer_runs p s) waits
 
         not_up : HasTries c.retries w.near.station → ⊥
         not_up has = not_both (is_up s.phase) has.up (ap is_up waits)
 
         by : (b : Bool) → After b → HasFired c d w (acts c T1 w)
         by true a =
-            fires running (record s { tries = suc s.tries }) (sabm true ∷ []) a.near a.out (record { in_range = tt; carries = refl; within = tt; packet = tt }, tt)
+            fires running a.near a.out (record { in_range = tt; carries = refl; within = tt; packet = tt }, tt)
             (inr (record { had_none = not_up; is = asks waits }))
-        by false a = fires running (with_nothing Down s.tries) [] a.near a.out tt (inr (record { had_none = not_up; is = out tt }))
+        by false a = fires running a.near a.out tt (inr (record { had_none = not_up; is = out tt }))
 
     -- an end that is Up
     up_runs : IsInOrderIfUp c w.near → is_up s.phase ≡ true → timer_runs s.phase s ≡ true → (b : Bool) → nat_lt s.tries c.retries ≡ b → HasFired c d w (acts c T1 w)
     up_runs h up running true few =
         let left = ltb-true _ _ few in
         let a = laws.answers.timer c s (is_up_phase s.phase up) left in
-        fires running (record s { tries = s.tries + 1; recovery = true; said_busy = is_busy s }) (says (is_busy s) true (wanted s) true ∷ []) a.near a.out
+        fires running a.near a.out
         (poll_whole d.longest (is_busy s) (wanted s) (below_eight (length s.taken)), tt) (inl (record { tries = record { up = up; tries = λ _. left }; busy = refl; is = polls up refl refl }))
     up_runs h up running false over =
-        let follows = subst (λ (b : Bool). Follows (if b then None else Some Retries) c.window nothing s step) over (laws.sessions.laws.window.timer c s (record { up = up; sound = h.sound up })) in
+        let follows = subst (λ b. Follows (if b then None else Some Retries) c.window nothing s step) over (laws.sessions.laws.window.timer c s (record { up = up; sound = h.sound up })) in
         let none_left = ltb-false _ _ over in
-        fires running step.side.near [] refl follows.frames tt (inr (record { had_none = λ has. (let few = has.tries running in omega (arith, few, none_left)); is = out (subst IsOut (sym follows.phase) tt) }))
+        fires running refl follows.frames tt (inr (record { had_none = λ has. (omega (arith, has.tries running, none_left)); is = out (subst IsOut (sym follows.phase) tt) }))
 
     up_fires : IsInOrderIfUp c w.near → is_up s.phase ≡ true → (b : Bool) → timer_runs s.phase s ≡ b → HasFired c d w (acts c T1 w)
     up_fires h up true running = up_runs h up running (nat_lt s.tries c.retries) refl
@@ -132,14 +132,14 @@ module _ (c d : Settings) (joined : AreJoined c d) (reads : ReadsSpelled) (laws 
         by Up is = up_fires h (ap is_up is) (timer_runs s.phase s) refl
         by Waiting is = waiting is (nat_lt s.tries c.retries) refl
         by p is =
-            stands (ap (λ (q : Phase). timer_runs q s) is)
+            stands (ap (λ q. timer_runs q s) is)
             (inr (record { had_none = λ has. not_both (is_up s.phase) has.up (ap is_up is); is = out (subst IsOut (sym is) tt) }))
 
 -- both ends fire
 abbrev pub after_firings : Settings → Settings → Sessions → Sessions
 after_firings c d w = swapped (acts d T1 (swapped (acts c T1 w)))
 
-abbrev pub RestOrOut : Settings → Settings → List Event → Sessions → Type 0
+abbrev pub RestOrOut : Settings → Settings → List LinkEvent → Sessions → Type 0
 RestOrOut c d es v = (let u = run c d es v in RestsOrOut u.near.station × RestsOrOut u.far.station)
 
 -- both ends, and the frames between them
@@ -154,31 +154,31 @@ pub record BothFired (c d : Settings) (w v : Sessions) : Type 0 where
   pub far_begun : v.far.begun ≡ w.far.begun
 
 module _ (reads : ReadsSpelled) (laws : HealingLaws) where
-  pub both_fire : (c d : Settings) → AreJoined c d → (w : Sessions) → IsInOrderIfUp c w.near → IsInOrderIfUp d w.far → IsDrained w → BothFired c d w (after_firings c d w)
-  both_fire c d joined w near_in far_in was =
+  pub both_fire : {c d : Settings} → AreJoined c d → {w : Sessions} → IsInOrderIfUp c w.near → IsInOrderIfUp d w.far → IsDrained w → BothFired c d w (after_firings c d w)
+  both_fire {c} {d} joined {w} near_in far_in was =
       let x : Sessions = acts c T1 w in
       let f = has_fired c d joined reads laws w was.out near_in in
-      let g = has_fired d c (joined_swapped c d joined) reads laws (swapped x) (f.back ∙ was.back) (subst (IsInOrderIfUp d) (sym f.far) far_in) in
+      let g = has_fired d c (joined_swapped joined) reads laws (swapped x) (f.back ∙ was.back) (subst (IsInOrderIfUp d) (sym f.far) far_in) in
       record {
         there = f.frames;
         behind = g.frames;
         near = rw g.far f.is;
-        far = subst (λ (e : SessionEnd). Fired d e (acts d T1 (swapped x)).near.station g.frames) f.far g.is;
+        far = subst (λ e. Fired d e (acts d T1 (swapped x)).near.station g.frames) f.far g.is;
         out = rw g.back f.out;
         back = g.out;
-        near_begun = ap (λ (e : SessionEnd). e.begun) g.far ∙ f.begun;
-        far_begun = g.begun ∙ ap (λ (e : SessionEnd). e.begun) f.far;
+        near_begun = ap (λ e. e.begun) g.far ∙ f.begun;
+        far_begun = g.begun ∙ ap (λ e. e.begun) f.far;
       }
 
   -- one end goes on, and the other doesn't
-  parts : (s t : LinkStation) (fs gs : List PlainFrame) → GoesOn s fs → IsOff t gs → Parts s t fs gs
-  parts s t fs gs (polls up recovery said) (asks waits) = asked_polling (is_busy s) (wanted s) (below_eight (length s.taken)) up waits
-  parts s t fs gs (polls up recovery said) (out gone) = polled (is_busy s) (wanted s) up gone
-  parts s t fs gs (stays rest) (asks waits) = asked (laws.rest.only_then s rest).0 waits
-  parts s t fs gs (stays rest) (out gone) = rests rest gone
+  parts : {s t : LinkStation} {fs gs : List PlainFrame} → GoesOn s fs → IsOff t gs → Parts s t fs gs
+  parts {s} (polls up recovery said) (asks waits) = asked_polling (is_busy s) (wanted s) (below_eight (length s.taken)) up waits
+  parts {s} (polls up recovery said) (out gone) = polled (is_busy s) (wanted s) up gone
+  parts {s} (stays rest) (asks waits) = asked (laws.rest.only_then s rest).0 waits
+  parts (stays rest) (out gone) = rests rest gone
 
   -- from any two ends, where two that are Up and have tries left come to rest
-  pub rest_or_out : (c d : Settings) → AreJoined c d → (w : Sessions) → IsInOrderIfUp c w.near → IsInOrderIfUp d w.far → IsDrained w → (es : List Event) → Each IsDelivery es
+  pub rest_or_out : (c d : Settings) → AreJoined c d → (w : Sessions) → IsInOrderIfUp c w.near → IsInOrderIfUp d w.far → IsDrained w → (es : List LinkEvent) → Each IsDelivery es
       → IsDrained (run c d es (after_firings c d w)) → (HasTries c.retries w.near.station → HasTries d.retries w.far.station → RestOrOut c d es (after_firings c d w)) → RestOrOut c d es (after_firings c d w)
   rest_or_out c d joined w near_in far_in was es are after heals = by b.near b.far
     where
@@ -186,7 +186,7 @@ module _ (reads : ReadsSpelled) (laws : HealingLaws) where
       v = after_firings c d w
 
       b : BothFired c d w v
-      b = both_fire c d joined w near_in far_in was
+      b = both_fire joined near_in far_in was
 
       s : LinkStation
       s = v.near.station
@@ -199,11 +199,11 @@ module _ (reads : ReadsSpelled) (laws : HealingLaws) where
 
       by : Fired c w.near s b.there → Fired d w.far t b.behind → RestOrOut c d es v
       by (inl h) (inl k) = heals h.tries k.tries
-      by (inl h) (inr k) = settles (inl (parts s t b.there b.behind h.is k.is))
-      by (inr h) (inl k) = settles (inr (inl (parts t s b.behind b.there k.is h.is)))
+      by (inl h) (inr k) = settles (inl (parts h.is k.is))
+      by (inr h) (inl k) = settles (inr (inl (parts k.is h.is)))
       by (inr h) (inr k) = settles (inr (inr (record {
-        near = inr (off_not_up s b.there h.is);
-        far = inr (off_not_up t b.behind k.is);
-        there = off_sets_up s b.there h.is;
-        back = off_sets_up t b.behind k.is;
+        near = inr (off_not_up h.is);
+        far = inr (off_not_up k.is);
+        there = off_sets_up h.is;
+        back = off_sets_up k.is;
       })))

@@ -42,13 +42,13 @@ Ahead n (rnr command nr pf ∷ fs) m = ((command && pf) ≡ false) × Ahead n fs
 Ahead n (rej command nr pf ∷ fs) m = (pf ≡ false) × Ahead n fs m
 Ahead n (f ∷ fs) m = ⊥
 
-pub ahead_low : (n : ℕ) (fs : List PlainFrame) (m : ℕ) → Ahead n fs m → n ≤ m
-ahead_low n [] m h = omega (arith, h)
-ahead_low n (info ns nr p x ∷ fs) m h = omega (arith, ahead_low (n + 1) fs m h.2)
-ahead_low n (rr command nr pf ∷ fs) m h = ahead_low n fs m h.1
-ahead_low n (rej command nr pf ∷ fs) m h = ahead_low n fs m h.1
-ahead_low n (rnr command nr pf ∷ fs) m h = ahead_low n fs m h.1
-ahead_low n (frame ∷ fs) m h = absurd h
+pub ahead_low : (n : ℕ) (fs : List PlainFrame) {m : ℕ} → Ahead n fs m → n ≤ m
+ahead_low n [] h = omega (arith, h)
+ahead_low n (info ns nr p x ∷ fs) {m} h = omega (arith, ahead_low (n + 1) fs h.2)
+ahead_low n (rr command nr pf ∷ fs) {m} h = ahead_low n fs h.1
+ahead_low n (rej command nr pf ∷ fs) {m} h = ahead_low n fs h.1
+ahead_low n (rnr command nr pf ∷ fs) {m} h = ahead_low n fs h.1
+ahead_low n (frame ∷ fs) h = absurd h
 
 pub ahead_more : (n m k : ℕ) (fs es : List PlainFrame) → Ahead n fs m → Ahead m es k → Ahead n (fs ++ es) k
 ahead_more n m k [] es h g = rw h g
@@ -87,11 +87,11 @@ pub mild_more : (fs es : List PlainFrame) → Mild fs → Mild es → Mild (fs +
 mild_more fs es h g = each_append IsMild fs es h g
 
 -- where V(S) stays, no I frame went
-pub held_mild : (r n : ℕ) (fs : List PlainFrame) (m : ℕ) → AreNext r n fs m → m ≤ n → Mild fs
-held_mild r n [] m h le = tt
-held_mild r n (rr command nr pf ∷ fs) m h le = (and_left command pf h.0, held_mild r n fs m h.3 le)
-held_mild r n (info ns nr p x ∷ fs) m h le = absurd (omega (arith, le, ahead_low (n + 1) fs m (next_ahead r (n + 1) fs m h.3)))
-held_mild r n (frame ∷ fs) m h le = absurd h
+pub held_mild : (r : ℕ) {n : ℕ} (fs : List PlainFrame) {m : ℕ} → AreNext r n fs m → m ≤ n → Mild fs
+held_mild r [] h le = tt
+held_mild r {n} (rr command nr pf ∷ fs) {m} h le = (and_left command pf h.0, held_mild r fs h.3 le)
+held_mild r {n} (info ns nr p x ∷ fs) {m} h le = absurd (omega (arith, le, ahead_low (n + 1) fs (next_ahead r (n + 1) fs m h.3)))
+held_mild r (frame ∷ fs) h le = absurd h
 
 -- I frames, RR, and RNR that polls, none with F=1
 abbrev pub IsNoFinal : PlainFrame → Type 0
@@ -150,11 +150,11 @@ tells_behind s r nr (rr command k pf ∷ gs) es h more = (h.0, tells_behind s r 
 tells_behind s r nr (frame ∷ gs) es h more = absurd h
 
 -- the first of frames that tell a number in the end
-first_reports : (r a : ℕ) (es : List PlainFrame) → (es ≡ [] → a ≡ r) → LastTells r (r % 8) es → Reports r a es
-first_reports r a [] none h = none refl
-first_reports r a (info ns k p x ∷ es) none h = h
-first_reports r a (rr command k pf ∷ es) none h = h
-first_reports r a (frame ∷ es) none h = absurd h
+first_reports : {r : ℕ} (a : ℕ) (es : List PlainFrame) → (es ≡ [] → a ≡ r) → LastTells r (r % 8) es → Reports r a es
+first_reports a [] none h = none refl
+first_reports a (info ns k p x ∷ es) none h = h
+first_reports a (rr command k pf ∷ es) none h = h
+first_reports a (frame ∷ es) none h = absurd h
 
 reports_behind : (s r a : ℕ) (gs es : List PlainFrame) → Reports s a gs → ((k : ℕ) → (k ≡ s % 8) → LastTells r k es) → (a ≡ s → Reports r a es) → Reports r a (gs ++ es)
 reports_behind s r a [] es h more alone = alone h
@@ -165,16 +165,16 @@ reports_behind s r a (frame ∷ gs) es h more alone = absurd h
 -- the number stays: what goes has it
 pub reports_more : (r a n m : ℕ) (gs es : List PlainFrame) → Reports r a gs → AreNext r n es m → Reports r a (gs ++ es)
 reports_more r a n m gs es h next =
-    reports_behind r r a gs es h (λ k is. next_tells r k n m es is next) (λ same. first_reports r a es (λ _. same) (next_tells r (r % 8) n m es refl next))
+    reports_behind r r a gs es h (λ k is. next_tells r k n m es is next) (λ same. first_reports a es (λ _. same) (next_tells r (r % 8) n m es refl next))
 
 -- a new number: at least one frame goes with it
 pub reports_new : (s r a n m : ℕ) (gs es : List PlainFrame) → Reports s a gs → AreNext r n es m → (es ≡ [] → ⊥) → Reports r a (gs ++ es)
 reports_new s r a n m gs es h next some =
-    reports_behind s r a gs es h (λ k is. some_tells r k n m es some next) (λ same. first_reports r a es (λ none. absurd (some none)) (next_tells r (r % 8) n m es refl next))
+    reports_behind s r a gs es h (λ k is. some_tells r k n m es some next) (λ same. first_reports a es (λ none. absurd (some none)) (next_tells r (r % 8) n m es refl next))
 
 -- once the first was heard, by which all up to `a` is acknowledged
-pub reports_heard : (r a nr : ℕ) (gs : List PlainFrame) → LastTells r nr gs → (nr ≡ r % 8 → a ≡ r) → Reports r a gs
-reports_heard r a nr [] h all = all h
-reports_heard r a nr (info ns k p x ∷ gs) h all = h
-reports_heard r a nr (rr command k pf ∷ gs) h all = h
-reports_heard r a nr (frame ∷ gs) h all = absurd h
+pub reports_heard : {r : ℕ} (a : ℕ) {nr : ℕ} (gs : List PlainFrame) → LastTells r nr gs → (nr ≡ r % 8 → a ≡ r) → Reports r a gs
+reports_heard a [] h all = all h
+reports_heard a (info ns k p x ∷ gs) h all = h
+reports_heard a (rr command k pf ∷ gs) h all = h
+reports_heard a (frame ∷ gs) h all = absurd h

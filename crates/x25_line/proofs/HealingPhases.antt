@@ -39,9 +39,9 @@ Brings t (rr false n true ∷ gs) = Final t false n gs
 Brings t (rnr false n true ∷ gs) = Final t true n gs
 Brings t (g ∷ gs) = IsNoFinal g × Brings t gs
 
-brings_first : (t : LinkStation) (busy : Bool) (n : ℕ) (gs : List PlainFrame) → Final t busy n gs → Brings t (says busy false n true ∷ gs)
-brings_first t true n gs h = h
-brings_first t false n gs h = h
+brings_first : {t : LinkStation} (busy : Bool) {n : ℕ} {gs : List PlainFrame} → Final t busy n gs → Brings t (says busy false n true ∷ gs)
+brings_first true h = h
+brings_first false h = h
 
 brings_behind : (t : LinkStation) (fs gs : List PlainFrame) → NoFinal fs → Brings t gs → Brings t (fs ++ gs)
 brings_behind t [] gs h g = g
@@ -119,33 +119,33 @@ pub record SaysMore (s z : LinkStation) (es : List PlainFrame) : Type 0 where
   pub says : Says s.said_busy z.said_busy (is_busy z) z.peer_busy es
   pub free : is_busy s ≡ false → is_busy z ≡ false
 
-module _ (s z : LinkStation) (es : List PlainFrame) (k : SaysMore s z es) where
+module _ {s z : LinkStation} {es : List PlainFrame} (k : SaysMore s z es) where
   same : length s.taken ≡ length z.taken
   same = sym (ap length k.taken)
 
   tells_more : (n : ℕ) (gs : List PlainFrame) → LastTells (length s.taken) n gs → LastTells (length z.taken) n (gs ++ es)
   tells_more n gs h =
       let r = length s.taken in
-      subst (λ (m : ℕ). LastTells m n (gs ++ es)) same (tells_behind r r n gs es h (λ i is. next_tells r i k.place z.outgoing.place es is k.next))
+      subst (λ m. LastTells m n (gs ++ es)) same (tells_behind r r n gs es h (λ i is. next_tells r i k.place z.outgoing.place es is k.next))
 
   -- whether it is busy is told by what it says more
   told_more : (busy : Bool) (gs : List PlainFrame) → Told (hears_busy busy gs) s → Told (hears_busy busy (gs ++ es)) z
   told_more busy gs told = rw (hears_more busy gs es) (told_on (hears_busy busy gs) s z es told k.says k.free)
 
-  final_more : (busy : Bool) (n : ℕ) (gs : List PlainFrame) → Final s busy n gs → Final z busy n (gs ++ es)
-  final_more busy n gs h = record { is = h.is ∙ ap (λ (m : ℕ). m % 8) same; tells = tells_more n gs h.tells; told = told_more busy gs h.told }
+  final_more : {busy : Bool} {n : ℕ} {gs : List PlainFrame} → Final s busy n gs → Final z busy n (gs ++ es)
+  final_more {busy} {n} {gs} h = record { is = h.is ∙ ap (λ m. m % 8) same; tells = tells_more n gs h.tells; told = told_more busy gs h.told }
 
   brings_more : (gs : List PlainFrame) → Brings s gs → Brings z (gs ++ es)
   brings_more [] h = absurd h
-  brings_more (rr false n true ∷ gs) h = final_more false n gs h
-  brings_more (rnr false n true ∷ gs) h = final_more true n gs h
+  brings_more (rr false n true ∷ gs) h = final_more h
+  brings_more (rnr false n true ∷ gs) h = final_more h
   brings_more (g ∷ gs) h = (h.0, brings_more gs h.1)
 
-  pub answered_more : (t : LinkStation) (gs fs : List PlainFrame) → Answered t s gs fs → Answered t z gs (fs ++ es)
-  answered_more t gs fs h = record { recovery = h.recovery; mild = h.mild; brings = brings_more fs h.brings }
+  pub answered_more : {t : LinkStation} {gs fs : List PlainFrame} → Answered t s gs fs → Answered t z gs (fs ++ es)
+  answered_more {fs = fs} h = record { recovery = h.recovery; mild = h.mild; brings = brings_more fs h.brings }
 
-  pub resent_more : (t : LinkStation) (gs fs : List PlainFrame) → Resent t s gs fs → Resent t z gs (fs ++ es)
-  resent_more t gs fs h = record {
+  pub resent_more : {t : LinkStation} {gs fs : List PlainFrame} → Resent t s gs fs → Resent t z gs (fs ++ es)
+  resent_more {t} {fs = fs} h = record {
     recovery = h.recovery;
     peer_busy = h.peer_busy;
     ahead = rw (sym same) h.ahead;
@@ -153,8 +153,8 @@ module _ (s z : LinkStation) (es : List PlainFrame) (k : SaysMore s z es) where
     free = k.free h.free;
   }
 
-  pub withheld_more : (t : LinkStation) (gs fs : List PlainFrame) → Withheld t s gs fs → Withheld t z gs (fs ++ es)
-  withheld_more t gs fs h = record {
+  pub withheld_more : {t : LinkStation} {gs fs : List PlainFrame} → Withheld t s gs fs → Withheld t z gs (fs ++ es)
+  withheld_more {fs = fs} h = record {
     recovery = h.recovery;
     peer_busy = h.peer_busy;
     mild = h.mild;
@@ -282,27 +282,27 @@ module _ (c : Settings) (laws : HealingLaws) (busy_laws : BusyLaws) (octets : Li
     pub recovery : z.recovery ≡ true
     pub mild : Mild step.side.out
 
-  replied : (nr : ℕ) (busy : Bool) → s.recovery ≡ true → Hears nr busy → Replies
-  replied nr busy recovery h =
+  replied : {nr : ℕ} {busy : Bool} → s.recovery ≡ true → Hears nr busy → Replies
+  replied {nr} {busy} recovery h =
       let o = outcome nr busy h in
       let a = h.answers in
       let held = a.held recovery in
-      record { o = o; answers = a; recovery = a.recovery ∙ recovery; mild = subst Mild (sym a.out) (mild_more h.first a.next h.mild (held_mild (length o.taken) o.place a.next m a.sends (omega (arith, held)))) }
+      record { o = o; answers = a; recovery = a.recovery ∙ recovery; mild = subst Mild (sym a.out) (mild_more h.first a.next h.mild (held_mild (length o.taken) a.next a.sends (omega (arith, held)))) }
 
   replies : (g : PlainFrame) → Beside c s t g octets → s.recovery ≡ true → IsNoFinal g → Replies
   replies (info ns nr true x) k recovery is = not_both true refl is
-  replies (info ns nr false x) k recovery is = replied nr s.peer_busy recovery (hears_info ns nr x k.up k.read (k.well tt).valid)
-  replies (rr true nr true) k recovery is = replied nr false recovery (hears_poll false nr k.up k.read (k.well tt).valid)
+  replies (info ns nr false x) k recovery is = replied recovery (hears_info ns nr x k.up k.read (k.well tt).valid)
+  replies (rr true nr true) k recovery is = replied recovery (hears_poll false nr k.up k.read (k.well tt).valid)
   replies (rr false nr true) k recovery is = not_both true refl is
-  replies (rr command nr false) k recovery is = replied nr false recovery (hears_ready false command nr k.up k.read (k.well tt).valid)
-  replies (rnr true nr true) k recovery is = replied nr true recovery (hears_poll true nr k.up k.read (k.well tt).valid)
+  replies (rr command nr false) k recovery is = replied recovery (hears_ready false command nr k.up k.read (k.well tt).valid)
+  replies (rnr true nr true) k recovery is = replied recovery (hears_poll true nr k.up k.read (k.well tt).valid)
   replies g k recovery is = absurd is
 
   -- ---- what isn't acknowledged goes again
 
-  resends : (fs gs : List PlainFrame) (nr n : ℕ) (o : Outcome) → Answers s o step → o.recovery ≡ false → o.peer_busy ≡ false → o.acked ≡ heard nr s → Ahead r fs n → Ahead n o.first o.place
+  resends : {fs gs : List PlainFrame} {nr : ℕ} (n : ℕ) {o : Outcome} → Answers s o step → o.recovery ≡ false → o.peer_busy ≡ false → o.acked ≡ heard nr s → Ahead r fs n → Ahead n o.first o.place
       → LastTells r nr gs → (nr ≡ r % 8 → heard nr s ≡ r) → is_busy t ≡ false → IsNear fs gs
-  resends fs gs nr n o a recovery peer_busy acked ahead first tells all free = record {
+  resends {fs} {gs} {nr} n {o} a recovery peer_busy acked ahead first tells all free = record {
     o = o;
     answers = a;
     phase = inr (inr (inl (record {
@@ -310,41 +310,40 @@ module _ (c : Settings) (laws : HealingLaws) (busy_laws : BusyLaws) (octets : Li
       peer_busy = a.peer_busy ∙ peer_busy;
       ahead = ahead_more r n m fs step.side.out ahead
           (rw a.out (ahead_more n o.place m o.first a.next first (next_ahead (length o.taken) o.place a.next m a.sends)));
-      reports = reports_heard r z.outgoing.acked nr gs tells (λ is. a.acked ∙ acked ∙ all is);
+      reports = reports_heard z.outgoing.acked gs tells (λ is. a.acked ∙ acked ∙ all is);
       free = free;
     })));
   }
 
   -- where it was in order before, V(S) stays
-  goes_on : (fs gs : List PlainFrame) (nr : ℕ) → Hears nr false → s.recovery ≡ false → Ahead r fs s.outgoing.place → heard nr s ≤ r → LastTells r nr gs → (nr ≡ r % 8 → heard nr s ≡ r)
+  goes_on : {fs gs : List PlainFrame} {nr : ℕ} → Hears nr false → s.recovery ≡ false → Ahead r fs s.outgoing.place → heard nr s ≤ r → LastTells r nr gs → (nr ≡ r % 8 → heard nr s ≡ r)
       → is_busy t ≡ false → IsNear fs gs
-  goes_on fs gs nr h recovery ahead high tells all free =
+  goes_on {fs} {gs} {nr} h recovery ahead high tells all free =
       let n = s.outgoing.place in
-      let low = ahead_low r fs n ahead in
-      let stays : max n (heard nr s) ≡ n = omega (arith, low, high) in
-      resends fs gs nr n (outcome nr false h) h.answers recovery refl refl ahead (subst (Ahead n h.first) (sym stays) (mild_ahead n h.first h.mild)) tells all free
+      let stays : max n (heard nr s) ≡ n = omega (arith, ahead_low r fs ahead, high) in
+      resends n h.answers recovery refl refl ahead (subst (Ahead n h.first) (sym stays) (mild_ahead n h.first h.mild)) tells all free
 
   resent_hears : (fs gs : List PlainFrame) (g : PlainFrame) → Beside c s t g octets → s.recovery ≡ false → s.peer_busy ≡ false → Ahead r fs s.outgoing.place → is_busy t ≡ false
       → Reports r s.outgoing.acked (g ∷ gs) → IsNear fs gs
   resent_hears fs gs (info ns nr true x) k recovery peer_busy ahead free reports = not_both true refl reports.0
   resent_hears fs gs (info ns nr false x) k recovery peer_busy ahead free reports =
-      goes_on fs gs nr (subst (Hears nr) peer_busy (hears_info ns nr x k.up k.read (k.well tt).valid)) recovery ahead (k.well tt).high reports.1 (k.all nr) free
+      goes_on (subst (Hears nr) peer_busy (hears_info ns nr x k.up k.read (k.well tt).valid)) recovery ahead (k.well tt).high reports.1 (k.all nr) free
   resent_hears fs gs (rr true nr true) k recovery peer_busy ahead free reports =
-      goes_on fs gs nr (hears_poll false nr k.up k.read (k.well tt).valid) recovery ahead (k.well tt).high reports.1 (k.all nr) free
+      goes_on (hears_poll false nr k.up k.read (k.well tt).valid) recovery ahead (k.well tt).high reports.1 (k.all nr) free
   resent_hears fs gs (rr false nr true) k recovery peer_busy ahead free reports = not_both true refl reports.0
   resent_hears fs gs (rr command nr false) k recovery peer_busy ahead free reports =
-      goes_on fs gs nr (hears_ready false command nr k.up k.read (k.well tt).valid) recovery ahead (k.well tt).high reports.1 (k.all nr) free
+      goes_on (hears_ready false command nr k.up k.read (k.well tt).valid) recovery ahead (k.well tt).high reports.1 (k.all nr) free
   resent_hears fs gs g k recovery peer_busy ahead free reports = absurd reports
 
   -- ---- nothing but what neither asks nor carries goes to a busy peer
 
-  withholds : (fs gs : List PlainFrame) (nr : ℕ) (o : Outcome) → is_up s.phase ≡ true → Answers s o step → o.recovery ≡ false → o.peer_busy ≡ true → o.acked ≡ r → o.place ≡ r → Mild fs → Mild o.first
+  withholds : {fs gs : List PlainFrame} (nr : ℕ) {o : Outcome} → is_up s.phase ≡ true → Answers s o step → o.recovery ≡ false → o.peer_busy ≡ true → o.acked ≡ r → o.place ≡ r → Mild fs → Mild o.first
       → LastTells r nr gs → Told (hears_busy true gs) t → IsNear fs gs
-  withholds fs gs nr o up a recovery peer_busy acked place mild first tells told =
+  withholds {fs} nr {o} up a recovery peer_busy acked place mild first tells told =
       let busy : z.peer_busy ≡ true = a.peer_busy ∙ peer_busy in
       let silent : NoInfo (o.first ++ a.next) = subst NoInfo a.out ((busy_laws.take c octets s up a.quiet).held busy) in
-      let stays = silent_stays (length o.taken) o.place a.next m a.sends (none_behind o.first a.next silent) in
-      let next = held_mild (length o.taken) o.place a.next m a.sends (omega (arith, stays)) in
+      let stays = silent_stays (length o.taken) a.next a.sends (none_behind o.first a.next silent) in
+      let next = held_mild (length o.taken) a.next a.sends (omega (arith, stays)) in
       record {
         o = o;
         answers = a;
@@ -360,43 +359,43 @@ module _ (c : Settings) (laws : HealingLaws) (busy_laws : BusyLaws) (octets : Li
         }))));
       }
 
-  withholds_on : (fs gs : List PlainFrame) (nr : ℕ) → is_up s.phase ≡ true → Hears nr true → HearsWell s t nr → s.recovery ≡ false → s.outgoing.place ≡ r → s.outgoing.acked ≡ r → Mild fs
+  withholds_on : {fs gs : List PlainFrame} {nr : ℕ} → is_up s.phase ≡ true → Hears nr true → HearsWell s t nr → s.recovery ≡ false → s.outgoing.place ≡ r → s.outgoing.acked ≡ r → Mild fs
       → LastTells r nr gs → Told (hears_busy true gs) t → IsNear fs gs
-  withholds_on fs gs nr up h well recovery place acked mild tells told =
+  withholds_on {fs} {gs} {nr} up h well recovery place acked mild tells told =
       let all : heard nr s ≡ r = omega (arith, acked, well.low, well.high) in
       let stays : max s.outgoing.place (heard nr s) ≡ r = omega (arith, place, well.high) in
-      withholds fs gs nr (outcome nr true h) up h.answers recovery refl all stays mild h.mild tells told
+      withholds nr up h.answers recovery refl all stays mild h.mild tells told
 
   -- it is heard to be busy no more
   free_again : (nr : ℕ) (gs : List PlainFrame) → LastTells r nr gs → Told (hears_busy false gs) t → is_busy t ≡ false
-  free_again nr gs tells told = subst (λ (b : Bool). Told b t) (tells_free r nr gs tells) told
+  free_again nr gs tells told = subst (λ b. Told b t) (tells_free r nr gs tells) told
 
   withheld_hears : (fs gs hs : List PlainFrame) (g : PlainFrame) → Beside c s t g octets → (h : Withheld s t fs hs) → LastTells r h.number (g ∷ gs) → Told (hears_busy true (g ∷ gs)) t → IsNear fs gs
   withheld_hears fs gs hs (info ns nr true x) k h tells told = not_both true refl tells.0
   withheld_hears fs gs hs (info ns nr false x) k h tells told =
-      withholds_on fs gs nr k.up (subst (Hears nr) h.peer_busy (hears_info ns nr x k.up k.read (k.well tt).valid)) (k.well tt) h.recovery h.place h.acked h.mild tells.1 told
+      withholds_on k.up (subst (Hears nr) h.peer_busy (hears_info ns nr x k.up k.read (k.well tt).valid)) (k.well tt) h.recovery h.place h.acked h.mild tells.1 told
   withheld_hears fs gs hs (rr true nr true) k h tells told =
-      goes_on fs gs nr (hears_poll false nr k.up k.read (k.well tt).valid) h.recovery (subst (Ahead r fs) (sym h.place) (mild_ahead r fs h.mild)) (k.well tt).high tells.1 (k.all nr) (free_again nr gs tells.1 told)
+      goes_on (hears_poll false nr k.up k.read (k.well tt).valid) h.recovery (subst (Ahead r fs) (sym h.place) (mild_ahead r fs h.mild)) (k.well tt).high tells.1 (k.all nr) (free_again nr gs tells.1 told)
   withheld_hears fs gs hs (rr false nr true) k h tells told = not_both true refl tells.0
   withheld_hears fs gs hs (rr command nr false) k h tells told =
-      goes_on fs gs nr (hears_ready false command nr k.up k.read (k.well tt).valid) h.recovery (subst (Ahead r fs) (sym h.place) (mild_ahead r fs h.mild)) (k.well tt).high tells.1 (k.all nr) (free_again nr gs tells.1 told)
+      goes_on (hears_ready false command nr k.up k.read (k.well tt).valid) h.recovery (subst (Ahead r fs) (sym h.place) (mild_ahead r fs h.mild)) (k.well tt).high tells.1 (k.all nr) (free_again nr gs tells.1 told)
   withheld_hears fs gs hs g k h tells told = absurd tells
 
   -- the poll of the busy far end, which has all that there is
   rested_hears : (fs gs hs : List PlainFrame) (g : PlainFrame) → Beside c s t g octets → Polled s t fs hs → BusyPolls r (g ∷ gs) → IsNear fs gs
   rested_hears fs (x ∷ gs) hs g k h polls = absurd polls.1
   rested_hears fs [] hs (rnr true nr true) k h polls =
-      withholds_on fs [] nr k.up (hears_poll true nr k.up k.read (k.well tt).valid) (k.well tt) h.recovery h.place h.acked (none_mild fs h.none) polls.0 h.told
+      withholds_on k.up (hears_poll true nr k.up k.read (k.well tt).valid) (k.well tt) h.recovery h.place h.acked (none_mild fs h.none) polls.0 h.told
   rested_hears fs [] hs g k h polls = absurd polls.0
 
   -- F=1 comes: what isn't acknowledged goes again, or the far end is busy
   answered_hears : (fs gs : List PlainFrame) (g : PlainFrame) → Beside c s t g octets → s.recovery ≡ true → Mild fs → Brings t (g ∷ gs) → IsNear fs gs
   answered_hears fs gs (rr false nr true) k recovery mild brings =
-      resends fs gs nr r (finished false nr s) (laws.answers.recovery false nr c octets s (is_up_phase s.phase k.up) k.read (k.well tt).valid) refl refl refl (mild_ahead r fs mild) (sym (k.all nr brings.is))
+      resends r (laws.answers.recovery false nr c octets s (is_up_phase s.phase k.up) k.read (k.well tt).valid) refl refl refl (mild_ahead r fs mild) (sym (k.all nr brings.is))
       brings.tells (k.all nr) (free_again nr gs brings.tells brings.told)
   answered_hears fs gs (rnr false nr true) k recovery mild brings =
       let all = k.all nr brings.is in
-      withholds fs gs nr (finished true nr s) k.up (laws.answers.recovery true nr c octets s (is_up_phase s.phase k.up) k.read (k.well tt).valid) refl refl all all mild tt brings.tells brings.told
+      withholds nr k.up (laws.answers.recovery true nr c octets s (is_up_phase s.phase k.up) k.read (k.well tt).valid) refl refl all all mild tt brings.tells brings.told
   answered_hears fs gs g k recovery mild brings =
       let a = replies g k recovery brings.0 in
       record { o = a.o; answers = a.answers; phase = inr (inl (record { recovery = a.recovery; mild = mild_more fs step.side.out mild a.mild; brings = brings.1 })) }
@@ -413,7 +412,7 @@ module _ (c : Settings) (laws : HealingLaws) (busy_laws : BusyLaws) (octets : Li
   -- ---- the same frame, for the phase of the other end
 
   pub stays_free : step.notes ≡ record { down = None; up = false } → is_busy s ≡ false → is_busy z ≡ false
-  stays_free quiet free = (let few = ltb-false _ _ free in le-ltb _ _ (omega (arith, few, (laws.sessions.continues c octets s).waits quiet)))
+  stays_free quiet free = (le-ltb _ _ (omega (arith, ltb-false _ _ free, (laws.sessions.continues c octets s).waits quiet)))
 
   -- it neither asks nor carries anything
   record Plain : Type 0 where
@@ -421,24 +420,24 @@ module _ (c : Settings) (laws : HealingLaws) (busy_laws : BusyLaws) (octets : Li
     pub answers : Answers s o step
     pub more : SaysMore s z step.side.out
 
-  plain_by : (o : Outcome) → is_up s.phase ≡ true → Answers s o step → o.first ≡ [] → o.taken ≡ s.taken → Plain
-  plain_by o up a first taken = record {
+  plain_by : {o : Outcome} → is_up s.phase ≡ true → Answers s o step → o.first ≡ [] → o.taken ≡ s.taken → Plain
+  plain_by {o} up a first taken = record {
     o = o;
     answers = a;
     more = record {
       taken = a.taken ∙ taken;
       place = o.place;
-      next = rw (a.out ∙ ap (λ (es : List PlainFrame). es ++ a.next) first) (subst (λ (xs : List (List ℕ)). AreNext (length xs) o.place a.next m) taken a.sends);
+      next = rw (a.out ∙ ap (λ es. es ++ a.next) first) (subst (λ xs. AreNext (length xs) o.place a.next m) taken a.sends);
       says = busy_laws.take c octets s up a.quiet;
       free = stays_free a.quiet;
     };
   }
 
   plain_ready : (busy command : Bool) (nr : ℕ) → is_up s.phase ≡ true → IsRead (says busy command nr false) → is_valid nr s ≡ true → Plain
-  plain_ready busy command nr up read valid = plain_by (readied busy nr s) up (laws.answers.ready busy command nr c octets s (is_up_phase s.phase up) read valid) refl refl
+  plain_ready busy command nr up read valid = plain_by up (laws.answers.ready busy command nr c octets s (is_up_phase s.phase up) read valid) refl refl
 
   plain_final : (busy : Bool) (nr : ℕ) → is_up s.phase ≡ true → IsRead (says busy false nr true) → is_valid nr s ≡ true → Plain
-  plain_final busy nr up read valid = plain_by (finished busy nr s) up (laws.answers.recovery busy nr c octets s (is_up_phase s.phase up) read valid) refl refl
+  plain_final busy nr up read valid = plain_by up (laws.answers.recovery busy nr c octets s (is_up_phase s.phase up) read valid) refl refl
 
   plain : (f : PlainFrame) → Beside c s t f octets → IsMild f → Plain
   plain (rr true nr true) k is = not_both true refl is
@@ -448,19 +447,19 @@ module _ (c : Settings) (laws : HealingLaws) (busy_laws : BusyLaws) (octets : Li
   plain (rnr false nr true) k is = plain_final true nr k.up k.read (k.well tt).valid
   plain (rnr command nr false) k is = plain_ready true command nr k.up k.read (k.well tt).valid
   plain (rej command nr true) k is = not_both true refl is
-  plain (rej command nr false) k is = plain_by (rejected nr s) k.up (laws.answers.rej command nr c octets s (is_up_phase s.phase k.up) k.read (k.well tt).valid) refl refl
+  plain (rej command nr false) k is = plain_by k.up (laws.answers.rej command nr c octets s (is_up_phase s.phase k.up) k.read (k.well tt).valid) refl refl
   plain f k is = absurd is
 
   abbrev IsFar : List PlainFrame → List PlainFrame → Type 0
   IsFar fs gs = OtherWent s t fs gs step
 
   -- the poll comes: F=1 goes first, as RR or RNR
-  poll_comes : (busy : Bool) (nr : ℕ) (fs gs : List PlainFrame) → is_up s.phase ≡ true → IsRead (says busy true nr true) → is_valid nr s ≡ true → t.recovery ≡ true → Mild gs → NoFinal fs → IsFar fs gs
-  poll_comes busy nr fs gs up read valid recovery mild heard =
+  poll_comes : (busy : Bool) (nr : ℕ) {fs gs : List PlainFrame} → is_up s.phase ≡ true → IsRead (says busy true nr true) → is_valid nr s ≡ true → t.recovery ≡ true → Mild gs → NoFinal fs → IsFar fs gs
+  poll_comes busy nr {fs} up read valid recovery mild heard =
       let o = polled busy nr s in
       let a : Answers s o step = laws.answers.poll busy nr c octets s (is_up_phase s.phase up) read valid in
-      let is : wanted s ≡ length z.taken % 8 = ap (λ (xs : List (List ℕ)). length xs % 8) (sym a.taken) in
-      let next : AreNext (length z.taken) o.place a.next m = subst (λ (xs : List (List ℕ)). AreNext (length xs) o.place a.next m) (sym a.taken) a.sends in
+      let is : wanted s ≡ length z.taken % 8 = ap (λ xs. length xs % 8) (sym a.taken) in
+      let next : AreNext (length z.taken) o.place a.next m = subst (λ xs. AreNext (length xs) o.place a.next m) (sym a.taken) a.sends in
       let said : Says s.said_busy z.said_busy (is_busy z) z.peer_busy (says (is_busy s) false (wanted s) true ∷ a.next) =
       subst (Says s.said_busy z.said_busy (is_busy z) z.peer_busy) a.out (busy_laws.take c octets s up a.quiet) in
       record {
@@ -469,23 +468,23 @@ module _ (c : Settings) (laws : HealingLaws) (busy_laws : BusyLaws) (octets : Li
         phase = inr (inl (record {
           recovery = recovery;
           mild = mild;
-          brings = brings_behind z fs step.side.out heard (subst (Brings z) (sym a.out) (brings_first z (is_busy s) (wanted s) a.next (record {
+          brings = brings_behind z fs step.side.out heard (subst (Brings z) (sym a.out) (brings_first (is_busy s) (record {
             is = is;
             tells = next_tells (length z.taken) (wanted s) o.place m a.next is next;
-            told = told_first (is_busy s) s.said_busy z (wanted s) a.next said;
+            told = told_first (is_busy s) z (wanted s) a.next said;
           })));
         }));
       }
 
   polling_heard : (fs gs : List PlainFrame) (f : PlainFrame) → Beside c s t f octets → t.recovery ≡ true → AsksFirst (f ∷ gs) → NoFinal fs → IsFar fs gs
-  polling_heard fs gs (rr true nr true) k recovery asks heard = poll_comes false nr fs gs k.up k.read (k.well tt).valid recovery asks heard
-  polling_heard fs gs (rnr true nr true) k recovery asks heard = poll_comes true nr fs gs k.up k.read (k.well tt).valid recovery asks heard
+  polling_heard fs gs (rr true nr true) k recovery asks heard = poll_comes false nr k.up k.read (k.well tt).valid recovery asks heard
+  polling_heard fs gs (rnr true nr true) k recovery asks heard = poll_comes true nr k.up k.read (k.well tt).valid recovery asks heard
   polling_heard fs gs f k recovery asks heard = absurd asks
 
   -- the I frame that is wanted comes: it is taken, and its number is told
-  info_comes : (ns nr : ℕ) (x : List ℕ) (fs gs hs : List PlainFrame) → is_up s.phase ≡ true → IsRead (info ns nr false x) → is_valid nr s ≡ true → Resent t s hs fs → ns ≡ length s.taken % 8
+  info_comes : (ns nr : ℕ) (x : List ℕ) {fs gs hs : List PlainFrame} → is_up s.phase ≡ true → IsRead (info ns nr false x) → is_valid nr s ≡ true → Resent t s hs fs → ns ≡ length s.taken % 8
       → Ahead (length s.taken + 1) gs t.outgoing.place → IsFar fs gs
-  info_comes ns nr x fs gs hs up read valid h wants ahead =
+  info_comes ns nr x {fs} up read valid h wants ahead =
       let free = h.free in
       let is : is_taken ns s ≡ true = rw (free, eq-eqb ns (length s.taken % 8) wants) refl in
       let k = laws.answers.wanted ns nr false x c octets s (is_up_phase s.phase up) read valid is in
@@ -493,7 +492,7 @@ module _ (c : Settings) (laws : HealingLaws) (busy_laws : BusyLaws) (octets : Li
       let a : Answers s o step = k.1.answers in
       let more : length z.taken ≡ length s.taken + 1 = ap length a.taken ∙ length-append s.taken (x ∷ []) in
       let next : AreNext (length z.taken) o.place step.side.out m =
-      subst (λ (es : List PlainFrame). AreNext (length z.taken) o.place es m) (sym a.out)
+      subst (λ es. AreNext (length z.taken) o.place es m) (sym a.out)
       (rw a.taken (confirms_next (length o.taken) o.place m k.0 a.next a.sends)) in
       record {
         o = o;
@@ -507,33 +506,33 @@ module _ (c : Settings) (laws : HealingLaws) (busy_laws : BusyLaws) (octets : Li
         })));
       }
 
-  resent_plain : (fs gs hs : List PlainFrame) → Plain → Resent t s hs fs → Ahead (length s.taken) gs t.outgoing.place → IsFar fs gs
-  resent_plain fs gs hs p h ahead = record {
+  resent_plain : {fs gs hs : List PlainFrame} → Plain → Resent t s hs fs → Ahead (length s.taken) gs t.outgoing.place → IsFar fs gs
+  resent_plain {fs} {gs} p h ahead = record {
     o = p.o;
     answers = p.answers;
-    phase = inr (inr (inl (resent_more s z step.side.out p.more t gs fs (record { recovery = h.recovery; peer_busy = h.peer_busy; ahead = ahead; reports = h.reports; free = h.free }))));
+    phase = inr (inr (inl (resent_more p.more (record { recovery = h.recovery; peer_busy = h.peer_busy; ahead = ahead; reports = h.reports; free = h.free }))));
   }
 
-  resent_heard : (fs gs hs : List PlainFrame) (f : PlainFrame) → Beside c s t f octets → Resent t s hs fs → Ahead (length s.taken) (f ∷ gs) t.outgoing.place → IsFar fs gs
-  resent_heard fs gs hs (info ns nr true x) k h ahead = not_both true refl ahead.1
-  resent_heard fs gs hs (info ns nr false x) k h ahead = info_comes ns nr x fs gs hs k.up k.read (k.well tt).valid h ahead.0 ahead.2
-  resent_heard fs gs hs (rr command nr pf) k h ahead = resent_plain fs gs hs (plain (rr command nr pf) k ahead.0) h ahead.1
-  resent_heard fs gs hs (rnr command nr pf) k h ahead = resent_plain fs gs hs (plain (rnr command nr pf) k ahead.0) h ahead.1
-  resent_heard fs gs hs (rej command nr pf) k h ahead = resent_plain fs gs hs (plain (rej command nr pf) k ahead.0) h ahead.1
-  resent_heard fs gs hs f k h ahead = absurd ahead
+  resent_heard : {fs : List PlainFrame} (gs : List PlainFrame) {hs : List PlainFrame} (f : PlainFrame) → Beside c s t f octets → Resent t s hs fs → Ahead (length s.taken) (f ∷ gs) t.outgoing.place → IsFar fs gs
+  resent_heard gs (info ns nr true x) k h ahead = not_both true refl ahead.1
+  resent_heard gs (info ns nr false x) k h ahead = info_comes ns nr x k.up k.read (k.well tt).valid h ahead.0 ahead.2
+  resent_heard gs (rr command nr pf) k h ahead = resent_plain (plain (rr command nr pf) k ahead.0) h ahead.1
+  resent_heard gs (rnr command nr pf) k h ahead = resent_plain (plain (rnr command nr pf) k ahead.0) h ahead.1
+  resent_heard gs (rej command nr pf) k h ahead = resent_plain (plain (rej command nr pf) k ahead.0) h ahead.1
+  resent_heard gs f k h ahead = absurd ahead
 
   pub far_hears : (fs gs : List PlainFrame) (f : PlainFrame) → Beside c s t f octets → Phases t s (f ∷ gs) fs → OtherWent s t fs gs step
   far_hears fs gs f k (inl h) = polling_heard fs gs f k h.recovery h.asks h.heard
   far_hears fs gs f k (inr (inl h)) =
       let p = plain f k h.mild.0 in
-      record { o = p.o; answers = p.answers; phase = inr (inl (answered_more s z step.side.out p.more t gs fs (record { recovery = h.recovery; mild = h.mild.1; brings = h.brings }))) }
-  far_hears fs gs f k (inr (inr (inl h))) = resent_heard fs gs (f ∷ gs) f k h h.ahead
+      record { o = p.o; answers = p.answers; phase = inr (inl (answered_more p.more (record { recovery = h.recovery; mild = h.mild.1; brings = h.brings }))) }
+  far_hears fs gs f k (inr (inr (inl h))) = resent_heard gs f k h h.ahead
   far_hears fs gs f k (inr (inr (inr (inl h)))) =
       let p = plain f k h.mild.0 in
       record {
         o = p.o;
         answers = p.answers;
-        phase = inr (inr (inr (inl (withheld_more s z step.side.out p.more t gs fs
+        phase = inr (inr (inr (inl (withheld_more p.more
             (record { recovery = h.recovery; peer_busy = h.peer_busy; mild = h.mild.1; place = h.place; acked = h.acked; number = h.number; tells = h.tells; told = h.told })))));
       }
   far_hears fs gs f k (inr (inr (inr (inr h)))) = absurd h.none

@@ -7,7 +7,7 @@ use Rattle.x25_link.specs.{declared.error.LinkError.{LinkError}, Outgoing.{waits
 use Rattle.x25_link.specs.{Station.{Settings, LinkStation, Side, is_up, is_busy, may_send, owes_ready, send_next}, Hearing.{Step, other}}
 use Rattle.x25_link.specs.{Link.{put_step, put_refusal}, laws.AnswerLaw.{AreNext}, laws.BusyLaw.{Says, BusyLaws}}
 use Rattle.x25_link.proofs.EndLemmas.{open_is, closed_is, with_packet, put_once, busy_is}
-use Rattle.x25_line.specs.{laws.Stations.{Put, Deliver, Event, Near, Far}, laws.Sessions.{SessionEnd, Sessions, after_step, unless, acts, swapped, run}}
+use Rattle.x25_line.specs.{laws.Stations.{Put, Deliver, LinkEvent, Near, Far}, laws.Sessions.{Sessions, after_step, unless, acts, swapped, run}}
 use Rattle.x25_line.specs.{laws.StationClaims.{AreJoined}, laws.HealingPuts.{IsDeliveryOrPut, AreFree, SessionsFreeThroughout}, laws.SessionClaims.{Each}}
 use Rattle.x25_line.specs.laws.LawsBelow.{HealingLaws}
 use Rattle.x25_line.proofs.{StationSteps.{not_both}, StationRuns.{joined_swapped}}
@@ -72,7 +72,7 @@ takes_down c packet s low high settled calm =
 
 -- an end is no less busy for a packet that is put
 free_before : (s z : LinkStation) → waits s.outgoing ≤ waits z.outgoing → is_busy z ≡ false → is_busy s ≡ false
-free_before s z grows free = (let few = ltb-false _ _ free in le-ltb _ _ (omega (arith, few, grows)))
+free_before s z grows free = (le-ltb _ _ (omega (arith, ltb-false _ _ free, grows)))
 
 -- a station that was handed a packet, or refused it
 module _ (s z : LinkStation) (es : List PlainFrame) (p : TakesDown s (record { near = z; out = es })) (said : Says s.said_busy z.said_busy (is_busy z) z.peer_busy es) where
@@ -81,13 +81,13 @@ module _ (s z : LinkStation) (es : List PlainFrame) (p : TakesDown s (record { n
 
   -- in recovery no I frame goes
   recovers_mild : s.recovery ≡ true → Mild es
-  recovers_mild recovers = held_mild r s.outgoing.place es z.outgoing.place p.sends (omega (arith, p.held recovers))
+  recovers_mild recovers = held_mild r es p.sends (omega (arith, p.held recovers))
 
   -- in the phases of this end, beside one that isn't busy
-  near_puts : (t : LinkStation) (fs gs : List PlainFrame) → (t.said_busy ≡ true → ⊥) → Phases s t fs gs → Phases z t (fs ++ es) gs
-  near_puts t fs gs free (inl h) = inl (record { recovery = p.recovery ∙ h.recovery; asks = asks_more fs es h.asks (recovers_mild h.recovery); heard = h.heard })
-  near_puts t fs gs free (inr (inl h)) = inr (inl (record { recovery = p.recovery ∙ h.recovery; mild = mild_more fs es h.mild (recovers_mild h.recovery); brings = h.brings }))
-  near_puts t fs gs free (inr (inr (inl h))) =
+  near_puts : {t : LinkStation} {fs gs : List PlainFrame} → (t.said_busy ≡ true → ⊥) → Phases s t fs gs → Phases z t (fs ++ es) gs
+  near_puts {fs = fs} free (inl h) = inl (record { recovery = p.recovery ∙ h.recovery; asks = asks_more fs es h.asks (recovers_mild h.recovery); heard = h.heard })
+  near_puts {fs = fs} free (inr (inl h)) = inr (inl (record { recovery = p.recovery ∙ h.recovery; mild = mild_more fs es h.mild (recovers_mild h.recovery); brings = h.brings }))
+  near_puts {t} {fs} free (inr (inr (inl h))) =
       inr (inr (inl (record {
         recovery = p.recovery ∙ h.recovery;
         peer_busy = p.peer_busy ∙ h.peer_busy;
@@ -95,35 +95,35 @@ module _ (s z : LinkStation) (es : List PlainFrame) (p : TakesDown s (record { n
         reports = rw p.acked h.reports;
         free = h.free;
       })))
-  near_puts t fs gs free (inr (inr (inr (inl h)))) =
-      let stays = silent_stays r s.outgoing.place es z.outgoing.place p.sends (said.held (p.peer_busy ∙ h.peer_busy)) in
+  near_puts {fs = fs} free (inr (inr (inr (inl h)))) =
+      let stays = silent_stays r es p.sends (said.held (p.peer_busy ∙ h.peer_busy)) in
       inr (inr (inr (inl (record {
         recovery = p.recovery ∙ h.recovery;
         peer_busy = p.peer_busy ∙ h.peer_busy;
-        mild = mild_more fs es h.mild (held_mild r s.outgoing.place es z.outgoing.place p.sends (omega (arith, stays)));
+        mild = mild_more fs es h.mild (held_mild r es p.sends (omega (arith, stays)));
         place = stays ∙ h.place;
         acked = p.acked ∙ h.acked;
         number = h.number;
         tells = h.tells;
         told = h.told;
       }))))
-  near_puts t fs gs free (inr (inr (inr (inr h)))) = absurd (free h.told)
+  near_puts free (inr (inr (inr (inr h)))) = absurd (free h.told)
 
   -- in those of the other, where this one isn't busy once it was given the packet
-  far_puts : (t : LinkStation) (gs fs : List PlainFrame) → is_busy z ≡ false → (s.said_busy ≡ true → ⊥) → Phases t s gs fs → Phases t z gs (fs ++ es)
-  far_puts t gs fs free unsaid h = by h
+  far_puts : {t : LinkStation} {gs fs : List PlainFrame} → is_busy z ≡ false → (s.said_busy ≡ true → ⊥) → Phases t s gs fs → Phases t z gs (fs ++ es)
+  far_puts {t} {gs} {fs} free unsaid h = by h
     where
       more : SaysMore s z es
       more = record { taken = p.taken; place = s.outgoing.place; next = p.sends; says = said; free = λ _. free }
 
       by : Phases t s gs fs → Phases t z gs (fs ++ es)
       by (inl h) = inl (record { recovery = h.recovery; asks = h.asks; heard = no_final_more fs es h.heard (next_no_final r s.outgoing.place es z.outgoing.place p.sends) })
-      by (inr (inl h)) = inr (inl (answered_more s z es more t gs fs h))
-      by (inr (inr (inl h))) = inr (inr (inl (resent_more s z es more t gs fs h)))
-      by (inr (inr (inr (inl h)))) = inr (inr (inr (inl (withheld_more s z es more t gs fs h))))
+      by (inr (inl h)) = inr (inl (answered_more more h))
+      by (inr (inr (inl h))) = inr (inr (inl (resent_more more h)))
+      by (inr (inr (inr (inl h)))) = inr (inr (inr (inl (withheld_more more h))))
       by (inr (inr (inr (inr h)))) = absurd (unsaid h.told)
 
-module _ (reads : ReadsSpelled) (busy_laws : BusyLaws) (c d : Settings) (joined : AreJoined c d) where
+module _ (reads : ReadsSpelled) (busy_laws : BusyLaws) {c d : Settings} (joined : AreJoined c d) where
   -- what a packet that is put makes of the world
   record WasPut (w v : Sessions) : Type 0 where
     pub next : List PlainFrame
@@ -136,7 +136,7 @@ module _ (reads : ReadsSpelled) (busy_laws : BusyLaws) (c d : Settings) (joined 
 
   append_none : (fs : List PlainFrame) → fs ++ [] ≡ fs
   append_none [] = refl
-  append_none (f ∷ fs) = ap (λ (gs : List PlainFrame). f ∷ gs) (append_none fs)
+  append_none (f ∷ fs) = ap (λ gs. f ∷ gs) (append_none fs)
 
   -- it is refused
   not_put : (w : Sessions) → WasPut w w
@@ -167,7 +167,7 @@ module _ (reads : ReadsSpelled) (busy_laws : BusyLaws) (c d : Settings) (joined 
         next = step.side.out;
         given = takes_down c packet s h.near.sound.place_high h.near.sound.sent_high h.near_said.settled h.near_said.calm;
         says = busy_laws.put c packet s;
-        out = λ fs read. reads_put reads c d joined whole.0 w.near.begun w.out fs step.side.out (whole_behind d.longest whole.0 w.sent step.side.out whole.1) read;
+        out = λ fs read. reads_put reads joined whole.0 w.near.begun w.out fs step.side.out (whole_behind d.longest whole.0 w.sent step.side.out whole.1) read;
         back = refl;
         far = refl;
         begun = refl;
@@ -185,36 +185,36 @@ module _ (reads : ReadsSpelled) (laws : HealingLaws) (busy_laws : BusyLaws) wher
     pub before : AreFree v.near.station v.far.station → AreFree w.near.station w.far.station
     pub heals : (n m : ℕ) → HealsBoth n m c d w → AreFree v.near.station v.far.station → HealsBoth n m c d v
 
-  put_at : (c d : Settings) → AreJoined c d → (packet : List ℕ) (w : Sessions) → Sound c d w → SentWhole d.longest (acts c (Put packet) w).sent → PutAt c d w (acts c (Put packet) w)
-  put_at c d joined packet w h whole = record { near_on = near_on; far_on = far_on; before = before; heals = heals }
+  put_at : {c d : Settings} → AreJoined c d → (packet : List ℕ) {w : Sessions} → Sound c d w → SentWhole d.longest (acts c (Put packet) w).sent → PutAt c d w (acts c (Put packet) w)
+  put_at {c} {d} joined packet {w} h whole = record { near_on = near_on; far_on = far_on; before = before; heals = heals }
     where
       v : Sessions
       v = acts c (Put packet) w
 
-      p : WasPut reads busy_laws c d joined w v
-      p = puts reads busy_laws c d joined packet w h whole
+      p : WasPut reads busy_laws joined w v
+      p = puts reads busy_laws joined packet w h whole
 
       near_on : is_up v.near.station.phase ≡ true
       near_on = ap is_up p.given.phase ∙ h.near.up
 
       far_on : is_up v.far.station.phase ≡ true
-      far_on = ap (λ (e : SessionEnd). is_up e.station.phase) p.far ∙ h.far.up
+      far_on = ap (λ e. is_up e.station.phase) p.far ∙ h.far.up
 
       before : AreFree v.near.station v.far.station → AreFree w.near.station w.far.station
-      before free = (free_before w.near.station v.near.station p.given.grows free.0, ap (λ (e : SessionEnd). is_busy e.station) (sym p.far) ∙ free.1)
+      before free = (free_before w.near.station v.near.station p.given.grows free.0, ap (λ e. is_busy e.station) (sym p.far) ∙ free.1)
 
       heals : (n m : ℕ) → HealsBoth n m c d w → AreFree v.near.station v.far.station → HealsBoth n m c d v
       heals n m b free =
           let s = w.near.station in
           let t = w.far.station in
           let old = before free in
-          let near = near_puts s v.near.station p.next p.given p.says t b.there b.behind (λ said. not_both (is_busy t) (busy_is t h.far_said.calm h.far.up said) old.1) b.near in
-          let far = far_puts s v.near.station p.next p.given p.says t b.behind b.there free.0 (λ said. not_both (is_busy s) (busy_is s h.near_said.calm h.near.up said) old.0) b.far in
+          let near = near_puts s v.near.station p.next p.given p.says (λ said. not_both (is_busy t) (busy_is t h.far_said.calm h.far.up said) old.1) b.near in
+          let far = far_puts s v.near.station p.next p.given p.says free.0 (λ said. not_both (is_busy s) (busy_is s h.near_said.calm h.near.up said) old.0) b.far in
           record {
             near_on = near_on;
             far_on = far_on;
             near_begun = p.begun ∙ b.near_begun;
-            far_begun = ap (λ (e : SessionEnd). e.begun) p.far ∙ b.far_begun;
+            far_begun = ap (λ e. e.begun) p.far ∙ b.far_begun;
             one_free = inl free.0;
             there = b.there ++ p.next;
             behind = b.behind;
@@ -224,7 +224,7 @@ module _ (reads : ReadsSpelled) (laws : HealingLaws) (busy_laws : BusyLaws) wher
             far = rw p.far far;
           }
 
-  module _ (c d : Settings) (joined : AreJoined c d) where
+  module _ {c d : Settings} (joined : AreJoined c d) where
     -- a packet that is put in a world that events lead to
     record WentOn (w v : Sessions) : Type 0 where
       pub reached : Reached c d v
@@ -232,47 +232,47 @@ module _ (reads : ReadsSpelled) (laws : HealingLaws) (busy_laws : BusyLaws) wher
 
     goes_near : (packet : List ℕ) (w : Sessions) → Reached c d w → is_up w.near.station.phase ≡ true → is_up w.far.station.phase ≡ true → WentOn w (acts c (Put packet) w)
     goes_near packet w r up far_up =
-        let after = then_happens c d (Near (Put packet)) w tt r in
-        record { reached = after; put = put_at c d joined packet w (sound_at reads laws c d joined w r up far_up) (whole_at reads laws c d joined (acts c (Put packet) w) after) }
+        let after = then_happens (Near (Put packet)) tt r in
+        record { reached = after; put = put_at joined packet (sound_at reads laws c d joined w r up far_up) (whole_at reads laws c d joined (acts c (Put packet) w) after) }
 
     goes_far : (packet : List ℕ) (w : Sessions) → Reached c d w → is_up w.near.station.phase ≡ true → is_up w.far.station.phase ≡ true → WentOn w (swapped (acts d (Put packet) (swapped w)))
     goes_far packet w r up far_up =
-        let after = then_happens c d (Far (Put packet)) w tt r in
+        let after = then_happens (Far (Put packet)) tt r in
         let v : Sessions = acts d (Put packet) (swapped w) in
-        let whole : SentWhole c.longest v.sent = subst (λ (k : ℕ). SentWhole k v.sent) (sym joined.longest) (whole_at reads laws c d joined (swapped v) after) in
-        let p = put_at d c (joined_swapped c d joined) packet (swapped w) (sound_swapped c d w (sound_at reads laws c d joined w r up far_up)) whole in
+        let whole : SentWhole c.longest v.sent = subst (λ k. SentWhole k v.sent) (sym joined.longest) (whole_at reads laws c d joined (swapped v) after) in
+        let p = put_at (joined_swapped joined) packet (sound_swapped (sound_at reads laws c d joined w r up far_up)) whole in
         record {
           reached = after;
           put = record {
             near_on = p.far_on;
             far_on = p.near_on;
             before = λ free. (let old = p.before (free.1, free.0) in (old.1, old.0));
-            heals = λ n m b free. both_turned m n d c v (p.heals m n (both_turned n m c d w b) (free.1, free.0));
+            heals = λ n m b free. both_turned (p.heals m n (both_turned b) (free.1, free.0));
           };
         }
 
     -- so none is busy at any moment before one in which none is, as long as nothing comes between
-    free_now : (es : List Event) (w : Sessions) → Each IsDeliveryOrPut es → Reached c d w → is_up w.near.station.phase ≡ true → is_up w.far.station.phase ≡ true → SessionsFreeThroughout c d es w
+    free_now : (es : List LinkEvent) {w : Sessions} → Each IsDeliveryOrPut es → Reached c d w → is_up w.near.station.phase ≡ true → is_up w.far.station.phase ≡ true → SessionsFreeThroughout c d es w
         → AreFree w.near.station w.far.station
-    free_now [] w are r up far_up free = free
-    free_now (Near (Put packet) ∷ es) w are r up far_up free =
-        (let k = goes_near packet w r up far_up in k.put.before (free_now es (acts c (Put packet) w) are.1 k.reached k.put.near_on k.put.far_on free.1))
-    free_now (Far (Put packet) ∷ es) w are r up far_up free =
-        (let k = goes_far packet w r up far_up in k.put.before (free_now es (swapped (acts d (Put packet) (swapped w))) are.1 k.reached k.put.near_on k.put.far_on free.1))
-    free_now (Near Deliver ∷ es) w are r up far_up free = free.0
-    free_now (Far Deliver ∷ es) w are r up far_up free = free.0
-    free_now (event ∷ es) w are r up far_up free = absurd are.0
+    free_now [] are r up far_up free = free
+    free_now (Near (Put packet) ∷ es) {w} are r up far_up free =
+        (let k = goes_near packet w r up far_up in k.put.before (free_now es are.1 k.reached k.put.near_on k.put.far_on free.1))
+    free_now (Far (Put packet) ∷ es) {w} are r up far_up free =
+        (let k = goes_far packet w r up far_up in k.put.before (free_now es are.1 k.reached k.put.near_on k.put.far_on free.1))
+    free_now (Near Deliver ∷ es) are r up far_up free = free.0
+    free_now (Far Deliver ∷ es) are r up far_up free = free.0
+    free_now (event ∷ es) are r up far_up free = absurd are.0
 
-    pub puts_run : (n m : ℕ) (es : List Event) (w : Sessions) → Each IsDeliveryOrPut es → HealsAt n m c d w → SessionsFreeThroughout c d es w → HealsAt n m c d (run c d es w)
-    puts_run n m [] w are h free = h
-    puts_run n m (Near (Put packet) ∷ es) w are (r, h) free =
+    pub puts_run : {n m : ℕ} (es : List LinkEvent) {w : Sessions} → Each IsDeliveryOrPut es → HealsAt n m c d w → SessionsFreeThroughout c d es w → HealsAt n m c d (run c d es w)
+    puts_run [] are h free = h
+    puts_run {n} {m} (Near (Put packet) ∷ es) {w} are (r, h) free =
         let v : Sessions = acts c (Put packet) w in
         let k = goes_near packet w r h.near_on h.far_on in
-        puts_run n m es v are.1 (k.reached, k.put.heals n m h (free_now es v are.1 k.reached k.put.near_on k.put.far_on free.1)) free.1
-    puts_run n m (Far (Put packet) ∷ es) w are (r, h) free =
+        puts_run es are.1 (k.reached, k.put.heals n m h (free_now es are.1 k.reached k.put.near_on k.put.far_on free.1)) free.1
+    puts_run {n} {m} (Far (Put packet) ∷ es) {w} are (r, h) free =
         let v : Sessions = swapped (acts d (Put packet) (swapped w)) in
         let k = goes_far packet w r h.near_on h.far_on in
-        puts_run n m es v are.1 (k.reached, k.put.heals n m h (free_now es v are.1 k.reached k.put.near_on k.put.far_on free.1)) free.1
-    puts_run n m (Near Deliver ∷ es) w are h free = puts_run n m es (acts c Deliver w) are.1 (both_near reads laws busy_laws n m c d joined w h) free.1
-    puts_run n m (Far Deliver ∷ es) w are h free = puts_run n m es (swapped (acts d Deliver (swapped w))) are.1 (both_far reads laws busy_laws n m c d joined w h) free.1
-    puts_run n m (event ∷ es) w are h free = absurd are.0
+        puts_run es are.1 (k.reached, k.put.heals n m h (free_now es are.1 k.reached k.put.near_on k.put.far_on free.1)) free.1
+    puts_run {n} {m} (Near Deliver ∷ es) {w} are h free = puts_run es are.1 (both_near reads laws busy_laws n m c d joined w h) free.1
+    puts_run {n} {m} (Far Deliver ∷ es) {w} are h free = puts_run es are.1 (both_far reads laws busy_laws n m c d joined w h) free.1
+    puts_run (event ∷ es) are h free = absurd are.0

@@ -4,22 +4,22 @@ use Rattle.std.proofs.lemmas.Bool.{and_right}
 use Rattle.std.specs.Prelude.{nat_lt}
 use Rattle.x25_frame.specs.Reading.{frame_of}
 use Rattle.x25_link.specs.{declared.phase.Phase.{Phase}, declared.phase.Phase.TheVariants.{Down, Up}, declared.phase.Reason.TheVariants.{Retries}}
-use Rattle.x25_link.specs.{Station.{Settings, LinkStation, Lists, Side, is_busy, with_near, with_nothing, fresh, ended}}
+use Rattle.x25_link.specs.{Station.{Settings, LinkStation, Side, is_busy, with_near, with_nothing, fresh, ended}}
 use Rattle.x25_link.specs.{Hearing.{Step, quiet, leaves, other}, Link.{alone, puts, fires, asks_again, connects, disconnects, take_step}}
 use Rattle.x25_link.specs.{laws.LinkLaws.{ended_lists}, laws.RestLaw.{HasSaidAll}}
-use Rattle.x25_line.specs.{laws.Stations.{Event, Near, Far}, laws.Sessions.{Sessions, acts, swapped, run, from_nothing, from_set_up}}
+use Rattle.x25_line.specs.{laws.Stations.{LinkEvent, Near, Far}, laws.Sessions.{Sessions, acts, swapped, run, IsStart}}
 use Rattle.x25_line.specs.{laws.StationClaims.{AreJoined}, laws.LawsBelow.{HealingLaws}}
 use Rattle.x25_line.proofs.{StationSends.{AllWithin, within_push}, DrainSteps.{took}, sessions.Acts.{Keeps, act_stays}}
 
-run_stays : (c d : Settings) (P Q : LinkStation → Type 0) → Keeps c P → Keeps d Q → (es : List Event) (w : Sessions) → P w.near.station → Q w.far.station
+run_stays : {c d : Settings} {P Q : LinkStation → Type 0} → Keeps c P → Keeps d Q → (es : List LinkEvent) (w : Sessions) → P w.near.station → Q w.far.station
     → (let v = run c d es w in P v.near.station × Q v.far.station)
-run_stays c d P Q near far [] w h k = (h, k)
-run_stays c d P Q near far (Near a ∷ es) w h k =
+run_stays near far [] w h k = (h, k)
+run_stays {c} {d} {P} {Q} near far (Near a ∷ es) w h k =
     let v = act_stays c P near w h a in
-    run_stays c d P Q near far es (acts c a w) v.near (rw v.far k)
-run_stays c d P Q near far (Far a ∷ es) w h k =
+    run_stays near far es (acts c a w) v.near (rw v.far k)
+run_stays {c} {d} {P} {Q} near far (Far a ∷ es) w h k =
     let v = act_stays d Q far (swapped w) k a in
-    run_stays c d P Q near far es (swapped (acts d a (swapped w))) (rw v.far h) v.near
+    run_stays near far es (swapped (acts d a (swapped w))) (rw v.far h) v.near
 
 -- ---- an end has said all that it may, and each packet may be sent
 
@@ -27,16 +27,16 @@ pub record IsFit (k n1 : ℕ) (s : LinkStation) : Type 0 where
   pub said : HasSaidAll k s
   pub within : AllWithin n1 s.outgoing.given
 
-pub within_of : (n1 : ℕ) (old new : List (List ℕ)) → (new ≡ old) ⊎ (new ≡ []) → AllWithin n1 old → AllWithin n1 new
-within_of n1 old new (inl same) h = subst (AllWithin n1) (sym same) h
-within_of n1 old new (inr none) h = subst (AllWithin n1) (sym none) tt
+pub within_of : (n1 : ℕ) {old : List (List ℕ)} (new : List (List ℕ)) → (new ≡ old) ⊎ (new ≡ []) → AllWithin n1 old → AllWithin n1 new
+within_of n1 new (inl same) h = subst (AllWithin n1) (sym same) h
+within_of n1 new (inr none) h = subst (AllWithin n1) (sym none) tt
 
 side_if : (n1 : ℕ) (b : Bool) (u v : Side) → AllWithin n1 u.near.outgoing.given → AllWithin n1 v.near.outgoing.given → (let t : Side = if b then u else v in AllWithin n1 t.near.outgoing.given)
 side_if n1 true u v f g = f
 side_if n1 false u v f g = g
 
 ended_within : (n1 k : ℕ) (t : Side) → AllWithin n1 t.near.outgoing.given → AllWithin n1 (ended k t).near.outgoing.given
-ended_within n1 k t h = subst (AllWithin n1) (sym (ap (λ (l : Lists). l.given) (ended_lists k t))) h
+ended_within n1 k t h = subst (AllWithin n1) (sym (ap (λ l. l.given) (ended_lists k t))) h
 
 asks_within : (n1 : ℕ) (p : Phase) (t : Side) → AllWithin n1 t.near.outgoing.given → AllWithin n1 (asks_again p t).near.outgoing.given
 asks_within n1 Up t h = side_if n1 (is_busy t.near) _ _ h h
@@ -52,7 +52,7 @@ module _ (laws : HealingLaws) where
   keeps_fit c n1 small longest = record {
     takes = λ o s h.
         let t = took c n1 (4 * length s.outgoing.given + 2) 0 s small h.within (omega arith) h.said.low o (frame_of (other c.role) c.longest o) refl in
-        record { said = laws.rest.take c o s small h.said.low; within = within_of n1 s.outgoing.given (take_step c o s).side.near.outgoing.given t.given h.within };
+        record { said = laws.rest.take c o s small h.said.low; within = within_of n1 (take_step c o s).side.near.outgoing.given t.given h.within };
     puts = λ packet s short h. record {
       said = laws.rest.put c packet s small h.said.low;
       within = ended_within n1 c.window (puts packet (alone s)).side (within_push n1 s.outgoing.given packet h.within (omega (arith, short, longest)));
@@ -63,16 +63,16 @@ module _ (laws : HealingLaws) where
     abandons = λ s h. record { said = laws.rest.abandon c s; within = ended_within n1 c.window _ tt };
   }
 
-  first_fit : (k n1 : ℕ) (begin : Sessions) → (begin ≡ from_nothing) ⊎ (begin ≡ from_set_up) → IsFit k n1 begin.near.station × IsFit k n1 begin.far.station
-  first_fit k n1 begin (inl is) =
+  first_fit : (k n1 : ℕ) {begin : Sessions} → IsStart begin → IsFit k n1 begin.near.station × IsFit k n1 begin.far.station
+  first_fit k n1 (inl is) =
       let down : IsFit k n1 (with_nothing Down 0) = record { said = record { low = omega arith; settled = refl; calm = refl }; within = tt } in
-      subst (λ (w : Sessions). IsFit k n1 w.near.station × IsFit k n1 w.far.station) (sym is) (down, down)
-  first_fit k n1 begin (inr is) =
+      subst (λ w. IsFit k n1 w.near.station × IsFit k n1 w.far.station) (sym is) (down, down)
+  first_fit k n1 (inr is) =
       let up : IsFit k n1 fresh = record { said = record { low = omega arith; settled = and_right (nat_lt 0 (0 + k)) _ refl; calm = refl }; within = tt } in
-      subst (λ (w : Sessions). IsFit k n1 w.near.station × IsFit k n1 w.far.station) (sym is) (up, up)
+      subst (λ w. IsFit k n1 w.near.station × IsFit k n1 w.far.station) (sym is) (up, up)
 
-  pub fit_from : (c d : Settings) → AreJoined c d → (begin : Sessions) → (begin ≡ from_nothing) ⊎ (begin ≡ from_set_up) → (events : List Event)
+  pub fit_from : {c d : Settings} → AreJoined c d → {begin : Sessions} → IsStart begin → (events : List LinkEvent)
       → (let w = run c d events begin in IsFit c.window d.longest w.near.station × IsFit d.window c.longest w.far.station)
-  fit_from c d joined begin is events =
-      run_stays c d (IsFit c.window d.longest) (IsFit d.window c.longest) (keeps_fit c d.longest joined.near_high joined.longest) (keeps_fit d c.longest joined.far_high (sym joined.longest)) events begin
-      (first_fit c.window d.longest begin is).0 (first_fit d.window c.longest begin is).1
+  fit_from {c} {d} joined {begin} is events =
+      run_stays (keeps_fit c d.longest joined.near_high joined.longest) (keeps_fit d c.longest joined.far_high (sym joined.longest)) events begin
+      (first_fit c.window d.longest is).0 (first_fit d.window c.longest is).1

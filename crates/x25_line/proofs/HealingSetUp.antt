@@ -11,7 +11,7 @@ use Rattle.x25_link.specs.Hearing.{Step, quiet, other, is_valid, acknowledged, p
 use Rattle.x25_link.specs.{Link.{alone, hears, declines, when_down, when_waiting, take_step, timer_runs}, laws.SetUp.{waiting_after, waiting_sends}}
 use Rattle.x25_link.specs.{laws.WindowLaw.{IsOut}, laws.RestLaw.{IsAtRest}, laws.AnswerLaw.{says, asks}}
 use Rattle.x25_link.proofs.EndLemmas.{none_open, not_open, pumped_stays}
-use Rattle.x25_line.specs.{laws.Stations.{Deliver, Event}, laws.Sessions.{Entry, Meeting, Sessions, begun_by, after_step, delivered, acts, swapped, run}}
+use Rattle.x25_line.specs.{laws.Stations.{Deliver, LinkEvent}, laws.Sessions.{Entry, Meeting, Sessions, begun_by, after_step, delivered, acts, swapped, run}}
 use Rattle.x25_line.specs.{laws.StationClaims.{AreJoined, IsWhole, AreWhole}, Healing.{IsDelivery}, laws.SessionClaims.{Each}, laws.LawsBelow.{HealingLaws}}
 use Rattle.x25_line.proofs.{Lists.{each_append}, DrainWeights.{below_eight}, StationSteps.{not_both, out_not_up}, StationRuns.{joined_swapped}, HealingLines.{Reads}}
 use Rattle.x25_line.proofs.{HealingSteps.{IsDrained, deliveries_keep, reads_put}, StationAway.{up_takes_part, is_up_phase}}
@@ -44,12 +44,12 @@ blank_rests s h =
     let low : nat_lt s.outgoing.acked s.outgoing.sent ≡ false = le-ltb _ _ (omega (arith, same)) in
     record {
       idle = rw (up, none, same) (eq-eqb s.outgoing.sent s.outgoing.sent refl);
-      no_timer = ap (λ (p : Phase). timer_runs p s) h.up ∙ (rw (low, h.recovery, h.peer_busy) refl);
+      no_timer = ap (λ p. timer_runs p s) h.up ∙ (rw (low, h.recovery, h.peer_busy) refl);
     }
 
-rests_or_out : (s : LinkStation) → IsBlankOrOff s → RestsOrOut s
-rests_or_out s (inl h) = inl (blank_rests s h)
-rests_or_out s (inr off) = inr off
+rests_or_out : {s : LinkStation} → IsBlankOrOff s → RestsOrOut s
+rests_or_out {s} (inl h) = inl (blank_rests s h)
+rests_or_out (inr off) = inr off
 
 -- ---- what such stations say
 
@@ -89,23 +89,23 @@ calm_if : (b : Bool) (u v : Side) → (b ≡ true → IsCalm u) → (b ≡ false
 calm_if true u v f g = f refl
 calm_if false u v f g = g refl
 
-calm_sends : (f : PlainFrame) (t : Side) → IsOfSetUp f → IsCalm t → IsCalm (sends f t)
-calm_sends f t is h = record { near = h.near; out = set_up_more t.out (f ∷ []) h.out (is, tt) }
+calm_sends : (f : PlainFrame) {t : Side} → IsOfSetUp f → IsCalm t → IsCalm (sends f t)
+calm_sends f {t} is h = record { near = h.near; out = set_up_more t.out (f ∷ []) h.out (is, tt) }
 
-blank_free : (s : LinkStation) → IsBlank s → is_busy s ≡ false
-blank_free s h = le-ltb 254 _ (omega (arith, ap length h.given))
+blank_free : {s : LinkStation} → IsBlank s → is_busy s ≡ false
+blank_free h = le-ltb 254 _ (omega (arith, ap length h.given))
 
-blank_said : (s : LinkStation) (b : Bool) → IsBlank s → IsBlank (record s { said_busy = b })
-blank_said s b h = record { up = h.up; given = h.given; acked = h.acked; sent = h.sent; recovery = h.recovery; peer_busy = h.peer_busy }
+blank_said : {s : LinkStation} (b : Bool) → IsBlank s → IsBlank (record s { said_busy = b })
+blank_said b h = record { up = h.up; given = h.given; acked = h.acked; sent = h.sent; recovery = h.recovery; peer_busy = h.peer_busy }
 
 calm_ready : (command pf : Bool) (t : Side) → IsBlank t.near → AreOfSetUp t.out → IsCalm (ready command pf t)
 calm_ready command pf t blank out =
-    calm_if (is_busy t.near) _ _ (λ busy. not_both (is_busy t.near) busy (blank_free t.near blank))
-    (λ _. record { near = inl (blank_said t.near false blank); out = set_up_more t.out (rr command (wanted t.near) pf ∷ []) out (below_eight (length t.near.taken), tt) })
+    calm_if (is_busy t.near) _ _ (λ busy. not_both (is_busy t.near) busy (blank_free blank))
+    (λ _. record { near = inl (blank_said false blank); out = set_up_more t.out (rr command (wanted t.near) pf ∷ []) out (below_eight (length t.near.taken), tt) })
 
-never_sends : (k : ℕ) (s : LinkStation) → IsBlankOrOff s → may_send k s ≡ false
-never_sends k s (inl h) = not_open k s (none_open k s.outgoing (omega (arith, ap length h.given)))
-never_sends k s (inr off) = rw off refl
+never_sends : (k : ℕ) {s : LinkStation} → IsBlankOrOff s → may_send k s ≡ false
+never_sends k {s} (inl h) = not_open k s (none_open k s.outgoing (omega (arith, ap length h.given)))
+never_sends k (inr off) = rw off refl
 
 calm_finished : (t : Side) → IsCalm t → IsCalm (finished t)
 calm_finished t h = by h.near
@@ -114,27 +114,27 @@ calm_finished t h = by h.near
     by (inl blank) = calm_if (owes_ready t.near) (ready false false t) t (λ _. calm_ready false false t blank h.out) (λ _. h)
     by (inr off) = calm_if (owes_ready t.near) (ready false false t) t (λ owes. not_both (is_up t.near.phase) (and_parts (is_up t.near.phase) _ owes).0 off) (λ _. h)
 
-calm_ended : (k : ℕ) (t : Side) → IsCalm t → IsCalm (ended k t)
-calm_ended k t h = rw (pumped_stays 7 k t (never_sends k t.near h.near)) (calm_finished t h)
+calm_ended : (k : ℕ) {t : Side} → IsCalm t → IsCalm (ended k t)
+calm_ended k {t} h = rw (pumped_stays 7 k t (never_sends k h.near)) (calm_finished t h)
 
 -- ---- what comes to one
 
 calm_off : (s : LinkStation) → is_up s.phase ≡ false → IsCalm (alone s)
 calm_off s off = record { near = inr off; out = tt }
 
-begun : (f : PlainFrame) → IsOfSetUp f → IsCalm (record { near = fresh; out = f ∷ [] })
-begun f is = record { near = inl fresh_blank; out = (is, tt) }
+begun : {f : PlainFrame} → IsOfSetUp f → IsCalm (record { near = fresh; out = f ∷ [] })
+begun is = record { near = inl fresh_blank; out = (is, tt) }
 
 calm_declines : (f : PlainFrame) (s : LinkStation) → is_up s.phase ≡ false → IsCalm (declines f (alone s))
-calm_declines f s off = calm_if (is_command f && poll_or_final f) _ _ (λ _. calm_sends (dm true) (alone s) tt (calm_off s off)) (λ _. calm_off s off)
+calm_declines f s off = calm_if (is_command f && poll_or_final f) _ _ (λ _. calm_sends (dm true) tt (calm_off s off)) (λ _. calm_off s off)
 
 calm_down : (f : PlainFrame) (s : LinkStation) → is_up s.phase ≡ false → IsOfSetUp f → IsCalm (when_down f (alone s)).side
-calm_down (sabm p) s off is = begun (ua p) tt
+calm_down (sabm p) s off is = begun tt
 calm_down (disc p) s off is = absurd is
 calm_down f s off is = calm_declines f s off
 
 calm_waiting : (f : PlainFrame) (s : LinkStation) → is_up s.phase ≡ false → IsOfSetUp f → IsCalm (when_waiting f (alone s)).side
-calm_waiting (sabm p) s off is = calm_sends (ua p) (alone s) tt (calm_off s off)
+calm_waiting (sabm p) s off is = calm_sends (ua p) tt (calm_off s off)
 calm_waiting (ua true) s off is = record { near = inl fresh_blank; out = tt }
 calm_waiting (info ns nr p x) s off is = absurd is
 calm_waiting (rnr command nr pf) s off is = absurd is
@@ -158,13 +158,13 @@ blank_row c octets command pf nr s h = by (is_valid nr s) refl
         blank_polls command pf (peer_is false (acknowledged nr (alone s))) (record { up = h.up; given = h.given; acked = omega (arith, high, h.sent); sent = h.sent; recovery = h.recovery; peer_busy = refl }) tt
     by false invalid = record { near = inr refl; out = (refl, tt) }
 
-calm_up : (c : Settings) (octets : List ℕ) (f : PlainFrame) (s : LinkStation) → IsBlank s → IsOfSetUp f → IsCalm (row_of_frame c octets f (alone s)).side
-calm_up c octets (sabm p) s h is = begun (ua p) tt
-calm_up c octets (ua f) s h is = record { near = inl h; out = tt }
-calm_up c octets (dm f) s h is = record { near = inr refl; out = tt }
-calm_up c octets (frmr f why) s h is = record { near = inr refl; out = tt }
-calm_up c octets (rr command nr pf) s h is = blank_row c octets command pf nr s h
-calm_up c octets f s h is = absurd is
+calm_up : (c : Settings) (octets : List ℕ) (f : PlainFrame) {s : LinkStation} → IsBlank s → IsOfSetUp f → IsCalm (row_of_frame c octets f (alone s)).side
+calm_up c octets (sabm p) h is = begun tt
+calm_up c octets (ua f) h is = record { near = inl h; out = tt }
+calm_up c octets (dm f) h is = record { near = inr refl; out = tt }
+calm_up c octets (frmr f why) h is = record { near = inr refl; out = tt }
+calm_up c octets (rr command nr pf) {s} h is = blank_row c octets command pf nr s h
+calm_up c octets f h is = absurd is
 
 blank_of : (s : LinkStation) → is_up s.phase ≡ true → IsBlankOrOff s → IsBlank s
 blank_of s up (inl h) = h
@@ -173,14 +173,13 @@ blank_of s up (inr off) = not_both (is_up s.phase) up off
 calm_hears : (c : Settings) (octets : List ℕ) (f : PlainFrame) (s : LinkStation) → IsBlankOrOff s → IsOfSetUp f → (p : Phase) → s.phase ≡ p → IsCalm (hears c octets (Ok f) p (alone s)).side
 calm_hears c octets f s h is Down phase = calm_down f s (ap is_up phase) is
 calm_hears c octets f s h is Waiting phase = calm_waiting f s (ap is_up phase) is
-calm_hears c octets f s h is Up phase = calm_up c octets f s (blank_of s (ap is_up phase) h) is
+calm_hears c octets f s h is Up phase = calm_up c octets f (blank_of s (ap is_up phase) h) is
 calm_hears c octets f s h is Closed phase = calm_declines f s (ap is_up phase)
 
 calm_takes : (c : Settings) (octets : List ℕ) (f : PlainFrame) (s : LinkStation) → frame_of (other c.role) c.longest octets ≡ Ok f → IsOfSetUp f → IsBlankOrOff s → IsCalm (take_step c octets s).side
 calm_takes c octets f s read is h =
-    let row = calm_hears c octets f s h is s.phase refl in
-    calm_ended c.window (hears c octets (frame_of (other c.role) c.longest octets) s.phase (alone s)).side
-    (rw read row)
+    calm_ended c.window
+    (rw read (calm_hears c octets f s h is s.phase refl))
 
 -- ---- two ends of which not both go on, and the frames between them
 
@@ -206,22 +205,22 @@ pub record Calm (s t : LinkStation) (fs gs : List PlainFrame) : Type 0 where
 abbrev pub Settles : LinkStation → LinkStation → List PlainFrame → List PlainFrame → Type 0
 Settles s t fs gs = Parts s t fs gs ⊎ (Parts t s gs fs ⊎ Calm s t fs gs)
 
-settles_turned : (s t : LinkStation) (fs gs : List PlainFrame) → Settles s t fs gs → Settles t s gs fs
-settles_turned s t fs gs (inl h) = inr (inl h)
-settles_turned s t fs gs (inr (inl h)) = inl h
-settles_turned s t fs gs (inr (inr h)) = inr (inr (record { near = h.far; far = h.near; there = h.back; back = h.there }))
+settles_turned : {s t : LinkStation} {fs gs : List PlainFrame} → Settles s t fs gs → Settles t s gs fs
+settles_turned (inl h) = inr (inl h)
+settles_turned (inr (inl h)) = inl h
+settles_turned (inr (inr h)) = inr (inr (record { near = h.far; far = h.near; there = h.back; back = h.there }))
 
 -- once nothing is on the way
-parted : (from to : Role) (n m : ℕ) (s t : LinkStation) (fs gs : List PlainFrame) → Reads from n [] fs → Reads to m [] gs → Parts s t fs gs → RestsOrOut s × RestsOrOut t
-parted from to n m s t fs gs out back (rests rest gone) = (inl rest, inr (out_not_up t.phase gone))
-parted from to n m s t fs gs out back (asked up is) = absurd back
-parted from to n m s t fs gs out back (declined up gone) = absurd back
-parted from to n m s t fs gs out back p = absurd out
+parted : (from to : Role) (n m : ℕ) {s t : LinkStation} {fs gs : List PlainFrame} → Reads from n [] fs → Reads to m [] gs → Parts s t fs gs → RestsOrOut s × RestsOrOut t
+parted from to n m {t = t} out back (rests rest gone) = (inl rest, inr (out_not_up t.phase gone))
+parted from to n m out back (asked up is) = absurd back
+parted from to n m out back (declined up gone) = absurd back
+parted from to n m out back p = absurd out
 
-settled : (from to : Role) (n m : ℕ) (s t : LinkStation) (fs gs : List PlainFrame) → Reads from n [] fs → Reads to m [] gs → Settles s t fs gs → RestsOrOut s × RestsOrOut t
-settled from to n m s t fs gs out back (inl h) = parted from to n m s t fs gs out back h
-settled from to n m s t fs gs out back (inr (inl h)) = (let both = parted to from m n t s gs fs back out h in (both.1, both.0))
-settled from to n m s t fs gs out back (inr (inr h)) = (rests_or_out s h.near, rests_or_out t h.far)
+settled : (from to : Role) (n m : ℕ) {s t : LinkStation} {fs gs : List PlainFrame} → Reads from n [] fs → Reads to m [] gs → Settles s t fs gs → RestsOrOut s × RestsOrOut t
+settled from to n m {s} {t} {fs} {gs} out back (inl h) = parted from to n m out back h
+settled from to n m {s} {t} {fs} {gs} out back (inr (inl h)) = (let both = parted to from m n back out h in (both.1, both.0))
+settled from to n m {s} {t} out back (inr (inr h)) = (rests_or_out h.near, rests_or_out h.far)
 
 -- a poll changes nothing of an end that awaits UA, and is answered by DM where an end is out
 poll_passed : (busy : Bool) (n : ℕ) (s : LinkStation) → waiting_after (Ok (says busy true n true)) s ≡ s
@@ -245,8 +244,8 @@ pub record Settling (c d : Settings) (w : Sessions) : Type 0 where
   pub back : Reads (other c.role) c.longest w.back behind
   pub is : Settles w.near.station w.far.station there behind
 
-turned : (c d : Settings) (w : Sessions) → Settling c d w → Settling d c (swapped w)
-turned c d w h = record { there = h.behind; behind = h.there; out = h.back; back = h.out; is = settles_turned w.near.station w.far.station h.there h.behind h.is }
+turned : {c d : Settings} {w : Sessions} → Settling c d w → Settling d c (swapped w)
+turned {w = w} h = record { there = h.behind; behind = h.there; out = h.back; back = h.out; is = settles_turned h.is }
 
 module _ (c d : Settings) (joined : AreJoined c d) (reads : ReadsSpelled) (laws : HealingLaws) where
   module _ (w : Sessions) (h : Settling c d w) where
@@ -257,15 +256,14 @@ module _ (c d : Settings) (joined : AreJoined c d) (reads : ReadsSpelled) (laws 
     t = w.far.station
 
     -- octets come to the near end, which becomes so and sends so
-    goes : (e : Entry) (es : List Entry) (met : List Meeting) (gs sent fs : List PlainFrame) (z : LinkStation) → Reads (other d.role) d.longest w.out fs → Reads (other c.role) c.longest es gs
+    goes : (e : Entry) {es : List Entry} (met : List Meeting) {gs : List PlainFrame} (sent fs : List PlainFrame) (z : LinkStation) → Reads (other d.role) d.longest w.out fs → Reads (other c.role) c.longest es gs
         → (let step = take_step c e.octets s in step.side.near ≡ z → step.side.out ≡ sent → AreOfSetUp sent → Settles z t (fs ++ sent) gs → Settling c d (after_step c w es met [] step))
-    goes e es met gs sent fs z out back near is_sent are is =
+    goes e met {gs} sent fs z out back near is_sent are is =
         let step = take_step c e.octets s in
-        let session = begun_by step.notes.up w.near.begun in
         record {
           there = fs ++ sent;
           behind = gs;
-          out = rw is_sent (reads_put reads c d joined [] session w.out fs sent (set_up_whole d.longest sent are) out);
+          out = rw is_sent (reads_put reads joined [] (begun_by step.notes.up w.near.begun) w.out fs sent (set_up_whole d.longest sent are) out);
           back = back;
           is = rw near is;
         }
@@ -275,35 +273,35 @@ module _ (c d : Settings) (joined : AreJoined c d) (reads : ReadsSpelled) (laws 
         → Reads (other c.role) c.longest (e ∷ es) (says busy true n true ∷ gs) → Settles s t (fs ++ []) gs → Settling c d (delivered c (e ∷ es) w)
     passes e es busy n gs fs waits out back is =
         let a = laws.sessions.laws.set_up.waits c e.octets s waits (Ok (says busy true n true)) (sym back.0) in
-        goes e es _ gs [] fs s out back.1 (a.near ∙ poll_passed busy n s) (a.out ∙ poll_unanswered busy n) tt is
+        goes e _ [] fs s out back.1 (a.near ∙ poll_passed busy n s) (a.out ∙ poll_unanswered busy n) tt is
 
     -- an end that is Up hears
-    up_hears : (es : List Entry) (fs gs : List PlainFrame) → Reads (other d.role) d.longest w.out fs → Reads (other c.role) c.longest es gs → Parts s t fs gs → Settling c d (delivered c es w)
-    up_hears [] fs gs out back p = h
-    up_hears (e ∷ es) fs gs out back (asked up is) =
+    up_hears : (es : List Entry) {fs gs : List PlainFrame} → Reads (other d.role) d.longest w.out fs → Reads (other c.role) c.longest es gs → Parts s t fs gs → Settling c d (delivered c es w)
+    up_hears [] out back p = h
+    up_hears (e ∷ es) out back (asked up is) =
         let a = laws.sessions.laws.set_up.sets_up c e.octets s (up_takes_part s.phase up) true back.0 in
-        goes e es _ [] (ua true ∷ []) [] fresh out back.1 a.near a.out (tt, tt) (inr (inr (record { near = inl fresh_blank; far = inr (ap is_up is); there = (tt, tt); back = tt })))
-    up_hears (e ∷ es) fs gs out back (asked_polling false n small up is) =
+        goes e _ (ua true ∷ []) [] fresh out back.1 a.near a.out (tt, tt) (inr (inr (record { near = inl fresh_blank; far = inr (ap is_up is); there = (tt, tt); back = tt })))
+    up_hears (e ∷ es) out back (asked_polling false n small up is) =
         let a = laws.sessions.laws.set_up.sets_up c e.octets s (up_takes_part s.phase up) true back.0 in
-        goes e es _ [] (ua true ∷ []) (rr true n true ∷ []) fresh out back.1 a.near a.out (tt, tt) (inr (inr (record { near = inl fresh_blank; far = inr (ap is_up is); there = (small, (tt, tt)); back = tt })))
-    up_hears (e ∷ es) fs gs out back (asked_polling true n small up is) =
+        goes e _ (ua true ∷ []) (rr true n true ∷ []) fresh out back.1 a.near a.out (tt, tt) (inr (inr (record { near = inl fresh_blank; far = inr (ap is_up is); there = (small, (tt, tt)); back = tt })))
+    up_hears (e ∷ es) out back (asked_polling true n small up is) =
         let a = laws.sessions.laws.set_up.sets_up c e.octets s (up_takes_part s.phase up) true back.0 in
-        goes e es _ [] (ua true ∷ []) (rnr true n true ∷ []) fresh out back.1 a.near a.out (tt, tt) (inl (granted n fresh_blank is))
-    up_hears (e ∷ es) fs gs out back (declined up gone) =
+        goes e _ (ua true ∷ []) (rnr true n true ∷ []) fresh out back.1 a.near a.out (tt, tt) (inl (granted n fresh_blank is))
+    up_hears (e ∷ es) out back (declined up gone) =
         let a = laws.answers.dm c e.octets s (is_up_phase s.phase up) true back.0 in
-        goes e es _ [] [] [] (with_nothing Down s.tries) out back.1 a.0 a.1 tt (inr (inr (record { near = inr refl; far = inr (out_not_up t.phase gone); there = tt; back = tt })))
-    up_hears (e ∷ es) fs gs out back p = absurd back
+        goes e _ [] [] (with_nothing Down s.tries) out back.1 a.0 a.1 tt (inr (inr (record { near = inr refl; far = inr (out_not_up t.phase gone); there = tt; back = tt })))
+    up_hears (e ∷ es) out back p = absurd back
 
     -- the other end hears
-    off_hears : (es : List Entry) (fs gs : List PlainFrame) → Reads (other d.role) d.longest w.out fs → Reads (other c.role) c.longest es gs → Parts t s gs fs → Settling c d (delivered c es w)
-    off_hears [] fs gs out back p = h
-    off_hears (e ∷ es) fs gs out back (asked_polling busy n small up is) = passes e es busy n [] (sabm true ∷ []) is out back (inr (inl (asked up is)))
-    off_hears (e ∷ es) fs gs out back (granted n blank is) =
+    off_hears : (es : List Entry) {fs gs : List PlainFrame} → Reads (other d.role) d.longest w.out fs → Reads (other c.role) c.longest es gs → Parts t s gs fs → Settling c d (delivered c es w)
+    off_hears [] out back p = h
+    off_hears (e ∷ es) out back (asked_polling busy n small up is) = passes e es busy n [] (sabm true ∷ []) is out back (inr (inl (asked up is)))
+    off_hears (e ∷ es) out back (granted n blank is) =
         passes e es true n (ua true ∷ []) [] is out back (inr (inr (record { near = inr (ap is_up is); far = inl blank; there = tt; back = (tt, tt) })))
-    off_hears (e ∷ es) fs gs out back (polled busy n up gone) =
+    off_hears (e ∷ es) out back (polled busy n up gone) =
         let a = laws.answers.out c e.octets s gone (says busy true n true) back.0 (asks_poll busy n) in
-        goes e es _ [] (dm true ∷ []) [] s out back.1 a.near a.out (tt, tt) (inr (inl (declined up gone)))
-    off_hears (e ∷ es) fs gs out back p = absurd back
+        goes e _ (dm true ∷ []) [] s out back.1 a.near a.out (tt, tt) (inr (inl (declined up gone)))
+    off_hears (e ∷ es) out back p = absurd back
 
     calm_hears_more : (es : List Entry) (fs gs : List PlainFrame) → Reads (other d.role) d.longest w.out fs → Reads (other c.role) c.longest es gs → Calm s t fs gs → Settling c d (delivered c es w)
     calm_hears_more [] fs gs out back p = h
@@ -311,26 +309,26 @@ module _ (c d : Settings) (joined : AreJoined c d) (reads : ReadsSpelled) (laws 
     calm_hears_more (e ∷ es) fs (g ∷ gs) out back p =
         let step = take_step c e.octets s in
         let k = calm_takes c e.octets g s back.0 p.back.0 p.near in
-        goes e es _ gs step.side.out fs step.side.near out back.1 refl refl k.out (inr (inr (record { near = k.near; far = p.far; there = set_up_more fs step.side.out p.there k.out; back = p.back.1 })))
+        goes e _ step.side.out fs step.side.near out back.1 refl refl k.out (inr (inr (record { near = k.near; far = p.far; there = set_up_more fs step.side.out p.there k.out; back = p.back.1 })))
 
   near_settles : (w : Sessions) → Settling c d w → Settling c d (acts c Deliver w)
   near_settles w h = elim h.is [
-    | inl p ↦ up_hears w h w.back h.there h.behind h.out h.back p
-    | inr (inl p) ↦ off_hears w h w.back h.there h.behind h.out h.back p
+    | inl p ↦ up_hears w h w.back h.out h.back p
+    | inr (inl p) ↦ off_hears w h w.back h.out h.back p
     | inr (inr p) ↦ calm_hears_more w h w.back h.there h.behind h.out h.back p
   ]
 
 -- ends that settle have settled once nothing is on the line
-pub settle : (c d : Settings) → AreJoined c d → ReadsSpelled → HealingLaws → (es : List Event) → Each IsDelivery es → (w : Sessions) → Settling c d w
+pub settle : (c d : Settings) → AreJoined c d → ReadsSpelled → HealingLaws → (es : List LinkEvent) → Each IsDelivery es → (w : Sessions) → Settling c d w
     → (let v = run c d es w in IsDrained v → RestsOrOut v.near.station × RestsOrOut v.far.station)
-settle c d joined reads laws es are w first drained = settled (other d.role) (other c.role) d.longest c.longest v.near.station v.far.station h.there h.behind (rw (sym drained.out) h.out)
+settle c d joined reads laws es are w first drained = settled (other d.role) (other c.role) d.longest c.longest (rw (sym drained.out) h.out)
     (rw (sym drained.back) h.back) h.is
   where
     v : Sessions
     v = run c d es w
 
     far_settles : (w : Sessions) → Settling c d w → Settling c d (swapped (acts d Deliver (swapped w)))
-    far_settles w h = turned d c (acts d Deliver (swapped w)) (near_settles d c (joined_swapped c d joined) reads laws (swapped w) (turned c d w h))
+    far_settles w h = turned (near_settles d c (joined_swapped joined) reads laws (swapped w) (turned h))
 
     h : Settling c d v
     h = deliveries_keep (Settling c d) c d (near_settles c d joined reads laws) far_settles es w are first

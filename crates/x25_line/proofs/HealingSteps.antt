@@ -1,14 +1,14 @@
 -- Two ends in the sessions that stand: worlds that events lead to, what holds of them where both ends are Up, and what deliveries keep.
-use Rattle.std.proofs.Common.{◌≡◌, ℕ, ◌+◌, ◌%◌, ◌≤◌, ◌⊎◌, List, [], ◌∷◌, ◌++◌, length, true, false, Option, Some, Result, Ok, refl, sym, ap, ◌∙◌, subst, arith}
+use Rattle.std.proofs.Common.{◌≡◌, ℕ, ◌+◌, ◌%◌, ◌≤◌, List, [], ◌∷◌, ◌++◌, length, true, false, Some, Ok, refl, sym, ap, ◌∙◌, subst, arith}
 use Rattle.std.proofs.lemmas.Bool.{le-leb}
-use Rattle.x25_frame.specs.{Frame.{PlainFrame, info, rr, rnr, rej}, Reading.{frame_of}, laws.ReadingLaw.{ReadsSpelled}, declared.error.FrameError.{FrameError}}
+use Rattle.x25_frame.specs.{Frame.{PlainFrame, info, rr, rnr, rej}, Reading.{frame_of}, laws.ReadingLaw.{ReadsSpelled}}
 use Rattle.x25_window.specs.{code.Modulo.{resolved}, laws.Window.{Frame}}
 use Rattle.x25_link.specs.{Station.{Settings, LinkStation, is_up}, Hearing.{other, is_valid}, Link.{timer_runs, timer_step}}
-use Rattle.x25_link.specs.{laws.WindowMachine.{Window, Shows, ShowAll}, laws.WindowLaw.{IsSound}, laws.RestLaw.{HasSaidAll}, laws.AnswerLaw.{heard}}
+use Rattle.x25_link.specs.{laws.WindowMachine.{Shows, ShowAll}, laws.WindowLaw.{IsSound}, laws.RestLaw.{HasSaidAll}, laws.AnswerLaw.{heard}}
 use Rattle.x25_line.specs.laws.StationClaims.{AreJoined, number_in, AreWhole}
-use Rattle.x25_line.specs.laws.Sessions.{Entry, SessionEnd, Sessions, sent_in, from_nothing, from_set_up, after_step, acts, swapped, happens, run, IsTimely, IsTimelyAt, AreTimely}
+use Rattle.x25_line.specs.laws.Sessions.{Entry, SessionEnd, Sessions, sent_in, IsStart, after_step, acts, swapped, happens, run, IsTimely, IsTimelyAt, AreTimely}
 use Rattle.x25_line.specs.{laws.SessionClaims.{Each, Throughout}, Healing.{IsDelivery}, laws.LawsBelow.{HealingLaws}, laws.Line.{Line, line_swapped}}
-use Rattle.x25_line.specs.laws.Stations.{Deliver, T1, Event, Near, Far}
+use Rattle.x25_line.specs.laws.Stations.{Deliver, T1, LinkEvent, Near, Far}
 use Rattle.x25_line.proofs.{Kept.{Kept, Kept-swapped, Way, hears_valid, Way-acked, resolved_is}, Frames.{Acks-le}, StationLines.{front_of, consed}}
 use Rattle.x25_line.proofs.{StationSteps.{AsUp, not_both}, sessions.SessionLines.{numbers}, sessions.SessionActs.{in_session}}
 use Rattle.x25_line.proofs.{sessions.SessionRuns.{HeldOf, held_swapped, throughout}, HealingRuns.{fit_from}, HealingLines.{Reads, reads_more}}
@@ -17,21 +17,21 @@ use Rattle.x25_line.proofs.{sessions.SessionRuns.{HeldOf, held_swapped, througho
 
 pub record Reached (c d : Settings) (w : Sessions) : Type 0 where
   pub begin : Sessions
-  pub start : (begin ≡ from_nothing) ⊎ (begin ≡ from_set_up)
-  pub events : List Event
+  pub start : IsStart begin
+  pub events : List LinkEvent
   pub timely : AreTimely c d events begin
   pub is : run c d events begin ≡ w
 
-run_append : (c d : Settings) (es fs : List Event) (w : Sessions) → run c d (es ++ fs) w ≡ run c d fs (run c d es w)
+run_append : (c d : Settings) (es fs : List LinkEvent) (w : Sessions) → run c d (es ++ fs) w ≡ run c d fs (run c d es w)
 run_append c d [] fs w = refl
 run_append c d (e ∷ es) fs w = run_append c d es fs (happens c d e w)
 
-timely_append : (c d : Settings) (es fs : List Event) (w : Sessions) → AreTimely c d es w → AreTimely c d fs (run c d es w) → AreTimely c d (es ++ fs) w
+timely_append : (c d : Settings) (es fs : List LinkEvent) (w : Sessions) → AreTimely c d es w → AreTimely c d fs (run c d es w) → AreTimely c d (es ++ fs) w
 timely_append c d [] fs w h g = g
 timely_append c d (e ∷ es) fs w h g = (h.0, timely_append c d es fs (happens c d e w) h.1 g)
 
-pub then_happens : (c d : Settings) (e : Event) (w : Sessions) → IsTimelyAt c d e w → Reached c d w → Reached c d (happens c d e w)
-then_happens c d e w timely r = record {
+pub then_happens : {c d : Settings} (e : LinkEvent) {w : Sessions} → IsTimelyAt c d e w → Reached c d w → Reached c d (happens c d e w)
+then_happens {c} {d} e timely r = record {
   begin = r.begin;
   start = r.start;
   events = r.events ++ e ∷ [];
@@ -43,8 +43,8 @@ then_happens c d e w timely r = record {
 pub timely_up : (c d : Settings) (w : Sessions) → is_up w.near.station.phase ≡ true → IsTimely c d T1 w
 timely_up c d w up = λ waits. not_both (is_up w.near.station.phase) up (ap is_up waits)
 
-pub at_reached : (Holds : Settings → Settings → Sessions → Type 0) → Throughout Holds → (c d : Settings) → AreJoined c d → (w : Sessions) → Reached c d w → Holds c d w
-at_reached Holds always c d joined w r = subst (Holds c d) r.is (always c d joined r.begin r.start r.events r.timely)
+pub at_reached : (Holds : Settings → Settings → Sessions → Type 0) → Throughout Holds → {c d : Settings} → AreJoined c d → {w : Sessions} → Reached c d w → Holds c d w
+at_reached Holds always {c} {d} joined r = subst (Holds c d) r.is (always c d joined r.begin r.start r.events r.timely)
 
 -- ---- both ends are Up
 
@@ -59,8 +59,8 @@ pub record Sound (c d : Settings) (w : Sessions) : Type 0 where
   pub near_said : HasSaidAll c.window w.near.station
   pub far_said : HasSaidAll d.window w.far.station
 
-pub sound_swapped : (c d : Settings) (w : Sessions) → Sound c d w → Sound d c (swapped w)
-sound_swapped c d w h = record { line = line_swapped h.line; kept = Kept-swapped h.line h.kept; near = h.far; far = h.near; out = h.back; back = h.out; near_said = h.far_said; far_said = h.near_said }
+pub sound_swapped : {c d : Settings} {w : Sessions} → Sound c d w → Sound d c (swapped w)
+sound_swapped h = record { line = line_swapped h.line; kept = Kept-swapped h.kept; near = h.far; far = h.near; out = h.back; back = h.out; near_said = h.far_said; far_said = h.near_said }
 
 -- an end that is Up has numbers in order, and has said all that it may
 pub record IsInOrderIfUp (c : Settings) (e : SessionEnd) : Type 0 where
@@ -76,10 +76,10 @@ module _ (reads : ReadsSpelled) (laws : HealingLaws) (c d : Settings) (joined : 
   BothSaid c d w = HasSaidAll c.window w.near.station × HasSaidAll d.window w.far.station
 
   held : HeldOf c d w
-  held = at_reached HeldOf (throughout reads laws.sessions) c d joined w r
+  held = at_reached HeldOf (throughout reads laws.sessions) joined r
 
   said : BothSaid c d w
-  said = at_reached BothSaid (λ c d joined begin is events timely. (let fit = fit_from laws c d joined begin is events in (fit.0.said, fit.1.said))) c d joined w r
+  said = at_reached BothSaid (λ c d joined begin is events timely. (let fit = fit_from laws joined is events in (fit.0.said, fit.1.said))) joined r
 
   pub sound_at : is_up w.near.station.phase ≡ true → is_up w.far.station.phase ≡ true → Sound c d w
   sound_at up far_up =
@@ -90,8 +90,8 @@ module _ (reads : ReadsSpelled) (laws : HealingLaws) (c d : Settings) (joined : 
       record {
         line = line;
         kept = h.holds.kept;
-        near = subst (λ (s : LinkStation). AsUp c s line.near) near.is.station near.machine;
-        far = subst (λ (s : LinkStation). AsUp d s line.far) far.is.station far.machine;
+        near = subst (λ s. AsUp c s line.near) near.is.station near.machine;
+        far = subst (λ s. AsUp d s line.far) far.is.station far.machine;
         out = rw far.is.comes h.holds.out;
         back = rw near.is.comes h.holds.back;
         near_said = said.0;
@@ -113,22 +113,20 @@ pub record Counted (k : ℕ) (near far : LinkStation) : Type 0 where
   pub taken : length far.taken ≤ near.outgoing.sent
   pub room : near.outgoing.sent ≤ near.outgoing.acked + k
 
-pub counted : (c d : Settings) (w : Sessions) → Sound c d w → Counted c.window w.near.station w.far.station
-counted c d w h =
+pub counted : {c d : Settings} {w : Sessions} → Sound c d w → Counted c.window w.near.station w.far.station
+counted h =
     let u = h.near in
     let v = h.far in
-    let way = h.kept.from_near in
-    let bounds = Way-acked h.line.near h.line.far.taken (length h.line.far.taken) h.line.out h.line.back way in
-    let acked = ap (λ (z : Window). z.acked) u.same in
-    let sent = ap (λ (z : Window). z.sent) u.same in
-    let taken = ap (λ (z : Window). length z.taken) v.same in
+    let bounds = Way-acked h.kept.from_near in
+    let acked = ap (λ z. z.acked) u.same in
+    let sent = ap (λ z. z.sent) u.same in
+    let taken = ap (λ z. length z.taken) v.same in
     record { acked = omega (arith, bounds.0, acked, taken); taken = omega (arith, bounds.1, sent, taken); room = u.sound.room }
 
 -- the number that stands for all that the far end has taken
-pub all_heard : (c d : Settings) → AreJoined c d → (near far : LinkStation) → Counted c.window near far → (nr : ℕ) → nr ≡ length far.taken % 8 → heard nr near ≡ length far.taken
-all_heard c d joined near far n nr is =
-    let small = joined.near_high in
-    ap (resolved near.outgoing.acked) is ∙ resolved_is near.outgoing.acked (length far.taken) n.acked (omega (arith, small, n.taken, n.room))
+pub all_heard : {c d : Settings} → AreJoined c d → {near far : LinkStation} → Counted c.window near far → (nr : ℕ) → nr ≡ length far.taken % 8 → heard nr near ≡ length far.taken
+all_heard joined {near} {far} n nr is =
+    ap (resolved near.outgoing.acked) is ∙ resolved_is near.outgoing.acked (length far.taken) n.acked (omega (arith, joined.near_high, n.taken, n.room))
 
 -- ---- the number of a frame
 
@@ -173,24 +171,20 @@ hears_well c d w h f front_entry es is read is_numbered =
     let v = h.far in
     let rest = numbers (other c.role) c.longest es in
     let shows : ShowAll (f ∷ rest) h.line.back =
-    subst (λ (fs : List PlainFrame). ShowAll fs h.line.back)
-    (ap (numbers (other c.role) c.longest) is ∙ ap (λ (z : Result PlainFrame FrameError). consed (number_in z) rest) read
-    ∙ ap (λ (o : Option PlainFrame). consed o rest) (has_number f is_numbered)) h.back in
+    subst (λ fs. ShowAll fs h.line.back)
+    (ap (numbers (other c.role) c.longest) is ∙ ap (λ z. consed (number_in z) rest) read
+    ∙ ap (λ o. consed o rest) (has_number f is_numbered)) h.back in
     let front = front_of f rest h.line.back shows in
-    let e = h.line.near in
     let g = front.frame in
-    let way = subst (λ (bs : List (Frame (List ℕ))). Way e h.line.far.taken (length h.line.far.taken) h.line.out bs) front.is h.kept.from_near in
-    let valid = hears_valid e h.line.far.taken (length h.line.far.taken) h.line.out front.others g way in
-    let number = shows_number f g is_numbered front.shows in
-    let acked = ap (λ (z : Window). z.acked) u.same in
-    let sent = ap (λ (z : Window). z.sent) u.same in
-    let taken = ap (λ (z : Window). length z.taken) v.same in
-    let high = Acks-le g.ack front.others (length h.line.far.taken) way.acks.1 in
-    let heard_is : heard (number_of f) w.near.station ≡ g.ack = ap (resolved w.near.station.outgoing.acked) number ∙ ap (λ (a : ℕ). resolved a (g.ack % 8)) acked ∙ valid.0 in
+    let way = subst (λ bs. Way h.line.near h.line.far.taken (length h.line.far.taken) h.line.out bs) front.is h.kept.from_near in
+    let valid = hears_valid front.others g way in
+    let acked = ap (λ z. z.acked) u.same in
+    let high = Acks-le g.ack front.others way.acks.1 in
+    let heard_is : heard (number_of f) w.near.station ≡ g.ack = ap (resolved w.near.station.outgoing.acked) (shows_number f g is_numbered front.shows) ∙ ap (λ a. resolved a (g.ack % 8)) acked ∙ valid.0 in
     record {
-      valid = le-leb (heard (number_of f) w.near.station) w.near.station.outgoing.sent (omega (arith, heard_is, sent, valid.2));
+      valid = le-leb (heard (number_of f) w.near.station) w.near.station.outgoing.sent (omega (arith, heard_is, (ap (λ z. z.sent) u.same), valid.2));
       low = omega (arith, heard_is, acked, valid.1);
-      high = omega (arith, heard_is, taken, high);
+      high = omega (arith, heard_is, ap (λ z. length z.taken) v.same, high);
     }
 
 -- ---- deliveries
@@ -202,7 +196,7 @@ pub record IsDrained (w : Sessions) : Type 0 where
 
 -- what each delivery keeps stays through all
 pub deliveries_keep : (P : Sessions → Type 0) (c d : Settings) → ((w : Sessions) → P w → P (acts c Deliver w)) → ((w : Sessions) → P w → P (swapped (acts d Deliver (swapped w))))
-    → (es : List Event) (w : Sessions) → Each IsDelivery es → P w → P (run c d es w)
+    → (es : List LinkEvent) (w : Sessions) → Each IsDelivery es → P w → P (run c d es w)
 deliveries_keep P c d near far [] w are h = h
 deliveries_keep P c d near far (Near Deliver ∷ es) w are h = deliveries_keep P c d near far es (acts c Deliver w) are.1 (near w h)
 deliveries_keep P c d near far (Far Deliver ∷ es) w are h = deliveries_keep P c d near far es (swapped (acts d Deliver (swapped w))) are.1 (far w h)
@@ -210,9 +204,9 @@ deliveries_keep P c d near far (Near a ∷ es) w are h = absurd are.0
 deliveries_keep P c d near far (Far a ∷ es) w are h = absurd are.0
 
 -- what is put may be read at the other end
-pub reads_put : ReadsSpelled → (c d : Settings) → AreJoined c d → (given : List (List ℕ)) (session : ℕ) (es : List Entry) (fs gs : List PlainFrame) → AreWhole d.longest given gs
+pub reads_put : ReadsSpelled → {c d : Settings} → AreJoined c d → (given : List (List ℕ)) (session : ℕ) (es : List Entry) (fs gs : List PlainFrame) → AreWhole d.longest given gs
     → Reads (other d.role) d.longest es fs → Reads (other d.role) d.longest (es ++ sent_in session c.role gs) (fs ++ gs)
-reads_put reads c d joined given session es fs gs whole read =
+reads_put reads {d = d} joined given session es fs gs whole read =
     rw (sym joined.near_role) (reads_more reads (other d.role) d.longest given session es fs gs read whole)
 
 -- T1 doesn't run: nothing changes

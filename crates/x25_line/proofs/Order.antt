@@ -49,15 +49,15 @@ pub data Bear : List Told → List (Frame (List ℕ)) → Type 0 where
   none : Bear [] []
   here : (t : Told) (ts : List Told) (g : Frame (List ℕ)) (gs : List (Frame (List ℕ))) → Shows t.carried g.carried → t.nr ≡ g.ack % 8 → Bear ts gs → Bear (t ∷ ts) (g ∷ gs)
 
-bear_push : (ts : List Told) (gs : List (Frame (List ℕ))) (t : Told) (g : Frame (List ℕ)) → Bear ts gs → Shows t.carried g.carried → t.nr ≡ g.ack % 8 → Bear (ts ++ t ∷ []) (gs ++ g ∷ [])
-bear_push ts gs t g none shows number = here t [] g [] shows number none
-bear_push ts gs t g (here x xs y ys same ack h) shows number = here x (xs ++ t ∷ []) y (ys ++ g ∷ []) same ack (bear_push xs ys t g h shows number)
+bear_push : {ts : List Told} {gs : List (Frame (List ℕ))} (t : Told) (g : Frame (List ℕ)) → Bear ts gs → Shows t.carried g.carried → t.nr ≡ g.ack % 8 → Bear (ts ++ t ∷ []) (gs ++ g ∷ [])
+bear_push t g none shows number = here t [] g [] shows number none
+bear_push t g (here x xs y ys same ack h) shows number = here x (xs ++ t ∷ []) y (ys ++ g ∷ []) same ack (bear_push t g h shows number)
 
-bear_removed : (ts : List Told) (gs : List (Frame (List ℕ))) (i : ℕ) → Bear ts gs → Bear (remove ts i) (remove gs i)
-bear_removed ts gs zero none = none
-bear_removed ts gs (suc i) none = none
-bear_removed ts gs zero (here t xs g ys shows number h) = h
-bear_removed ts gs (suc i) (here t xs g ys shows number h) = here t (remove xs i) g (remove ys i) shows number (bear_removed xs ys i h)
+bear_removed : {ts : List Told} {gs : List (Frame (List ℕ))} (i : ℕ) → Bear ts gs → Bear (remove ts i) (remove gs i)
+bear_removed zero none = none
+bear_removed (suc i) none = none
+bear_removed zero (here t xs g ys shows number h) = h
+bear_removed (suc i) (here t xs g ys shows number h) = here t (remove xs i) g (remove ys i) shows number (bear_removed i h)
 
 -- without what is at a place, or at none
 abbrev pub without : Option ℕ → List Told → List Told
@@ -72,17 +72,17 @@ pub left_front : (s : Said) (xs : List Told) → Left (only s xs) xs
 left_front (Tells c n) xs = (Some 0, refl)
 left_front s xs = (None, refl)
 
-pub left_deeper : (s : Said) (xs ys : List Told) → Left xs ys → Left (only s xs) (only s ys)
-left_deeper (Tells c n) xs ys h = go h.0 h.1
+pub left_deeper : (s : Said) {xs ys : List Told} → Left xs ys → Left (only s xs) (only s ys)
+left_deeper (Tells c n) {xs} {ys} h = go h.0 h.1
   where
     go : (o : Option ℕ) → ys ≡ without o xs → Left (told c n ∷ xs) (told c n ∷ ys)
-    go None is = (None, ap (λ (zs : List Told). told c n ∷ zs) is)
-    go (Some i) is = (Some (suc i), ap (λ (zs : List Told). told c n ∷ zs) is)
-left_deeper s xs ys h = h
+    go None is = (None, ap (λ zs. told c n ∷ zs) is)
+    go (Some i) is = (Some (suc i), ap (λ zs. told c n ∷ zs) is)
+left_deeper s h = h
 
-bear_without : (o : Option ℕ) (ts : List Told) (gs : List (Frame (List ℕ))) → Bear ts gs → Bear (without o ts) (taken_out o gs)
-bear_without None ts gs h = h
-bear_without (Some i) ts gs h = bear_removed ts gs i h
+bear_without : (o : Option ℕ) {ts : List Told} {gs : List (Frame (List ℕ))} → Bear ts gs → Bear (without o ts) (taken_out o gs)
+bear_without None h = h
+bear_without (Some i) {ts} {gs} h = bear_removed i h
 
 -- ---- what holds
 
@@ -106,8 +106,8 @@ starts =
     let way : Way (end_of fresh_peer) [] 0 [] [] = record { high = omega arith; room = omega arith; held = omega arith; acks = omega arith; late = omega arith; tops = omega arith; begins = refl } in
     record { there = []; here = []; ways = record { from_near = way; from_far = way }; out_bears = none; back_bears = none }
 
-pub hold_turned : (p q : Peer) (out back : List Told) → Hold p q out back → Hold q p back out
-hold_turned p q out back h =
+pub hold_turned : {p q : Peer} {out back : List Told} → Hold p q out back → Hold q p back out
+hold_turned h =
     record { there = h.here; here = h.there; ways = record { from_near = h.ways.from_far; from_far = h.ways.from_near }; out_bears = h.back_bears; back_bears = h.out_bears }
 
 module _ (p q : Peer) (out back : List Told) where
@@ -116,16 +116,16 @@ module _ (p q : Peer) (out back : List Told) where
       record {
         there = h.there;
         here = h.here;
-        ways = record { from_near = Way-hand (end_of p) q.taken q.told h.there h.here packet h.ways.from_near; from_far = h.ways.from_far };
+        ways = record { from_near = Way-hand packet h.ways.from_near; from_far = h.ways.from_far };
         out_bears = h.out_bears;
         back_bears = h.back_bears;
       }
 
   -- ---- what it sends
 
-  sent_one : (h : Hold p q out back) (r : Peer) (t : Told) (g : Frame (List ℕ)) → Shows t.carried g.carried → t.nr ≡ g.ack % 8 → Ways r q (h.there ++ g ∷ []) h.here → Hold r q (out ++ t ∷ []) back
-  sent_one h r t g shows number ways =
-      record { there = h.there ++ g ∷ []; here = h.here; ways = ways; out_bears = bear_push out h.there t g h.out_bears shows number; back_bears = h.back_bears }
+  sent_one : (h : Hold p q out back) {r : Peer} (t : Told) (g : Frame (List ℕ)) → Shows t.carried g.carried → t.nr ≡ g.ack % 8 → Ways r q (h.there ++ g ∷ []) h.here → Hold r q (out ++ t ∷ []) back
+  sent_one h t g shows number ways =
+      record { there = h.there ++ g ∷ []; here = h.here; ways = ways; out_bears = bear_push t g h.out_bears shows number; back_bears = h.back_bears }
 
   sent : (Odd : Type 0) (h : Hold p q out back) (carried : Option Carried) (nr : ℕ) (r : Peer) → MaySay Odd p (Tells carried nr) r → Hold r q (out ++ told carried nr ∷ []) back
   sent Odd h None nr r may =
@@ -133,10 +133,10 @@ module _ (p q : Peer) (out back : List Told) where
       let ack = may.1 in
       let g : Frame (List ℕ) = record { carried = None; ack = t; top = p.sent } in
       let ways : Ways (told_to t p) q (h.there ++ g ∷ []) h.here = record {
-        from_near = Way-tell (end_of p) q.taken q.told h.there h.here t h.ways.from_near;
-        from_far = Way-told (end_of q) p.taken p.told h.here h.there t None p.sent ack.rising ack.taken h.ways.from_far;
+        from_near = Way-tell t h.ways.from_near;
+        from_far = Way-told t None p.sent ack.rising ack.taken h.ways.from_far;
       } in
-      subst (λ (z : Peer). Hold z q (out ++ told None nr ∷ []) back) (sym may.2) (sent_one h (told_to t p) (told None nr) g tt ack.number ways)
+      subst (λ z. Hold z q (out ++ told None nr ∷ []) back) (sym may.2) (sent_one h (told None nr) g tt ack.number ways)
   sent Odd h (Some c) nr r may =
       let i = may.0 in
       let t = may.1 in
@@ -146,11 +146,11 @@ module _ (p q : Peer) (out back : List Told) where
       let item : Numbered (List ℕ) = record { number = i; item = c.packet } in
       let g : Frame (List ℕ) = record { carried = Some item; ack = t; top = max p.sent (i + 1) } in
       let ways : Ways (told_to t (numbered_to i p)) q (h.there ++ g ∷ []) h.here = record {
-        from_near = Way-send (end_of p) q.taken q.told h.there h.here i t (Some item) (slice_get_within p.given i c.packet number.same) number.window (omega arith, omega arith, number.same) h.ways.from_near;
-        from_far = Way-told (end_of q) p.taken p.told h.here h.there t (Some item) (max p.sent (i + 1)) ack.rising ack.taken h.ways.from_far;
+        from_near = Way-send i t (Some item) (slice_get_within p.given i c.packet number.same) number.window (omega arith, omega arith, number.same) h.ways.from_near;
+        from_far = Way-told t (Some item) (max p.sent (i + 1)) ack.rising ack.taken h.ways.from_far;
       } in
-      subst (λ (z : Peer). Hold z q (out ++ told (Some c) nr ∷ []) back) (sym may.4)
-      (sent_one h (told_to t (numbered_to i p)) (told (Some c) nr) g (number.number, refl) ack.number ways)
+      subst (λ z. Hold z q (out ++ told (Some c) nr ∷ []) back) (sym may.4)
+      (sent_one h (told (Some c) nr) g (number.number, refl) ack.number ways)
 
   unsaid : (r : Peer) → r ≡ p → Hold p q out back → Hold r q (out ++ []) back
   unsaid r is h = rw is (rw (append-nil out) h)
@@ -163,36 +163,36 @@ module _ (p q : Peer) (out back : List Told) where
   -- ---- the line to it
 
   fewer : (o : Option ℕ) → Hold p q out back → Hold p q out (without o back)
-  fewer o h = record { there = h.there; here = taken_out o h.here; ways = ways o h.ways; out_bears = h.out_bears; back_bears = bear_without o back h.here h.back_bears }
+  fewer o h = record { there = h.there; here = taken_out o h.here; ways = ways o h.ways; out_bears = h.out_bears; back_bears = bear_without o h.back_bears }
     where
       ways : (o : Option ℕ) → Ways p q h.there h.here → Ways p q h.there (taken_out o h.here)
       ways None k = k
-      ways (Some i) k = record { from_near = Way-unheard (end_of p) q.taken q.told h.there h.here i k.from_near; from_far = Way-passed (end_of q) p.taken p.told h.here h.there i k.from_far }
+      ways (Some i) k = record { from_near = Way-unheard i k.from_near; from_far = Way-passed i k.from_far }
 
-  pub left : (ys : List Told) → Left back ys → Hold p q out back → Hold p q out ys
-  left ys l h = rw l.1 (fewer l.0 h)
+  pub left : {ys : List Told} → Left back ys → Hold p q out back → Hold p q out ys
+  left l h = rw l.1 (fewer l.0 h)
 
 -- ---- what comes to it
 
 module _ (p q : Peer) (out : List Told) where
   heard_way : (g : Frame (List ℕ)) (gs hs : List (Frame (List ℕ))) (b : Bool) (n : ℕ) → n ≡ g.ack % 8 → Ways p q gs (g ∷ hs) → Way (end_of (hearing b n p)) q.taken q.told gs hs
-  heard_way g gs hs true n is k = rw is (Way-hears (end_of p) q.taken q.told gs hs g k.from_near)
-  heard_way g gs hs false n is k = Way-unheard (end_of p) q.taken q.told gs (g ∷ hs) 0 k.from_near
+  heard_way g gs hs true n is k = rw is (Way-hears hs g k.from_near)
+  heard_way g gs hs false n is k = Way-unheard 0 k.from_near
 
   passed : (b : Bool) (n : ℕ) (g : Frame (List ℕ)) (gs hs : List (Frame (List ℕ))) → n ≡ g.ack % 8 → Ways p q gs (g ∷ hs) → Ways (hearing b n p) q gs hs
-  passed true n g gs hs is k = record { from_near = heard_way g gs hs true n is k; from_far = Way-passed (end_of q) p.taken p.told (g ∷ hs) gs 0 k.from_far }
-  passed false n g gs hs is k = record { from_near = heard_way g gs hs false n is k; from_far = Way-passed (end_of q) p.taken p.told (g ∷ hs) gs 0 k.from_far }
+  passed true n g gs hs is k = record { from_near = heard_way g gs hs true n is k; from_far = Way-passed 0 k.from_far }
+  passed false n g gs hs is k = record { from_near = heard_way g gs hs false n is k; from_far = Way-passed 0 k.from_far }
 
   took : (b : Bool) (n : ℕ) (g : Frame (List ℕ)) (gs hs : List (Frame (List ℕ))) (c : Carried) (i : Numbered (List ℕ)) → n ≡ g.ack % 8 → g.carried ≡ Some i → c.ns ≡ i.number % 8 → c.packet ≡ i.item
       → c.ns ≡ length p.taken % 8 → Ways p q gs (g ∷ hs) → Ways (taking true c.packet (hearing b n p)) q gs hs
   took b n g gs hs c i is carried number same wanted k =
-      let item = subst (λ (y : List ℕ). Way (end_of q) (p.taken ++ y ∷ []) p.told hs gs) (sym same)
-      (Way-takes (end_of q) p.taken p.told hs gs g i (rw carried at k.from_far.tops.1) (sym number ∙ wanted) k.from_far) in
+      let item = subst (λ y. Way (end_of q) (p.taken ++ y ∷ []) p.told hs gs) (sym same)
+      (Way-takes hs g i (rw carried at k.from_far.tops.1) (sym number ∙ wanted) k.from_far) in
       go b (heard_way g gs hs b n is k) item
     where
       go : (b : Bool) → Way (end_of (hearing b n p)) q.taken q.told gs hs → Way (end_of q) (p.taken ++ c.packet ∷ []) p.told hs gs → Ways (taking true c.packet (hearing b n p)) q gs hs
-      go true a z = record { from_near = Way-giver (end_of (hearing true n p)) q.taken q.told gs hs 0 c.packet a; from_far = z }
-      go false a z = record { from_near = Way-giver (end_of p) q.taken q.told gs hs 0 c.packet a; from_far = z }
+      go true a z = record { from_near = Way-giver 0 c.packet a; from_far = z }
+      go false a z = record { from_near = Way-giver 0 c.packet a; from_far = z }
 
   carried_shown : (c : Carried) (o : Option (Numbered (List ℕ))) → Shows (Some c) o → (i : Numbered (List ℕ)) × (o ≡ Some i) × (c.ns ≡ i.number % 8) × (c.packet ≡ i.item)
   carried_shown c None h = absurd h
@@ -206,16 +206,16 @@ module _ (p q : Peer) (out : List Told) where
       go : (b t : Bool) → IsWanted t c.ns p → r ≡ taking t c.packet (hearing b n p) → Ways r q gs hs
       go b true wanted to =
           let s = carried_shown c g.carried shows in
-          subst (λ (z : Peer). Ways z q gs hs) (sym to) (took b n g gs hs c s.0 is s.1 s.2 s.3 wanted k)
+          subst (λ z. Ways z q gs hs) (sym to) (took b n g gs hs c s.0 is s.1 s.2 s.3 wanted k)
       go b false wanted to = rw to (passed b n g gs hs is k)
 
-  front : (t : Told) (rest : List Told) (r : Peer) (gs hs : List (Frame (List ℕ))) → Bear out gs → Bear (t ∷ rest) hs → Ways p q gs hs → MayMake p (Tells t.carried t.nr) r → Hold r q out rest
-  front t rest r gs hs shows (here x xs g ys carried number h) k may =
+  front : (t : Told) (rest : List Told) {r : Peer} {gs hs : List (Frame (List ℕ))} → Bear out gs → Bear (t ∷ rest) hs → Ways p q gs hs → MayMake p (Tells t.carried t.nr) r → Hold r q out rest
+  front t rest {r} {gs} shows (here x xs g ys carried number h) k may =
       record { there = gs; here = ys; ways = comes g gs ys x.carried x.nr r carried number may k; out_bears = shows; back_bears = h }
 
-  pub makes : (s : Said) (rest : List Told) (r : Peer) → MayMake p s r → Hold p q out (only s rest) → Hold r q out rest
-  makes (Tells c n) rest r may h = front (told c n) rest r h.there h.here h.out_bears h.back_bears h.ways may
-  makes s rest r may h = rw may h
+  pub makes : (s : Said) (rest : List Told) {r : Peer} → MayMake p s r → Hold p q out (only s rest) → Hold r q out rest
+  makes (Tells c n) rest {r} may h = front (told c n) rest h.out_bears h.back_bears h.ways may
+  makes s rest may h = rw may h
 
 -- ---- the claims
 
@@ -223,9 +223,9 @@ module _ (p q : Peer) (out : List Told) where
 pub in_order : (p q : Peer) (gs hs : List (Frame (List ℕ))) → Way (end_of p) q.taken q.told gs hs
     → IsPrefix q.taken p.given × (p.acked ≤ length q.taken) × (p.acked ≡ length p.given → q.taken ≡ p.given)
 in_order p q gs hs h =
-    let few = (Way-acked (end_of p) q.taken q.told gs hs h).0 in
+    let few = (Way-acked h).0 in
     let begins = h.begins in (
-      (drop (length q.taken) p.given, ap (λ (ys : List (List ℕ)). ys ++ drop (length q.taken) p.given) begins ∙ take-append-drop (length q.taken) p.given),
+      (drop (length q.taken) p.given, ap (λ ys. ys ++ drop (length q.taken) p.given) begins ∙ take-append-drop (length q.taken) p.given),
       few,
       λ all. begins ∙ take_all (length q.taken) p.given (omega (arith, few, all)),
     )
@@ -235,7 +235,7 @@ valid_front p q out rest t h = go h.here h.back_bears h.ways.from_near
   where
     go : (hs : List (Frame (List ℕ))) → Bear (t ∷ rest) hs → Way (end_of p) q.taken q.told h.there hs → resolved p.acked t.nr ≤ p.sent
     go hs (here x xs g ys carried number k) way =
-        let valid = hears_valid (end_of p) q.taken q.told h.there ys g way in
+        let valid = hears_valid ys g way in
         let all = ap (resolved p.acked) number ∙ valid.0 in
         omega (arith, all, valid.2)
 

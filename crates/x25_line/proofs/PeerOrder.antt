@@ -6,13 +6,13 @@ use Rattle.x25_window.specs.code.Modulo.{resolved}
 use Rattle.x25_link.specs.{Station.{Settings, fresh}, Hearing.{other}}
 use Rattle.x25_line.specs.laws.Stations.{StationEnd, Act, Near, replaced, is_visible, acts}
 use Rattle.x25_line.specs.{laws.StationClaims.{Each, InOrder, HandsOne}, laws.LawsBelow.{Laws}}
-use Rattle.x25_line.specs.laws.PeerJoined.{Joined, our_end, with_peer, Happens, Ours, HandsDown, Sends, Hears, Loses, Damages, IsReached, at_start, goes_on}
+use Rattle.x25_line.specs.laws.PeerJoined.{JoinedOnce, our_end, with_peer, HappensOnce, Ours, HandsDown, Sends, Hears, Loses, Damages, ReachedOnce, at_start, goes_on}
 use Rattle.x25_line.specs.laws.PeerClaims.{WithAnyPeer, WithAnyLapbPeer, KeepsOrder, FindsNoFault}
 use Rattle.x25_line.specs.{laws.Said.{Said, Carried, Tells, Odd as OddSaid, said}, laws.Peer.{Peer, fresh_peer, MaySay}}
 use Rattle.x25_line.proofs.{Lists.{each_append, each_removed, each_replaced}, sessions.Letters.{visible_said, visible_fine}, Kept.{Way}}
 use Rattle.x25_line.proofs.Order.{Told, only, only_append, Left, left_front, left_deeper, Hold, starts, hold_turned, handed, says, left, makes, in_order as peers_in_order, valid_front, by_frmr, no_fault}
 use Rattle.x25_line.proofs.{StationRuns.{noted_before}, StationEvents.{each_hands_one}, StationClaimLemmas.{in_order}}
-use Rattle.x25_line.proofs.{StationSays.{machine_of, MayDo}, StationPeers.{MayAsk, Seen, peer_acts}}
+use Rattle.x25_line.proofs.{StationSays.{machine_of, MayDo}, StationActs.{MayAsk}, StationPeers.{Seen, peer_acts}}
 use Rattle.x25_line.specs.laws.PeerJoined as joined
 
 -- ---- what is told on a line of octets
@@ -34,12 +34,12 @@ module _ (from : Role) (n1 : ℕ) where
   tolds_removed [] zero = (None, refl)
   tolds_removed [] (suc i) = (None, refl)
   tolds_removed (o ∷ os) zero = left_front (said (frame_of from n1 o)) (tolds os)
-  tolds_removed (o ∷ os) (suc i) = left_deeper (said (frame_of from n1 o)) (tolds os) (tolds (remove os i)) (tolds_removed os i)
+  tolds_removed (o ∷ os) (suc i) = left_deeper (said (frame_of from n1 o)) (tolds_removed os i)
 
   tolds_replaced : (o : List ℕ) → is_visible o ≡ true → (os : List (List ℕ)) (i : ℕ) → Left (tolds os) (tolds (replaced os i o))
   tolds_replaced o visible [] i = (None, refl)
   tolds_replaced o visible (x ∷ os) zero = rw (visible_said from n1 o visible) (left_front (said (frame_of from n1 x)) (tolds os))
-  tolds_replaced o visible (x ∷ os) (suc i) = left_deeper (said (frame_of from n1 x)) (tolds os) (tolds (replaced os i o)) (tolds_replaced o visible os i)
+  tolds_replaced o visible (x ∷ os) (suc i) = left_deeper (said (frame_of from n1 x)) (tolds_replaced o visible os i)
 
 -- ---- a station and a peer q
 
@@ -57,40 +57,40 @@ module _ (Odd : Type 0) (c : Settings) (q : Peer) where
       lapb = h.lapb;
     };
     hears = λ o os p r out may h. record {
-      hold = makes p q (tolds c.role c.longest out) (said (frame_of (other c.role) c.longest o)) (tolds (other c.role) c.longest os) r may h.hold;
+      hold = makes p q (tolds c.role c.longest out) (said (frame_of (other c.role) c.longest o)) (tolds (other c.role) c.longest os) may h.hold;
       lapb = λ lapb. (h.lapb lapb).1;
     };
     loses = λ os p out i h. record {
-      hold = left p q (tolds c.role c.longest out) (tolds (other c.role) c.longest os) (tolds (other c.role) c.longest (remove os i)) (tolds_removed (other c.role) c.longest os i) h.hold;
+      hold = left p q (tolds c.role c.longest out) (tolds (other c.role) c.longest os) (tolds_removed (other c.role) c.longest os i) h.hold;
       lapb = λ lapb. each_removed (IsFine (other c.role) c.longest) os i (h.lapb lapb);
     };
     damages = λ os p out i octets visible h. record {
-      hold = left p q (tolds c.role c.longest out) (tolds (other c.role) c.longest os) (tolds (other c.role) c.longest (replaced os i octets)) (tolds_replaced (other c.role) c.longest octets visible os i) h.hold;
+      hold = left p q (tolds c.role c.longest out) (tolds (other c.role) c.longest os) (tolds_replaced (other c.role) c.longest octets visible os i) h.hold;
       lapb = λ lapb. each_replaced (IsFine (other c.role) c.longest) os i octets (visible_fine (other c.role) c.longest octets visible) (h.lapb lapb);
     };
     faultless = λ o os p out ending h lapb.
         (let none = no_fault (frame_of (other c.role) c.longest o) (machine_of c.window p) (h.lapb lapb).0 (λ carried nr is. valid o os p out h carried nr is) in
-        let one = ap by_frmr ending in omega (arith, none, one));
+        omega (arith, none, ap by_frmr ending));
   }
     where
       valid : (o : List ℕ) (os : List (List ℕ)) (p : Peer) (out : List (List ℕ)) → IsWith (o ∷ os) p out → (carried : Option Carried) (nr : ℕ) → said (frame_of (other c.role) c.longest o) ≡ Tells carried nr
           → resolved p.acked nr ≤ p.sent
       valid o os p out h carried nr is =
           valid_front p q (tolds c.role c.longest out) (tolds (other c.role) c.longest os) (record { carried = carried; nr = nr })
-          (subst (λ (s : Said). Hold p q (tolds c.role c.longest out) (only s (tolds (other c.role) c.longest os))) is h.hold)
+          (subst (λ s. Hold p q (tolds c.role c.longest out) (only s (tolds (other c.role) c.longest os))) is h.hold)
 
 -- ---- whatever happens
 
-abbrev JoinedHolds : Type 0 → Settings → Joined → Type 0
+abbrev JoinedHolds : Type 0 → Settings → JoinedOnce → Type 0
 JoinedHolds Odd c w = Seen c (Odd → ⊥) (IsWith Odd c w.peer) (our_end w)
 
 -- once the peer is q, with these lines
-after : (Odd : Type 0) (c : Settings) (w : Joined) (h : JoinedHolds Odd c w) (q : Peer) (out back : List (List ℕ)) → Hold q h.peer (tolds (other c.role) c.longest back) (tolds c.role c.longest out)
+after : (Odd : Type 0) {c : Settings} {w : JoinedOnce} (h : JoinedHolds Odd c w) {q : Peer} (out back : List (List ℕ)) → Hold q h.peer (tolds (other c.role) c.longest back) (tolds c.role c.longest out)
     → ((Odd → ⊥) → Each (IsFine (other c.role) c.longest) back) → JoinedHolds Odd c (record { near = w.near; peer = q; out = out; back = back })
-after Odd c w h q out back hold lapb =
+after Odd {c} h {q} out back hold lapb =
     record {
       peer = h.peer;
-      reached = record { hold = hold_turned q h.peer (tolds (other c.role) c.longest back) (tolds c.role c.longest out) hold; lapb = lapb };
+      reached = record { hold = hold_turned hold; lapb = lapb };
       fits = h.fits;
       room = h.room;
       told = h.told;
@@ -101,16 +101,16 @@ after Odd c w h q out back hold lapb =
     }
 
 -- what is answered by FRMR is sent where it may be
-sends_odd : (Odd : Type 0) (p q : Peer) (s : Said) → MaySay Odd p s q → (Odd → ⊥) → s ≡ OddSaid → ⊥
-sends_odd Odd p q s may never is = (let odd = subst (λ (x : Said). MaySay Odd p x q) is may in never odd.0)
+sends_odd : (Odd : Type 0) (p q : Peer) {s : Said} → MaySay Odd p s q → (Odd → ⊥) → s ≡ OddSaid → ⊥
+sends_odd Odd p q may never is = (let odd = subst (λ x. MaySay Odd p x q) is may in never odd.0)
 
-once_before : (Odd : Type 0) (c : Settings) (w v : Joined) → Happens Odd c w v → v.near.came_up ≡ false → w.near.came_up ≡ false
-once_before Odd c w v (Ours act) once =
+once_before : (Odd : Type 0) {c : Settings} {w v : JoinedOnce} → HappensOnce Odd c w v → v.near.came_up ≡ false → w.near.came_up ≡ false
+once_before Odd {c} {w} (Ours act) once =
     let hands : HandsOne act (our_end w) (acts c act (our_end w)) = each_hands_one c c (Near act) (our_end w) in
     noted_before act w.near.came_up (acts c act (our_end w)).near.came_up hands.came_up once
-once_before Odd c w v other once = once
+once_before Odd other once = once
 
-module _ (Odd : Type 0) (c : Settings) (w : Joined) (h : JoinedHolds Odd c w) where
+module _ (Odd : Type 0) (c : Settings) (w : JoinedOnce) (h : JoinedHolds Odd c w) where
   abbrev backs : List Told
   backs = tolds (other c.role) c.longest w.back
 
@@ -118,24 +118,24 @@ module _ (Odd : Type 0) (c : Settings) (w : Joined) (h : JoinedHolds Odd c w) wh
   outs = tolds c.role c.longest w.out
 
   turned : Hold w.peer h.peer backs outs
-  turned = hold_turned h.peer w.peer outs backs h.reached.hold
+  turned = hold_turned h.reached.hold
 
-  theirs : (v : Joined) → Happens Odd c w v → v.near.came_up ≡ false → ((act : Act) → (acts c act (our_end w)).near.came_up ≡ false → JoinedHolds Odd c (with_peer w.peer (acts c act (our_end w)))) → JoinedHolds Odd c v
+  theirs : (v : JoinedOnce) → HappensOnce Odd c w v → v.near.came_up ≡ false → ((act : Act) → (acts c act (our_end w)).near.came_up ≡ false → JoinedHolds Odd c (with_peer w.peer (acts c act (our_end w)))) → JoinedHolds Odd c v
   theirs v (Ours act) once ours = ours act once
   theirs v (HandsDown packet) once ours =
-      after Odd c w h (record w.peer { given = w.peer.given ++ packet ∷ [] }) w.out w.back (handed w.peer h.peer backs outs packet turned) h.reached.lapb
+      after Odd h w.out w.back (handed w.peer h.peer backs outs packet turned) h.reached.lapb
   theirs v (Sends octets q may) once ours =
-      after Odd c w h q w.out (w.back ++ octets ∷ [])
+      after Odd h w.out (w.back ++ octets ∷ [])
       (rw (tolds_push (other c.role) c.longest w.back octets) (says w.peer h.peer backs outs Odd (said (frame_of (other c.role) c.longest octets)) q may turned))
-      (λ lapb. each_append (IsFine (other c.role) c.longest) w.back (octets ∷ []) (h.reached.lapb lapb) (sends_odd Odd w.peer q (said (frame_of (other c.role) c.longest octets)) may lapb, tt))
+      (λ lapb. each_append (IsFine (other c.role) c.longest) w.back (octets ∷ []) (h.reached.lapb lapb) (sends_odd Odd w.peer q may lapb, tt))
   theirs v (Hears octets rest q is may) once ours =
-      after Odd c w h q rest w.back
-      (makes w.peer h.peer backs (said (frame_of c.role c.longest octets)) (tolds c.role c.longest rest) q may (subst (λ (os : List (List ℕ)). Hold w.peer h.peer backs (tolds c.role c.longest os)) is turned)) h.reached.lapb
+      after Odd h rest w.back
+      (makes w.peer h.peer backs (said (frame_of c.role c.longest octets)) (tolds c.role c.longest rest) may (subst (λ os. Hold w.peer h.peer backs (tolds c.role c.longest os)) is turned)) h.reached.lapb
   theirs v (Loses i) once ours =
-      after Odd c w h w.peer (remove w.out i) w.back (left w.peer h.peer backs outs (tolds c.role c.longest (remove w.out i)) (tolds_removed c.role c.longest w.out i) turned) h.reached.lapb
+      after Odd h (remove w.out i) w.back (left w.peer h.peer backs outs (tolds_removed c.role c.longest w.out i) turned) h.reached.lapb
   theirs v (Damages i octets visible) once ours =
-      after Odd c w h w.peer (replaced w.out i octets) w.back
-      (left w.peer h.peer backs outs (tolds c.role c.longest (replaced w.out i octets)) (tolds_replaced c.role c.longest octets visible w.out i) turned) h.reached.lapb
+      after Odd h (replaced w.out i octets) w.back
+      (left w.peer h.peer backs outs (tolds_replaced c.role c.longest octets visible w.out i) turned) h.reached.lapb
 
 -- the peer in the place of an end that takes
 abbrev taker : Peer → StationEnd
@@ -155,20 +155,20 @@ start_holds Odd c = record {
 }
 
 module _ (reads : ReadsSpelled) (laws : Laws) where
-  ours : (Odd : Type 0) (c : Settings) → c.window ≤ 7 → (w : Joined) → JoinedHolds Odd c w → (act : Act) → (acts c act (our_end w)).near.came_up ≡ false → JoinedHolds Odd c (with_peer w.peer (acts c act (our_end w)))
+  ours : (Odd : Type 0) (c : Settings) → c.window ≤ 7 → (w : JoinedOnce) → JoinedHolds Odd c w → (act : Act) → (acts c act (our_end w)).near.came_up ≡ false → JoinedHolds Odd c (with_peer w.peer (acts c act (our_end w)))
   ours Odd c high w h act once =
       let k = peer_acts c high reads laws (Odd → ⊥) (IsWith Odd c w.peer) (station_may Odd c w.peer) act (our_end w) h once in
       record { peer = k.peer; reached = k.reached; fits = k.fits; room = k.room; told = k.told; within = k.within; down = k.down; up = k.up; fine = k.fine }
 
-  reached_holds : (Odd : Type 0) (c : Settings) → c.window ≤ 7 → (w : Joined) → IsReached Odd c w → w.near.came_up ≡ false → JoinedHolds Odd c w
-  reached_holds Odd c high w at_start once = start_holds Odd c
-  reached_holds Odd c high w (goes_on v u r event) once =
-      let h = reached_holds Odd c high v r (once_before Odd c v w event once) in
+  reached_holds : (Odd : Type 0) {c : Settings} → c.window ≤ 7 → {w : JoinedOnce} → ReachedOnce Odd c w → w.near.came_up ≡ false → JoinedHolds Odd c w
+  reached_holds Odd {c} high at_start once = start_holds Odd c
+  reached_holds Odd {c} high {w} (goes_on v u r event) once =
+      let h = reached_holds Odd high r (once_before Odd event once) in
       theirs Odd c v h w event once (ours Odd c high v h)
 
   -- ---- the claims
 
-  holds_claims : (Odd : Type 0) (c : Settings) → c.window ≤ 7 → (w : Joined) → JoinedHolds Odd c w → KeepsOrder w
+  holds_claims : (Odd : Type 0) (c : Settings) → c.window ≤ 7 → (w : JoinedOnce) → JoinedHolds Odd c w → KeepsOrder w
   holds_claims Odd c high w h =
       let p = h.peer in
       let q = w.peer in
@@ -177,19 +177,17 @@ module _ (reads : ReadsSpelled) (laws : Laws) where
       let way : Way (machine_of c.window p) q.taken q.told hold.there hold.here = record { high = high; room = h.room; held = k.held; acks = k.acks; late = k.late; tops = k.tops; begins = k.begins } in
       let own : InOrder w.near (taker q) = in_order MayAsk c w.near (taker q) (machine_of c.window p) q.taken q.told hold.there hold.here h.fits way (sym h.down) refl in
       let other_way = peers_in_order q p hold.here hold.there hold.ways.from_far in
-      let few = other_way.1 in
-      let count = ap length h.up in
       record {
         up = rw (sym h.up) other_way.0;
         there = own.begins;
         acked = own.acked;
         idle = own.idle;
-        theirs = omega (arith, few, count);
+        theirs = omega (arith, other_way.1, ap length h.up);
         all = λ all. sym h.up ∙ other_way.2 all;
       }
 
   pub keeps_order : WithAnyPeer KeepsOrder
-  keeps_order c low high w reached once = holds_claims (Unit {0}) c high w (reached_holds (Unit {0}) c high w reached once)
+  keeps_order c low high w reached once = holds_claims (Unit {0}) c high w (reached_holds (Unit {0}) high reached once)
 
   pub is_blameless : WithAnyLapbPeer FindsNoFault
-  is_blameless c low high w reached once = (reached_holds ⊥ c high w reached once).fine (λ never. never)
+  is_blameless c low high w reached once = (reached_holds ⊥ high reached once).fine (λ never. never)

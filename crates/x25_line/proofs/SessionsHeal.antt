@@ -3,7 +3,7 @@ use Rattle.std.proofs.Common.{◌≡◌, ℕ, List, [], ◌∷◌, inl, Option, 
 use Rattle.x25_frame.specs.laws.ReadingLaw.{ReadsSpelled}
 use Rattle.x25_link.specs.{declared.error.LinkError.{LinkError}, Station.{Settings}, Hearing.{Step}, Link.{take_step, timer_step, timer_refusal}}
 use Rattle.x25_link.specs.{laws.RestLaw.{IsAtRest}, laws.BusyLaw.{BusyLaws}}
-use Rattle.x25_line.specs.laws.Stations.{Deliver, T1, Event}
+use Rattle.x25_line.specs.laws.Stations.{Deliver, T1, LinkEvent}
 use Rattle.x25_line.specs.laws.Sessions.{Entry, Meeting, Sessions, begun_by, after_step, unless, delivered, acts, swapped, run}
 use Rattle.x25_line.specs.{laws.StationClaims.{AreJoined}, laws.SessionClaims.{Each, Throughout, IdleHasArrived}}
 use Rattle.x25_line.specs.{Healing.{EachRestShows, IsDelivery, SessionsHealUnlessBothBusy}, laws.LawsBelow.{HealingLaws}}
@@ -18,11 +18,11 @@ record HandNothingDown (w u : Sessions) : Type 0 where
   near : (n : ℕ) → u.near.down n ≡ w.near.down n
   far : (n : ℕ) → u.far.down n ≡ w.far.down n
 
-then_hand : (w u x : Sessions) → HandNothingDown w u → HandNothingDown u x → HandNothingDown w x
-then_hand w u x h k = record { near = λ n. k.near n ∙ h.near n; far = λ n. k.far n ∙ h.far n }
+then_hand : {w u x : Sessions} → HandNothingDown w u → HandNothingDown u x → HandNothingDown w x
+then_hand h k = record { near = λ n. k.near n ∙ h.near n; far = λ n. k.far n ∙ h.far n }
 
-hand_turned : (w u : Sessions) → HandNothingDown (swapped w) u → HandNothingDown w (swapped u)
-hand_turned w u h = record { near = h.far; far = h.near }
+hand_turned : (w : Sessions) {u : Sessions} → HandNothingDown (swapped w) u → HandNothingDown w (swapped u)
+hand_turned w h = record { near = h.far; far = h.near }
 
 step_hands : (c : Settings) (w : Sessions) (es : List Entry) (met : List Meeting) (step : Step) → HandNothingDown w (after_step c w es met [] step)
 step_hands c w es met step = record { near = extended_nil w.near.down (begun_by step.notes.up w.near.begun); far = λ _. refl }
@@ -41,12 +41,12 @@ deliver_hands c w = by w.back
     by [] = record { near = λ _. refl; far = λ _. refl }
     by (e ∷ es) = step_hands c w es _ (take_step c e.octets w.near.station)
 
-healing_hands : (c d : Settings) (es : List Event) (w : Sessions) → Each IsDelivery es → HandNothingDown w (run c d es (after_firings c d w))
+healing_hands : (c d : Settings) (es : List LinkEvent) (w : Sessions) → Each IsDelivery es → HandNothingDown w (run c d es (after_firings c d w))
 healing_hands c d es w are =
     let x : Sessions = acts c T1 w in
-    deliveries_keep (HandNothingDown w) c d (λ u h. then_hand w u (acts c Deliver u) h (deliver_hands c u))
-    (λ u h. then_hand w u (swapped (acts d Deliver (swapped u))) h (hand_turned u (acts d Deliver (swapped u)) (deliver_hands d (swapped u)))) es (after_firings c d w) are
-    (then_hand w x (after_firings c d w) (fire_hands c w) (hand_turned x (acts d T1 (swapped x)) (fire_hands d (swapped x))))
+    deliveries_keep (HandNothingDown w) c d (λ u h. then_hand h (deliver_hands c u))
+    (λ u h. then_hand h (hand_turned u (deliver_hands d (swapped u)))) es (after_firings c d w) are
+    (then_hand (fire_hands c w) (hand_turned x (fire_hands d (swapped x))))
 
 pub each_rest_shows : ReadsSpelled → HealingLaws → Throughout EachRestShows
 each_rest_shows reads laws c d joined begin is events timely =
@@ -66,7 +66,7 @@ module _ (reads : ReadsSpelled) (laws : HealingLaws) (busy_laws : BusyLaws) wher
   -- two ends that have come to rest in their sessions have handed up all
   arrive : (c d : Settings) → AreJoined c d → (w v : Sessions) → HealsAt w.near.begun w.far.begun c d v → IsAtRest v.near.station × IsAtRest v.far.station → SessionsHaveArrived w v
   arrive c d joined w v (r, h) rest =
-      let arrived = at_reached IdleHasArrived (idle_has_arrived reads laws.sessions) c d joined v r in
+      let arrived = at_reached IdleHasArrived (idle_has_arrived reads laws.sessions) joined r in
       let near = h.near_begun in
       let far = h.far_begun in
       record {
@@ -89,16 +89,16 @@ module _ (reads : ReadsSpelled) (laws : HealingLaws) (busy_laws : BusyLaws) wher
       let n = w.near.begun in
       let m = w.far.begun in
       let orders = in_order_at reads laws c d joined w r in
-      let heals = λ (near : _). λ (far : _). deliveries_heal reads laws busy_laws n m c d joined es (after_firings c d w) are (begins reads laws busy_laws c d joined w r drained near far free) in
+      let heals = λ (near : _). λ (far : _). deliveries_heal reads laws busy_laws n m c d joined es (after_firings c d w) are (begins reads laws busy_laws joined r drained near far free) in
       let each = rest_or_out reads laws c d joined w orders.0 orders.1 drained es are after (λ near far.
-      let rest = both_settle reads laws busy_laws n m c d joined v (heals near far) after in
+      let rest = both_settle reads laws busy_laws joined (heals near far) after in
       (inl rest.0, inl rest.1)) in
       record {
         near = each.0;
         far = each.1;
         healed = λ near far.
             let k = heals near far in
-            let h = arrive c d joined w v k (both_settle reads laws busy_laws n m c d joined v k after) in
+            let h = arrive c d joined w v k (both_settle reads laws busy_laws joined k after) in
             let hands = healing_hands c d es w are in
             record { near_rest = h.near_rest; far_rest = h.far_rest; near_session = h.near_session; far_session = h.far_session; there = h.there ∙ hands.near n; back = h.back ∙ hands.far m };
       }
@@ -111,6 +111,6 @@ module _ (reads : ReadsSpelled) (laws : HealingLaws) (busy_laws : BusyLaws) wher
       let r : Reached c d w = record { begin = begin; start = is; events = events; timely = timely; is = refl } in
       let n = w.near.begun in
       let m = w.far.begun in
-      let first = begins reads laws busy_laws c d joined w r (record { out = no_out; back = no_back }) (record { up = near_may.up; tries = near_may.tries }) (record { up = far_may.up; tries = far_may.tries }) (inl near_may.free) in
-      let k = puts_run reads laws busy_laws c d joined n m es (after_firings c d w) are first free in
-      arrive c d joined w v k (both_settle reads laws busy_laws n m c d joined v k (record { out = out_after; back = back_after }))
+      let first = begins reads laws busy_laws joined r (record { out = no_out; back = no_back }) (record { up = near_may.up; tries = near_may.tries }) (record { up = far_may.up; tries = far_may.tries }) (inl near_may.free) in
+      let k = puts_run reads laws busy_laws joined es are first free in
+      arrive c d joined w v k (both_settle reads laws busy_laws joined k (record { out = out_after; back = back_after }))

@@ -1,48 +1,44 @@
 -- What follows of each act of a station that was set up once, where it is known of a few kinds of steps.
-use Rattle.std.proofs.Common.{◌≡◌, ℕ, suc, ◌≤◌, List, [], ◌∷◌, inl, inr, length, remove, Bool, true, false, if◌then◌else◌, Option, Some, None, Result, Ok, refl, sym, ap, ◌∙◌, subst}
+use Rattle.std.proofs.Common.{◌≡◌, ℕ, suc, ◌≤◌, List, [], ◌∷◌, inl, inr, length, remove, Bool, true, false, if◌then◌else◌, Some, None, Result, refl, sym, ap, ◌∙◌, subst}
 use Rattle.std.proofs.lemmas.Bool.{leb-true}
 use Rattle.std.specs.Prelude.{nat_le, nat_lt}
-use Rattle.x25_frame.specs.{Frame.{PlainFrame, sabm, disc}, Reading.{frame_of}, declared.error.FrameError.{FrameError}}
-use Rattle.x25_link.specs.{declared.phase.Phase.{Phase}, declared.phase.Phase.TheVariants.{Down, Waiting, Up, Closed}, declared.phase.Reason.TheVariants.{Retries, Local, Counts}}
+use Rattle.x25_frame.specs.{Frame.{PlainFrame, sabm}, Reading.{frame_of}, declared.error.FrameError.{FrameError}}
+use Rattle.x25_link.specs.{declared.phase.Phase.{Phase}, declared.phase.Phase.TheVariants.{Down, Waiting, Up, Closed}, declared.phase.Reason.TheVariants.{Retries}}
 use Rattle.x25_link.specs.{Station.{Settings, LinkStation, is_up, with_nothing}, Hearing.{Step, other}}
 use Rattle.x25_link.specs.Link.{take_step, put_step, put_refusal, timer_step, timer_refusal, timer_runs, connect_step, connect_refusal, disconnect_step, disconnect_refusal, abandon_step}
 use Rattle.x25_link.specs.{laws.WindowMachine.{Window, nothing}, laws.SetUp.{Is, TakesPart}}
 use Rattle.x25_link.specs.laws.WindowLaw.{Stays, Follows, IsOut, StaysOut}
 use Rattle.x25_line.specs.laws.Stations.{Stations, Act, Put, Deliver, T1, Connect, Disconnect, Abandon, Probe, Lose, Damage, after_step, unless, delivered, replaced, is_visible, acts}
-use Rattle.x25_line.specs.{laws.WholeNumbers.{place_taken}, laws.Sessions.{sabm_in}, laws.LawsBelow.{Laws}}
+use Rattle.x25_line.specs.{laws.Sessions.{sabm_in}, laws.LawsBelow.{Laws}}
 use Rattle.x25_line.proofs.{Choices.{unless_by, if_by}, StationLines.{AreParting}}
 use Rattle.x25_line.proofs.StationSteps.{MayBeAway, away_is_not_up, out_is_away, AsUp, IsAway, FitsEnd, up_of, not_both, stays_out, in_vain, Parts, ends_parts, declining_parting}
 use Rattle.x25_line.proofs.StationHears.{sabm_or_not, sets_none_up}
 use Rattle.x25_line.proofs.StationAway.{closed_takes, waits_on, waiting_parting, quiet_by, up_takes_part, connects_from, second_false}
 
--- a Connect that is accepted
-abbrev pub Connects : Act → Stations → Type 0
-Connects Connect w = connect_refusal w.near.station.phase ≡ None
-Connects act w = ⊥
+-- it may ask for set-up
+abbrev pub MayAsk : Type 0
+MayAsk = Unit {0}
 
 -- What is known of the near end of w, whose machine's end is e, and of each kind of step: of a station that is Up, as octets come
 -- (`takes`), a packet is handed down (`puts`), or nothing is brought (`rests`); steps that part, with octets taken off the line
--- (`passes`) or none (`parts`); what happens to the line to it; and nothing (`still`, and `none_comes` where no octets are there).
--- Q is of the place at which octets are taken off the line, and of what comes of it.
-pub record OfSteps (MayAsk : Type 0) (c : Settings) (w : Stations) (e : Window) (Q : Option ℕ → Stations → Type 0) : Type 0 where
+-- (`passes`) or none (`parts`); what happens to the line to it; and nothing (`still`). Q is of what comes of it.
+pub record OfSteps (c : Settings) (w : Stations) (e : Window) (Q : Stations → Type 0) : Type 0 where
   pub fits : FitsEnd MayAsk c w.near.station e
-  pub sabm : (o : List ℕ) (os : List (List ℕ)) → w.back ≡ o ∷ os → (pf : Bool) → frame_of (other c.role) c.longest o ≡ Ok (sabm pf) → MayAsk
-  pub still : Q None w
-  pub none_comes : w.back ≡ [] → Q (Some 0) w
-  pub takes : (o : List ℕ) (os : List (List ℕ)) → w.back ≡ o ∷ os → AsUp c w.near.station e → sabm_in (frame_of (other c.role) c.longest o) ≡ 0 → Q (Some 0) (after_step c w os [] (take_step c o w.near.station))
-  pub puts : (packet : List ℕ) → AsUp c w.near.station e → length packet ≤ c.longest → Q None (after_step c w w.back (packet ∷ []) (put_step c packet w.near.station))
-  pub rests : (step : Step) → AsUp c w.near.station e → Stays c.window nothing w.near.station step → Q None (after_step c w w.back [] step)
-  pub parts : (step : Step) → Parts MayAsk w.near.station step → Q None (after_step c w w.back [] step)
-  pub passes : (o : List ℕ) (os : List (List ℕ)) → w.back ≡ o ∷ os → (step : Step) → Parts MayAsk w.near.station step → Q (Some 0) (after_step c w os [] step)
-  pub loses : (i : ℕ) → Q (Some i) (record w { back = remove w.back i })
-  pub damages : (i : ℕ) (octets : List ℕ) → is_visible octets ≡ true → Q (Some i) (record w { back = replaced w.back i octets })
+  pub still : Q w
+  pub takes : (o : List ℕ) (os : List (List ℕ)) → w.back ≡ o ∷ os → AsUp c w.near.station e → sabm_in (frame_of (other c.role) c.longest o) ≡ 0 → Q (after_step c w os [] (take_step c o w.near.station))
+  pub puts : (packet : List ℕ) → AsUp c w.near.station e → length packet ≤ c.longest → Q (after_step c w w.back (packet ∷ []) (put_step c packet w.near.station))
+  pub rests : (step : Step) → AsUp c w.near.station e → Stays c.window nothing w.near.station step → Q (after_step c w w.back [] step)
+  pub parts : (step : Step) → Parts MayAsk w.near.station step → Q (after_step c w w.back [] step)
+  pub passes : (o : List ℕ) (os : List (List ℕ)) → w.back ≡ o ∷ os → (step : Step) → Parts MayAsk w.near.station step → Q (after_step c w os [] step)
+  pub loses : (i : ℕ) → Q (record w { back = remove w.back i })
+  pub damages : (i : ℕ) (octets : List ℕ) → is_visible octets ≡ true → Q (record w { back = replaced w.back i octets })
 
-module _ (MayAsk : Type 0) (c : Settings) (laws : Laws) (w : Stations) (e : Window) (Q : Option ℕ → Stations → Type 0) (k : OfSteps MayAsk c w e Q) where
+module _ {c : Settings} (laws : Laws) {w : Stations} {e : Window} {Q : Stations → Type 0} (k : OfSteps c w e Q) where
   abbrev s : LinkStation
   s = w.near.station
 
-  deliver_step : (os : List (List ℕ)) → w.back ≡ os → (MayAsk → (delivered c os w).near.came_up ≡ false) → Q (Some 0) (delivered c os w)
-  deliver_step [] is once = k.none_comes is
+  deliver_step : (os : List (List ℕ)) → w.back ≡ os → (delivered c os w).near.came_up ≡ false → Q (delivered c os w)
+  deliver_step [] is once = k.still
   deliver_step (o ∷ os) is once = go k.fits
     where
       r : Result PlainFrame FrameError
@@ -51,17 +47,17 @@ module _ (MayAsk : Type 0) (c : Settings) (laws : Laws) (w : Stations) (e : Wind
       step : Step
       step = take_step c o s
 
-      not_up : MayAsk → step.notes.up ≡ false
-      not_up ask = second_false w.near.came_up step.notes.up (once ask)
+      not_up : step.notes.up ≡ false
+      not_up = second_false w.near.came_up step.notes.up once
 
       -- it would set the link up anew
       no_sabm : TakesPart s.phase → sabm_in r ≡ 0
       no_sabm part = elim (sabm_or_not r) [
-        | inl sets ↦ not_both step.notes.up (laws.set_up.sets_up c o s part sets.0 sets.1).up (not_up (k.sabm o os is sets.0 sets.1))
+        | inl sets ↦ not_both step.notes.up (laws.set_up.sets_up c o s part sets.0 sets.1).up not_up
         | inr none ↦ none
       ]
 
-      stays : IsAway MayAsk s → StaysOut step → Q (Some 0) (after_step c w os [] step)
+      stays : IsAway MayAsk s → StaysOut step → Q (after_step c w os [] step)
       stays away out =
           let off = away_is_not_up MayAsk s.phase away.away in
           k.passes o os is step
@@ -72,75 +68,75 @@ module _ (MayAsk : Type 0) (c : Settings) (laws : Laws) (w : Stations) (e : Wind
             noted = stays_out off out.quiet;
           })
 
-      waits : IsAway MayAsk s → s.phase ≡ Waiting → MayAsk → Q (Some 0) (after_step c w os [] step)
-      waits away waiting ask =
+      waits : IsAway MayAsk s → s.phase ≡ Waiting → Q (after_step c w os [] step)
+      waits away waiting =
           let i = laws.set_up.waits c o s waiting r refl in
           k.passes o os is step
           (record {
             frames = subst (AreParting MayAsk) (sym i.out) (waiting_parting MayAsk r);
-            away = subst (IsAway MayAsk) (sym (i.near ∙ waits_on r s (sym i.up ∙ not_up ask))) away;
+            away = subst (IsAway MayAsk) (sym (i.near ∙ waits_on r s (sym i.up ∙ not_up))) away;
             packet = i.packet;
-            noted = stays_out (ap is_up waiting) (quiet_by step i.down (not_up ask));
+            noted = stays_out (ap is_up waiting) (quiet_by step i.down not_up);
           })
 
-      by_phase : (q : Phase) → s.phase ≡ q → IsAway MayAsk s → MayBeAway MayAsk q → Q (Some 0) (after_step c w os [] step)
+      by_phase : (q : Phase) → s.phase ≡ q → IsAway MayAsk s → MayBeAway MayAsk q → Q (after_step c w os [] step)
       by_phase Down phase away may = stays away (laws.window.take_out c o s (subst IsOut (sym phase) tt) (sets_none_up r (no_sabm (subst TakesPart (sym phase) tt))))
-      by_phase Waiting phase away may = waits away phase may
+      by_phase Waiting phase away may = waits away phase
       by_phase Up phase away may = absurd may
       by_phase Closed phase away may = stays away (closed_takes c o s phase)
 
-      go : FitsEnd MayAsk c s e → Q (Some 0) (after_step c w os [] step)
+      go : FitsEnd MayAsk c s e → Q (after_step c w os [] step)
       go (inl u) = k.takes o os is u (no_sabm (up_takes_part s.phase u.up))
       go (inr away) = by_phase s.phase refl away away.away
 
-  put_by : (packet : List ℕ) → length packet ≤ c.longest → Q None (unless (put_refusal s) w (after_step c w w.back (packet ∷ []) (put_step c packet s)))
+  put_by : (packet : List ℕ) → length packet ≤ c.longest → Q (unless (put_refusal s) w (after_step c w w.back (packet ∷ []) (put_step c packet s)))
   put_by packet short = go k.fits
     where
-      go : FitsEnd MayAsk c s e → Q None (unless (put_refusal s) w (after_step c w w.back (packet ∷ []) (put_step c packet s)))
-      go (inl u) = unless_by (Q None) (put_refusal s) w _ k.still (λ _. k.puts packet u short)
+      go : FitsEnd MayAsk c s e → Q (unless (put_refusal s) w (after_step c w w.back (packet ∷ []) (put_step c packet s)))
+      go (inl u) = unless_by Q (put_refusal s) k.still (λ _. k.puts packet u short)
       go (inr away) = rw (away_is_not_up MayAsk s.phase away.away) k.still
 
   -- a station that isn't Up sends SABM or DISC, and notes nothing
-  asks_parts : (near : LinkStation) (frames : List PlainFrame) (step : Step) → is_up s.phase ≡ false → Is near frames None false step → AreParting MayAsk frames → IsAway MayAsk near → Parts MayAsk s step
-  asks_parts near frames step off i parting away =
+  asks_parts : {near : LinkStation} {frames : List PlainFrame} {step : Step} → is_up s.phase ≡ false → Is near frames None false step → AreParting MayAsk frames → IsAway MayAsk near → Parts MayAsk s step
+  asks_parts {frames = frames} {step} off i parting away =
       record { frames = subst (AreParting MayAsk) (sym i.out) parting; away = subst (IsAway MayAsk) (sym i.near) away; packet = i.packet; noted = stays_out off (quiet_by step i.down i.up) }
 
   -- timer T1 runs out, in Up
-  timer_up : AsUp c s e → Q None (after_step c w w.back [] (timer_step c s))
+  timer_up : AsUp c s e → Q (after_step c w w.back [] (timer_step c s))
   timer_up u = by (nat_lt s.tries c.retries) (laws.window.timer c s (record { up = u.up; sound = u.sound }))
     where
-      by : (b : Bool) → Follows (if b then None else Some Retries) c.window nothing s (timer_step c s) → Q None (after_step c w w.back [] (timer_step c s))
+      by : (b : Bool) → Follows (if b then None else Some Retries) c.window nothing s (timer_step c s) → Q (after_step c w w.back [] (timer_step c s))
       by true stays = k.rests (timer_step c s) u stays
-      by false ends = k.parts (timer_step c s) (ends_parts MayAsk s Retries (timer_step c s) u.up tt (laws.timer_tells c s) ends)
+      by false ends = k.parts (timer_step c s) (ends_parts MayAsk u.up tt (laws.timer_tells c s) ends)
 
-  waiting_timer : IsAway MayAsk s → s.phase ≡ Waiting → MayAsk → (b : Bool) (step : Step)
+  waiting_timer : IsAway MayAsk s → s.phase ≡ Waiting → (b : Bool) {step : Step}
       → Is (if b then record s { tries = suc s.tries } else with_nothing Down s.tries) (if b then sabm true ∷ [] else []) (if b then None else Some Retries) false step → Parts MayAsk s step
-  waiting_timer away phase ask true step i =
-      asks_parts (record s { tries = suc s.tries }) (sabm true ∷ []) step (ap is_up phase) i (ask, tt) (record { away = away.away; empty = away.empty })
-  waiting_timer away phase ask false step i =
-      record { frames = subst (AreParting MayAsk) (sym i.out) tt; away = subst (IsAway MayAsk) (sym i.near) (record { away = tt; empty = refl }); packet = i.packet; noted = in_vain (ap is_up phase) ask i.down i.up }
+  waiting_timer away phase true {step} i =
+      asks_parts (ap is_up phase) i (tt, tt) (record { away = away.away; empty = away.empty })
+  waiting_timer away phase false i =
+      record { frames = subst (AreParting MayAsk) (sym i.out) tt; away = subst (IsAway MayAsk) (sym i.near) (record { away = tt; empty = refl }); packet = i.packet; noted = in_vain (ap is_up phase) i.down i.up }
 
-  timer_by : Q None (unless (timer_refusal s) w (after_step c w w.back [] (timer_step c s)))
+  timer_by : Q (unless (timer_refusal s) w (after_step c w w.back [] (timer_step c s)))
   timer_by = go k.fits
     where
-      by_phase : (q : Phase) → s.phase ≡ q → IsAway MayAsk s → MayBeAway MayAsk q → Q None (unless (timer_refusal s) w (after_step c w w.back [] (timer_step c s)))
+      by_phase : (q : Phase) → s.phase ≡ q → IsAway MayAsk s → MayBeAway MayAsk q → Q (unless (timer_refusal s) w (after_step c w w.back [] (timer_step c s)))
       by_phase Waiting phase away may =
-          unless_by (Q None) (timer_refusal s) w _ k.still (λ _. k.parts (timer_step c s) (waiting_timer away phase may (nat_lt s.tries c.retries) (timer_step c s) (laws.set_up.timer c s phase)))
+          unless_by Q (timer_refusal s) k.still (λ _. k.parts (timer_step c s) (waiting_timer away phase (nat_lt s.tries c.retries) (laws.set_up.timer c s phase)))
       by_phase Up phase away may = absurd may
-      by_phase q phase away may = rw (ap (λ (q : Phase). timer_runs q s) phase) k.still
+      by_phase q phase away may = rw (ap (λ q. timer_runs q s) phase) k.still
 
-      go : FitsEnd MayAsk c s e → Q None (unless (timer_refusal s) w (after_step c w w.back [] (timer_step c s)))
-      go (inl u) = unless_by (Q None) (timer_refusal s) w _ k.still (λ _. timer_up u)
+      go : FitsEnd MayAsk c s e → Q (unless (timer_refusal s) w (after_step c w w.back [] (timer_step c s)))
+      go (inl u) = unless_by Q (timer_refusal s) k.still (λ _. timer_up u)
       go (inr away) = by_phase s.phase refl away away.away
 
-  connect_by : MayAsk → s.phase ≡ Down → FitsEnd MayAsk c s e → Q None (after_step c w w.back [] (connect_step c s))
-  connect_by ask phase (inl u) = not_both (is_up s.phase) u.up (ap is_up phase)
-  connect_by ask phase (inr away) =
+  connect_by : s.phase ≡ Down → FitsEnd MayAsk c s e → Q (after_step c w w.back [] (connect_step c s))
+  connect_by phase (inl u) = not_both (is_up s.phase) u.up (ap is_up phase)
+  connect_by phase (inr away) =
       k.parts (connect_step c s)
-      (asks_parts (record s { phase = Waiting; tries = 0 }) (sabm true ∷ []) (connect_step c s) (ap is_up phase) (laws.set_up.connects c s phase) (ask, tt) (record { away = ask; empty = away.empty }))
+      (asks_parts (ap is_up phase) (laws.set_up.connects c s phase) (tt, tt) (record { away = tt; empty = away.empty }))
 
   disconnect_parts : FitsEnd MayAsk c s e → Parts MayAsk s (disconnect_step c s)
-  disconnect_parts (inl u) = ends_parts MayAsk s Local (disconnect_step c s) u.up tt (laws.disconnect_tells c s) (laws.window.disconnect c s (record { up = u.up; sound = u.sound }))
+  disconnect_parts (inl u) = ends_parts MayAsk u.up tt (laws.disconnect_tells c s) (laws.window.disconnect c s (record { up = u.up; sound = u.sound }))
   disconnect_parts (inr away) = by_phase s.phase refl away.away
     where
       closes : IsOut s.phase → Parts MayAsk s (disconnect_step c s)
@@ -156,27 +152,23 @@ module _ (MayAsk : Type 0) (c : Settings) (laws : Laws) (w : Stations) (e : Wind
 
       by_phase : (q : Phase) → s.phase ≡ q → MayBeAway MayAsk q → Parts MayAsk s (disconnect_step c s)
       by_phase Waiting phase may =
-          asks_parts (with_nothing Closed s.tries) (disc true ∷ []) (disconnect_step c s) (ap is_up phase) (laws.set_up.disconnects c s phase) tt (record { away = tt; empty = refl })
+          asks_parts (ap is_up phase) (laws.set_up.disconnects c s phase) tt (record { away = tt; empty = refl })
       by_phase Up phase may = absurd may
       by_phase q phase may = closes (subst IsOut (sym phase) tt)
 
-  abandon_by : is_up s.phase ≡ true → Q None (after_step c w w.back [] (abandon_step c s))
+  abandon_by : is_up s.phase ≡ true → Q (after_step c w w.back [] (abandon_step c s))
   abandon_by up =
-      let u = up_of MayAsk c s e k.fits up in
-      k.parts (abandon_step c s) (ends_parts MayAsk s Counts (abandon_step c s) up tt (laws.abandon_tells c s) (laws.window.abandon c s (record { up = u.up; sound = u.sound })))
+      let u = up_of MayAsk k.fits up in
+      k.parts (abandon_step c s) (ends_parts MayAsk up tt (laws.abandon_tells c s) (laws.window.abandon c s (record { up = u.up; sound = u.sound })))
 
-  pub of_act : (a : Act) → (MayAsk → (acts c a w).near.came_up ≡ false) → (Connects a w → MayAsk) → Q (place_taken a) (acts c a w)
-  of_act (Put packet) once may =
-      if_by (Q None) (nat_le (length packet) c.longest) w (unless (put_refusal s) w (after_step c w w.back (packet ∷ []) (put_step c packet s))) k.still (λ short. put_by packet (leb-true _ _ short))
-  of_act Deliver once may = deliver_step w.back refl once
-  of_act T1 once may = timer_by
-  of_act Connect once may = unless_by (Q None) (connect_refusal s.phase) w _ k.still (λ accepted. connect_by (may accepted) (connects_from s.phase accepted) k.fits)
-  of_act Disconnect once may = unless_by (Q None) (disconnect_refusal s.phase) w _ k.still (λ _. k.parts (disconnect_step c s) (disconnect_parts k.fits))
-  of_act Abandon once may = if_by (Q None) (is_up s.phase) w (after_step c w w.back [] (abandon_step c s)) k.still abandon_by
-  of_act Probe once may = if_by (Q None) (is_up s.phase) w (after_step c w w.back [] (timer_step c s)) k.still (λ up. timer_up (up_of MayAsk c s e k.fits up))
-  of_act (Lose i) once may = k.loses i
-  of_act (Damage i octets) once may = by (is_visible octets) refl
-    where
-      by : (b : Bool) → is_visible octets ≡ b → Q (if b then Some i else None) (if b then record w { back = replaced w.back i octets } else w)
-      by true visible = k.damages i octets visible
-      by false visible = k.still
+  pub of_act : (a : Act) → (acts c a w).near.came_up ≡ false → Q (acts c a w)
+  of_act (Put packet) once =
+      if_by Q (nat_le (length packet) c.longest) k.still (λ short. put_by packet (leb-true _ _ short))
+  of_act Deliver once = deliver_step w.back refl once
+  of_act T1 once = timer_by
+  of_act Connect once = unless_by Q (connect_refusal s.phase) k.still (λ accepted. connect_by (connects_from s.phase accepted) k.fits)
+  of_act Disconnect once = unless_by Q (disconnect_refusal s.phase) k.still (λ _. k.parts (disconnect_step c s) (disconnect_parts k.fits))
+  of_act Abandon once = if_by Q (is_up s.phase) k.still abandon_by
+  of_act Probe once = if_by Q (is_up s.phase) k.still (λ up. timer_up (up_of MayAsk k.fits up))
+  of_act (Lose i) once = k.loses i
+  of_act (Damage i octets) once = if_by Q (is_visible octets) k.still (k.damages i octets)

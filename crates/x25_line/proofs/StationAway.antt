@@ -24,7 +24,7 @@ pumped_still (suc n) k t off = ap (pumped_once k) (pumped_still n k t off) ∙ o
 pub closed_still : (k : ℕ) (step : Step) → is_up step.side.near.phase ≡ false → closed_by k step ≡ step
 closed_still k step off =
     let still : ended k step.side ≡ step.side = rw (pumped_still 7 k step.side off, off) refl in
-    ap (λ (t : Side). let z : Step = record { side = t; packet = step.packet; notes = step.notes } in z) still
+    ap (λ t. let z : Step = record { side = t; packet = step.packet; notes = step.notes } in z) still
 
 -- ---- whatever comes, a station that is Closed stays so
 
@@ -40,7 +40,7 @@ pub closed_takes : (c : Settings) (octets : List ℕ) (s : LinkStation) → s.ph
 closed_takes c octets s is =
     let read = frame_of (other c.role) c.longest octets in
     let out : StaysOut (hears c octets read s.phase (alone s)) =
-    subst (λ (p : Phase). StaysOut (hears c octets read p (alone s))) (sym is) (closed_row c octets s (subst IsOut (sym is) tt) read) in
+    subst (λ p. StaysOut (hears c octets read p (alone s))) (sym is) (closed_row c octets s (subst IsOut (sym is) tt) read) in
     let step : Step = hears c octets read s.phase (alone s) in
     subst StaysOut (sym (closed_still c.window step (away_is_not_up ⊥ step.side.near.phase (out_is_away ⊥ step.side.near.phase out.out)))) out
 
@@ -56,8 +56,8 @@ waiting_parting MayAsk read = tt
 
 pub quiet_by : (step : Step) → step.notes.down ≡ None → step.notes.up ≡ false → IsQuiet step
 quiet_by step down up =
-    ap (λ (reason : Option Reason). let n : Notes = record { down = reason; up = step.notes.up } in n) down
-    ∙ ap (λ (b : Bool). let n : Notes = record { down = None; up = b } in n) up
+    ap (λ reason. let n : Notes = record { down = reason; up = step.notes.up } in n) down
+    ∙ ap (λ b. let n : Notes = record { down = None; up = b } in n) up
 
 -- ---- by the phase
 
@@ -77,7 +77,7 @@ is_up_phase Up e = refl
 is_up_phase q e = not_both false e refl
 
 same_length : (b f : Bool) (xs ys : List ℕ) → frmr b xs ∷ [] ≡ frmr f ys ∷ [] → length xs ≡ length ys
-same_length b f xs ys e = ap (λ (fs : List PlainFrame). octets_in fs) e
+same_length b f xs ys e = ap (λ fs. octets_in fs) e
   where
     octets_in : List PlainFrame → ℕ
     octets_in (frmr g zs ∷ fs) = length zs
@@ -86,7 +86,7 @@ same_length b f xs ys e = ap (λ (fs : List PlainFrame). octets_in fs) e
 module _ (c : Settings) (octets : List ℕ) (s : LinkStation) (f : Bool) (why : List ℕ) where
   rejected : (ground : ℕ) → (closed_by c.window (rejects c octets ground (alone s))).side.out ≡ frmr f why ∷ [] → length why ≡ 3
   rejected ground out =
-      sym (same_length _ f _ why (sym (ap (λ (z : Step). z.side.out) (closed_still c.window (rejects c octets ground (alone s)) refl)) ∙ out))
+      sym (same_length _ f _ why (sym (ap (λ z. z.side.out) (closed_still c.window (rejects c octets ground (alone s)) refl)) ∙ out))
 
   no_reason : {A : Type 0} (o : Option Reason) → o ≡ None → o ≡ Some FrmrSent → A
   no_reason o none is = absurd (cc)
@@ -111,7 +111,7 @@ pub frmr_three : (c : Settings) (octets : List ℕ) (s : LinkStation) → s.phas
     → ending_of r (window_of c.window s) ≡ Some FrmrSent → (take_step c octets s).side.out ≡ frmr f why ∷ [] → length why ≡ 3
 frmr_three c octets s up r read f why is out =
     frmr_row c octets s f why r is
-    (subst (λ (q : Phase). (closed_by c.window (hears c octets r q (alone s))).side.out ≡ frmr f why ∷ []) up
+    (subst (λ q. (closed_by c.window (hears c octets r q (alone s))).side.out ≡ frmr f why ∷ []) up
     (rw read out))
 
 -- ---- two bits

@@ -5,7 +5,7 @@ use Rattle.std.specs.Prelude.{option_to_list}
 use Rattle.x25_frame.specs.{Frame.{PlainFrame, info, rr, rnr, rej, sabm, disc, ua, dm, frmr}, declared.error.FrameError.{FrameError}, declared.error.FrameError.TheVariants.{Short}}
 use Rattle.x25_window.specs.{code.Modulo.{resolved}, laws.Window.{after}, laws.Window.Step.{Hear, Take}}
 use Rattle.x25_link.specs.{declared.phase.Reason.{Reason}, declared.phase.Reason.TheVariants.{Disc, FrmrSent, Reset, Local}}
-use Rattle.x25_link.specs.{Station.{Settings, LinkStation}, Hearing.{Step}, laws.WindowMachine.{Window, Input, receives, nothing}}
+use Rattle.x25_link.specs.{Station.{Settings, LinkStation}, Hearing.{Step}, laws.WindowMachine.{Window, Input, receives}}
 use Rattle.x25_link.specs.laws.WindowLaw.{window_of, brought_by, after_input, MayHandUp, ending_of, Stays, IsSound, sets_up}
 use Rattle.x25_line.specs.{laws.Sessions.{sabm_in, disc_in}, laws.Said.{Said, Tells, said}, laws.Peer.{Peer, MayHear, MayMake, hearing, taking, IsWanted}}
 use Rattle.x25_line.proofs.{StationSays.{machine_of}, StationSends.{AllWithin}, StationSteps.{no_packet_of}}
@@ -79,16 +79,16 @@ module _ (d : Settings) where
     pub given : peer.given ≡ p.given
     pub taken : peer.taken ≡ p.taken ++ option_to_list step.packet
 
-module _ (d : Settings) (s : LinkStation) (p : Peer) (facts : UpFacts d s p) (step : Step) where
+module _ {d : Settings} {s : LinkStation} {p : Peer} (facts : UpFacts d s p) (step : Step) where
   abbrev k : ℕ
   k = d.window
 
   none_taken : (packet : Option (List ℕ)) → packet ≡ None → p.taken ≡ p.taken ++ option_to_list packet
-  none_taken packet none = sym (ap (λ (o : Option (List ℕ)). p.taken ++ option_to_list o) none ∙ append-nil p.taken)
+  none_taken packet none = sym (ap (λ o. p.taken ++ option_to_list o) none ∙ append-nil p.taken)
 
   -- nothing of it is taken
-  passed_over : (r : Result PlainFrame FrameError) (input : Input) → after_input input step.packet (window_of k s) ≡ window_of k s → ((y : List ℕ) → MayHandUp input (Some y) (window_of k s) → ⊥) → Stays k input s step → Hears d r s p step
-  passed_over r input same never stays = record {
+  passed_over : (r : Result PlainFrame FrameError) {input : Input} → after_input input step.packet (window_of k s) ≡ window_of k s → ((y : List ℕ) → MayHandUp input (Some y) (window_of k s) → ⊥) → Stays k input s step → Hears d r s p step
+  passed_over r {input} same never stays = record {
     input = input;
     stays = stays;
     peer = p;
@@ -101,9 +101,9 @@ module _ (d : Settings) (s : LinkStation) (p : Peer) (facts : UpFacts d s p) (st
   }
 
   -- an N(R) is heard
-  hears_number : (r : Result PlainFrame FrameError) (f : PlainFrame) (nr : ℕ) → after_input (receives f) step.packet (window_of k s) ≡ after (window_of k s) (Hear nr) → step.packet ≡ None → MayHear p r (hearing true nr p)
+  hears_number : {r : Result PlainFrame FrameError} (f : PlainFrame) (nr : ℕ) → after_input (receives f) step.packet (window_of k s) ≡ after (window_of k s) (Hear nr) → step.packet ≡ None → MayHear p r (hearing true nr p)
       → Stays k (receives f) s step → Hears d r s p step
-  hears_number r f nr same none may stays =
+  hears_number f nr same none may stays =
       let low = low_resolved p.acked nr in
       let room = facts.room in
       record {
@@ -111,7 +111,7 @@ module _ (d : Settings) (s : LinkStation) (p : Peer) (facts : UpFacts d s p) (st
         stays = stays;
         peer = hearing true nr p;
         may = may;
-        is = ap (λ (z : Window). after z (Hear nr)) facts.same ∙ sym same;
+        is = ap (λ z. after z (Hear nr)) facts.same ∙ sym same;
         room = omega arith;
         told = facts.told;
         given = refl;
@@ -121,7 +121,7 @@ module _ (d : Settings) (s : LinkStation) (p : Peer) (facts : UpFacts d s p) (st
   tells : (f : PlainFrame) (nr : ℕ) → ((packet : Option (List ℕ)) → after_input (receives f) packet (window_of k s) ≡ after (window_of k s) (Hear nr)) → ((y : List ℕ) → MayHandUp (receives f) (Some y) (window_of k s) → ⊥)
       → MayHear p (Ok f) (hearing true nr p) → Stays k (receives f) s step → Hears d (Ok f) s p step
   tells f nr same never may stays =
-      hears_number (Ok f) f nr (same step.packet) (no_packet_of (receives f) step.packet (window_of k s) never stays.hands_up) may stays
+      hears_number f nr (same step.packet) (no_packet_of (receives f) step.packet (window_of k s) never stays.hands_up) may stays
 
   -- and a packet may be taken
   carries : (ns nr : ℕ) (pf : Bool) (x : List ℕ) → Stays k (receives (info ns nr pf x)) s step → Hears d (Ok (info ns nr pf x)) s p step
@@ -132,25 +132,25 @@ module _ (d : Settings) (s : LinkStation) (p : Peer) (facts : UpFacts d s p) (st
 
       go : (packet : Option (List ℕ)) → step.packet ≡ packet → MayHandUp (receives f) packet (window_of k s) → Hears d (Ok f) s p step
       go None none may =
-          hears_number (Ok f) f nr (ap (λ (o : Option (List ℕ)). after_input (receives f) o (window_of k s)) none) none (true, false, tt, refl) stays
+          hears_number f nr (ap (λ o. after_input (receives f) o (window_of k s)) none) none (true, false, tt, refl) stays
       go (Some y) some may =
           let low = low_resolved p.acked nr in
           let room = facts.room in
           let told = facts.told in
           let count = length_push p.taken x in
-          let wanted : IsWanted true ns p = may.0 ∙ ap (λ (z : Window). length z.taken % 8) (sym facts.same) in
+          let wanted : IsWanted true ns p = may.0 ∙ ap (λ z. length z.taken % 8) (sym facts.same) in
           let same : machine_of k (taking true x (hearing true nr p)) ≡ after_input (receives f) (Some y) (window_of k s) =
-          ap (λ (z : Window). after (after z (Hear nr)) (Take 0 x)) facts.same ∙ ap (λ (z : List ℕ). after (after (window_of k s) (Hear nr)) (Take 0 z)) may.1 in
+          ap (λ z. after (after z (Hear nr)) (Take 0 x)) facts.same ∙ ap (λ z. after (after (window_of k s) (Hear nr)) (Take 0 z)) may.1 in
           record {
             input = receives f;
             stays = stays;
             peer = taking true x (hearing true nr p);
             may = (true, true, wanted, refl);
-            is = same ∙ sym (ap (λ (o : Option (List ℕ)). after_input (receives f) o (window_of k s)) some);
+            is = same ∙ sym (ap (λ o. after_input (receives f) o (window_of k s)) some);
             room = omega arith;
             told = omega arith;
             given = refl;
-            taken = ap (λ (z : List ℕ). p.taken ++ z ∷ []) may.1 ∙ sym (ap (λ (o : Option (List ℕ)). p.taken ++ option_to_list o) some);
+            taken = ap (λ z. p.taken ++ z ∷ []) may.1 ∙ sym (ap (λ o. p.taken ++ option_to_list o) some);
           }
 
   pub stays_hears : (r : Result PlainFrame FrameError) → sabm_in r ≡ 0 → Stays k (brought_by r) s step → Hears d r s p step
@@ -159,8 +159,8 @@ module _ (d : Settings) (s : LinkStation) (p : Peer) (facts : UpFacts d s p) (st
   stays_hears (Ok (rnr command nr pf)) no_sabm stays = tells (rnr command nr pf) nr (λ packet. refl) (λ y never. never) (true, refl) stays
   stays_hears (Ok (rej command nr pf)) no_sabm stays = tells (rej command nr pf) nr (λ packet. refl) (λ y never. never) (true, refl) stays
   stays_hears (Ok (sabm p)) no_sabm stays = absurd (omega (arith, no_sabm))
-  stays_hears (Ok (disc p)) no_sabm stays = passed_over (Ok (disc p)) (receives (disc p)) refl (λ y never. never) stays
-  stays_hears (Ok (ua f)) no_sabm stays = passed_over (Ok (ua f)) (receives (ua f)) refl (λ y never. never) stays
-  stays_hears (Ok (dm f)) no_sabm stays = passed_over (Ok (dm f)) (receives (dm f)) refl (λ y never. never) stays
-  stays_hears (Ok (frmr f why)) no_sabm stays = passed_over (Ok (frmr f why)) (receives (frmr f why)) refl (λ y never. never) stays
-  stays_hears (Err x) no_sabm stays = passed_over (Err x) nothing refl (λ y never. never) stays
+  stays_hears (Ok (disc p)) no_sabm stays = passed_over (Ok (disc p)) refl (λ y never. never) stays
+  stays_hears (Ok (ua f)) no_sabm stays = passed_over (Ok (ua f)) refl (λ y never. never) stays
+  stays_hears (Ok (dm f)) no_sabm stays = passed_over (Ok (dm f)) refl (λ y never. never) stays
+  stays_hears (Ok (frmr f why)) no_sabm stays = passed_over (Ok (frmr f why)) refl (λ y never. never) stays
+  stays_hears (Err x) no_sabm stays = passed_over (Err x) refl (λ y never. never) stays

@@ -36,9 +36,9 @@ pub record Carried (ns : ℕ) (x : List ℕ) (o : Option (Numbered (List ℕ))) 
   pub number : ns ≡ item.number % 8
   pub same : x ≡ item.item
 
-pub carried_of : (ns : ℕ) (x : List ℕ) (o : Option (Numbered (List ℕ))) → ShowsItem o ns x → Carried ns x o
-carried_of ns x None h = absurd h
-carried_of ns x (Some q) h = record { item = q; is = refl; number = h.0; same = h.1 }
+pub carried_of : {ns : ℕ} {x : List ℕ} (o : Option (Numbered (List ℕ))) → ShowsItem o ns x → Carried ns x o
+carried_of None h = absurd h
+carried_of (Some q) h = record { item = q; is = refl; number = h.0; same = h.1 }
 
 -- ---- what is on a line
 
@@ -52,16 +52,16 @@ IsOrderly MayAsk (Err TooLong) = ⊥
 IsOrderly MayAsk read = Unit {0}
 
 -- whether an end may ask matters to a SABM alone
-pub orderly_where : (A B : Type 0) (r : Result PlainFrame FrameError) → ((p : Bool) → r ≡ Ok (sabm p) → A → B) → IsOrderly A r → IsOrderly B r
-orderly_where A B (Ok (sabm p)) more h = more p refl h
-orderly_where A B (Ok (frmr f why)) more h = absurd h
-orderly_where A B (Err (Undefined control)) more h = absurd h
-orderly_where A B (Err (NoInfoAllowed control)) more h = absurd h
-orderly_where A B (Err TooLong) more h = absurd h
-orderly_where A B r more h = tt
+pub orderly_where : {A : Type 0} (B : Type 0) (r : Result PlainFrame FrameError) → ((p : Bool) → r ≡ Ok (sabm p) → A → B) → IsOrderly A r → IsOrderly B r
+orderly_where B (Ok (sabm p)) more h = more p refl h
+orderly_where B (Ok (frmr f why)) more h = absurd h
+orderly_where B (Err (Undefined control)) more h = absurd h
+orderly_where B (Err (NoInfoAllowed control)) more h = absurd h
+orderly_where B (Err TooLong) more h = absurd h
+orderly_where B r more h = tt
 
 abbrev pub AreOrderly : Type 0 → Role → ℕ → List (List ℕ) → Type 0
-AreOrderly MayAsk from n1 os = Each (λ (o : List ℕ). IsOrderly MayAsk (frame_of from n1 o)) os
+AreOrderly MayAsk from n1 os = Each (λ o. IsOrderly MayAsk (frame_of from n1 o)) os
 
 -- the frames, with the first, where that has a number
 abbrev pub consed : Option PlainFrame → List PlainFrame → List PlainFrame
@@ -176,27 +176,27 @@ either_way xs ys x h = elim (Contains-append_cases xs ys x h) [
 ]
 
 module _ (reads : ReadsSpelled) (from : Role) (n1 : ℕ) where
-  pub good_reads : (f : PlainFrame) → IsGood n1 f → frame_of from n1 (spelling_of from f) ≡ Ok f
-  good_reads f h = reads from n1 f (spelling_of from f) (record { in_range = h.in_range; carries = h.carries; within = h.within; spelling = refl })
+  pub good_reads : {f : PlainFrame} → IsGood n1 f → frame_of from n1 (spelling_of from f) ≡ Ok f
+  good_reads {f} h = reads from n1 f (spelling_of from f) (record { in_range = h.in_range; carries = h.carries; within = h.within; spelling = refl })
 
   pub good_numbered : (fs : List PlainFrame) → AllGood n1 fs → numbered_on from n1 (map (spelling_of from) fs) ≡ fs
   good_numbered [] h = refl
-  good_numbered (f ∷ fs) h = rw (good_reads f h.0, h.0.number) (ap (λ (es : List PlainFrame). f ∷ es) (good_numbered fs h.1))
+  good_numbered (f ∷ fs) h = rw (good_reads h.0, h.0.number) (ap (λ es. f ∷ es) (good_numbered fs h.1))
 
   pub good_orderly : (MayAsk : Type 0) (fs : List PlainFrame) → AllGood n1 fs → AreOrderly MayAsk from n1 (map (spelling_of from) fs)
   good_orderly MayAsk [] h = tt
-  good_orderly MayAsk (f ∷ fs) h = (rw (good_reads f h.0) (orderly_where ⊥ MayAsk (Ok f) (λ p is never. absurd never) h.0.orderly), good_orderly MayAsk fs h.1)
+  good_orderly MayAsk (f ∷ fs) h = (rw (good_reads h.0) (orderly_where MayAsk (Ok f) (λ p is never. absurd never) h.0.orderly), good_orderly MayAsk fs h.1)
 
-  pub part_reads : (MayAsk : Type 0) (f : PlainFrame) → IsPart MayAsk f → frame_of from n1 (spelling_of from f) ≡ Ok f
-  part_reads MayAsk f h = reads from n1 f (spelling_of from f) (record { in_range = h.in_range; carries = h.carries; within = h.within n1; spelling = refl })
+  pub part_reads : (MayAsk : Type 0) {f : PlainFrame} → IsPart MayAsk f → frame_of from n1 (spelling_of from f) ≡ Ok f
+  part_reads MayAsk {f} h = reads from n1 f (spelling_of from f) (record { in_range = h.in_range; carries = h.carries; within = h.within n1; spelling = refl })
 
   pub parting_numbered : (MayAsk : Type 0) (fs : List PlainFrame) → Each (IsPart MayAsk) fs → numbered_on from n1 (map (spelling_of from) fs) ≡ []
   parting_numbered MayAsk [] h = refl
-  parting_numbered MayAsk (f ∷ fs) h = rw (part_reads MayAsk f h.0, h.0.none) (parting_numbered MayAsk fs h.1)
+  parting_numbered MayAsk (f ∷ fs) h = rw (part_reads MayAsk h.0, h.0.none) (parting_numbered MayAsk fs h.1)
 
   pub parting_orderly : (MayAsk : Type 0) (fs : List PlainFrame) → Each (IsPart MayAsk) fs → AreOrderly MayAsk from n1 (map (spelling_of from) fs)
   parting_orderly MayAsk [] h = tt
-  parting_orderly MayAsk (f ∷ fs) h = (rw (part_reads MayAsk f h.0) h.0.orderly, parting_orderly MayAsk fs h.1)
+  parting_orderly MayAsk (f ∷ fs) h = (rw (part_reads MayAsk h.0) h.0.orderly, parting_orderly MayAsk fs h.1)
 
 -- ---- what is lost or damaged
 
@@ -245,3 +245,6 @@ visible_reads from n1 octets e = go (nat_lt (length octets) 4) (is_sealed octets
       where
         never : false ≡ true → ⊥
         never e = cc
+
+pub visible_is : (P : Result PlainFrame FrameError → Type 0) (from : Role) (n1 : ℕ) (octets : List ℕ) → is_visible octets ≡ true → P (Err Short) → P (Err BadFcs) → P (frame_of from n1 octets)
+visible_is P from n1 octets visible short bad = elim (visible_reads from n1 octets visible) [ inl is ↦ subst P (sym is) short | inr is ↦ subst P (sym is) bad ]

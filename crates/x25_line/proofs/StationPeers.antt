@@ -1,5 +1,5 @@
 -- Each act of a station, as long as it does not note LinkUp, is what a peer may do.
-use Rattle.std.proofs.Common.{◌≡◌, ℕ, ◌+◌, ◌≤◌, List, [], ◌∷◌, ◌++◌, inl, inr, length, remove, false, Option, Some, None, Result, refl, sym, ap, ◌∙◌, subst, arith, append-nil}
+use Rattle.std.proofs.Common.{◌≡◌, ℕ, ◌+◌, ◌≤◌, List, [], ◌∷◌, ◌++◌, inl, inr, length, false, Option, Some, None, Result, refl, sym, ap, ◌∙◌, subst, arith, append-nil}
 use Rattle.std.specs.Prelude.{option_to_list}
 use Rattle.x25_frame.specs.{Frame.{PlainFrame}, Reading.{frame_of}, laws.ReadingLaw.{ReadsSpelled}}
 use Rattle.x25_frame.specs.{declared.error.FrameError.{FrameError}}
@@ -9,18 +9,14 @@ use Rattle.x25_link.specs.{Station.{Settings, LinkStation}, Hearing.{Step, other
 use Rattle.x25_link.specs.Link.{take_step, put_step}
 use Rattle.x25_link.specs.laws.WindowMachine.{Window, Input, hands_down, nothing}
 use Rattle.x25_link.specs.laws.WindowLaw.{window_of, after_input, ending_of, brought_by, Stays, Ends, Follows}
-use Rattle.x25_line.specs.laws.Stations.{Stations, Act, after_step, replaced, acts}
+use Rattle.x25_line.specs.laws.Stations.{Stations, Act, after_step, acts}
 use Rattle.x25_line.specs.{laws.LawsBelow.{Laws}, laws.Said.{said}}
 use Rattle.x25_line.specs.{laws.Peer.{Peer, MayHear}, laws.PeerClaims.{IsNoFrmr}}
 use Rattle.x25_line.specs.{laws.SessionClaims.{Each}, laws.Sessions.{sabm_in}}
 use Rattle.x25_line.proofs.{Lists.{each_append}, StationLines.{parts_of}, StationSends.{AllWithin, within_push}, StationSteps.{MayBeAway, AsUp, IsAway, FitsEnd, no_packet_of, Leaves, Noted, left_up, stays_out, in_vain, Parts, ends_parts, empty_lists}}
 use Rattle.x25_line.proofs.StationAway.{is_up_phase, frmr_three}
 use Rattle.x25_line.proofs.StationSays.{machine_of, MayDo, AllFree, parting_free, frmr_free, free_all, runs_said}
-use Rattle.x25_line.proofs.{StationActs.{OfSteps, of_act}, StationHears.{passes, Hears, stays_hears, left_by, by_reset}}
-
--- it may ask for set-up
-abbrev pub MayAsk : Type 0
-MayAsk = Unit {0}
+use Rattle.x25_line.proofs.{StationActs.{MayAsk, OfSteps, of_act}, StationHears.{passes, Hears, stays_hears, left_by, by_reset}}
 
 -- the near end of w, with settings d, as a peer of which R is known
 pub record Seen (d : Settings) (Fine : Type 0) (R : List (List ℕ) → Peer → List (List ℕ) → Type 0) (w : Stations) : Type 0 where
@@ -39,10 +35,10 @@ leaves_no_frmr FrmrSent l = absurd l
 leaves_no_frmr Reset l = absurd l
 leaves_no_frmr reason l = tt
 
-no_frmr_noted : (s : LinkStation) (step : Step) → Noted MayAsk s step → Each IsNoFrmr (option_to_list step.notes.down)
-no_frmr_noted s step (left_up reason leaves up down not_up) = rw down (leaves_no_frmr reason leaves, tt)
-no_frmr_noted s step (stays_out out quiet) = rw quiet tt
-no_frmr_noted s step (in_vain out ask down not_up) = rw down (tt, tt)
+no_frmr_noted : {s : LinkStation} {step : Step} → Noted s step → Each IsNoFrmr (option_to_list step.notes.down)
+no_frmr_noted (left_up reason leaves up down not_up) = rw down (leaves_no_frmr reason leaves, tt)
+no_frmr_noted (stays_out out quiet) = rw quiet tt
+no_frmr_noted (in_vain out down not_up) = rw down (tt, tt)
 
 module _ (d : Settings) (high : d.window ≤ 7) (reads : ReadsSpelled) (laws : Laws) (Fine : Type 0) (R : List (List ℕ) → Peer → List (List ℕ) → Type 0) (does : MayDo d Fine R) where
   abbrev S : Stations → Type 0
@@ -60,9 +56,9 @@ module _ (d : Settings) (high : d.window ≤ 7) (reads : ReadsSpelled) (laws : L
     pub up_is : peer.taken ≡ w.near.up ++ option_to_list packet
 
   -- the station stays Up, and sends
-  stays_seen : (w : Stations) (h : S w) (os down : List (List ℕ)) (input : Input) (step : Step) → Ready w os down step.packet (after_input input step.packet (window_of d.window w.near.station))
+  stays_seen : {w : Stations} (h : S w) {os down : List (List ℕ)} {input : Input} {step : Step} → Ready w os down step.packet (after_input input step.packet (window_of d.window w.near.station))
       → Stays d.window input w.near.station step → S (after_step d w os down step)
-  stays_seen w h os down input step r stays =
+  stays_seen {w} h {os} {down} {input} {step} r stays =
       let said = runs_said d high reads Fine R does os w.out r.peer (after_input input step.packet (window_of d.window w.near.station)) r.reached r.is r.room r.told r.within
       (window_of d.window step.side.near) step.side.out stays.sends
       in
@@ -79,30 +75,30 @@ module _ (d : Settings) (high : d.window ≤ 7) (reads : ReadsSpelled) (laws : L
       }
 
   -- it leaves Up or is out, and sends nothing that has a number
-  parts_seen : (w : Stations) (os : List (List ℕ)) (step : Step) (v : Window) → Ready w os [] None v → AllFree d.role d.longest step.side.out → IsAway MayAsk step.side.near → step.packet ≡ None
+  parts_seen : {w : Stations} {os : List (List ℕ)} (step : Step) {v : Window} → Ready w os [] None v → AllFree d.role d.longest step.side.out → IsAway MayAsk step.side.near → step.packet ≡ None
       → (Fine → Each IsNoFrmr (w.near.reasons ++ option_to_list step.notes.down)) → S (after_step d w os [] step)
-  parts_seen w os step v r free away none fine =
+  parts_seen {w} {os} step r free away none fine =
       record {
         peer = r.peer;
-        reached = free_all d high reads Fine R does os w.out r.peer step.side.out free r.reached;
+        reached = free_all d high reads Fine R does os w.out step.side.out free r.reached;
         fits = inr away;
         room = r.room;
         told = r.told;
         within = r.within;
         down = r.down_is;
-        up = r.up_is ∙ ap (λ (o : Option (List ℕ)). w.near.up ++ option_to_list o) (sym none);
+        up = r.up_is ∙ ap (λ o. w.near.up ++ option_to_list o) (sym none);
         fine = fine;
       }
 
-  parting_seen : (w : Stations) (h : S w) (os : List (List ℕ)) (step : Step) (v : Window) → Ready w os [] None v → Parts MayAsk w.near.station step → S (after_step d w os [] step)
-  parting_seen w h os step v r parts =
-      parts_seen w os step v r (parting_free reads d.role d.longest MayAsk step.side.out (parts_of MayAsk step.side.out parts.frames)) parts.away parts.packet
-      (λ f. each_append IsNoFrmr w.near.reasons (option_to_list step.notes.down) (h.fine f) (no_frmr_noted w.near.station step parts.noted))
+  parting_seen : {w : Stations} (h : S w) {os : List (List ℕ)} {step : Step} {v : Window} → Ready w os [] None v → Parts MayAsk w.near.station step → S (after_step d w os [] step)
+  parting_seen {w} h {os} {step} {v} r parts =
+      parts_seen step r (parting_free reads d.role d.longest MayAsk step.side.out (parts_of MayAsk step.side.out parts.frames)) parts.away parts.packet
+      (λ f. each_append IsNoFrmr w.near.reasons (option_to_list step.notes.down) (h.fine f) (no_frmr_noted parts.noted))
 
   -- ---- what it is before it sends
 
-  left_so : (w : Stations) (h : S w) (os : List (List ℕ)) → R os h.peer w.out → Ready w os [] None (machine_of d.window h.peer)
-  left_so w h os reached =
+  left_so : {w : Stations} (h : S w) {os : List (List ℕ)} → R os h.peer w.out → Ready w os [] None (machine_of d.window h.peer)
+  left_so {w} h reached =
       record {
         peer = h.peer;
         reached = reached;
@@ -119,12 +115,12 @@ module _ (d : Settings) (high : d.window ≤ 7) (reads : ReadsSpelled) (laws : L
     came : R (o ∷ os) h.peer w.out
     came = rw (sym is) h.reached
 
-    comes : (q : Peer) → MayHear h.peer (frame_of (other d.role) d.longest o) q → R os q w.out
-    comes q may = does.hears o os h.peer q w.out may came
+    comes : {q : Peer} → MayHear h.peer (frame_of (other d.role) d.longest o) q → R os q w.out
+    comes {q} may = does.hears o os h.peer q w.out may came
 
     -- and are passed over
     passed : Ready w os [] None (machine_of d.window h.peer)
-    passed = left_so w h os (comes h.peer (passes h.peer (said (frame_of (other d.role) d.longest o))))
+    passed = left_so h (comes (passes h.peer (said (frame_of (other d.role) d.longest o))))
 
     module _ (u : AsUp d w.near.station (machine_of d.window h.peer)) where
       abbrev s : LinkStation
@@ -137,34 +133,33 @@ module _ (d : Settings) (high : d.window ≤ 7) (reads : ReadsSpelled) (laws : L
       step = take_step d o s
 
       stays_up : Hears d r s h.peer step → S (after_step d w os [] step)
-      stays_up x = stays_seen w h os [] x.input step (record {
+      stays_up x = stays_seen h (record {
         peer = x.peer;
-        reached = comes x.peer x.may;
+        reached = comes x.may;
         is = x.is;
         room = x.room;
         told = x.told;
         within = subst (AllWithin d.longest) (sym x.given) h.within;
         down_is = x.given ∙ h.down ∙ sym (append-nil w.near.down);
-        up_is = x.taken ∙ ap (λ (xs : List (List ℕ)). xs ++ option_to_list step.packet) h.up;
+        up_is = x.taken ∙ ap (λ xs. xs ++ option_to_list step.packet) h.up;
       }) x.stays
 
       ends_seen : (reason : Reason) → ending_of r (window_of d.window s) ≡ Some reason → sabm_in r ≡ 0 → Ends reason step → S (after_step d w os [] step)
       ends_seen FrmrSent ending no_sabm ends =
           let f = ends.frames.0 in
           let why = ends.frames.1 in
-          let three = frmr_three d o s (is_up_phase s.phase u.up) r refl f why ending ends.frames.2 in
-          parts_seen w os step (machine_of d.window h.peer) passed (subst (AllFree d.role d.longest) (sym ends.frames.2) (frmr_free reads d.role d.longest f why three))
+          parts_seen step passed (subst (AllFree d.role d.longest) (sym ends.frames.2) (frmr_free reads d.role d.longest f why (frmr_three d o s (is_up_phase s.phase u.up) r refl f why ending ends.frames.2)))
           (record { away = subst (MayBeAway MayAsk) (sym ends.phase) tt; empty = empty_lists step.side.near.outgoing step.side.near.taken ends.outgoing ends.taken }) ends.packet
           (λ fine. absurd (does.faultless o os h.peer w.out (ap (ending_of r) (sym u.same) ∙ ending) came fine))
-      ends_seen Reset ending no_sabm ends = (let asks = (left_by r (window_of d.window s)).1 in let one = ap by_reset ending in absurd (omega (arith, asks, one, no_sabm)))
+      ends_seen Reset ending no_sabm ends = (absurd (omega (arith, (left_by r (window_of d.window s)).1, ap by_reset ending, no_sabm)))
       ends_seen reason ending no_sabm ends =
-          parting_seen w h os step (machine_of d.window h.peer) passed (ends_parts MayAsk s reason step u.up tt (laws.take_tells d o s) ends)
+          parting_seen h passed (ends_parts MayAsk u.up tt (laws.take_tells d o s) ends)
 
       up_seen : sabm_in r ≡ 0 → S (after_step d w os [] step)
       up_seen no_sabm = go (ending_of r (window_of d.window s)) refl (laws.window.take d o s (record { up = u.up; sound = u.sound }) r refl)
         where
           go : (end : Option Reason) → ending_of r (window_of d.window s) ≡ end → Follows end d.window (brought_by r) s step → S (after_step d w os [] step)
-          go None ending stays = stays_up (stays_hears d s h.peer (record { same = sym u.same; sound = u.sound; room = h.room; told = h.told; within = h.within }) step r no_sabm stays)
+          go None ending stays = stays_up (stays_hears (record { same = sym u.same; sound = u.sound; room = h.room; told = h.told; within = h.within }) step r no_sabm stays)
           go (Some reason) ending ends = ends_seen reason ending no_sabm ends
 
   -- ---- each act
@@ -175,16 +170,16 @@ module _ (d : Settings) (high : d.window ≤ 7) (reads : ReadsSpelled) (laws : L
       let stays = laws.window.put d packet w.near.station (record { up = u.up; sound = u.sound }) in
       let step = put_step d packet w.near.station in
       let p : Peer = record h.peer { given = h.peer.given ++ packet ∷ [] } in
-      stays_seen w h w.back (packet ∷ []) (hands_down packet) step
+      stays_seen h
       (rw (no_packet_of (hands_down packet) step.packet (window_of d.window w.near.station) (λ y never. never) stays.hands_up)
       (record {
         peer = p;
         reached = does.handed w.back h.peer w.out packet short h.reached;
-        is = ap (λ (z : Window). after z (HandDown packet)) (sym u.same);
+        is = ap (λ z. after z (HandDown packet)) (sym u.same);
         room = h.room;
         told = h.told;
         within = within_push d.longest h.peer.given packet h.within short;
-        down_is = ap (λ (xs : List (List ℕ)). xs ++ packet ∷ []) h.down;
+        down_is = ap (λ xs. xs ++ packet ∷ []) h.down;
         up_is = h.up ∙ sym (append-nil w.near.up);
       }))
       stays
@@ -192,28 +187,26 @@ module _ (d : Settings) (high : d.window ≤ 7) (reads : ReadsSpelled) (laws : L
   -- nothing is brought
   rests_seen : (w : Stations) (h : S w) (step : Step) → AsUp d w.near.station (machine_of d.window h.peer) → Stays d.window nothing w.near.station step → S (after_step d w w.back [] step)
   rests_seen w h step u stays =
-      stays_seen w h w.back [] nothing step
-      (rw (no_packet_of nothing step.packet (window_of d.window w.near.station) (λ y never. never) stays.hands_up) (subst (Ready w w.back [] None) (sym u.same) (left_so w h w.back h.reached))) stays
+      stays_seen h
+      (rw (no_packet_of nothing step.packet (window_of d.window w.near.station) (λ y never. never) stays.hands_up) (subst (Ready w w.back [] None) (sym u.same) (left_so h h.reached))) stays
 
   -- the line to it
-  line_seen : (w : Stations) (os : List (List ℕ)) (h : S w) → R os h.peer w.out → S (record w { back = os })
-  line_seen w os h reached = record { peer = h.peer; reached = reached; fits = h.fits; room = h.room; told = h.told; within = h.within; down = h.down; up = h.up; fine = h.fine }
+  line_seen : {w : Stations} {os : List (List ℕ)} (h : S w) → R os h.peer w.out → S (record w { back = os })
+  line_seen h reached = record { peer = h.peer; reached = reached; fits = h.fits; room = h.room; told = h.told; within = h.within; down = h.down; up = h.up; fine = h.fine }
 
-  of_steps : (w : Stations) (h : S w) → OfSteps MayAsk d w (machine_of d.window h.peer) (λ place v. S v)
+  of_steps : (w : Stations) (h : S w) → OfSteps d w (machine_of d.window h.peer) S
   of_steps w h = record {
     fits = h.fits;
-    sabm = λ o os is pf spelled. tt;
     still = h;
-    none_comes = λ none. h;
     takes = λ o os is u no_sabm. up_seen w h o os is u no_sabm;
     puts = λ packet u short. put_up w h packet u short;
     rests = λ step u stays. rests_seen w h step u stays;
-    parts = λ step parts. parting_seen w h w.back step (machine_of d.window h.peer) (left_so w h w.back h.reached) parts;
-    passes = λ o os is step parts. parting_seen w h os step (machine_of d.window h.peer) (passed w h o os is) parts;
-    loses = λ i. line_seen w (remove w.back i) h (does.loses w.back h.peer w.out i h.reached);
-    damages = λ i octets visible. line_seen w (replaced w.back i octets) h (does.damages w.back h.peer w.out i octets visible h.reached);
+    parts = λ step parts. parting_seen h (left_so h h.reached) parts;
+    passes = λ o os is step parts. parting_seen h (passed w h o os is) parts;
+    loses = λ i. line_seen h (does.loses w.back h.peer w.out i h.reached);
+    damages = λ i octets visible. line_seen h (does.damages w.back h.peer w.out i octets visible h.reached);
   }
 
   -- what the near end does, it may do as a peer
   pub peer_acts : (a : Act) (w : Stations) → S w → (acts d a w).near.came_up ≡ false → S (acts d a w)
-  peer_acts a w h once = of_act MayAsk d laws w (machine_of d.window h.peer) (λ place v. S v) (of_steps w h) a (λ _. once) (λ _. tt)
+  peer_acts a w h once = of_act laws (of_steps w h) a once

@@ -1,5 +1,5 @@
 -- What an end may do that keeps the rules of a peer; and what a station sends, which is that.
-use Rattle.std.proofs.Common.{◌≡◌, ℕ, ◌+◌, ◌≤◌, List, [], ◌∷◌, ◌++◌, length, map, remove, Bool, true, Option, Some, None, Ok, refl, sym, ap, ◌∙◌, subst, arith, append_assoc, append-nil}
+use Rattle.std.proofs.Common.{◌≡◌, ℕ, ◌+◌, ◌≤◌, List, [], ◌∷◌, ◌++◌, length, map, remove, Bool, true, Some, None, Ok, refl, sym, ap, ◌∙◌, subst, arith, append_assoc, append-nil}
 use Rattle.std.proofs.lemmas.List.{map-append}
 use Rattle.std.specs.List.{slice_get}
 use Rattle.x25_bits.specs.declared.role.Role.{Role}
@@ -24,22 +24,22 @@ tell_sent k p told (rnr command nr pf) h = (length p.taken, record { number = h.
 tell_sent k p told (rej command nr pf) h = (length p.taken, record { number = h.1; rising = told; taken = omega arith }, refl)
 tell_sent k p told f h = absurd h
 
-pub item_sent : (k n : ℕ) (p : Peer) → k ≤ 7 → p.sent ≤ p.acked + k → p.told ≤ length p.taken → Allows (machine_of k p) (Send n) → (n1 : ℕ) → Item n1 p.given n
+pub item_sent : (k : ℕ) {n : ℕ} (p : Peer) → k ≤ 7 → p.sent ≤ p.acked + k → p.told ≤ length p.taken → Allows (machine_of k p) (Send n) → {n1 : ℕ} → Item n1 p.given n
     → (f : PlainFrame) → Shows f (machine_frame (after (machine_of k p) (Send n)) (numbered n (slice_get p.given n))) → MaySend ⊥ p (Ok f) (told_to (length p.taken) (numbered_to n p))
-item_sent k n p high room told may n1 i (info ns nr pf x) h =
-    let shown : ShowsItem (numbered n (Some i.item)) ns x = subst (λ (o : Option (List ℕ)). ShowsItem (numbered n o) ns x) i.is h.0 in
+item_sent k {n} p high room told may i (info ns nr pf x) h =
+    let shown : ShowsItem (numbered n (Some i.item)) ns x = subst (λ o. ShowsItem (numbered n o) ns x) i.is h.0 in
     let low = may.0 in
     let inside = may.2 in (
       n,
       length p.taken,
-      record { number = shown.0; same = i.is ∙ ap (λ (y : List ℕ). Some y) (sym shown.1); window = omega arith; again = omega arith },
+      record { number = shown.0; same = i.is ∙ ap (λ y. Some y) (sym shown.1); window = omega arith; again = omega arith },
       record { number = h.1; rising = told; taken = omega arith },
       refl,
     )
-item_sent k n p high room told may n1 i (rr command nr pf) h = absurd (not_none n p.given i.item i.is h.0)
-item_sent k n p high room told may n1 i (rnr command nr pf) h = absurd (not_none n p.given i.item i.is h.0)
-item_sent k n p high room told may n1 i (rej command nr pf) h = absurd (not_none n p.given i.item i.is h.0)
-item_sent k n p high room told may n1 i f h = absurd h
+item_sent k {n} p high room told may i (rr command nr pf) h = absurd (not_none n p.given i.item i.is h.0)
+item_sent k {n} p high room told may i (rnr command nr pf) h = absurd (not_none n p.given i.item i.is h.0)
+item_sent k {n} p high room told may i (rej command nr pf) h = absurd (not_none n p.given i.item i.is h.0)
+item_sent k p high room told may i f h = absurd h
 
 -- ---- all that is sent in a run
 
@@ -57,14 +57,14 @@ pub record Said (d : Settings) (P : Peer → List PlainFrame → Type 0) (p : Pe
 abbrev pub MaySay : Settings → (Peer → List PlainFrame → Type 0) → Type 0
 MaySay d P = (p q : Peer) (before : List PlainFrame) (f : PlainFrame) → IsGood d.longest f → MaySend ⊥ p (Ok f) q → q.sent ≤ p.sent + 1 → q.given ≡ p.given → q.taken ≡ p.taken → P p before → P q (before ++ f ∷ [])
 
-module _ (d : Settings) (high : d.window ≤ 7) (P : Peer → List PlainFrame → Type 0) (says : MaySay d P) (p : Peer) (within : AllWithin d.longest p.given) where
+module _ {d : Settings} (high : d.window ≤ 7) {P : Peer → List PlainFrame → Type 0} (says : MaySay d P) (p : Peer) (within : AllWithin d.longest p.given) where
   one : (w : Window) (before : List PlainFrame) (h : Said d P p w before) (s : Step (List ℕ)) (fs : List PlainFrame) → IsSent s → Allows (machine_of d.window h.peer) s → ShowAll fs (frames_of (machine_of d.window h.peer) s)
       → Said d P p (after (machine_of d.window h.peer) s) (before ++ fs)
   one w before h Tell fs sends may shows =
       let q = h.peer in
       let m = machine_of d.window q in
       let single = single_of fs (machine_frame m None) shows in
-      subst (λ (es : List PlainFrame). Said d P p m (before ++ es)) (sym single.is) (record {
+      subst (λ es. Said d P p m (before ++ es)) (sym single.is) (record {
         peer = told_to (length q.taken) q;
         reached = says q (told_to (length q.taken) q) before single.frame (tell_good d.longest m single.frame single.shows) (tell_sent d.window q h.told single.frame single.shows) (omega arith) refl refl h.reached;
         is = refl;
@@ -80,10 +80,10 @@ module _ (d : Settings) (high : d.window ≤ 7) (P : Peer → List PlainFrame �
       let item = item_at d.longest q.given n may.3 (subst (AllWithin d.longest) (sym h.given) within) in
       let inside = may.2 in
       let room = h.room in
-      subst (λ (es : List PlainFrame). Said d P p (after m (Send n)) (before ++ es)) (sym single.is) (record {
+      subst (λ es. Said d P p (after m (Send n)) (before ++ es)) (sym single.is) (record {
         peer = told_to (length q.taken) (numbered_to n q);
-        reached = says q (told_to (length q.taken) (numbered_to n q)) before single.frame (send_good d.longest n m item single.frame single.shows)
-            (item_sent d.window n q high h.room h.told may d.longest item single.frame single.shows) (omega (arith, inside)) refl refl h.reached;
+        reached = says q (told_to (length q.taken) (numbered_to n q)) before single.frame (send_good m item single.frame single.shows)
+            (item_sent d.window q high h.room h.told may item single.frame single.shows) (omega (arith, inside)) refl refl h.reached;
         is = refl;
         room = omega (arith, room, inside);
         told = omega arith;
@@ -92,11 +92,11 @@ module _ (d : Settings) (high : d.window ≤ 7) (P : Peer → List PlainFrame �
       })
   one w before h s fs sends may shows = absurd sends
 
-  pub said_run : (from : Window) → P p [] → machine_of d.window p ≡ from → p.sent ≤ p.acked + d.window → p.told ≤ length p.taken → (w : Window) (frames : List PlainFrame) → Runs from w frames → Said d P p w frames
-  said_run from reached is room told w frames rests = record { peer = p; reached = reached; is = is; room = room; told = told; given = refl; taken = refl }
-  said_run from reached is room told w frames (goes_on v fs s gs run sends may shows) =
-      let h = said_run from reached is room told v fs run in
-      subst (λ (z : Window). Said d P p (after z s) (fs ++ gs)) h.is (one v fs h s gs sends (rw h.is may) (rw h.is shows))
+  pub said_run : {from : Window} → P p [] → machine_of d.window p ≡ from → p.sent ≤ p.acked + d.window → p.told ≤ length p.taken → {w : Window} {frames : List PlainFrame} → Runs from w frames → Said d P p w frames
+  said_run reached is room told rests = record { peer = p; reached = reached; is = is; room = room; told = told; given = refl; taken = refl }
+  said_run {from} reached is room told (goes_on v fs s gs run sends may shows) =
+      let h = said_run reached is room told run in
+      subst (λ z. Said d P p (after z s) (fs ++ gs)) h.is (one v fs h s gs sends (rw h.is may) (rw h.is shows))
 
 -- ---- frames without one
 
@@ -117,7 +117,7 @@ free_sent p f none = refl
 
 pub parting_free : ReadsSpelled → (from : Role) (n1 : ℕ) (MayAsk : Type 0) (fs : List PlainFrame) → Each (IsPart MayAsk) fs → AllFree from n1 fs
 parting_free reads from n1 MayAsk [] h = tt
-parting_free reads from n1 MayAsk (f ∷ fs) h = (record { reads = part_reads reads from n1 MayAsk f h.0; none = h.0.none }, parting_free reads from n1 MayAsk fs h.1)
+parting_free reads from n1 MayAsk (f ∷ fs) h = (record { reads = part_reads reads from n1 MayAsk h.0; none = h.0.none }, parting_free reads from n1 MayAsk fs h.1)
 
 pub frmr_free : ReadsSpelled → (from : Role) (n1 : ℕ) (f : Bool) (why : List ℕ) → length why ≡ 3 → AllFree from n1 (frmr f why ∷ [])
 frmr_free reads from n1 f why three = (record { reads = reads from n1 (frmr f why) _ (record { in_range = tt; carries = three; within = tt; spelling = refl }); none = refl }, tt)
@@ -141,17 +141,17 @@ module _ (d : Settings) (high : d.window ≤ 7) (reads : ReadsSpelled) (Fine : T
   sent : (out : List (List ℕ)) (p q : Peer) (f : PlainFrame) → frame_of d.role d.longest (spelling_of d.role f) ≡ Ok f → MaySend ⊥ p (Ok f) q → q.sent ≤ p.sent + 1 → R os p out → R os q (out ++ spelling_of d.role f ∷ [])
   sent out p q f read may next reached = does.sends os p q out (spelling_of d.role f) (rw read may) next reached
 
-  pub free_all : (out : List (List ℕ)) (p : Peer) (fs : List PlainFrame) → AllFree d.role d.longest fs → R os p out
+  pub free_all : (out : List (List ℕ)) {p : Peer} (fs : List PlainFrame) → AllFree d.role d.longest fs → R os p out
       → R os p (out ++ map (spelling_of d.role) fs)
-  free_all out p [] free reached = rw (append-nil out) reached
-  free_all out p (f ∷ fs) free reached =
-      rw (sym (append_assoc out (spelling_of d.role f ∷ []) (map (spelling_of d.role) fs))) (free_all (out ++ spelling_of d.role f ∷ []) p fs free.1 (sent out p p f free.0.reads (free_sent p f free.0.none) (omega arith) reached))
+  free_all out [] free reached = rw (append-nil out) reached
+  free_all out {p} (f ∷ fs) free reached =
+      rw (sym (append_assoc out (spelling_of d.role f ∷ []) (map (spelling_of d.role) fs))) (free_all (out ++ spelling_of d.role f ∷ []) fs free.1 (sent out p p f free.0.reads (free_sent p f free.0.none) (omega arith) reached))
 
   speaks : (out : List (List ℕ)) → MaySay d (λ q frames. R os q (out ++ map (spelling_of d.role) frames))
   speaks out p q before f good may next given taken h =
-      rw (sym (append_assoc out (map (spelling_of d.role) before) (spelling_of d.role f ∷ []) ∙ ap (λ (xs : List (List ℕ)). out ++ xs) (sym (map-append (spelling_of d.role) before (f ∷ []))))) (sent (out ++ map (spelling_of d.role) before) p q f (good_reads reads d.role d.longest f good) may next h)
+      rw (sym (append_assoc out (map (spelling_of d.role) before) (spelling_of d.role f ∷ []) ∙ ap (λ xs. out ++ xs) (sym (map-append (spelling_of d.role) before (f ∷ []))))) (sent (out ++ map (spelling_of d.role) before) p q f (good_reads reads d.role d.longest good) may next h)
 
   pub runs_said : (out : List (List ℕ)) (p : Peer) (from : Window) → R os p out → machine_of d.window p ≡ from → p.sent ≤ p.acked + d.window → p.told ≤ length p.taken → AllWithin d.longest p.given
       → (w : Window) (frames : List PlainFrame) → Runs from w frames → Said d (λ q frames. R os q (out ++ map (spelling_of d.role) frames)) p w frames
   runs_said out p from reached is room told within w frames runs =
-      said_run d high (λ q frames. R os q (out ++ map (spelling_of d.role) frames)) (speaks out) p within from (rw (append-nil out) reached) is room told w frames runs
+      said_run high (speaks out) p within (rw (append-nil out) reached) is room told runs

@@ -13,10 +13,10 @@ use Rattle.x25_line.proofs.{Kept.{Kept, Kept-moved, resolved_is}, Lists.{each_ap
 -- ---- packets
 
 abbrev pub AllWithin : ℕ → List (List ℕ) → Type 0
-AllWithin n1 xs = Each (λ (x : List ℕ). length x ≤ n1) xs
+AllWithin n1 xs = Each (λ x. length x ≤ n1) xs
 
 pub within_push : (n1 : ℕ) (xs : List (List ℕ)) (x : List ℕ) → AllWithin n1 xs → length x ≤ n1 → AllWithin n1 (xs ++ x ∷ [])
-within_push n1 xs x h le = each_append (λ (y : List ℕ). length y ≤ n1) xs (x ∷ []) h (le, tt)
+within_push n1 xs x h le = each_append (λ y. length y ≤ n1) xs (x ∷ []) h (le, tt)
 
 -- the packet of a number that was handed down
 pub record Item (n1 : ℕ) (xs : List (List ℕ)) (n : ℕ) : Type 0 where
@@ -61,16 +61,16 @@ not_none n xs x is none = absurd (never (sym (ap (numbered n) is) ∙ none))
     never : numbered n (Some x) ≡ None → ⊥
     never e = cc
 
-pub send_good : (n1 n : ℕ) (w : Window) → Item n1 w.given n → (f : PlainFrame) → Shows f (frame_of (after w (Send n)) (numbered n (slice_get w.given n))) → IsGood n1 f
-send_good n1 n w i (info ns nr p x) h =
-    let shown : ShowsItem (numbered n (Some i.item)) ns x = subst (λ (o : Option (List ℕ)). ShowsItem (numbered n o) ns x) i.is h.0 in
+pub send_good : {n1 n : ℕ} (w : Window) → Item n1 w.given n → (f : PlainFrame) → Shows f (frame_of (after w (Send n)) (numbered n (slice_get w.given n))) → IsGood n1 f
+send_good {n = n} w i (info ns nr p x) h =
+    let shown : ShowsItem (numbered n (Some i.item)) ns x = subst (λ o. ShowsItem (numbered n o) ns x) i.is h.0 in
     let same = ap length shown.1 in
     let short = i.within in
     record { in_range = (below_eight ns n shown.0, below_eight nr (length w.taken) h.1); carries = tt; within = omega arith; number = refl; orderly = tt }
-send_good n1 n w i (rr command nr pf) h = absurd (not_none n w.given i.item i.is h.0)
-send_good n1 n w i (rnr command nr pf) h = absurd (not_none n w.given i.item i.is h.0)
-send_good n1 n w i (rej command nr pf) h = absurd (not_none n w.given i.item i.is h.0)
-send_good n1 n w i f h = absurd h
+send_good {n = n} w i (rr command nr pf) h = absurd (not_none n w.given i.item i.is h.0)
+send_good {n = n} w i (rnr command nr pf) h = absurd (not_none n w.given i.item i.is h.0)
+send_good {n = n} w i (rej command nr pf) h = absurd (not_none n w.given i.item i.is h.0)
+send_good w i f h = absurd h
 
 -- the packet that goes was handed down
 
@@ -78,11 +78,11 @@ tell_handed : (given : List (List ℕ)) (w : Window) (f : PlainFrame) → Shows 
 tell_handed given w (info ns nr p x) h = absurd h.0
 tell_handed given w f h = tt
 
-send_handed : (n1 n : ℕ) (w : Window) → Item n1 w.given n → (f : PlainFrame) → Shows f (frame_of (after w (Send n)) (numbered n (slice_get w.given n))) → IsHandedDown w.given f
-send_handed n1 n w i (info ns nr p x) h =
-    let shown : ShowsItem (numbered n (Some i.item)) ns x = subst (λ (o : Option (List ℕ)). ShowsItem (numbered n o) ns x) i.is h.0 in
+send_handed : {n1 n : ℕ} (w : Window) → Item n1 w.given n → (f : PlainFrame) → Shows f (frame_of (after w (Send n)) (numbered n (slice_get w.given n))) → IsHandedDown w.given f
+send_handed {n = n} w i (info ns nr p x) h =
+    let shown : ShowsItem (numbered n (Some i.item)) ns x = subst (λ o. ShowsItem (numbered n o) ns x) i.is h.0 in
     (n, slice_get_within w.given n i.item i.is, get_or_from_slice_get w.given n i.item x i.is ∙ sym shown.1)
-send_handed n1 n w i f h = tt
+send_handed w i f h = tt
 
 -- ---- the numbers of what goes
 
@@ -104,11 +104,11 @@ with_number acked r m carried n es = record { carried = carried; ack = r; top = 
 send_given : (n1 n : ℕ) (w : Window) → Item n1 w.given n → w.window ≤ 7 → Allows w (Send n) → (f : PlainFrame) → Shows f (frame_of (after w (Send n)) (numbered n (slice_get w.given n)))
     → Gives w.acked (length w.taken) w.sent (after w (Send n)).sent f (frame_of (after w (Send n)) (numbered n (slice_get w.given n)))
 send_given n1 n w i high may (info ns nr p x) h es =
-    let shown : ShowsItem (numbered n (Some i.item)) ns x = subst (λ (o : Option (List ℕ)). ShowsItem (numbered n o) ns x) i.is h.0 in
-    let is : resolved w.acked ns ≡ n = ap (resolved w.acked) shown.0 ∙ resolved_is w.acked n may.0 (let room = may.2 in omega (arith, room, high)) in
-    ap (λ (k : ℕ). with_number w.acked (length w.taken) w.sent (Some (record { number = k; item = x })) k es) is
-    ∙ ap (λ (y : List ℕ). with_number w.acked (length w.taken) w.sent (Some (record { number = n; item = y })) n es) shown.1
-    ∙ ap (λ (o : Option (List ℕ)). with_number w.acked (length w.taken) w.sent (numbered n o) n es) (sym i.is)
+    let shown : ShowsItem (numbered n (Some i.item)) ns x = subst (λ o. ShowsItem (numbered n o) ns x) i.is h.0 in
+    let is : resolved w.acked ns ≡ n = ap (resolved w.acked) shown.0 ∙ resolved_is w.acked n may.0 (omega (arith, may.2, high)) in
+    ap (λ k. with_number w.acked (length w.taken) w.sent (Some (record { number = k; item = x })) k es) is
+    ∙ ap (λ y. with_number w.acked (length w.taken) w.sent (Some (record { number = n; item = y })) n es) shown.1
+    ∙ ap (λ o. with_number w.acked (length w.taken) w.sent (numbered n o) n es) (sym i.is)
 send_given n1 n w i high may (rr command nr pf) h es = absurd (not_none n w.given i.item i.is h.0)
 send_given n1 n w i high may (rnr command nr pf) h es = absurd (not_none n w.given i.item i.is h.0)
 send_given n1 n w i high may (rej command nr pf) h es = absurd (not_none n w.given i.item i.is h.0)
@@ -135,26 +135,26 @@ pub record Sent (k j n1 : ℕ) (l : Line (List ℕ)) (from w : Window) (frames :
   pub acked : w.acked ≡ from.acked
 
 -- what such frames are given, by the end once they went
-pub sent_given : (k j n1 : ℕ) (l : Line (List ℕ)) (from w : Window) (frames : List PlainFrame) (h : Sent k j n1 l from w frames) → h.behind ≡ given w.acked (length w.taken) l.near.sent frames
-sent_given k j n1 l from w frames h =
+pub sent_given : {k j n1 : ℕ} {l : Line (List ℕ)} {from w : Window} {frames : List PlainFrame} (h : Sent k j n1 l from w frames) → h.behind ≡ given w.acked (length w.taken) l.near.sent frames
+sent_given {l = l} {from} {w} {frames} h =
     sym (append-nil h.behind) ∙ sym (h.numbers []) ∙ ap (given from.acked (length from.taken) l.near.sent) (append-nil frames)
-    ∙ ap (λ (a : ℕ). given a (length from.taken) l.near.sent frames) (sym h.acked) ∙ ap (λ (xs : List (List ℕ)). given w.acked (length xs) l.near.sent frames) (sym h.taken)
+    ∙ ap (λ a. given a (length from.taken) l.near.sent frames) (sym h.acked) ∙ ap (λ xs. given w.acked (length xs) l.near.sent frames) (sym h.taken)
 
 -- one step more
-sent_more : (k j n1 : ℕ) (l : Line (List ℕ)) (from w : Window) (frames : List PlainFrame) (h : Sent k j n1 l from w frames) (s : Step (List ℕ)) (fs : List PlainFrame)
+sent_more : {k j n1 : ℕ} {l : Line (List ℕ)} {from w : Window} {frames : List PlainFrame} (h : Sent k j n1 l from w frames) (s : Step (List ℕ)) (fs : List PlainFrame)
     → MachineReaches k j (steps h.line s) → Kept (steps h.line s) → (after w s).given ≡ w.given → (after w s).taken ≡ w.taken → (after w s).acked ≡ w.acked → ShowAll fs (frames_of w s) → AllGood n1 fs
     → AllHandedDown from.given fs → ((es : List PlainFrame) → given w.acked (length w.taken) w.sent (fs ++ es) ≡ frames_of w s ++ given w.acked (length w.taken) (after w s).sent es)
     → Sent k j n1 l from (after w s) (frames ++ fs)
-sent_more k j n1 l from w frames h s fs reached kept handed_down taken acked shows good handed gives =
+sent_more {n1 = n1} {l} {from} {w} {frames} h s fs reached kept handed_down taken acked shows good handed gives =
     record {
       line = steps h.line s;
       reached = reached;
       kept = kept;
-      near = ap (λ (z : Window). after z s) h.near;
+      near = ap (λ z. after z s) h.near;
       far = h.far;
       back = h.back;
       behind = h.behind ++ frames_of h.line.near s;
-      out = ap (λ (gs : List (Frame (List ℕ))). gs ++ frames_of h.line.near s) h.out ∙ append_assoc l.out h.behind (frames_of h.line.near s);
+      out = ap (λ gs. gs ++ frames_of h.line.near s) h.out ∙ append_assoc l.out h.behind (frames_of h.line.near s);
       shows = shows_append frames fs h.behind (frames_of h.line.near s) h.shows (rw h.near shows);
       good = each_append (IsGood n1) frames fs h.good good;
       handed = each_append (IsHandedDown from.given) frames fs h.handed handed;
@@ -164,34 +164,34 @@ sent_more k j n1 l from w frames h s fs reached kept handed_down taken acked sho
       numbers = λ es.
           ap (given from.acked (length from.taken) l.near.sent) (append_assoc frames fs es)
           ∙ h.numbers (fs ++ es)
-          ∙ ap (λ (gs : List (Frame (List ℕ))). h.behind ++ gs) (here es)
+          ∙ ap (λ gs. h.behind ++ gs) (here es)
           ∙ sym (append_assoc h.behind (frames_of h.line.near s) (given from.acked (length from.taken) (steps h.line s).near.sent es));
     }
   where
     here : (es : List PlainFrame) → given from.acked (length from.taken) h.line.near.sent (fs ++ es) ≡ frames_of h.line.near s ++ given from.acked (length from.taken) (steps h.line s).near.sent es
     here es =
-        rw h.near (rw (sym h.acked) (subst (λ (xs : List (List ℕ)). given w.acked (length xs) w.sent (fs ++ es) ≡ frames_of w s ++ given w.acked (length xs) (after w s).sent es) h.taken (gives es)))
+        rw h.near (rw (sym h.acked) (subst (λ xs. given w.acked (length xs) w.sent (fs ++ es) ≡ frames_of w s ++ given w.acked (length xs) (after w s).sent es) h.taken (gives es)))
 
-more : (k j n1 : ℕ) (l : Line (List ℕ)) (from w : Window) (frames : List PlainFrame) → AllWithin n1 from.given → (s : Step (List ℕ)) (fs : List PlainFrame)
+more : {k j n1 : ℕ} {l : Line (List ℕ)} {from w : Window} {frames : List PlainFrame} → AllWithin n1 from.given → (s : Step (List ℕ)) (fs : List PlainFrame)
     → IsSent s → Allows w s → ShowAll fs (frames_of w s) → Sent k j n1 l from w frames → Sent k j n1 l from (after w s) (frames ++ fs)
-more k j n1 l from w frames within Tell fs sends may shows h =
+more {k} {j} {n1} {l} {from} {w} {frames} within Tell fs sends may shows h =
     let one = single_of fs (frame_of w None) shows in
-    subst (λ (es : List PlainFrame). Sent k j n1 l from w (frames ++ es)) (sym one.is)
-    (sent_more k j n1 l from w frames h Tell (one.frame ∷ []) (near_moves h.line Tells h.reached tt) (Kept-moved Tells h.line tt h.kept) refl refl refl (one.shows, tt)
+    subst (λ es. Sent k j n1 l from w (frames ++ es)) (sym one.is)
+    (sent_more h Tell (one.frame ∷ []) (near_moves h.line Tells h.reached tt) (Kept-moved Tells tt h.kept) refl refl refl (one.shows, tt)
     (tell_good n1 w one.frame one.shows, tt) (tell_handed from.given w one.frame one.shows, tt) (tell_given w.acked w one.frame one.shows))
-more k j n1 l from w frames within (Send n) fs sends may shows h =
-    let ok : Allows h.line.near (Send n) = subst (λ (z : Window). Allows z (Send n)) (sym h.near) may in
+more {k} {j} {n1} {l} {from} {w} {frames} within (Send n) fs sends may shows h =
+    let ok : Allows h.line.near (Send n) = subst (λ z. Allows z (Send n)) (sym h.near) may in
     let item = item_at n1 w.given n may.3 (subst (AllWithin n1) (sym h.given) within) in
     let one = single_of fs (frame_of (after w (Send n)) (numbered n (slice_get w.given n))) shows in
-    subst (λ (es : List PlainFrame). Sent k j n1 l from (after w (Send n)) (frames ++ es)) (sym one.is)
-    (sent_more k j n1 l from w frames h (Send n) (one.frame ∷ []) (near_moves h.line (Sends n) h.reached ok) (Kept-moved (Sends n) h.line ok h.kept) refl refl refl (one.shows, tt)
-    (send_good n1 n w item one.frame one.shows, tt) (rw (sym h.given) (send_handed n1 n w item one.frame one.shows, tt))
+    subst (λ es. Sent k j n1 l from (after w (Send n)) (frames ++ es)) (sym one.is)
+    (sent_more h (Send n) (one.frame ∷ []) (near_moves h.line (Sends n) h.reached ok) (Kept-moved (Sends n) ok h.kept) refl refl refl (one.shows, tt)
+    (send_good w item one.frame one.shows, tt) (rw (sym h.given) (send_handed w item one.frame one.shows, tt))
     (send_given n1 n w item (rw (sym h.near) h.kept.from_near.high) may one.frame one.shows))
-more k j n1 l from w frames within s fs sends may shows h = absurd sends
+more within s fs sends may shows h = absurd sends
 
-pub runs_sent : (k j n1 : ℕ) (l : Line (List ℕ)) (from : Window) → MachineReaches k j l → Kept l → l.near ≡ from → AllWithin n1 from.given
-    → (w : Window) (frames : List PlainFrame) → Runs from w frames → Sent k j n1 l from w frames
-runs_sent k j n1 l from reached kept near within w frames rests =
+pub runs_sent : {k j n1 : ℕ} {l : Line (List ℕ)} {from : Window} → MachineReaches k j l → Kept l → l.near ≡ from → AllWithin n1 from.given
+    → {w : Window} {frames : List PlainFrame} → Runs from w frames → Sent k j n1 l from w frames
+runs_sent {l = l} reached kept near within rests =
     record {
       line = l;
       reached = reached;
@@ -209,5 +209,5 @@ runs_sent k j n1 l from reached kept near within w frames rests =
       acked = refl;
       numbers = λ es. refl;
     }
-runs_sent k j n1 l from reached kept near within w frames (goes_on v fs s gs run sends may shows) =
-    more k j n1 l from v fs within s gs sends may shows (runs_sent k j n1 l from reached kept near within v fs run)
+runs_sent {k} {j} {n1} {l} {from} reached kept near within (goes_on v fs s gs run sends may shows) =
+    more within s gs sends may shows (runs_sent reached kept near within run)

@@ -1,19 +1,18 @@
 -- What holds of two stations and the window machine behind the line, and that a step of the near end keeps it.
-use Rattle.std.proofs.Common.{◌≡◌, ℕ, ◌+◌, ◌%◌, arith, List, [], ◌∷◌, ◌++◌, ◌⊎◌, inl, inr, length, map, remove, Bool, true, false, Option, Some, None, Result, Ok, Err, refl, sym, ap, ◌∙◌, subst, append-nil}
+use Rattle.std.proofs.Common.{◌≡◌, ℕ, ◌+◌, ◌%◌, List, [], ◌∷◌, ◌++◌, ◌⊎◌, inl, inr, length, map, remove, Bool, true, false, Option, Some, None, Result, Ok, Err, refl, sym, ap, ◌∙◌, subst, append-nil}
 use Rattle.std.proofs.{lemmas.Bool.{le-leb}, lemmas.List.{replicate_more}}
-use Rattle.std.specs.Prelude.{◌≤◌, option_to_list, replicate, drop, ◌||◌}
-use Rattle.x25_bits.specs.declared.role.Role.{Role}
+use Rattle.std.specs.Prelude.{option_to_list, drop, ◌||◌}
 use Rattle.x25_frame.specs.{Frame.{PlainFrame, info, rr, rnr, rej, disc, ua, dm}, Spelling.{spelling_of}, Reading.{frame_of}, laws.ReadingLaw.{ReadsSpelled}}
 use Rattle.x25_frame.specs.{declared.error.FrameError.{FrameError}, declared.error.FrameError.TheVariants.{Short, BadFcs, BadAddress}}
 use Rattle.x25_window.specs.{laws.Window.{End, Numbered, Frame, after}, laws.Window.Step.{Hear, Take}}
 use Rattle.x25_link.specs.{declared.phase.Phase.{Phase}, declared.phase.Phase.TheVariants.{Waiting, Up}, declared.phase.Reason.{Reason}}
-use Rattle.x25_link.specs.{declared.phase.Reason.TheVariants.{Retries, Disc, Dm, FrmrSent, Reset}, declared.phase.Notes.{Notes}}
+use Rattle.x25_link.specs.{declared.phase.Reason.TheVariants.{Retries, Disc, FrmrSent, Reset}}
 use Rattle.x25_link.specs.{laws.NoteLaw.{IsQuiet, Tells}, Outgoing.{Outgoing, no_packet}, Station.{Settings, LinkStation, is_up, lists_of, no_packets}}
-use Rattle.x25_link.specs.{Hearing.{Step, other}, laws.WindowMachine.{Window, Input, receives, nothing, Shows, ShowAll}}
+use Rattle.x25_link.specs.{Hearing.{Step, other}, laws.WindowMachine.{Window, Input, receives, Shows, ShowAll}}
 use Rattle.x25_link.specs.laws.WindowLaw.{IsSound, window_of, brought_by, after_input, MayHandUp, if_valid, ending_of, ends_in, AreLast, Stays, Ends, Follows, IsOut, AreDeclining}
 use Rattle.x25_line.specs.{laws.Line.{Line, MayTake, FrontMayBeTaken, arrived, front_arrived, takes_item}, laws.Line.Move.{Arrives, Loses}}
 use Rattle.x25_line.specs.laws.Stations.{StationEnd, Stations, after_step}
-use Rattle.x25_line.specs.laws.StationClaims.{AreJoined, MachineReaches, near_moves, number_in, numbered_on, Each, NoFrmr, IsWhole, AreWhole}
+use Rattle.x25_line.specs.laws.StationClaims.{AreJoined, NotesItsEnd, MachineReaches, near_moves, number_in, numbered_on, Each, NoFrmr, IsWhole, AreWhole}
 use Rattle.x25_line.specs.laws.WholeNumbers.{given, first_of, taken_out, counted, machine_after}
 use Rattle.x25_line.proofs.{Lists.{each_append}, Kept.{Kept, Way, Kept-moved, hears_valid}}
 use Rattle.x25_line.proofs.StationLines.{shows_append, Front, front_of, carried_of, IsOrderly, AreOrderly, consed, numbered_append, AreParting, IsPart, parts_of, no_frmr_append, good_no_frmr, parting_no_frmr, good_numbered, good_orderly, parting_numbered, parting_orderly, whole_more, good_whole, parting_whole, first_more}
@@ -62,29 +61,21 @@ abbrev pub FitsEnd : Type 0 → Settings → LinkStation → End (List ℕ) → 
 FitsEnd MayAsk c s e = AsUp c s e ⊎ IsAway MayAsk s
 
 -- an end that is Up isn't away
-pub up_of : (MayAsk : Type 0) (c : Settings) (s : LinkStation) (e : End (List ℕ)) → FitsEnd MayAsk c s e → is_up s.phase ≡ true → AsUp c s e
-up_of MayAsk c s e (inl u) up = u
-up_of MayAsk c s e (inr away) up = not_both (is_up s.phase) up (away_is_not_up MayAsk s.phase away.away)
-
--- the LinkDown by which Up was left, and then one each time that an end asked in vain
-pub record AreEndings (MayAsk : Type 0) (reasons : List Reason) : Type 0 where
-  pub reason : Reason
-  pub again : ℕ
-  pub all : reasons ≡ reason ∷ replicate again Retries
-  pub asked : 1 ≤ again → MayAsk
+pub up_of : (MayAsk : Type 0) {c : Settings} {s : LinkStation} {e : End (List ℕ)} → FitsEnd MayAsk c s e → is_up s.phase ≡ true → AsUp c s e
+up_of MayAsk (inl u) up = u
+up_of MayAsk {s = s} (inr away) up = not_both (is_up s.phase) up (away_is_not_up MayAsk s.phase away.away)
 
 -- the link wasn't set up anew
-pub record NotesOnce (MayAsk : Type 0) (e : StationEnd) : Type 0 where
-  pub still_up : is_up e.station.phase ≡ true → e.reasons ≡ []
-  pub left : is_up e.station.phase ≡ false → AreEndings MayAsk e.reasons
+pub record NotesOnce (e : StationEnd) : Type 0 where
+  pub notes : NotesItsEnd e
   pub once : e.came_up ≡ false
 
 -- what an end was handed down and has handed up is the machine's, and fits; and what it noted
-pub record Has (MayAsk : Type 0) (longest : ℕ) (e : StationEnd) (l : End (List ℕ)) : Type 0 where
+pub record Has (longest : ℕ) (e : StationEnd) (l : End (List ℕ)) : Type 0 where
   pub down : e.down ≡ l.given
   pub up : e.up ≡ l.taken
   pub within : AllWithin longest l.given
-  pub notes : NotesOnce MayAsk e
+  pub notes : NotesOnce e
 
 -- `MayAsk` holds where an end may ask for set-up
 pub record Joint (MayAsk : Type 0) (c d : Settings) (w : Stations) (l : Line (List ℕ)) : Type 0 where
@@ -96,8 +87,8 @@ pub record Joint (MayAsk : Type 0) (c d : Settings) (w : Stations) (l : Line (Li
   pub back : ShowAll (numbered_on (other c.role) c.longest w.back) l.back
   pub out_orderly : AreOrderly MayAsk (other d.role) d.longest w.out
   pub back_orderly : AreOrderly MayAsk (other c.role) c.longest w.back
-  pub near_has : Has MayAsk d.longest w.near l.near
-  pub far_has : Has MayAsk c.longest w.far l.far
+  pub near_has : Has d.longest w.near l.near
+  pub far_has : Has c.longest w.far l.far
   pub no_frmr : NoFrmr w.sent
   pub whole : AreWhole d.longest (w.near.down ++ w.far.down) w.sent
 
@@ -125,10 +116,10 @@ pub machine_is : (c : Settings) (station : LinkStation) (put : List (List ℕ)) 
 machine_is c station put place l m near far out back =
     let frames : List PlainFrame = numbered_on c.role c.longest put in
     let made : End (List ℕ) → End (List ℕ) → List (Frame (List ℕ)) → List (Frame (List ℕ)) → Line (List ℕ) = λ near far out back. record { near = near; far = far; out = out; back = back } in
-    ap (λ (out : List (Frame (List ℕ))). made m.near m.far out m.back) out
-    ∙ ap (λ (e : End (List ℕ)). made e m.far (l.out ++ given e.acked (length e.taken) l.near.sent frames) m.back) near
-    ∙ ap (λ (far : End (List ℕ)). (let e = counted c.window station l.near in made e far (l.out ++ given e.acked (length e.taken) l.near.sent frames) m.back)) far
-    ∙ ap (λ (back : List (Frame (List ℕ))). (let e = counted c.window station l.near in made e l.far (l.out ++ given e.acked (length e.taken) l.near.sent frames) back)) back
+    ap (λ out. made m.near m.far out m.back) out
+    ∙ ap (λ e. made e m.far (l.out ++ given e.acked (length e.taken) l.near.sent frames) m.back) near
+    ∙ ap (λ far. (let e = counted c.window station l.near in made e far (l.out ++ given e.acked (length e.taken) l.near.sent frames) m.back)) far
+    ∙ ap (λ back. (let e = counted c.window station l.near in made e l.far (l.out ++ given e.acked (length e.taken) l.near.sent frames) back)) back
 
 pub counted_up : (k : ℕ) (s : LinkStation) (e : Window) → is_up s.phase ≡ true → counted k s e ≡ window_of k s
 counted_up k s e up = rw up refl
@@ -136,9 +127,9 @@ counted_up k s e up = rw up refl
 pub counted_off : (k : ℕ) (s : LinkStation) (e : Window) → is_up s.phase ≡ false → counted k s e ≡ e
 counted_off k s e off = rw off refl
 
-pub counted_fits : (MayAsk : Type 0) (c : Settings) (s : LinkStation) (e : Window) → FitsEnd MayAsk c s e → counted c.window s e ≡ e
-counted_fits MayAsk c s e (inl u) = counted_up c.window s e u.up ∙ u.same
-counted_fits MayAsk c s e (inr away) = counted_off c.window s e (away_is_not_up MayAsk s.phase away.away)
+pub counted_fits : (MayAsk : Type 0) {c : Settings} {s : LinkStation} {e : Window} → FitsEnd MayAsk c s e → counted c.window s e ≡ e
+counted_fits MayAsk {c} {s} {e} (inl u) = counted_up c.window s e u.up ∙ u.same
+counted_fits MayAsk {c} {s} {e} (inr away) = counted_off c.window s e (away_is_not_up MayAsk s.phase away.away)
 
 pub put_behind : (xs ys : List (List ℕ)) → not_taken xs (xs ++ ys) ≡ ys
 put_behind [] ys = refl
@@ -146,7 +137,7 @@ put_behind (x ∷ xs) ys = put_behind xs ys
 
 -- nothing that carries a number was put
 pub none_put : (l : Line (List ℕ)) (a r : ℕ) (fs : List PlainFrame) → fs ≡ [] → l.out ≡ l.out ++ given a r l.near.sent fs
-none_put l a r fs none = sym (append-nil l.out) ∙ ap (λ (es : List PlainFrame). l.out ++ given a r l.near.sent es) (sym none)
+none_put l a r fs none = sym (append-nil l.out) ∙ ap (λ es. l.out ++ given a r l.near.sent es) (sym none)
 
 pub nothing_put : (xs : List (List ℕ)) → not_taken xs xs ≡ []
 nothing_put [] = refl
@@ -156,34 +147,33 @@ nothing_put (x ∷ xs) = nothing_put xs
 pub left_alone : (MayAsk : Type 0) (c d : Settings) (w v : Stations) (l m : Line (List ℕ)) → Joint MayAsk c d w l → v.near.station ≡ w.near.station → v.out ≡ w.out → m.near ≡ l.near → m.far ≡ l.far
     → m.out ≡ l.out → Goes c w v l m m.back
 left_alone MayAsk c d w v l m h station out near far frames = record {
-  near = near ∙ sym (counted_fits MayAsk c w.near.station l.near h.near) ∙ ap (λ (s : LinkStation). counted c.window s l.near) (sym station);
+  near = near ∙ sym (counted_fits MayAsk h.near) ∙ ap (λ s. counted c.window s l.near) (sym station);
   far = far;
-  out = frames ∙ none_put l m.near.acked (length m.near.taken) (numbered_on c.role c.longest (not_taken w.out v.out)) (ap (λ (os : List (List ℕ)). numbered_on c.role c.longest os) (ap (not_taken w.out) out ∙ nothing_put w.out));
+  out = frames ∙ none_put l m.near.acked (length m.near.taken) (numbered_on c.role c.longest (not_taken w.out v.out)) (ap (λ os. numbered_on c.role c.longest os) (ap (not_taken w.out) out ∙ nothing_put w.out));
   back = refl;
 }
 
-pub stands_still : (MayAsk : Type 0) (c d : Settings) (w : Stations) (l : Line (List ℕ)) → Joint MayAsk c d w l → Leads MayAsk c d w l l.back w
-stands_still MayAsk c d w l h = (l, h, left_alone MayAsk c d w w l l h refl refl refl refl refl)
+pub stands_still : (MayAsk : Type 0) {c d : Settings} {w : Stations} {l : Line (List ℕ)} → Joint MayAsk c d w l → Leads MayAsk c d w l l.back w
+stands_still MayAsk {c} {d} {w} {l} h = (l, h, left_alone MayAsk c d w w l l h refl refl refl refl refl)
 
 -- ---- what is noted
 
 -- a step that notes nothing, Up or out as before
-pub quiet_notes : (MayAsk : Type 0) (c : Settings) (w : Stations) (back down : List (List ℕ)) (step : Step) → NotesOnce MayAsk w.near → IsQuiet step → is_up step.side.near.phase ≡ is_up w.near.station.phase
-    → NotesOnce MayAsk (after_step c w back down step).near
-quiet_notes MayAsk c w back down step h quiet same =
-    let reasons = ap (λ (n : Notes). w.near.reasons ++ option_to_list n.down) quiet ∙ append-nil w.near.reasons in
+pub quiet_notes : (c : Settings) (w : Stations) (back down : List (List ℕ)) (step : Step) → NotesOnce w.near → IsQuiet step → is_up step.side.near.phase ≡ is_up w.near.station.phase
+    → NotesOnce (after_step c w back down step).near
+quiet_notes c w back down step h quiet same =
+    let reasons = ap (λ n. w.near.reasons ++ option_to_list n.down) quiet ∙ append-nil w.near.reasons in
     record {
-      still_up = λ on. reasons ∙ h.still_up (sym same ∙ on);
-      left = λ off. (let l = h.left (sym same ∙ off) in record { reason = l.reason; again = l.again; all = reasons ∙ l.all; asked = l.asked });
-      once = ap (λ (n : Notes). w.near.came_up || n.up) quiet ∙ ap (λ (b : Bool). b || false) h.once;
+      notes = record { still_up = λ on. reasons ∙ h.notes.still_up (sym same ∙ on); left = λ off. (let l = h.notes.left (sym same ∙ off) in (l.0, l.1, reasons ∙ l.2)) };
+      once = ap (λ n. w.near.came_up || n.up) quiet ∙ ap (λ b. b || false) h.once;
     }
 
 -- LinkUp is noted by a station that begins afresh
-pub not_afresh : (s : LinkStation) (step : Step) → Tells s step → is_up step.side.near.phase ≡ false → step.notes.up ≡ false
-not_afresh s step tells off = go step.notes.up refl
+pub not_afresh : {s : LinkStation} {step : Step} → Tells s step → is_up step.side.near.phase ≡ false → step.notes.up ≡ false
+not_afresh {step = step} tells off = go step.notes.up refl
   where
     go : (b : Bool) → step.notes.up ≡ b → step.notes.up ≡ false
-    go true e = not_both (is_up step.side.near.phase) (ap (λ (z : LinkStation). is_up z.phase) (tells.fresh_up e)) off
+    go true e = not_both (is_up step.side.near.phase) (ap (λ z. is_up z.phase) (tells.fresh_up e)) off
     go false e = e
 
 -- ---- steps that hand nothing up, and steps that leave
@@ -220,37 +210,28 @@ declining_parting MayAsk (dm f ∷ fs) h = declining_parting MayAsk fs h
 declining_parting MayAsk (frame ∷ fs) h = absurd h
 
 -- what is noted by a step behind which the station isn't Up: it left Up, it goes on to be out, or it asked in vain
-pub data Noted (MayAsk : Type 0) (s : LinkStation) (step : Step) : Type 0 where
-  left_up : (reason : Reason) → Leaves reason → is_up s.phase ≡ true → step.notes.down ≡ Some reason → step.notes.up ≡ false → Noted MayAsk s step
-  stays_out : is_up s.phase ≡ false → IsQuiet step → Noted MayAsk s step
-  in_vain : is_up s.phase ≡ false → MayAsk → step.notes.down ≡ Some Retries → step.notes.up ≡ false → Noted MayAsk s step
+pub data Noted (s : LinkStation) (step : Step) : Type 0 where
+  left_up : (reason : Reason) → Leaves reason → is_up s.phase ≡ true → step.notes.down ≡ Some reason → step.notes.up ≡ false → Noted s step
+  stays_out : is_up s.phase ≡ false → IsQuiet step → Noted s step
+  in_vain : is_up s.phase ≡ false → step.notes.down ≡ Some Retries → step.notes.up ≡ false → Noted s step
 
-noted_once : (MayAsk : Type 0) (c : Settings) (w : Stations) (back : List (List ℕ)) (step : Step) → NotesOnce MayAsk w.near → is_up step.side.near.phase ≡ false → Noted MayAsk w.near.station step
-    → NotesOnce MayAsk (after_step c w back [] step).near
-noted_once MayAsk c w back step h off (stays_out out quiet) = quiet_notes MayAsk c w back [] step h quiet (off ∙ sym out)
-noted_once MayAsk c w back step h off (left_up reason leaves up down not_up) = record {
-  still_up = λ on. not_both (is_up step.side.near.phase) on off;
-  left = λ _. record {
-    reason = reason;
-    again = 0;
-    all = ap (λ (r : Option Reason). w.near.reasons ++ option_to_list r) down ∙ ap (λ (rs : List Reason). rs ++ reason ∷ []) (h.still_up up);
-    asked = λ never. absurd (omega arith);
+noted_once : (c : Settings) (w : Stations) (back : List (List ℕ)) (step : Step) → NotesOnce w.near → is_up step.side.near.phase ≡ false → Noted w.near.station step → NotesOnce (after_step c w back [] step).near
+noted_once c w back step h off (stays_out out quiet) = quiet_notes c w back [] step h quiet (off ∙ sym out)
+noted_once c w back step h off (left_up reason leaves up down not_up) = record {
+  notes = record {
+    still_up = λ on. not_both (is_up step.side.near.phase) on off;
+    left = λ _. (reason, 0, ap (λ r. w.near.reasons ++ option_to_list r) down ∙ ap (λ rs. rs ++ reason ∷ []) (h.notes.still_up up));
   };
-  once = ap (λ (b : Bool). w.near.came_up || b) not_up ∙ ap (λ (b : Bool). b || false) h.once;
+  once = ap (λ b. w.near.came_up || b) not_up ∙ ap (λ b. b || false) h.once;
 }
-noted_once MayAsk c w back step h off (in_vain out ask down not_up) =
-    let l = h.left out in
+noted_once c w back step h off (in_vain out down not_up) =
+    let l = h.notes.left out in
     record {
-      still_up = λ on. not_both (is_up step.side.near.phase) on off;
-      left = λ _. record {
-        reason = l.reason;
-        again = l.again + 1;
-        all = ap (λ (r : Option Reason). w.near.reasons ++ option_to_list r) down
-            ∙ ap (λ (rs : List Reason). rs ++ Retries ∷ []) l.all
-            ∙ ap (λ (rs : List Reason). l.reason ∷ rs) (replicate_more l.again Retries);
-        asked = λ _. ask;
+      notes = record {
+        still_up = λ on. not_both (is_up step.side.near.phase) on off;
+        left = λ _. (l.0, l.1 + 1, ap (λ r. w.near.reasons ++ option_to_list r) down ∙ ap (λ rs. rs ++ Retries ∷ []) l.2 ∙ ap (λ rs. l.0 ∷ rs) (replicate_more l.1 Retries));
       };
-      once = ap (λ (b : Bool). w.near.came_up || b) not_up ∙ ap (λ (b : Bool). b || false) h.once;
+      once = ap (λ b. w.near.came_up || b) not_up ∙ ap (λ b. b || false) h.once;
     }
 
 -- a step that sends nothing that has a number, behind which the station isn't Up
@@ -258,16 +239,16 @@ pub record Parts (MayAsk : Type 0) (s : LinkStation) (step : Step) : Type 0 wher
   pub frames : AreParting MayAsk step.side.out
   pub away : IsAway MayAsk step.side.near
   pub packet : step.packet ≡ None
-  pub noted : Noted MayAsk s step
+  pub noted : Noted s step
 
-pub ends_parts : (MayAsk : Type 0) (s : LinkStation) (reason : Reason) (step : Step) → is_up s.phase ≡ true → Leaves reason → Tells s step → Ends reason step → Parts MayAsk s step
-ends_parts MayAsk s reason step up leaves tells ends =
+pub ends_parts : (MayAsk : Type 0) {s : LinkStation} {reason : Reason} {step : Step} → is_up s.phase ≡ true → Leaves reason → Tells s step → Ends reason step → Parts MayAsk s step
+ends_parts MayAsk {s} {reason} {step} up leaves tells ends =
     let away = last_away MayAsk reason step.side.near.phase leaves ends.phase in
     record {
       frames = last_parting MayAsk reason step.side.out leaves ends.frames;
       away = record { away = away; empty = empty_lists step.side.near.outgoing step.side.near.taken ends.outgoing ends.taken };
       packet = ends.packet;
-      noted = left_up reason leaves up ends.noted (not_afresh s step tells (away_is_not_up MayAsk step.side.near.phase away));
+      noted = left_up reason leaves up ends.noted (not_afresh tells (away_is_not_up MayAsk step.side.near.phase away));
     }
 
 -- ---- a step of the near end, the machine's line being `l` once what comes has come
@@ -285,32 +266,32 @@ pub record Stage (MayAsk : Type 0) (c d : Settings) (w : Stations) (start l : Li
   pub within : AllWithin d.longest v.given
   pub same_sent : v.sent ≡ start.near.sent
 
-module _ (MayAsk : Type 0) (c d : Settings) (joined : AreJoined c d) (reads : ReadsSpelled) where
+module _ (MayAsk : Type 0) {c d : Settings} (joined : AreJoined c d) (reads : ReadsSpelled) where
   -- what is put on the line, as the other end reads it
   numbers_out : (out : List (List ℕ)) (fs es : List PlainFrame) (gs hs : List (Frame (List ℕ))) → numbered_on c.role d.longest (map (spelling_of c.role) fs) ≡ es → ShowAll (numbered_on (other d.role) d.longest out) gs → ShowAll es hs
       → ShowAll (numbered_on (other d.role) d.longest (out ++ map (spelling_of c.role) fs)) (gs ++ hs)
   numbers_out out fs es gs hs is f e =
       let same : numbered_on (other d.role) d.longest (map (spelling_of c.role) fs) ≡ es =
-      subst (λ (r : Role). numbered_on r d.longest (map (spelling_of c.role) fs) ≡ es) (sym joined.near_role) is in
-      subst (λ (ps : List PlainFrame). ShowAll ps (gs ++ hs))
-      (sym (numbered_append (other d.role) d.longest out (map (spelling_of c.role) fs) ∙ ap (λ (ps : List PlainFrame). numbered_on (other d.role) d.longest out ++ ps) same))
+      subst (λ r. numbered_on r d.longest (map (spelling_of c.role) fs) ≡ es) (sym joined.near_role) is in
+      subst (λ ps. ShowAll ps (gs ++ hs))
+      (sym (numbered_append (other d.role) d.longest out (map (spelling_of c.role) fs) ∙ ap (λ ps. numbered_on (other d.role) d.longest out ++ ps) same))
       (shows_append (numbered_on (other d.role) d.longest out) es gs hs f e)
 
   orderly_out : (out : List (List ℕ)) (fs : List PlainFrame) → AreOrderly MayAsk c.role d.longest (map (spelling_of c.role) fs) → AreOrderly MayAsk (other d.role) d.longest out
       → AreOrderly MayAsk (other d.role) d.longest (out ++ map (spelling_of c.role) fs)
-  orderly_out out fs more f = each_append (λ (o : List ℕ). IsOrderly MayAsk (frame_of (other d.role) d.longest o)) out (map (spelling_of c.role) fs) f (rw joined.near_role more)
+  orderly_out out fs more f = each_append (λ o. IsOrderly MayAsk (frame_of (other d.role) d.longest o)) out (map (spelling_of c.role) fs) f (rw joined.near_role more)
 
   -- and as its own end does
   put_is : (out : List (List ℕ)) (fs es : List PlainFrame) → numbered_on c.role c.longest (map (spelling_of c.role) fs) ≡ es → numbered_on c.role c.longest (not_taken out (out ++ map (spelling_of c.role) fs)) ≡ es
   put_is out fs es is = ap (numbered_on c.role c.longest) (put_behind out (map (spelling_of c.role) fs)) ∙ is
 
   -- a station that stays Up: what comes has come, and then it sends
-  pub stays_joint : (w : Stations) (l m : Line (List ℕ)) (back down : List (List ℕ)) (input : Input) (step : Step) → Joint MayAsk c d w l → is_up w.near.station.phase ≡ true
+  pub stays_joint : {w : Stations} {l : Line (List ℕ)} (m : Line (List ℕ)) {back down : List (List ℕ)} {input : Input} {step : Step} → Joint MayAsk c d w l → is_up w.near.station.phase ≡ true
       → Stage MayAsk c d w l m back down step.packet (after_input input step.packet (window_of c.window w.near.station)) → Stays c.window input w.near.station step
       → Leads MayAsk c d w l m.back (after_step c w back down step)
-  stays_joint w l m back down input step h was_up g stays =
+  stays_joint {w} {l} m {back} {down} {input} {step} h was_up g stays =
       let v : Window = after_input input step.packet (window_of c.window w.near.station) in
-      let t = runs_sent c.window d.window d.longest m v g.reached g.kept g.near g.within (window_of c.window step.side.near) step.side.out stays.sends in
+      let t = runs_sent g.reached g.kept g.near g.within stays.sends in
       let far = t.far ∙ g.far in (
         t.line,
         record {
@@ -318,15 +299,15 @@ module _ (MayAsk : Type 0) (c d : Settings) (joined : AreJoined c d) (reads : Re
           kept = t.kept;
           near = inl (record { up = stays.up; sound = stays.sound; same = sym t.near });
           far = rw far h.far;
-          out = rw (t.out ∙ ap (λ (gs : List (Frame (List ℕ))). gs ++ t.behind) g.out) (numbers_out w.out step.side.out step.side.out l.out t.behind (good_numbered reads c.role d.longest step.side.out t.good) h.out t.shows);
+          out = rw (t.out ∙ ap (λ gs. gs ++ t.behind) g.out) (numbers_out w.out step.side.out step.side.out l.out t.behind (good_numbered reads c.role d.longest step.side.out t.good) h.out t.shows);
           back = rw t.back g.left;
           out_orderly = orderly_out w.out step.side.out (good_orderly reads c.role d.longest MayAsk step.side.out t.good) h.out_orderly;
           back_orderly = g.orderly;
           near_has = record {
-            down = g.given ∙ sym t.given ∙ ap (λ (z : Window). z.given) (sym t.near);
-            up = g.taken ∙ sym t.taken ∙ ap (λ (z : Window). z.taken) (sym t.near);
-            within = subst (AllWithin d.longest) (sym t.given ∙ ap (λ (z : Window). z.given) (sym t.near)) g.within;
-            notes = quiet_notes MayAsk c w back down step h.near_has.notes stays.quiet (stays.up ∙ sym was_up);
+            down = g.given ∙ sym t.given ∙ ap (λ z. z.given) (sym t.near);
+            up = g.taken ∙ sym t.taken ∙ ap (λ z. z.taken) (sym t.near);
+            within = subst (AllWithin d.longest) (sym t.given ∙ ap (λ z. z.given) (sym t.near)) g.within;
+            notes = quiet_notes c w back down step h.near_has.notes stays.quiet (stays.up ∙ sym was_up);
           };
           far_has = rw far h.far_has;
           no_frmr = no_frmr_append w.sent step.side.out h.no_frmr (good_no_frmr d.longest step.side.out t.good);
@@ -337,8 +318,8 @@ module _ (MayAsk : Type 0) (c d : Settings) (joined : AreJoined c d) (reads : Re
         record {
           near = t.near ∙ sym (counted_up c.window step.side.near l.near stays.up);
           far = far;
-          out = t.out ∙ ap (λ (gs : List (Frame (List ℕ))). gs ++ t.behind) g.out ∙ ap (λ (gs : List (Frame (List ℕ))). l.out ++ gs) (sends m v (window_of c.window step.side.near) step.side.out t (ap (λ (z : Window). z.sent) g.near ∙ g.same_sent) t.near)
-              ∙ ap (λ (fs : List PlainFrame). l.out ++ given t.line.near.acked (length t.line.near.taken) l.near.sent fs) (sym (put_is w.out step.side.out step.side.out (good_numbered reads c.role c.longest step.side.out (rw joined.longest t.good))));
+          out = t.out ∙ ap (λ gs. gs ++ t.behind) g.out ∙ ap (λ gs. l.out ++ gs) (sends m v (window_of c.window step.side.near) step.side.out t (ap (λ z. z.sent) g.near ∙ g.same_sent) t.near)
+              ∙ ap (λ fs. l.out ++ given t.line.near.acked (length t.line.near.taken) l.near.sent fs) (sym (put_is w.out step.side.out step.side.out (good_numbered reads c.role c.longest step.side.out (rw joined.longest t.good))));
           back = t.back;
         },
       )
@@ -346,8 +327,8 @@ module _ (MayAsk : Type 0) (c d : Settings) (joined : AreJoined c d) (reads : Re
       sends : (m : Line (List ℕ)) (v z : Window) (fs : List PlainFrame) (t : Sent c.window d.window d.longest m v z fs) → m.near.sent ≡ l.near.sent → t.line.near ≡ z
           → t.behind ≡ given t.line.near.acked (length t.line.near.taken) l.near.sent fs
       sends m v z fs t same is =
-          sent_given c.window d.window d.longest m v z fs t ∙ ap (λ (top : ℕ). given z.acked (length z.taken) top fs) same
-          ∙ ap (λ (e : Window). given e.acked (length e.taken) l.near.sent fs) (sym is)
+          sent_given t ∙ ap (λ top. given z.acked (length z.taken) top fs) same
+          ∙ ap (λ e. given e.acked (length e.taken) l.near.sent fs) (sym is)
 
   -- ---- what comes to an end that is Up
 
@@ -359,16 +340,16 @@ module _ (MayAsk : Type 0) (c d : Settings) (joined : AreJoined c d) (reads : Re
   abbrev come : Line (List ℕ) → Bool → Frame (List ℕ) → List (Frame (List ℕ)) → Line (List ℕ)
   come l b g gs = record { near = arrived b g l.near; far = l.far; out = l.out; back = gs }
 
-  stage_arrives : (w : Stations) (l : Line (List ℕ)) → Joint MayAsk c d w l → (os : List (List ℕ)) → AreOrderly MayAsk (other c.role) c.longest os → (g : Frame (List ℕ)) (gs : List (Frame (List ℕ))) → l.back ≡ g ∷ gs
+  stage_arrives : {w : Stations} {l : Line (List ℕ)} → Joint MayAsk c d w l → {os : List (List ℕ)} → AreOrderly MayAsk (other c.role) c.longest os → (g : Frame (List ℕ)) {gs : List (Frame (List ℕ))} → l.back ≡ g ∷ gs
       → ShowAll (numbered_on (other c.role) c.longest os) gs → (packet : Option (List ℕ)) (v : Window) → arrived (is_some packet) g l.near ≡ v
       → MayTake (is_some packet) (length l.near.taken) g.carried → v.given ≡ l.near.given → w.near.up ++ option_to_list packet ≡ v.taken
       → Stage MayAsk c d w l (come l (is_some packet) g gs) os [] packet v
-  stage_arrives w l h os orderly g gs is shows packet v near ok same_given taken =
+  stage_arrives {w} {l} h orderly g is shows packet v near ok same_given taken =
       let e = l.near in
-      let may = subst (λ (bs : List (Frame (List ℕ))). FrontMayBeTaken (is_some packet) (length e.taken) bs) (sym is) ok in
+      let may = subst (λ bs. FrontMayBeTaken (is_some packet) (length e.taken) bs) (sym is) ok in
       record {
-        reached = rw (sym (ap (λ (bs : List (Frame (List ℕ))). front_arrived (is_some packet) bs l) is)) (near_moves l (Arrives (is_some packet)) h.reached may);
-        kept = subst (λ (z : Line (List ℕ)). Kept z) (ap (λ (bs : List (Frame (List ℕ))). front_arrived (is_some packet) bs l) is) (Kept-moved (Arrives (is_some packet)) l may h.kept);
+        reached = rw (sym (ap (λ bs. front_arrived (is_some packet) bs l) is)) (near_moves l (Arrives (is_some packet)) h.reached may);
+        kept = subst (λ z. Kept z) (ap (λ bs. front_arrived (is_some packet) bs l) is) (Kept-moved (Arrives (is_some packet)) may h.kept);
         near = near;
         far = refl;
         out = refl;
@@ -377,7 +358,7 @@ module _ (MayAsk : Type 0) (c d : Settings) (joined : AreJoined c d) (reads : Re
         given = append-nil w.near.down ∙ h.near_has.down ∙ sym same_given;
         taken = taken;
         within = subst (AllWithin d.longest) (sym same_given) h.near_has.within;
-        same_sent = sym (ap (λ (z : Window). z.sent) near) ∙ arrived_sent (is_some packet) g.carried (after e (Hear (g.ack % 8)));
+        same_sent = sym (ap (λ z. z.sent) near) ∙ arrived_sent (is_some packet) g.carried (after e (Hear (g.ack % 8)));
       }
     where
       arrived_sent : (b : Bool) (o : Option (Numbered (List ℕ))) (e : Window) → (takes_item b o e).sent ≡ e.sent
@@ -386,59 +367,58 @@ module _ (MayAsk : Type 0) (c d : Settings) (joined : AreJoined c d) (reads : Re
       arrived_sent false o e = refl
 
   hears_same : (s : LinkStation) (e : End (List ℕ)) (g : Frame (List ℕ)) (nr : ℕ) → window_of c.window s ≡ e → nr ≡ g.ack % 8 → after e (Hear (g.ack % 8)) ≡ after (window_of c.window s) (Hear nr)
-  hears_same s e g nr same is = ap (λ (n : ℕ). after e (Hear n)) (sym is) ∙ ap (λ (z : Window). after z (Hear nr)) (sym same)
+  hears_same s e g nr same is = ap (λ n. after e (Hear n)) (sym is) ∙ ap (λ z. after z (Hear nr)) (sym same)
 
-  tell_stage : (w : Stations) (l : Line (List ℕ)) → Joint MayAsk c d w l → AsUp c w.near.station l.near → (os : List (List ℕ)) → AreOrderly MayAsk (other c.role) c.longest os → (g : Frame (List ℕ)) (gs : List (Frame (List ℕ)))
+  tell_stage : {w : Stations} {l : Line (List ℕ)} → Joint MayAsk c d w l → AsUp c w.near.station l.near → {os : List (List ℕ)} → AreOrderly MayAsk (other c.role) c.longest os → (g : Frame (List ℕ)) {gs : List (Frame (List ℕ))}
       → l.back ≡ g ∷ gs → ShowAll (numbered_on (other c.role) c.longest os) gs → (nr : ℕ) → nr ≡ g.ack % 8
       → Stage MayAsk c d w l (come l false g gs) os [] None (after (window_of c.window w.near.station) (Hear nr))
-  tell_stage w l h u os orderly g gs is shows nr number =
-      stage_arrives w l h os orderly g gs is shows None (after (window_of c.window w.near.station) (Hear nr)) (hears_same w.near.station l.near g nr u.same number) tt
-      (ap (λ (z : Window). z.given) u.same) (append-nil w.near.up ∙ h.near_has.up ∙ sym (ap (λ (z : Window). z.taken) u.same))
+  tell_stage {w} {l} h u {os} orderly g {gs} is shows nr number =
+      stage_arrives h orderly g is shows None (after (window_of c.window w.near.station) (Hear nr)) (hears_same w.near.station l.near g nr u.same number) tt
+      (ap (λ z. z.given) u.same) (append-nil w.near.up ∙ h.near_has.up ∙ sym (ap (λ z. z.taken) u.same))
 
-  info_stage : (w : Stations) (l : Line (List ℕ)) → Joint MayAsk c d w l → AsUp c w.near.station l.near → (os : List (List ℕ)) → AreOrderly MayAsk (other c.role) c.longest os → (g : Frame (List ℕ)) (gs : List (Frame (List ℕ)))
+  info_stage : {w : Stations} {l : Line (List ℕ)} → Joint MayAsk c d w l → AsUp c w.near.station l.near → {os : List (List ℕ)} → AreOrderly MayAsk (other c.role) c.longest os → {g : Frame (List ℕ)} {gs : List (Frame (List ℕ))}
       → l.back ≡ g ∷ gs → ShowAll (numbered_on (other c.role) c.longest os) gs → (ns nr : ℕ) (p : Bool) (x : List ℕ) → Shows (info ns nr p x) g
       → (packet : Option (List ℕ)) → MayHandUp (receives (info ns nr p x)) packet (window_of c.window w.near.station)
       → Stage MayAsk c d w l (come l (is_some packet) g gs) os [] packet (after_input (receives (info ns nr p x)) packet (window_of c.window w.near.station))
-  info_stage w l h u os orderly g gs is shows ns nr p x shown None up = tell_stage w l h u os orderly g gs is shows nr shown.1
-  info_stage w l h u os orderly g gs is shows ns nr p x shown (Some y) up =
+  info_stage {w} {l} h u {os} orderly {g} {gs} is shows ns nr p x shown None up = tell_stage h u orderly g is shows nr shown.1
+  info_stage {w} {l} h u {os} orderly {g} {gs} is shows ns nr p x shown (Some y) up =
       let e = l.near in
-      let q = carried_of ns x g.carried shown.0 in
+      let q = carried_of g.carried shown.0 in
       let heard : Window = after (window_of c.window w.near.station) (Hear nr) in
-      stage_arrives w l h os orderly g gs is shows (Some y) (after heard (Take 0 y))
-      (ap (λ (o : Option (Numbered (List ℕ))). takes_item true o (after e (Hear (g.ack % 8)))) q.is
-      ∙ ap (λ (z : Window). after z (Take 0 q.item.item)) (hears_same w.near.station e g nr u.same shown.1)
-      ∙ ap (λ (z : List ℕ). after heard (Take 0 z)) (sym q.same ∙ up.1))
-      (rw q.is (sym q.number ∙ up.0 ∙ ap (λ (z : Window). length z.taken % 8) u.same))
-      (ap (λ (z : Window). z.given) u.same)
-      (ap (λ (xs : List (List ℕ)). xs ++ y ∷ []) (h.near_has.up ∙ sym (ap (λ (z : Window). z.taken) u.same)))
+      stage_arrives h orderly g is shows (Some y) (after heard (Take 0 y))
+      (ap (λ o. takes_item true o (after e (Hear (g.ack % 8)))) q.is
+      ∙ ap (λ z. after z (Take 0 q.item.item)) (hears_same w.near.station e g nr u.same shown.1)
+      ∙ ap (λ z. after heard (Take 0 z)) (sym q.same ∙ up.1))
+      (rw q.is (sym q.number ∙ up.0 ∙ ap (λ z. length z.taken % 8) u.same))
+      (ap (λ z. z.given) u.same)
+      (ap (λ xs. xs ++ y ∷ []) (h.near_has.up ∙ sym (ap (λ z. z.taken) u.same)))
 
   -- an N(R) that comes is valid, so that no FRMR is due
   valid_at : (w : Stations) (l : Line (List ℕ)) → Joint MayAsk c d w l → AsUp c w.near.station l.near → (g : Frame (List ℕ)) (gs : List (Frame (List ℕ))) → l.back ≡ g ∷ gs → (nr : ℕ) → nr ≡ g.ack % 8
       → if_valid nr (window_of c.window w.near.station) ≡ None
   valid_at w l h u g gs is nr number =
       let e = l.near in
-      let way = subst (λ (bs : List (Frame (List ℕ))). Way e l.far.taken (length l.far.taken) l.out bs) is h.kept.from_near in
-      let valid = hears_valid e l.far.taken (length l.far.taken) l.out gs g way in
+      let way = subst (λ bs. Way e l.far.taken (length l.far.taken) l.out bs) is h.kept.from_near in
+      let valid = hears_valid gs g way in
       let there : if_valid (g.ack % 8) e ≡ None = rw (valid.0, le-leb g.ack e.sent valid.2) refl in
-      ap (λ (n : ℕ). if_valid n (window_of c.window w.near.station)) number ∙ ap (λ (z : Window). if_valid (g.ack % 8) z) u.same ∙ there
+      ap (λ n. if_valid n (window_of c.window w.near.station)) number ∙ ap (λ z. if_valid (g.ack % 8) z) u.same ∙ there
 
-  numbered_joint : (w : Stations) (l : Line (List ℕ)) → Joint MayAsk c d w l → AsUp c w.near.station l.near → (os : List (List ℕ)) (f : PlainFrame) (nr : ℕ) (step : Step)
+  numbered_joint : {w : Stations} {l : Line (List ℕ)} → Joint MayAsk c d w l → AsUp c w.near.station l.near → (os : List (List ℕ)) {f : PlainFrame} (nr : ℕ) (step : Step)
       (front : Front f (numbered_on (other c.role) c.longest os) l.back)
       → nr ≡ front.frame.ack % 8 → Follows (if_valid nr (window_of c.window w.near.station)) c.window (receives f) w.near.station step
       → ((packet : Option (List ℕ)) → MayHandUp (receives f) packet (window_of c.window w.near.station)
       → Stage MayAsk c d w l (come l (is_some packet) front.frame front.others) os [] packet (after_input (receives f) packet (window_of c.window w.near.station)))
       → Leads MayAsk c d w l (remove l.back 0) (after_step c w os [] step)
-  numbered_joint w l h u os f nr step front number follows stage =
-      let valid = valid_at w l h u front.frame front.others front.is nr number in
-      let stays : Stays c.window (receives f) w.near.station step = subst (λ (o : Option Reason). Follows o c.window (receives f) w.near.station step) valid follows in
-      subst (λ (left : List (Frame (List ℕ))). Leads MayAsk c d w l left (after_step c w os [] step)) (sym (ap (λ (bs : List (Frame (List ℕ))). remove bs 0) front.is))
-      (stays_joint w l (come l (is_some step.packet) front.frame front.others) os [] (receives f) step h u.up (stage step.packet stays.hands_up) stays)
+  numbered_joint {w} {l} h u os {f} nr step front number follows stage =
+      let stays : Stays c.window (receives f) w.near.station step = subst (λ o. Follows o c.window (receives f) w.near.station step) (valid_at w l h u front.frame front.others front.is nr number) follows in
+      subst (λ left. Leads MayAsk c d w l left (after_step c w os [] step)) (sym (ap (λ bs. remove bs 0) front.is))
+      (stays_joint (come l (is_some step.packet) front.frame front.others) h u.up (stage step.packet stays.hands_up) stays)
 
   -- ---- steps that bring nothing, and steps that leave
 
-  quiet_stage : (w : Stations) (l : Line (List ℕ)) → Joint MayAsk c d w l → AsUp c w.near.station l.near → (os : List (List ℕ)) → AreOrderly MayAsk (other c.role) c.longest os → ShowAll (numbered_on (other c.role) c.longest os) l.back
+  quiet_stage : {w : Stations} {l : Line (List ℕ)} → Joint MayAsk c d w l → AsUp c w.near.station l.near → {os : List (List ℕ)} → AreOrderly MayAsk (other c.role) c.longest os → ShowAll (numbered_on (other c.role) c.longest os) l.back
       → (packet : Option (List ℕ)) → packet ≡ None → Stage MayAsk c d w l l os [] packet (window_of c.window w.near.station)
-  quiet_stage w l h u os orderly shows packet none =
+  quiet_stage {w} h u orderly shows packet none =
       record {
         reached = h.reached;
         kept = h.kept;
@@ -447,26 +427,26 @@ module _ (MayAsk : Type 0) (c d : Settings) (joined : AreJoined c d) (reads : Re
         out = refl;
         left = shows;
         orderly = orderly;
-        given = append-nil w.near.down ∙ h.near_has.down ∙ sym (ap (λ (z : Window). z.given) u.same);
-        taken = rw none (append-nil w.near.up ∙ h.near_has.up ∙ sym (ap (λ (z : Window). z.taken) u.same));
-        within = subst (AllWithin d.longest) (sym (ap (λ (z : Window). z.given) u.same)) h.near_has.within;
-        same_sent = ap (λ (z : Window). z.sent) u.same;
+        given = append-nil w.near.down ∙ h.near_has.down ∙ sym (ap (λ z. z.given) u.same);
+        taken = rw none (append-nil w.near.up ∙ h.near_has.up ∙ sym (ap (λ z. z.taken) u.same));
+        within = subst (AllWithin d.longest) (sym (ap (λ z. z.given) u.same)) h.near_has.within;
+        same_sent = ap (λ z. z.sent) u.same;
       }
 
-  pub quiet_joint : (w : Stations) (l : Line (List ℕ)) → Joint MayAsk c d w l → AsUp c w.near.station l.near → (os : List (List ℕ)) → AreOrderly MayAsk (other c.role) c.longest os → ShowAll (numbered_on (other c.role) c.longest os) l.back
-      → (input : Input) (step : Step) → after_input input step.packet (window_of c.window w.near.station) ≡ window_of c.window w.near.station
+  pub quiet_joint : {w : Stations} {l : Line (List ℕ)} → Joint MayAsk c d w l → AsUp c w.near.station l.near → {os : List (List ℕ)} → AreOrderly MayAsk (other c.role) c.longest os → ShowAll (numbered_on (other c.role) c.longest os) l.back
+      → {input : Input} {step : Step} → after_input input step.packet (window_of c.window w.near.station) ≡ window_of c.window w.near.station
       → ((y : List ℕ) → MayHandUp input (Some y) (window_of c.window w.near.station) → ⊥)
       → Stays c.window input w.near.station step → Leads MayAsk c d w l l.back (after_step c w os [] step)
-  quiet_joint w l h u os orderly shows input step same never stays =
-      stays_joint w l l os [] input step h u.up
-      (rw same (quiet_stage w l h u os orderly shows step.packet (no_packet_of input step.packet (window_of c.window w.near.station) never stays.hands_up))) stays
+  quiet_joint {w} {l} h u {os} orderly shows {input} {step} same never stays =
+      stays_joint l h u.up
+      (rw same (quiet_stage h u orderly shows step.packet (no_packet_of input step.packet (window_of c.window w.near.station) never stays.hands_up))) stays
 
   -- a station that leaves or is out: a numbered frame that comes to it is lost to the machine
-  pub parts_joint : (w : Stations) (l : Line (List ℕ)) → Joint MayAsk c d w l → (gs : List (Frame (List ℕ))) (os : List (List ℕ)) (step : Step)
+  pub parts_joint : {w : Stations} {l : Line (List ℕ)} → Joint MayAsk c d w l → {gs : List (Frame (List ℕ))} {os : List (List ℕ)} {step : Step}
       → Kept (record { near = l.near; far = l.far; out = l.out; back = gs }) → MachineReaches c.window d.window (record { near = l.near; far = l.far; out = l.out; back = gs })
       → ShowAll (numbered_on (other c.role) c.longest os) gs → AreOrderly MayAsk (other c.role) c.longest os
       → Parts MayAsk w.near.station step → Leads MayAsk c d w l gs (after_step c w os [] step)
-  parts_joint w l h gs os step kept reached shows orderly parts = (
+  parts_joint {w} {l} h {gs} {os} {step} kept reached shows orderly parts = (
     record { near = l.near; far = l.far; out = l.out; back = gs },
     record {
       reached = reached;
@@ -478,7 +458,7 @@ module _ (MayAsk : Type 0) (c d : Settings) (joined : AreJoined c d) (reads : Re
       back = shows;
       out_orderly = orderly_out w.out step.side.out (parting_orderly reads c.role d.longest MayAsk step.side.out each) h.out_orderly;
       back_orderly = orderly;
-      near_has = record { down = append-nil w.near.down ∙ h.near_has.down; up = rw parts.packet (append-nil w.near.up ∙ h.near_has.up); within = h.near_has.within; notes = noted_once MayAsk c w os step h.near_has.notes off parts.noted };
+      near_has = record { down = append-nil w.near.down ∙ h.near_has.down; up = rw parts.packet (append-nil w.near.up ∙ h.near_has.up); within = h.near_has.within; notes = noted_once c w os step h.near_has.notes off parts.noted };
       far_has = h.far_has;
       no_frmr = no_frmr_append w.sent step.side.out h.no_frmr (parting_no_frmr MayAsk step.side.out each);
       whole = each_append (IsWhole d.longest ((w.near.down ++ []) ++ w.far.down)) w.sent step.side.out
@@ -499,61 +479,61 @@ module _ (MayAsk : Type 0) (c d : Settings) (joined : AreJoined c d) (reads : Re
       each : Each (IsPart MayAsk) step.side.out
       each = parts_of MayAsk step.side.out parts.frames
 
-  pub ends_joint : (w : Stations) (l : Line (List ℕ)) → Joint MayAsk c d w l → is_up w.near.station.phase ≡ true → (os : List (List ℕ)) (step : Step) (reason : Reason) → Leaves reason
+  pub ends_joint : {w : Stations} {l : Line (List ℕ)} → Joint MayAsk c d w l → is_up w.near.station.phase ≡ true → {os : List (List ℕ)} {step : Step} {reason : Reason} → Leaves reason
       → ShowAll (numbered_on (other c.role) c.longest os) l.back → AreOrderly MayAsk (other c.role) c.longest os
       → Tells w.near.station step → Ends reason step → Leads MayAsk c d w l l.back (after_step c w os [] step)
-  ends_joint w l h up os step reason leaves shows orderly tells ends =
-      parts_joint w l h l.back os step h.kept h.reached shows orderly (ends_parts MayAsk w.near.station reason step up leaves tells ends)
+  ends_joint {w} {l} h up {os} {step} {reason} leaves shows orderly tells ends =
+      parts_joint h h.kept h.reached shows orderly (ends_parts MayAsk up leaves tells ends)
 
   -- ---- what comes, by what it reads as
 
-  told_joint : (w : Stations) (l : Line (List ℕ)) → Joint MayAsk c d w l → AsUp c w.near.station l.near → (os : List (List ℕ)) (f : PlainFrame) (nr : ℕ) (step : Step)
+  told_joint : {w : Stations} {l : Line (List ℕ)} → Joint MayAsk c d w l → AsUp c w.near.station l.near → {os : List (List ℕ)} {f : PlainFrame} (nr : ℕ) (step : Step)
       → AreOrderly MayAsk (other c.role) c.longest os → (front : Front f (numbered_on (other c.role) c.longest os) l.back) → nr ≡ front.frame.ack % 8
       → Follows (if_valid nr (window_of c.window w.near.station)) c.window (receives f) w.near.station step
       → ((packet : Option (List ℕ)) → after_input (receives f) packet (window_of c.window w.near.station) ≡ after (window_of c.window w.near.station) (Hear nr))
       → ((y : List ℕ) → MayHandUp (receives f) (Some y) (window_of c.window w.near.station) → ⊥)
       → Leads MayAsk c d w l (remove l.back 0) (after_step c w os [] step)
-  told_joint w l h u os f nr step orderly front number follows hears never =
-      numbered_joint w l h u os f nr step front number follows
+  told_joint {w} {l} h u {os} {f} nr step orderly front number follows hears never =
+      numbered_joint h u os nr step front number follows
       (λ packet up. rw (hears packet) (stage packet (no_packet_of (receives f) packet (window_of c.window w.near.station) never up)))
     where
       stage : (packet : Option (List ℕ)) → packet ≡ None → Stage MayAsk c d w l (come l (is_some packet) front.frame front.others) os [] packet (after (window_of c.window w.near.station) (Hear nr))
-      stage packet none = rw none (tell_stage w l h u os orderly front.frame front.others front.is front.rest_shows nr number)
+      stage packet none = rw none (tell_stage h u orderly front.frame front.is front.rest_shows nr number)
 
-  pub read_joint : (w : Stations) (l : Line (List ℕ)) → Joint MayAsk c d w l → AsUp c w.near.station l.near → (r : Result PlainFrame FrameError) (os : List (List ℕ)) (step : Step)
+  pub read_joint : {w : Stations} {l : Line (List ℕ)} → Joint MayAsk c d w l → AsUp c w.near.station l.near → (r : Result PlainFrame FrameError) {os : List (List ℕ)} {step : Step}
       → IsOrderly ⊥ r → AreOrderly MayAsk (other c.role) c.longest os → ShowAll (consed (number_in r) (numbered_on (other c.role) c.longest os)) l.back
       → Tells w.near.station step → Follows (ending_of r (window_of c.window w.near.station)) c.window (brought_by r) w.near.station step
       → Leads MayAsk c d w l (taken_out (first_of (number_in r)) l.back) (after_step c w os [] step)
-  read_joint w l h u (Ok (info ns nr p x)) os step good orderly shows tells follows =
+  read_joint {w} {l} h u (Ok (info ns nr p x)) {os} {step} good orderly shows tells follows =
       let front = front_of (info ns nr p x) (numbered_on (other c.role) c.longest os) l.back shows in
-      numbered_joint w l h u os (info ns nr p x) nr step front front.shows.1 follows (info_stage w l h u os orderly front.frame front.others front.is front.rest_shows ns nr p x front.shows)
-  read_joint w l h u (Ok (rr command nr pf)) os step good orderly shows tells follows =
+      numbered_joint h u os nr step front front.shows.1 follows (info_stage h u orderly front.is front.rest_shows ns nr p x front.shows)
+  read_joint {w} {l} h u (Ok (rr command nr pf)) {os} {step} good orderly shows tells follows =
       let front = front_of (rr command nr pf) (numbered_on (other c.role) c.longest os) l.back shows in
-      told_joint w l h u os (rr command nr pf) nr step orderly front front.shows.1 follows (λ packet. refl) (λ y k. k)
-  read_joint w l h u (Ok (rnr command nr pf)) os step good orderly shows tells follows =
+      told_joint h u nr step orderly front front.shows.1 follows (λ packet. refl) (λ y k. k)
+  read_joint {w} {l} h u (Ok (rnr command nr pf)) {os} {step} good orderly shows tells follows =
       let front = front_of (rnr command nr pf) (numbered_on (other c.role) c.longest os) l.back shows in
-      told_joint w l h u os (rnr command nr pf) nr step orderly front front.shows.1 follows (λ packet. refl) (λ y k. k)
-  read_joint w l h u (Ok (rej command nr pf)) os step good orderly shows tells follows =
+      told_joint h u nr step orderly front front.shows.1 follows (λ packet. refl) (λ y k. k)
+  read_joint {w} {l} h u (Ok (rej command nr pf)) {os} {step} good orderly shows tells follows =
       let front = front_of (rej command nr pf) (numbered_on (other c.role) c.longest os) l.back shows in
-      told_joint w l h u os (rej command nr pf) nr step orderly front front.shows.1 follows (λ packet. refl) (λ y k. k)
-  read_joint w l h u (Ok (disc p)) os step good orderly shows tells follows = ends_joint w l h u.up os step Disc tt shows orderly tells follows
-  read_joint w l h u (Ok (ua f)) os step good orderly shows tells follows = quiet_joint w l h u os orderly shows (receives (ua f)) step refl (λ y k. k) follows
-  read_joint w l h u (Ok (dm f)) os step good orderly shows tells follows = ends_joint w l h u.up os step Dm tt shows orderly tells follows
-  read_joint w l h u (Err Short) os step good orderly shows tells follows = quiet_joint w l h u os orderly shows nothing step refl (λ y k. k) follows
-  read_joint w l h u (Err BadFcs) os step good orderly shows tells follows = quiet_joint w l h u os orderly shows nothing step refl (λ y k. k) follows
-  read_joint w l h u (Err BadAddress) os step good orderly shows tells follows = quiet_joint w l h u os orderly shows nothing step refl (λ y k. k) follows
-  read_joint w l h u r os step good orderly shows tells follows = absurd good
+      told_joint h u nr step orderly front front.shows.1 follows (λ packet. refl) (λ y k. k)
+  read_joint {w} {l} h u (Ok (disc p)) {os} {step} good orderly shows tells follows = ends_joint h u.up tt shows orderly tells follows
+  read_joint {w} {l} h u (Ok (ua f)) {os} {step} good orderly shows tells follows = quiet_joint h u orderly shows refl (λ y k. k) follows
+  read_joint {w} {l} h u (Ok (dm f)) {os} {step} good orderly shows tells follows = ends_joint h u.up tt shows orderly tells follows
+  read_joint {w} {l} h u (Err Short) {os} {step} good orderly shows tells follows = quiet_joint h u orderly shows refl (λ y k. k) follows
+  read_joint {w} {l} h u (Err BadFcs) {os} {step} good orderly shows tells follows = quiet_joint h u orderly shows refl (λ y k. k) follows
+  read_joint {w} {l} h u (Err BadAddress) {os} {step} good orderly shows tells follows = quiet_joint h u orderly shows refl (λ y k. k) follows
+  read_joint h u r good orderly shows tells follows = absurd good
 
   -- ---- what comes to an end that isn't Up
 
-  pub away_joint : (w : Stations) (l : Line (List ℕ)) → Joint MayAsk c d w l → (m : Option PlainFrame) (os : List (List ℕ)) (step : Step) → AreOrderly MayAsk (other c.role) c.longest os
+  pub away_joint : {w : Stations} {l : Line (List ℕ)} → Joint MayAsk c d w l → (m : Option PlainFrame) {os : List (List ℕ)} {step : Step} → AreOrderly MayAsk (other c.role) c.longest os
       → ShowAll (consed m (numbered_on (other c.role) c.longest os)) l.back → Parts MayAsk w.near.station step → Leads MayAsk c d w l (taken_out (first_of m) l.back) (after_step c w os [] step)
-  away_joint w l h None os step orderly shows parts = parts_joint w l h l.back os step h.kept h.reached shows orderly parts
-  away_joint w l h (Some f) os step orderly shows parts =
+  away_joint h None orderly shows parts = parts_joint h h.kept h.reached shows orderly parts
+  away_joint {w} {l} h (Some f) {os} {step} orderly shows parts =
       let front = front_of f (numbered_on (other c.role) c.longest os) l.back shows in
       let left : (List (Frame (List ℕ))) → Line (List ℕ) = λ bs. record { near = l.near; far = l.far; out = l.out; back = remove bs 0 } in
-      subst (λ (gone : List (Frame (List ℕ))). Leads MayAsk c d w l gone (after_step c w os [] step)) (sym (ap (λ (bs : List (Frame (List ℕ))). remove bs 0) front.is))
-      (parts_joint w l h front.others os step
-      (subst (λ (bs : List (Frame (List ℕ))). Kept (left bs)) front.is (Kept-moved (Loses 0) l tt h.kept))
-      (subst (λ (bs : List (Frame (List ℕ))). MachineReaches c.window d.window (left bs)) front.is (near_moves l (Loses 0) h.reached tt))
+      subst (λ gone. Leads MayAsk c d w l gone (after_step c w os [] step)) (sym (ap (λ bs. remove bs 0) front.is))
+      (parts_joint h
+      (subst (λ bs. Kept (left bs)) front.is (Kept-moved (Loses 0) tt h.kept))
+      (subst (λ bs. MachineReaches c.window d.window (left bs)) front.is (near_moves l (Loses 0) h.reached tt))
       front.rest_shows orderly parts)

@@ -6,7 +6,7 @@ use Rattle.x25_frame.specs.{Reading.{frame_of}, laws.ReadingLaw.{ReadsSpelled}}
 use Rattle.x25_window.specs.code.Modulo.{resolved}
 use Rattle.x25_link.specs.{Station.{Settings}, Hearing.{other}}
 use Rattle.x25_line.specs.{laws.LawsBelow.{Laws}, laws.Peer.{Peer, MayNumber, MayAcknowledge, numbered_to, told_to, MaySay, hearing, IsWanted, taking, MayMake}}
-use Rattle.x25_line.specs.{laws.PeerJoined.{Joined, Ours, HandsDown, Sends, Hears, IsReached, at_start, goes_on}, laws.Said.{Said, Carried, Tells, Odd, said}}
+use Rattle.x25_line.specs.{laws.PeerJoined.{JoinedOnce, Ours, HandsDown, Sends, Hears, ReachedOnce, at_start, goes_on}, laws.Said.{Said, Carried, Tells, Odd, said}}
 use Rattle.x25_line.specs.laws.Tape.{same_octets, is_item, judges_ack, then_ack, judges_item, judges_number, judges_said, notes, notes_said, IsSilent, Begins, Acts, Shows, Comes}
 use Rattle.x25_line.specs.laws.PeerClaims.{KeepsOrder, OnAnySilentTape}
 use Rattle.x25_line.proofs.{StationHears.{low_resolved}, Frames.{slice_get-last}, PeerOrder.{keeps_order}}
@@ -17,12 +17,12 @@ octets_same : (xs ys : List ℕ) → same_octets xs ys ≡ true → xs ≡ ys
 octets_same [] [] h = refl
 octets_same (x ∷ xs) (y ∷ ys) h =
     let parts = and_parts (x == y) (same_octets xs ys) h in
-    ap (λ (z : ℕ). z ∷ xs) (eqb-true x y parts.0) ∙ ap (λ (zs : List ℕ). y ∷ zs) (octets_same xs ys parts.1)
+    ap (λ z. z ∷ xs) (eqb-true x y parts.0) ∙ ap (λ zs. y ∷ zs) (octets_same xs ys parts.1)
 octets_same xs ys h = cc
 
 item_same : (o : Option (List ℕ)) (packet : List ℕ) → is_item o packet ≡ true → o ≡ Some packet
 item_same None packet h = cc
-item_same (Some item) packet h = ap (λ (z : List ℕ). Some z) (octets_same item packet h)
+item_same (Some item) packet h = ap (λ z. Some z) (octets_same item packet h)
 
 -- ---- by a test
 
@@ -129,7 +129,7 @@ record Judged (s : Said) (p q : Peer) : Type 0 where
 same_judged : (p q : Peer) → length p.given ≡ p.sent → Some p ≡ Some q → (s : Said) → (q ≡ p → MaySay (Unit {0}) p s q) → Judged s p q
 same_judged p q held is s may =
     let same = some_same p q is in
-    record { packet = []; base = p; from = inl refl; may = may (sym same); held = subst (λ (z : Peer). length z.given ≡ z.sent) same held }
+    record { packet = []; base = p; from = inl refl; may = may (sym same); held = subst (λ z. length z.given ≡ z.sent) same held }
 
 info_judged : (nr : ℕ) (c : Carried) (p q : Peer) → length p.given ≡ p.sent → then_ack nr (judges_number c.ns c.packet p) ≡ Some q → Judged (Tells (Some c) nr) p q
 info_judged nr c p q held h = go (judges_number c.ns c.packet p) refl h
@@ -139,7 +139,7 @@ info_judged nr c p q held h = go (judges_number c.ns c.packet p) refl h
     go (Some u) number is =
         let n = number_judged c.ns c.packet p u held number in
         let a = ack_judged nr u q is in
-        let may = subst (λ (z : Peer). MayAcknowledge z nr a.t) n.is a.may in
+        let may = subst (λ z. MayAcknowledge z nr a.t) n.is a.may in
         record {
           packet = c.packet;
           base = n.base;
@@ -151,7 +151,7 @@ info_judged nr c p q held h = go (judges_number c.ns c.packet p) refl h
 judged : (s : Said) (p q : Peer) → length p.given ≡ p.sent → judges_said s p ≡ Some q → Judged s p q
 judged (Tells None nr) p q held h =
     let a = ack_judged nr p q h in
-    record { packet = []; base = p; from = inl refl; may = (a.t, a.may, a.is); held = subst (λ (z : Peer). length z.given ≡ z.sent) (sym a.is) held }
+    record { packet = []; base = p; from = inl refl; may = (a.t, a.may, a.is); held = subst (λ z. length z.given ≡ z.sent) (sym a.is) held }
 judged (Tells (Some c) nr) p q held h = info_judged nr c p q held h
 judged Odd p q held h = same_judged p q held h Odd (λ is. (tt, is))
 judged s p q held h = same_judged p q held h s (λ is. is)
@@ -177,33 +177,33 @@ noted_held s p h = h
 
 -- ---- tapes
 
-record Explained (c : Settings) (w : Joined) : Type 0 where
-  pub reached : IsReached (Unit {0}) c w
+record Explained (c : Settings) (w : JoinedOnce) : Type 0 where
+  pub reached : ReachedOnce (Unit {0}) c w
   pub held : length w.peer.given ≡ w.peer.sent
 
-base_reached : (c : Settings) (w : Joined) (packet : List ℕ) (base : Peer) → IsReached (Unit {0}) c w → IsBase w.peer packet base → IsReached (Unit {0}) c (record w { peer = base })
-base_reached c w packet base reached (inl is) = rw is reached
-base_reached c w packet base reached (inr is) =
+base_reached : {c : Settings} {w : JoinedOnce} (packet : List ℕ) {base : Peer} → ReachedOnce (Unit {0}) c w → IsBase w.peer packet base → ReachedOnce (Unit {0}) c (record w { peer = base })
+base_reached packet reached (inl is) = rw is reached
+base_reached {w = w} packet reached (inr is) =
     rw is (goes_on w (record w { peer = grown packet w.peer }) reached (HandsDown packet))
 
-explained : (c : Settings) (w : Joined) → IsSilent c w → Explained c w
-explained c w Begins = record { reached = at_start; held = refl }
-explained c w (Acts v act h) =
-    let before = explained c v h in
+explained : {c : Settings} {w : JoinedOnce} → IsSilent c w → Explained c w
+explained Begins = record { reached = at_start; held = refl }
+explained {c} {w} (Acts v act h) =
+    let before = explained h in
     record { reached = goes_on v w before.reached (Ours act); held = before.held }
-explained c w (Shows v octets rest is h) =
-    let before = explained c v h in
+explained {c} {w} (Shows v octets rest is h) =
+    let before = explained h in
     record {
       reached = goes_on v w before.reached (Hears octets rest (notes (frame_of c.role c.longest octets) v.peer) is (noted (said (frame_of c.role c.longest octets)) v.peer));
       held = noted_held (said (frame_of c.role c.longest octets)) v.peer before.held;
     }
-explained c w (Comes v octets q is h) =
-    let before = explained c v h in
+explained {c} {w} (Comes v octets q is h) =
+    let before = explained h in
     let j = judged (said (frame_of (other c.role) c.longest octets)) v.peer q before.held is in
     record {
-      reached = goes_on (record v { peer = j.base }) w (base_reached c v j.packet j.base before.reached j.from) (Sends octets q j.may);
+      reached = goes_on (record v { peer = j.base }) w (base_reached j.packet before.reached j.from) (Sends octets q j.may);
       held = j.held;
     }
 
 pub silence_keeps_order : ReadsSpelled → Laws → OnAnySilentTape KeepsOrder
-silence_keeps_order reads laws c low high w silent once = keeps_order reads laws c low high w (explained c w silent).reached once
+silence_keeps_order reads laws c low high w silent once = keeps_order reads laws c low high w (explained silent).reached once

@@ -6,6 +6,7 @@ pub mod SessionHeld
 pub mod SessionSteps
 pub mod SessionBegins
 pub mod SessionChanges
+pub mod SessionUnasked
 pub mod SessionUp
 pub mod SessionActs
 pub mod SessionTakes

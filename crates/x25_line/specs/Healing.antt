@@ -3,8 +3,8 @@
 -- lost.
 use Rattle.std.specs.Prelude.{◌≡◌, ℕ, ◌<◌, ◌≤◌, ◌⊎◌, false, true, List, [], ◌∷◌, length}
 use Rattle.x25_link.specs.{Station.{Settings, LinkStation, is_up, is_busy}, Link.{timer_runs}, laws.RestLaw.{IsAtRest}}
-use Rattle.x25_line.specs.{laws.Stations.{Act, Deliver, T1, Event, Near, Far}, laws.StationClaims.{AreJoined}}
-use Rattle.x25_line.specs.laws.Sessions.{Sessions, Meeting, from_nothing, from_set_up, happens, run}
+use Rattle.x25_line.specs.{laws.Stations.{Act, Deliver, T1, LinkEvent, Near, Far}, laws.StationClaims.{AreJoined}}
+use Rattle.x25_line.specs.laws.Sessions.{Sessions, Meeting, IsStart, happens, run}
 use Rattle.x25_line.specs.laws.SessionClaims.{Each, SomeMet, Throughout}
 
 -- ---- deliveries
@@ -14,7 +14,7 @@ IsDeliver Deliver = Unit {0}
 IsDeliver act = ⊥
 
 -- the front octets come at either end
-abbrev pub IsDelivery : Event → Type 0
+abbrev pub IsDelivery : LinkEvent → Type 0
 IsDelivery (Near act) = IsDeliver act
 IsDelivery (Far act) = IsDeliver act
 
@@ -64,33 +64,33 @@ pub record EachSessionHeals (c d : Settings) (w v : Sessions) : Type 0 where
 abbrev pub SessionsHealUnlessBothBusy : Type 0
 SessionsHealUnlessBothBusy = Throughout (λ (c d : Settings) (w : Sessions).
     w.out ≡ [] → w.back ≡ [] → OneIsFree w.near.station w.far.station
-    → (deliveries : List Event) → Each IsDelivery deliveries
+    → (deliveries : List LinkEvent) → Each IsDelivery deliveries
     → (let v = run c d (Near T1 ∷ Far T1 ∷ deliveries) w in v.out ≡ [] → v.back ≡ [] → EachSessionHeals c d w v))
 
 -- ---- each line drains, whenever timer T1 runs out
 
 -- octets are there for each delivery
-abbrev pub FindsIn : Event → Sessions → Type 0
+abbrev pub FindsIn : LinkEvent → Sessions → Type 0
 FindsIn (Near act) w = w.back ≡ [] → ⊥
 FindsIn (Far act) w = w.out ≡ [] → ⊥
 
-abbrev pub EachFindsIn : Settings → Settings → List Event → Sessions → Type 0
+abbrev pub EachFindsIn : Settings → Settings → List LinkEvent → Sessions → Type 0
 EachFindsIn c d [] w = Unit {0}
 EachFindsIn c d (e ∷ es) w = FindsIn e w × EachFindsIn c d es (happens c d e w)
 
 -- each world that events lead to bounds how many deliveries find octets, in whichever order
 abbrev pub SessionsDrainEnd : Type 0
 SessionsDrainEnd =
-    (c d : Settings) → AreJoined c d → (begin : Sessions) → (begin ≡ from_nothing) ⊎ (begin ≡ from_set_up)
-    → (events : List Event)
+    (c d : Settings) → AreJoined c d → (begin : Sessions) → IsStart begin
+    → (events : List LinkEvent)
     → (let w = run c d events begin in (most : ℕ)
-    × ((deliveries : List Event) → Each IsDelivery deliveries → EachFindsIn c d deliveries w
+    × ((deliveries : List LinkEvent) → Each IsDelivery deliveries → EachFindsIn c d deliveries w
     → length deliveries ≤ most))
 
 -- so there are deliveries that drain its line
 abbrev pub SomeSessionsDrain : Type 0
 SomeSessionsDrain =
-    (c d : Settings) → AreJoined c d → (begin : Sessions) → (begin ≡ from_nothing) ⊎ (begin ≡ from_set_up)
-    → (events : List Event)
-    → (deliveries : List Event) × Each IsDelivery deliveries
+    (c d : Settings) → AreJoined c d → (begin : Sessions) → IsStart begin
+    → (events : List LinkEvent)
+    → (deliveries : List LinkEvent) × Each IsDelivery deliveries
     × (let v = run c d deliveries (run c d events begin) in (v.out ≡ []) × (v.back ≡ []))

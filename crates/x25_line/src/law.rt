@@ -5,17 +5,17 @@ ghost use Rattle.x25_link.specs.laws.NoteLaw.{TakeHandsUp};
 ghost use Rattle.x25_link.specs.laws.BusyLaw.{BusyLaws};
 ghost use Rattle.x25_line.specs.laws.LawsBelow.{HealingLaws};
 ghost use Rattle.x25_line.specs.laws.StationClaims.{Always, BothInOrder, BothHaveTheirLists, BothNoteTheirEnds};
-ghost use Rattle.x25_line.specs.laws.StationClaims.{NoFrmrSent, AllSentAreWhole, OneLinkUnlessConnected};
+ghost use Rattle.x25_line.specs.laws.StationClaims.{NoFrmrSent, AllSentAreWhole};
 ghost use Rattle.x25_line.specs.laws.StationClaims.{EachEventHandsOne};
 ghost use Rattle.x25_line.specs.laws.PeerClaims.{WithAnyPeer, WithAnyLapbPeer, OnAnySilentTape};
 ghost use Rattle.x25_line.specs.laws.PeerClaims.{KeepsOrder, FindsNoFault};
-ghost use Rattle.x25_line.specs.laws.WholeNumbers.{MachineGoesAlong, OnceStaysOnce};
 ghost use Rattle.x25_line.specs.laws.SessionClaims.{Throughout, MeetInStep, MetAreInOrder, UnmetHandNothingUp};
 ghost use Rattle.x25_line.specs.laws.SessionClaims.{OnlyBegunHaveLists, EachUpStands, EachHearsLatest, EachMeetsLatest};
 ghost use Rattle.x25_line.specs.laws.SessionClaims.{IdleHasArrived, NoSessionSendsFrmr, AllSessionsSendWhole};
 ghost use Rattle.x25_line.specs.laws.SessionClaims.{SessionsAreStations, SetUpIsTheStart};
 ghost use Rattle.x25_line.specs.laws.SessionNumbers.{StandingGoesAlong};
 ghost use Rattle.x25_line.specs.laws.SessionEvents.{EachEventHandsInSession, EachEventMeetsLatest};
+ghost use Rattle.x25_line.specs.laws.SessionEvents.{NoneBeginUnasked};
 ghost use Rattle.x25_line.specs.rows.PeerRows.{OddPeerMoves, SilentTapeMoves, TapeTells};
 ghost use Rattle.x25_line.specs.rows.SessionRows.{SetsUpFromNothing, SetsUpAgain};
 ghost use Rattle.x25_line.specs.rows.StationRows.{PacketGoes, PacketsCross, LostComesAgain, DamagedComesAgain};
@@ -48,20 +48,15 @@ pub(crate) fn laws_below()
 /// Connect among them, as long as the link isn't set up anew, by which an end notes LinkUp.
 ///
 /// What one end handed up is a beginning of what the other was handed down, and the same where the giver is idle. What
-/// an end counts as acknowledged was handed up. The window machine that goes on from event to event is behind each
-/// moment, in which a frame on the line keeps the whole numbers that it was given as it was put, and its window holds
-/// all along. No FRMR is ever sent. Each frame ever sent may be spelled, and the packet of an I frame is one that was
-/// handed down. An end that left Up noted why, and then each time that it asked for set-up in vain. Where no Connect is
-/// accepted (`once`), the link is never set up anew, and an end notes one LinkDown at most.
+/// an end counts as acknowledged was handed up. No FRMR is ever sent. Each frame ever sent may be spelled, and the
+/// packet of an I frame is one that was handed down. An end that left Up noted why, and then each time that it asked
+/// for set-up in vain.
 pub fn links_keep_order()
     ensures order { Always BothInOrder }
     ensures lists { Always BothHaveTheirLists }
     ensures notes { Always BothNoteTheirEnds }
-    ensures window { MachineGoesAlong }
     ensures no_frmr { Always NoFrmrSent }
     ensures whole { Always AllSentAreWhole }
-    ensures once { OneLinkUnlessConnected }
-    ensures before { OnceStaysOnce }
 {
     laws_below();
 }
@@ -120,7 +115,8 @@ pub fn peers_move()
 /// An end that is Up hears the latest session of the other end alone, and meets no other. So one event brings one
 /// meeting at most, that of the latest sessions of both ends, and only then a packet may be handed up. Where an end is
 /// idle, and the other is Up too or met its session, all that was handed down in this session was handed up in the
-/// latest session of the other.
+/// latest session of the other. Where no end awaits UA and no SABM is on a line, none begins a session until a Connect
+/// is accepted (`unasked`).
 pub fn sessions_keep_order()
     ensures step { Throughout MeetInStep }
     ensures order { Throughout MetAreInOrder }
@@ -132,6 +128,7 @@ pub fn sessions_keep_order()
     ensures agree { Throughout EachMeetsLatest }
     ensures meets { Throughout EachEventMeetsLatest }
     ensures idle { Throughout IdleHasArrived }
+    ensures unasked { Throughout NoneBeginUnasked }
     ensures no_frmr { Throughout NoSessionSendsFrmr }
     ensures whole { Throughout AllSessionsSendWhole }
 {

@@ -18,7 +18,7 @@ step_in k (Did step) = step
 step_in k (Refused e) = k
 
 refused_did : {A : Type 0} (e : StationError) (step : Step) → Refused e ≡ Did step → A
-refused_did e step is = absurd (subst (λ (o : Outcome). elim o as (λ _. Type 0) [ Did x ↦ ⊥ | Refused y ↦ Unit {0} ]) is tt)
+refused_did e step is = absurd (subst (λ o. elim o as (λ _. Type 0) [ Did x ↦ ⊥ | Refused y ↦ Unit {0} ]) is tt)
 
 -- what something is given beside is no message
 pub suits_asks : (wide : Bool) (g : PlainGiven) (request : LayerRequest) → suits g request ≡ true → may_ask wide request ≡ true
@@ -36,7 +36,7 @@ pub record IsGranted (up taken : Bool) (o : LayerOutcome) (told : List StationEn
   pub entries : step.entries ≡ told
 
 entries_did : (step next : Step) → Did next ≡ Did step → step.entries ≡ next.entries
-entries_did step next is = ap (λ (o : Outcome). (step_in next o).entries) (sym is)
+entries_did step next is = ap (λ o. (step_in next o).entries) (sym is)
 
 pub did_granted : (c : Settings) (s : Station) (request : LayerRequest) (step : Step) → requests c s request ≡ Did step
     → (let o = layer_outcome (layer_settings c) (waits s.link.outgoing == 256) s.layer request in IsGranted (is_up s.link.phase) (may_ask c.wide request) o (entries_of_outcome (layer_settings c) s.layer request o) step)

@@ -3,7 +3,6 @@ use Rattle.std.proofs.Common.{◌≡◌, ℕ, ◌≤◌, List, [], ◌∷◌, �
 use Rattle.std.proofs.lemmas.List.{length-append, drop_all}
 use Rattle.x25_packet.specs.Packet.{PlainPacket}
 use Rattle.x25_line.specs.{laws.Said.{Said, Tells, Odd}, laws.Peer.{Peer, MaySay, MayMake, hearing, taking}}
-use Rattle.x25_layer.specs.{Layer.{LayerNotice}, laws.Transcript.{Entry}}
 use Rattle.x25_station.specs.{Config.{Settings}, Entry.{StationEntry, in_layer, notice_in, layer_entries, layer_notices}, laws.ReadLaw.{AreReadable}}
 use Rattle.x25_peer.specs.laws.BesideSessions.{read_by, ReadAs}
 use Rattle.x25_peer.proofs.sessions.LinkSteps.{AreReadBack}
@@ -12,11 +11,11 @@ use Rattle.x25_peer.proofs.sessions.LinkSteps.{AreReadBack}
 
 pub layer_append : (xs ys : List StationEntry) → layer_entries (xs ++ ys) ≡ layer_entries xs ++ layer_entries ys
 layer_append [] ys = refl
-layer_append (x ∷ xs) ys = ap (λ (es : List Entry). in_layer x ++ es) (layer_append xs ys) ∙ sym (append_assoc (in_layer x) (layer_entries xs) (layer_entries ys))
+layer_append (x ∷ xs) ys = ap (λ es. in_layer x ++ es) (layer_append xs ys) ∙ sym (append_assoc (in_layer x) (layer_entries xs) (layer_entries ys))
 
 pub notices_append : (xs ys : List StationEntry) → layer_notices (xs ++ ys) ≡ layer_notices xs ++ layer_notices ys
 notices_append [] ys = refl
-notices_append (x ∷ xs) ys = ap (λ (ns : List LayerNotice). notice_in x ++ ns) (notices_append xs ys) ∙ sym (append_assoc (notice_in x) (layer_notices xs) (layer_notices ys))
+notices_append (x ∷ xs) ys = ap (λ ns. notice_in x ++ ns) (notices_append xs ys) ∙ sym (append_assoc (notice_in x) (layer_notices xs) (layer_notices ys))
 
 pub readable_behind : (wide long_data : Bool) (xs ys : List PlainPacket) → AreReadable wide long_data (xs ++ ys) → AreReadable wide long_data ys
 readable_behind wide long_data [] ys h = h
@@ -52,14 +51,14 @@ first_front c (o ∷ os) rest (p ∷ ps) h = (h.0, first_front c os rest ps h.1)
 pub first_length : (c : Settings) (os : List (List ℕ)) (ps : List PlainPacket) → ReadFirst c os ps → length os ≤ length ps
 first_length c [] ps h = omega (arith)
 first_length c (o ∷ os) [] h = absurd h
-first_length c (o ∷ os) (p ∷ ps) h = let low : length os ≤ length ps = first_length c os ps h.1 in omega (arith, low)
+first_length c (o ∷ os) (p ∷ ps) h = omega (arith, first_length c os ps h.1)
 
 -- of those that our layer put none is left
 pub none_left : (c : Settings) (n : ℕ) (taken : List (List ℕ)) (given : List PlainPacket) → n ≡ length taken → ReadAs c taken given → drop n given ≡ []
 none_left c n [] [] all h = drop_all n [] (omega (arith))
 none_left c n [] (g ∷ given) all h = absurd h
 none_left c n (t ∷ taken) [] all h = absurd h
-none_left c n (t ∷ taken) (g ∷ given) all h = ap (λ (k : ℕ). drop k (g ∷ given)) all ∙ none_left c (length taken) taken given refl h.1
+none_left c n (t ∷ taken) (g ∷ given) all h = ap (λ k. drop k (g ∷ given)) all ∙ none_left c (length taken) taken given refl h.1
 
 -- the next of what is read
 pub record Next (c : Settings) (o : List ℕ) (ahead behind : List PlainPacket) : Type 0 where
@@ -67,11 +66,11 @@ pub record Next (c : Settings) (o : List ℕ) (ahead behind : List PlainPacket) 
   pub front : ahead ≡ packet ∷ behind
   pub reads : read_by c o ≡ Ok packet
 
-pub next_read : (c : Settings) (up : List (List ℕ)) (o : List ℕ) (rest : List (List ℕ)) (ps : List PlainPacket) → ReadAs c ((up ++ o ∷ []) ++ rest) ps → Next c o (drop (length up) ps) (drop (length (up ++ o ∷ [])) ps)
-next_read c [] o rest [] h = absurd h
-next_read c [] o rest (p ∷ ps) h = record { packet = p; front = refl; reads = h.0 }
-next_read c (u ∷ up) o rest [] h = absurd h
-next_read c (u ∷ up) o rest (p ∷ ps) h = next_read c up o rest ps h.1
+pub next_read : {c : Settings} (up : List (List ℕ)) (o : List ℕ) (rest : List (List ℕ)) (ps : List PlainPacket) → ReadAs c ((up ++ o ∷ []) ++ rest) ps → Next c o (drop (length up) ps) (drop (length (up ++ o ∷ [])) ps)
+next_read [] o rest [] h = absurd h
+next_read [] o rest (p ∷ ps) h = record { packet = p; front = refl; reads = h.0 }
+next_read (u ∷ up) o rest [] h = absurd h
+next_read {c} (u ∷ up) o rest (p ∷ ps) h = next_read up o rest ps h.1
 
 pub ok_same : {E : Type 0} (p q : PlainPacket) (x : Result PlainPacket E) → x ≡ Ok p → x ≡ Ok q → p ≡ q
 ok_same p q x e f = cc
@@ -82,7 +81,7 @@ pub said_same : (p q : Peer) (s : Said) → MaySay ⊥ p s q → (q.given ≡ p.
 said_same p q s may = by s may
   where
     is : (x : Peer) → x.given ≡ p.given → x.taken ≡ p.taken → q ≡ x → (q.given ≡ p.given) × (q.taken ≡ p.taken)
-    is x given taken e = (ap (λ (y : Peer). y.given) e ∙ given, ap (λ (y : Peer). y.taken) e ∙ taken)
+    is x given taken e = (ap (λ y. y.given) e ∙ given, ap (λ y. y.taken) e ∙ taken)
 
     by : (s : Said) → MaySay ⊥ p s q → (q.given ≡ p.given) × (q.taken ≡ p.taken)
     by (Tells None nr) m = is _ refl refl m.2
@@ -101,8 +100,8 @@ hears_more p true false nr packet = record { given = refl; taken = omega (arith)
 hears_more p false true nr packet = (let longer = length-append p.taken (packet ∷ []) in record { given = refl; taken = omega (arith, longer) })
 hears_more p false false nr packet = record { given = refl; taken = omega (arith) }
 
-pub made_more : (p q : Peer) (s : Said) → MayMake p s q → HearsMore p q
-made_more p q s m = by s m
+pub made_more : {p q : Peer} (s : Said) → MayMake p s q → HearsMore p q
+made_more {p} {q} s m = by s m
   where
     is : (x : Peer) → HearsMore p x → q ≡ x → HearsMore p q
     is x more e = subst (HearsMore p) (sym e) more

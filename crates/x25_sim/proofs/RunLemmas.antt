@@ -16,7 +16,7 @@ use Rattle.std.specs.Option.{unwrap_or}
 use Rattle.x25_script.specs.Reading.{line_in}
 use Rattle.x25_script.specs.laws.ReadingLaw.{IsOctet, PartInOctets, AsksInOctets, IsInOctets, ReadsOctets}
 use Rattle.x25_io.specs.Lines.{lines_of}
-use Rattle.x25_world.specs.World.{World, OnTap, AtEnd, swapped, Act, Commands, Receives, Fires, Loses, Damages, Event, WorldOutcome, Happened, Declined, of_station, delivered, on_line, is_on_line, acts, swapped_back, acts_at, happens, refusal_of, after, run, AreAccepted, start, connected, established}
+use Rattle.x25_world.specs.World.{World, OnTap, AtEnd, mirrored, Act, Commands, Receives, Fires, Loses, Damages, Event, WorldOutcome, Happened, Declined, of_station, delivered, on_line, is_on_line, acts, swapped_back, acts_at, happens, refusal_of, after, run, AreAccepted, start, connected, established}
 use Rattle.x25_world.specs.declared.error.WorldError.{WorldError}
 use Rattle.x25_world.specs.laws.Claims.{ActsInOctets, AreInOctets, IsUpOnce, IsUpAtMostOnce, IsBeginning, IsNoConnect, NoneConnects, UpOnceUnlessConnected, UntilSecondUp}
 use Rattle.x25_world.specs.laws.SessionClaims.{Throughout, ThroughoutAlong}
@@ -64,13 +64,13 @@ by_act c w (Loses place) = chosen w (nat_lt place (length w.back)) _ _ (as_it_wa
 by_act c w (Damages place octets) = chosen w (nat_lt place (length w.back)) _ _
     (chosen w (is_visible octets) _ _ (as_it_was w (replaced w.back place octets)) tt) tt
 
-from_back : (w : World) (o : WorldOutcome) → GrowsTo (swapped w) o → GrowsTo w (swapped_back o)
+from_back : (w : World) (o : WorldOutcome) → GrowsTo (mirrored w) o → GrowsTo w (swapped_back o)
 from_back w (Happened next) h = record { entries = h.entries; frames = h.frames; transcript = h.transcript; tap = h.tap }
 from_back w (Declined error) h = tt
 
 by_event : (cfg : Cfg) (w : World) (at : Role) (act : Act) → GrowsTo w (acts_at cfg w at act)
 by_event cfg w Dte act = by_act (settings_from Dte cfg) w act
-by_event cfg w Dce act = from_back w (acts (settings_from Dce cfg) (swapped w) act) (by_act (settings_from Dce cfg) (swapped w) act)
+by_event cfg w Dce act = from_back w (acts (settings_from Dce cfg) (mirrored w) act) (by_act (settings_from Dce cfg) (mirrored w) act)
 
 -- ---- what is said
 

@@ -2,7 +2,7 @@
 use Rattle.std.proofs.Common.{◌≡◌, ℕ, List, [], ◌∷◌, ◌++◌, Option, Some, None, Bool, true, false, ◌==◌, if◌then◌else◌, refl, sym, subst, append-nil}
 use Rattle.std.proofs.lemmas.Bool.{eqb-true, cond_both}
 use Rattle.x25_packet.specs.{Packet.{PlainPacket, restart, restart_conf}, Spelling.{channel_of}}
-use Rattle.x25_circuit.specs.{Circuit.{Circuit, is_open}, Hearing.{answers}, Calling.{Outcome, Done, Refused, Calls, outcome, pulled}, Cause.{may_restart_for}}
+use Rattle.x25_circuit.specs.{Circuit.{Circuit, is_open}, Hearing.{answers}, Calling.{Outcome, Done, Refused, Calls, outcome}, Cause.{may_restart_for}}
 use Rattle.x25_layer.specs.{Ranges.{is_channel}, Layer.{LayerSettings, Layer, put_at, answers_on, drops, answers_in, layer_answers, restarting_from}}
 use Rattle.x25_layer.specs.Calls.{LayerRequest, Asks, Dials, Restarts, PullsAll, LayerOutcome, Accepted, Declined, puts_at_once, where_room, if_at_once, outcome_on, dialled, free_channel, outcome_ready, outcome_in, layer_outcome, layer_pulled}
 use Rattle.x25_layer.specs.{declared.error.LayerError.{LayerError}, laws.Transcript.{Entry}}
@@ -19,9 +19,9 @@ pub record LayerGoes (R : Circuit → Circuit → Type 0) (l next : Layer) (k : 
   pub restarts : is_open (next.circuits k) ≡ true → next.restarts ≡ l.restarts
 
 -- the circuit of a channel alone goes on
-put_goes : (R : Circuit → Circuit → Type 0) → ((x : Circuit) → R x x) → (circuits : ℕ → Circuit) (h k : ℕ) (y : Circuit) → R (circuits h) y → R (circuits k) (put_at circuits h y k)
-put_goes R stays circuits h k y goes =
-    cond_both (k == h) y (circuits k) (λ (x : Circuit). R (circuits k) x) (λ is. subst (λ (j : ℕ). R (circuits j) y) (sym (eqb-true k h is)) goes) (λ _. stays (circuits k))
+put_goes : (R : Circuit → Circuit → Type 0) → ((x : Circuit) → R x x) → (circuits : ℕ → Circuit) (h k : ℕ) {y : Circuit} → R (circuits h) y → R (circuits k) (put_at circuits h y k)
+put_goes R stays circuits h k {y} goes =
+    cond_both (k == h) y (circuits k) (λ x. R (circuits k) x) (λ is. subst (λ j. R (circuits j) y) (sym (eqb-true k h is)) goes) (λ _. stays (circuits k))
 
 module _ (c : LayerSettings) (l : Layer) (k : ℕ) where
   abbrev Heard : Layer → Type 0
@@ -33,7 +33,7 @@ module _ (c : LayerSettings) (l : Layer) (k : ℕ) where
   -- ---- a packet
 
   packet_on : (h : ℕ) (p : PlainPacket) (b : Bool) → Heard (if b then answers_on l.restarts l.circuits h (answers c.circuit (l.circuits h) p) else drops false l.restarts l.circuits).next
-  packet_on h p true = record { circuit = put_goes AfterPacket stays_heard l.circuits h k (answers c.circuit (l.circuits h) p).next (packet_heard c.circuit (l.circuits h) p); restarts = λ is. refl }
+  packet_on h p true = record { circuit = put_goes AfterPacket stays_heard l.circuits h k (packet_heard c.circuit (l.circuits h) p); restarts = λ is. refl }
   packet_on h p false = record { circuit = stays_heard (l.circuits k); restarts = λ is. refl }
 
   pub layer_heard : (p : PlainPacket) → Heard (layer_answers c l p).next
@@ -66,7 +66,7 @@ module _ (c : LayerSettings) (l : Layer) (k : ℕ) where
   at_once_called false full o h = h
 
   on_called : (h : ℕ) (o : Outcome) → AfterOutcome (l.circuits h) o → AfterLayerOutcome (outcome_on l.restarts l.circuits h o)
-  on_called h (Done next packet) goes = record { circuit = put_goes AfterCall stays_called l.circuits h k next goes; restarts = λ is. refl }
+  on_called h (Done next packet) goes = record { circuit = put_goes AfterCall stays_called l.circuits h k goes; restarts = λ is. refl }
   on_called h (Refused e) goes = tt
 
   request_called : (full : Bool) (request : LayerRequest) → AfterLayerOutcome (outcome_ready c full l.restarts l.circuits request)
@@ -95,7 +95,7 @@ module _ (c : LayerSettings) (l : Layer) (k : ℕ) where
   layer_stays = record { circuit = stays_called (l.circuits k); restarts = λ is. refl }
 
   layer_pulls : (h : ℕ) → Called (layer_pulled c l h).next
-  layer_pulls h = record { circuit = put_goes AfterCall stays_called l.circuits h k (pulled c.circuit (l.circuits h)).next (pulled_called c.circuit (l.circuits h)); restarts = λ is. refl }
+  layer_pulls h = record { circuit = put_goes AfterCall stays_called l.circuits h k (pulled_called c.circuit (l.circuits h)); restarts = λ is. refl }
 
 -- ---- an end
 

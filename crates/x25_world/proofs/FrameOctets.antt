@@ -17,14 +17,14 @@ bound (suc n) = 2 * bound n
 number_below : (bits : List Bool) → number_of bits < bound (length bits)
 unfolding number_of
 number_below [] = omega arith
-number_below (true ∷ bits) = let h = number_below bits in omega (arith, h)
-number_below (false ∷ bits) = let h = number_below bits in omega (arith, h)
+number_below (true ∷ bits) = omega (arith, number_below bits)
+number_below (false ∷ bits) = omega (arith, number_below bits)
 
 length_add : (p q : List Bool) → length p ≤ length q → length (add p q) ≡ length q
 unfolding add
 length_add [] q few = refl
 length_add (a ∷ p) [] few = absurd (omega (arith, few))
-length_add (a ∷ p) (b ∷ q) few = let h = length_add p q (omega (arith, few)) in omega (arith, h)
+length_add (a ∷ p) (b ∷ q) few = omega (arith, length_add p q (omega (arith, few)))
 
 length_divisor : length divisor ≡ 16
 unfolding divisor
@@ -35,33 +35,25 @@ unfolding divided
 length_divided zero p e = omega (arith, e)
 length_divided (suc n) [] e = absurd (omega (arith, e))
 length_divided (suc n) (true ∷ p) e =
-    let d = length_divisor in
-    let h = length_add divisor p (omega (arith, d, e)) in
-    length_divided n (add divisor p) (omega (arith, h, e))
+    length_divided n (add divisor p) (omega (arith, length_add divisor p (omega (arith, length_divisor, e)), e))
 length_divided (suc n) (false ∷ p) e = length_divided n p (omega (arith, e))
 
 length_parts : (n : ℕ) (q : List Bool) → length (take n q) + length (drop n q) ≡ length q
 length_parts zero q = omega arith
 length_parts (suc n) [] = omega arith
-length_parts (suc n) (b ∷ q) = let h = length_parts n q in omega (arith, h)
+length_parts (suc n) (b ∷ q) = omega (arith, length_parts n q)
 
 length_inverted : (q : List Bool) → length (inverted q) ≡ length q
 length_inverted q =
-    let a = length-append (map not (take 16 q)) (drop 16 q) in
-    let b = length-map (take 16 q) not in
-    let c = length_parts 16 q in
-    omega (arith, a, b, c)
+    omega (arith, length-append (map not (take 16 q)) (drop 16 q), length-map (take 16 q) not, length_parts 16 q)
 
 fcs_below : (octets : List ℕ) → fcs_of octets < 65536
 unfolding fcs_of
 fcs_below octets =
     let q = bits_of octets ++ replicate 16 false in
     let p = inverted q in
-    let a = length-append (bits_of octets) (replicate 16 false) in
-    let b = length-replicate 16 false in
-    let c = length_inverted q in
-    let few = length_divided (length p - 16) p (omega (arith, a, b, c)) in
-    subst (λ (n : ℕ). number_of (map not (remainder p)) < bound n) (length-map (remainder p) not ∙ few) (number_below (map not (remainder p)))
+    let few = length_divided (length p - 16) p (omega (arith, length-append (bits_of octets) (replicate 16 false), length-replicate 16 false, length_inverted q)) in
+    subst (λ n. number_of (map not (remainder p)) < bound n) (length-map (remainder p) not ∙ few) (number_below (map not (remainder p)))
 
 -- ---- frames
 
@@ -70,15 +62,15 @@ bit_low true = omega arith
 bit_low false = omega arith
 
 control_below : (v : PlainFrame) → IsInRange v → control_of v < 256
-control_below (info ns nr p x) h = let b = bit_low p in omega (arith, b, h.0, h.1)
-control_below (rr command nr pf) h = let b = bit_low pf in omega (arith, b, h)
-control_below (rnr command nr pf) h = let b = bit_low pf in omega (arith, b, h)
-control_below (rej command nr pf) h = let b = bit_low pf in omega (arith, b, h)
-control_below (sabm p) h = let b = bit_low p in omega (arith, b)
-control_below (disc p) h = let b = bit_low p in omega (arith, b)
-control_below (ua f) h = let b = bit_low f in omega (arith, b)
-control_below (dm f) h = let b = bit_low f in omega (arith, b)
-control_below (frmr f why) h = let b = bit_low f in omega (arith, b)
+control_below (info ns nr p x) h = omega (arith, bit_low p, h.0, h.1)
+control_below (rr command nr pf) h = omega (arith, bit_low pf, h)
+control_below (rnr command nr pf) h = omega (arith, bit_low pf, h)
+control_below (rej command nr pf) h = omega (arith, bit_low pf, h)
+control_below (sabm p) h = omega (arith, bit_low p)
+control_below (disc p) h = omega (arith, bit_low p)
+control_below (ua f) h = omega (arith, bit_low f)
+control_below (dm f) h = omega (arith, bit_low f)
+control_below (frmr f why) h = omega (arith, bit_low f)
 
 address_below : (from : Role) (command : Bool) → address_of from command < 256
 address_below Dte true = omega arith
@@ -96,8 +88,7 @@ IsOctet octet = octet < 256
 
 sealed_octets : (body : List ℕ) → AreOctets body → AreOctets (body ++ seal_of body)
 sealed_octets body h =
-    let few = fcs_below body in
-    All-append IsOctet body (seal_of body) h (All-cons IsOctet (fcs_of body % 256) (fcs_of body / 256 ∷ []) (omega arith) (All-cons IsOctet (fcs_of body / 256) [] (omega (arith, few)) (All-nil IsOctet)))
+    All-append IsOctet body (seal_of body) h (All-cons IsOctet (fcs_of body % 256) (fcs_of body / 256 ∷ []) (omega arith) (All-cons IsOctet (fcs_of body / 256) [] (omega (arith, fcs_below body)) (All-nil IsOctet)))
 
 pub spelled_of_frame : (from : Role) (v : PlainFrame) → IsInRange v → MayCarry v (information_of v) → IsWithin longest_packet v (information_of v) → AreOctets (information_of v) → AreOfFrame (spelling_of from v)
 spelled_of_frame from v in_range carries within h = record {
@@ -106,4 +97,4 @@ spelled_of_frame from v in_range carries within h = record {
 }
   where
     by : length (spelling_of from v) ≤ 4103
-    by = let few = information_short v carries within in let all = length-append (body_of from v) (seal_of (body_of from v)) in omega (arith, few, all)
+    by = omega (arith, information_short v carries within, length-append (body_of from v) (seal_of (body_of from v)))

@@ -35,11 +35,11 @@ nothing_read cfg (o ∷ octets) none = absurd (cc)
 
 pub grown : (cfg : Cfg) (xs xs₂ os : List (List ℕ)) (ps ps₂ qs : List PlainPacket) → all_read cfg xs ≡ as_read ps → xs₂ ≡ xs ++ os → all_read cfg os ≡ as_read qs → ps₂ ≡ ps ++ qs → all_read cfg xs₂ ≡ as_read ps₂
 grown cfg xs xs₂ os ps ps₂ qs same more reads more_packets =
-    ap (all_read cfg) more ∙ map-append (read_by cfg) xs os ∙ ap₂ (λ (a b : List (Result PlainPacket PacketError)). a ++ b) same reads
+    ap (all_read cfg) more ∙ map-append (read_by cfg) xs os ∙ ap₂ (λ a b. a ++ b) same reads
     ∙ sym (map-append is_read ps qs) ∙ ap as_read (sym more_packets)
 
 pub as_many : (ps qs : List PlainPacket) → as_read ps ≡ as_read qs → length ps ≡ length qs
-as_many ps qs same = sym (length-map ps is_read) ∙ ap (λ (l : List (Result PlainPacket PacketError)). length l) same ∙ length-map qs is_read
+as_many ps qs same = sym (length-map ps is_read) ∙ ap (λ l. length l) same ∙ length-map qs is_read
 
 -- the first of them
 pub first_read : (r s : Result PlainPacket PacketError) (rs ss : List (Result PlainPacket PacketError)) → r ∷ rs ≡ s ∷ ss → r ≡ s
@@ -68,13 +68,13 @@ octets_in (o ∷ os) all octets (suc k, low, is) = octets_in os all.1 octets (k,
 pub entries_append : (end : Role) (xs ys : List AtEnd) → entries_at end (xs ++ ys) ≡ entries_at end xs ++ entries_at end ys
 entries_append end [] ys = refl
 entries_append end (x ∷ xs) ys =
-    ap (λ (es : List StationEntry). entry_of_end end x.at x.entry ++ es) (entries_append end xs ys)
+    ap (λ es. entry_of_end end x.at x.entry ++ es) (entries_append end xs ys)
     ∙ sym (append_assoc (entry_of_end end x.at x.entry) (entries_at end xs) (entries_at end ys))
 
 pub own_entries : (end : Role) (entries : List StationEntry) → entries_at end (entered end entries) ≡ entries
 own_entries end [] = refl
-own_entries Dte (e ∷ entries) = ap (λ (es : List StationEntry). e ∷ es) (own_entries Dte entries)
-own_entries Dce (e ∷ entries) = ap (λ (es : List StationEntry). e ∷ es) (own_entries Dce entries)
+own_entries Dte (e ∷ entries) = ap (λ es. e ∷ es) (own_entries Dte entries)
+own_entries Dce (e ∷ entries) = ap (λ es. e ∷ es) (own_entries Dce entries)
 
 pub no_entries : (end : Role) (entries : List StationEntry) → entries_at (other end) (entered end entries) ≡ []
 no_entries end [] = refl
@@ -82,11 +82,11 @@ no_entries Dte (e ∷ entries) = no_entries Dte entries
 no_entries Dce (e ∷ entries) = no_entries Dce entries
 
 pub entries_more : (end : Role) (transcript : List AtEnd) (entries : List StationEntry) → entries_at end (transcript ++ entered end entries) ≡ entries_at end transcript ++ entries
-entries_more end transcript entries = entries_append end transcript (entered end entries) ∙ ap (λ (es : List StationEntry). entries_at end transcript ++ es) (own_entries end entries)
+entries_more end transcript entries = entries_append end transcript (entered end entries) ∙ ap (λ es. entries_at end transcript ++ es) (own_entries end entries)
 
 pub entries_other : (end : Role) (transcript : List AtEnd) (entries : List StationEntry) → entries_at (other end) (transcript ++ entered end entries) ≡ entries_at (other end) transcript
 entries_other end transcript entries =
-    entries_append (other end) transcript (entered end entries) ∙ ap (λ (es : List StationEntry). entries_at (other end) transcript ++ es) (no_entries end entries)
+    entries_append (other end) transcript (entered end entries) ∙ ap (λ es. entries_at (other end) transcript ++ es) (no_entries end entries)
     ∙ append-nil (entries_at (other end) transcript)
 
 -- ---- a tap that grows
@@ -105,7 +105,7 @@ on_tap from (t ∷ tap) (s ∷ sent) frames h = (h.0, on_tap from tap sent frame
 on_tap from tap sent frames h = absurd h
 
 pub octets_put : (es : List Entry) (session : ℕ) (from : Role) (frames : List PlainFrame) → octets_of (es ++ sent_in session from frames) ≡ octets_of es ++ map (spelling_of from) frames
-octets_put es session from frames = octets_append es (sent_in session from frames) ∙ ap (λ (l : List (List ℕ)). octets_of es ++ l) (octets_sent session from frames)
+octets_put es session from frames = octets_append es (sent_in session from frames) ∙ ap (λ l. octets_of es ++ l) (octets_sent session from frames)
 
 -- octets on the line are those of an entry
 pub record FrontEntry (front : List ℕ) (behind : List (List ℕ)) (es : List Entry) : Type 0 where
@@ -130,7 +130,7 @@ front_entry octets back (e ∷ es) same = record { entry = e; others = es; is = 
 -- what the other end reads back
 pub back_read : (cfg : Cfg) (os : List (List ℕ)) (ps : List PlainPacket) → AreReadBack cfg.wide cfg.long_data os ps → all_read cfg os ≡ as_read ps
 back_read cfg [] [] h = refl
-back_read cfg (o ∷ os) (p ∷ ps) h = ap₂ (λ (r : Result PlainPacket PacketError) (rs : List (Result PlainPacket PacketError)). r ∷ rs) h.0.reads (back_read cfg os ps h.1)
+back_read cfg (o ∷ os) (p ∷ ps) h = ap₂ (λ r rs. r ∷ rs) h.0.reads (back_read cfg os ps h.1)
 back_read cfg os ps h = absurd h
 
 pub back_octets : (cfg : Cfg) (os : List (List ℕ)) (ps : List PlainPacket) → AreReadBack cfg.wide cfg.long_data os ps → AllAreOctets os

@@ -1,10 +1,9 @@
 -- What rest shows at a world of two stations; and how its two links heal, while the layers put nothing.
-use Rattle.std.proofs.Common.{◌≡◌, ℕ, List, [], ◌∷◌, ◌++◌, map, Bool, true, false, ◌&&◌, if◌then◌else◌, Option, Some, None, refl, sym, ap, ◌∙◌, subst, suc, length, ◌≤◌, inl}
+use Rattle.std.proofs.Common.{◌≡◌, ℕ, List, [], ◌∷◌, ◌++◌, map, true, false, ◌&&◌, if◌then◌else◌, Option, Some, None, refl, sym, ap, ◌∙◌, subst, suc, length, ◌≤◌, inl}
 use Rattle.std.proofs.lemmas.Bool.{eq-eqb, and_from}
 use Rattle.std.specs.Prelude.{◌==◌}
 use Rattle.x25_bits.specs.{declared.role.Role.{Role}, declared.role.Role.TheVariants.{Dte, Dce}}
 use Rattle.x25_frame.specs.Spelling.{spelling_of}
-use Rattle.x25_packet.specs.Packet.{PlainPacket}
 use Rattle.x25_line.specs.{laws.Sessions.{Meeting, Sessions, from_nothing, begun_by, IsTimely, AreTimely}, laws.SessionNumbers.{standing_run, standing_at}}
 use Rattle.x25_line.specs.laws.SessionClaims.{Each, octets_of}
 use Rattle.x25_line.specs.Healing.{IsDelivery, EachRestShows, IsAtRestOrOut, HasTries, OneIsFree, EachSessionHeals, SessionsHealUnlessBothBusy, FindsIn, EachFindsIn, SessionsDrainEnd}
@@ -12,7 +11,7 @@ use Rattle.x25_layer.specs.{code.FitsLayer.{waits_up_to}, laws.Law.{HasAllOf}}
 use Rattle.x25_handshakes.specs.laws.Names.{Name}
 use Rattle.x25_station.specs.{declared.config.Cfg.{Cfg}, Config.{Settings, settings_from, link_settings, layer_settings}, Station.{all_put, view_of}}
 use Rattle.x25_station.specs.{Step.{follows, layer_at, unless, fires}, laws.KeepLaw.{ConnectKeeps}, Station.Told.{stretch}}
-use Rattle.x25_world.specs.World.{World, swapped, Declined, Receives, acts, delivered, fired, of_station, is_on_line, after, after_step, happens, refusal_of, run, AreAccepted}
+use Rattle.x25_world.specs.World.{World, mirrored, Declined, Receives, acts, delivered, fired, of_station, is_on_line, after, after_step, happens, refusal_of, run, AreAccepted}
 use Rattle.x25_world.specs.{laws.Claims.{link_of, station_at}, laws.LawsBelow.{SessionLaws}, laws.SessionClaims.{Throughout, AllArrive}}
 use Rattle.x25_world.specs.{laws.SessionWindow.{at_end}, laws.Sessions.{last_session, handed_in}}
 use Rattle.x25_world.specs.Healing.{IsDrained, receipt, all_received, firing, AreLinksOf, StopsAtRest, RestShows, PutsNothing, PutsNothingAt, NonePut, Heals, MayHeal, HealsWhereNonePut, DrainsWhereNonePut}
@@ -36,12 +35,12 @@ pub record Alike (w : World) (v : Sessions) : Type 0 where
   pub out : octets_of v.out ≡ w.out
   pub back : octets_of v.back ≡ w.back
 
-pub turned : (w : World) (v : Sessions) → Alike w v → Alike (swapped w) (links.swapped v)
-turned w v h = record { near = h.far; far = h.near; out = h.back; back = h.out }
+pub turned : {w : World} {v : Sessions} → Alike w v → Alike (mirrored w) (links.swapped v)
+turned h = record { near = h.far; far = h.near; out = h.back; back = h.out }
 
 -- ---- timer T1 hands nothing up and notes no LinkUp, so the layer puts nothing
 
-module _ (c : Settings) (w : World) (v : Sessions) (h : Alike w v) where
+module _ (c : Settings) {w : World} {v : Sessions} (h : Alike w v) where
   -- a step of the near link behind which its layer puts nothing
   step_alike : (rest : List links.Entry) (left : List (List ℕ)) (met : List Meeting) (k : LinkStep) → octets_of rest ≡ left
       → (layer_at (view_of (link_settings c) k.side.near) (layer_settings c) c.wide w.near.layer k.packet k.notes.down k.notes.up).put ≡ []
@@ -49,32 +48,32 @@ module _ (c : Settings) (w : World) (v : Sessions) (h : Alike w v) where
   step_alike rest left met k is none =
       let session = begun_by k.notes.up v.near.begun in
       record {
-        near = ap (λ (ps : List PlainPacket). (all_put (link_settings c) ps k.side).near) (sym none);
+        near = ap (λ ps. (all_put (link_settings c) ps k.side).near) (sym none);
         far = h.far;
         out = octets_put v.out session c.role k.side.out
-            ∙ ap (λ (os : List (List ℕ)). os ++ map (spelling_of c.role) k.side.out) h.out
-            ∙ ap (λ (ps : List PlainPacket). w.out ++ map (spelling_of c.role) (all_put (link_settings c) ps k.side).out) (sym none);
+            ∙ ap (λ os. os ++ map (spelling_of c.role) k.side.out) h.out
+            ∙ ap (λ ps. w.out ++ map (spelling_of c.role) (all_put (link_settings c) ps k.side).out) (sym none);
         back = is;
       }
 
   -- the front octets come
   received_alike : PutsNothing c w.near w.back → Alike (after w (delivered c w w.back)) (links.acts (link_settings c) line.Deliver v)
-  received_alike none = subst (λ (os : List (List ℕ)). Alike (after w (delivered c w os)) (links.acts (link_settings c) line.Deliver v)) h.back (by v.back (subst (PutsNothing c w.near) (sym h.back) none))
+  received_alike none = subst (λ os. Alike (after w (delivered c w os)) (links.acts (link_settings c) line.Deliver v)) h.back (by v.back (subst (PutsNothing c w.near) (sym h.back) none))
     where
       by : (es : List links.Entry) → PutsNothing c w.near (octets_of es) → Alike (after w (delivered c w (octets_of es))) (links.delivered (link_settings c) es v)
       by [] none = h
       by (e ∷ es) none =
           let lc = link_settings c in
           let k = take_step lc e.octets w.near.link in
-          subst (λ (b : Bool). Alike (after_step c w (octets_of es) (follows c w.near.layer (if b then abandon_step lc w.near.link else k))) (links.delivered lc (e ∷ es) v)) (sym none.0)
-          (subst (λ (s : LinkStation). Alike (after_step c w (octets_of es) (follows c w.near.layer k)) (links.after_step lc v es (links.delivered lc (e ∷ es) v).met [] (take_step lc e.octets s))) (sym h.near)
+          subst (λ b. Alike (after_step c w (octets_of es) (follows c w.near.layer (if b then abandon_step lc w.near.link else k))) (links.delivered lc (e ∷ es) v)) (sym none.0)
+          (subst (λ s. Alike (after_step c w (octets_of es) (follows c w.near.layer k)) (links.after_step lc v es (links.delivered lc (e ∷ es) v).met [] (take_step lc e.octets s))) (sym h.near)
           (step_alike es (octets_of es) (links.delivered lc (e ∷ es) v).met k refl none.1))
 
   -- timer T1 runs out, which isn't refused while UA isn't awaited but as the link's
   fired_alike : awaits_ua w.near.link.phase ≡ false → Alike (after w (fired c w)) (links.acts (link_settings c) line.T1 v)
   fired_alike not_awaited =
-      subst (λ (b : Bool). Alike (after w (if b && is_on_line c w then Declined error.OnLine else of_station c w (fires c w.near))) (links.acts (link_settings c) line.T1 v)) (sym not_awaited)
-      (subst (λ (s : LinkStation). Alike (after w (of_station c w (fires c w.near))) (links.unless (timer_refusal s) v (links.after_step (link_settings c) v v.back v.met [] (timer_step (link_settings c) s)))) (sym h.near)
+      subst (λ b. Alike (after w (if b && is_on_line c w then Declined error.OnLine else of_station c w (fires c w.near))) (links.acts (link_settings c) line.T1 v)) (sym not_awaited)
+      (subst (λ s. Alike (after w (of_station c w (fires c w.near))) (links.unless (timer_refusal s) v (links.after_step (link_settings c) v v.back v.met [] (timer_step (link_settings c) s)))) (sym h.near)
       (by (timer_refusal w.near.link)))
     where
       k : LinkStep
@@ -93,20 +92,20 @@ c_of cfg = link_of cfg Dte
 abbrev pub d_of : Cfg → LinkSettings
 d_of cfg = link_of cfg Dce
 
-abbrev received : List Role → List line.Event
+abbrev received : List Role → List line.LinkEvent
 received [] = []
 received (at ∷ ends) = at_end at line.Deliver ∷ received ends
 
 receipt_alike : (cfg : Cfg) (at : Role) (w : World) (v : Sessions) → Alike w v → PutsNothingAt cfg at w → Alike (after w (happens cfg w (receipt at))) (links.happens (c_of cfg) (d_of cfg) (at_end at line.Deliver) v)
-receipt_alike cfg Dte w v h none = received_alike (settings_from Dte cfg) w v h none
+receipt_alike cfg Dte w v h none = received_alike (settings_from Dte cfg) h none
 receipt_alike cfg Dce w v h none =
-    let o = acts (settings_from Dce cfg) (swapped w) Receives in
+    let o = acts (settings_from Dce cfg) (mirrored w) Receives in
     let x = links.acts (d_of cfg) line.Deliver (links.swapped v) in
-    subst (λ (z : World). Alike z (links.swapped x)) (sym (back_after w o)) (turned (after (swapped w) o) x (received_alike (settings_from Dce cfg) (swapped w) (links.swapped v) (turned w v h) none))
+    subst (λ z. Alike z (links.swapped x)) (sym (back_after w o)) (turned (received_alike (settings_from Dce cfg) (turned h) none))
 
-all_alike : (cfg : Cfg) (ends : List Role) (w : World) (v : Sessions) → Alike w v → NonePut cfg ends w → Alike (run cfg (all_received ends) w) (links.run (c_of cfg) (d_of cfg) (received ends) v)
-all_alike cfg [] w v h none = h
-all_alike cfg (at ∷ ends) w v h none = all_alike cfg ends (after w (happens cfg w (receipt at))) (links.happens (c_of cfg) (d_of cfg) (at_end at line.Deliver) v) (receipt_alike cfg at w v h none.0) none.1
+all_alike : (cfg : Cfg) (ends : List Role) {w : World} {v : Sessions} → Alike w v → NonePut cfg ends w → Alike (run cfg (all_received ends) w) (links.run (c_of cfg) (d_of cfg) (received ends) v)
+all_alike cfg [] h none = h
+all_alike cfg (at ∷ ends) {w} {v} h none = all_alike cfg ends (receipt_alike cfg at w v h none.0) none.1
 
 are_deliveries : (ends : List Role) → Each IsDelivery (received ends)
 are_deliveries [] = tt
@@ -130,17 +129,17 @@ fires_alone c v = by (timer_refusal v.near.station)
     by None = refl
 
 -- both fire
-pub both_alike : (cfg : Cfg) (w : World) (v : Sessions) → Alike w v → awaits_ua w.near.link.phase ≡ false → awaits_ua w.far.link.phase ≡ false
+pub both_alike : (cfg : Cfg) {w : World} {v : Sessions} → Alike w v → awaits_ua w.near.link.phase ≡ false → awaits_ua w.far.link.phase ≡ false
     → Alike (run cfg (firing Dte ∷ firing Dce ∷ []) w) (links.run (c_of cfg) (d_of cfg) (line.Near line.T1 ∷ line.Far line.T1 ∷ []) v)
-both_alike cfg w v h near_off far_off =
+both_alike cfg {w} {v} h near_off far_off =
     let v1 = links.acts (c_of cfg) line.T1 v in
     let w1 = after w (fired (settings_from Dte cfg) w) in
-    let h1 : Alike w1 v1 = fired_alike (settings_from Dte cfg) w v h near_off in
-    let same : w1.far.link ≡ w.far.link = sym h1.far ∙ ap (λ (e : links.SessionEnd). e.station) (fires_alone (c_of cfg) v) ∙ h.far in
-    let o = fired (settings_from Dce cfg) (swapped w1) in
+    let h1 = fired_alike (settings_from Dte cfg) h near_off in
+    let same : w1.far.link ≡ w.far.link = sym h1.far ∙ ap (λ e. e.station) (fires_alone (c_of cfg) v) ∙ h.far in
+    let o = fired (settings_from Dce cfg) (mirrored w1) in
     let x = links.acts (d_of cfg) line.T1 (links.swapped v1) in
-    subst (λ (z : World). Alike z (links.swapped x)) (sym (back_after w1 o))
-    (turned (after (swapped w1) o) x (fired_alike (settings_from Dce cfg) (swapped w1) (links.swapped v1) (turned w1 v1 h1) (ap (λ (s : LinkStation). awaits_ua s.phase) same ∙ far_off)))
+    subst (λ z. Alike z (links.swapped x)) (sym (back_after w1 o))
+    (turned (fired_alike (settings_from Dce cfg) (turned h1) (ap (λ s. awaits_ua s.phase) same ∙ far_off)))
 
 pub none_of : (es : List links.Entry) → octets_of es ≡ [] → es ≡ []
 none_of [] is = refl
@@ -156,49 +155,49 @@ some_there : (c : Settings) (w : World) (back : List (List ℕ)) → refusal_of 
 some_there c w [] accepted none = cc
 some_there c w (octets ∷ back) accepted none = cc
 
-finds : (cfg : Cfg) (at : Role) (w : World) (v : Sessions) → Alike w v → refusal_of (happens cfg w (receipt at)) ≡ None → FindsIn (at_end at line.Deliver) v
-finds cfg Dte w v h accepted = λ none. some_there (settings_from Dte cfg) w w.back accepted (sym h.back ∙ ap octets_of none)
-finds cfg Dce w v h accepted = λ none.
-    some_there (settings_from Dce cfg) (swapped w) w.out (sym (refusal-swapped (acts (settings_from Dce cfg) (swapped w) Receives)) ∙ accepted) (sym h.out ∙ ap octets_of none)
+finds : (cfg : Cfg) (at : Role) {w : World} {v : Sessions} → Alike w v → refusal_of (happens cfg w (receipt at)) ≡ None → FindsIn (at_end at line.Deliver) v
+finds cfg Dte {w} h accepted = λ none. some_there (settings_from Dte cfg) w w.back accepted (sym h.back ∙ ap octets_of none)
+finds cfg Dce {w} h accepted = λ none.
+    some_there (settings_from Dce cfg) (mirrored w) w.out (sym (refusal-swapped (acts (settings_from Dce cfg) (mirrored w) Receives)) ∙ accepted) (sym h.out ∙ ap octets_of none)
 
-each_finds : (cfg : Cfg) (ends : List Role) (w : World) (v : Sessions) → Alike w v → NonePut cfg ends w → AreAccepted cfg (all_received ends) w → EachFindsIn (c_of cfg) (d_of cfg) (received ends) v
-each_finds cfg [] w v h none accepted = tt
-each_finds cfg (at ∷ ends) w v h none accepted = (
-  finds cfg at w v h accepted.0,
-  each_finds cfg ends (after w (happens cfg w (receipt at))) (links.happens (c_of cfg) (d_of cfg) (at_end at line.Deliver) v) (receipt_alike cfg at w v h none.0) none.1 accepted.1,
+each_finds : (cfg : Cfg) (ends : List Role) {w : World} {v : Sessions} → Alike w v → NonePut cfg ends w → AreAccepted cfg (all_received ends) w → EachFindsIn (c_of cfg) (d_of cfg) (received ends) v
+each_finds cfg [] h none accepted = tt
+each_finds cfg (at ∷ ends) {w} {v} h none accepted = (
+  finds cfg at h accepted.0,
+  each_finds cfg ends (receipt_alike cfg at w v h none.0) none.1 accepted.1,
 )
 
-pub joined_alike : (cfg : Cfg) (w : World) (h : SessionsJoined both_down cfg Dte w) → Alike w h.links
-joined_alike cfg w h = record { near = h.near.link; far = h.far.link; out = h.out; back = h.back }
+pub joined_alike : {cfg : Cfg} {w : World} (h : SessionsJoined both_down cfg Dte w) → Alike w h.links
+joined_alike h = record { near = h.near.link; far = h.far.link; out = h.out; back = h.back }
 
-pub links_are : (cfg : Cfg) (w : World) (h : SessionsJoined both_down cfg Dte w) → AreLinksOf cfg w h.links
-links_are cfg w h = (
+pub links_are : {cfg : Cfg} {w : World} (h : SessionsJoined both_down cfg Dte w) → AreLinksOf cfg w h.links
+links_are {cfg} h = (
   standing_run (c_of cfg) (d_of cfg) h.reach.events from_nothing (standing_at (c_of cfg) (d_of cfg) from_nothing),
   record { events = h.reach.events; timely = h.reach.timely; run = h.reach.run; standing = refl; near = h.near.link; far = h.far.link; out = h.out; back = h.back },
 )
 
 -- ---- both fire, and then the links go on
 
-abbrev pub fired_then : List line.Event → List line.Event
+abbrev pub fired_then : List line.LinkEvent → List line.LinkEvent
 fired_then more = line.Near line.T1 ∷ line.Far line.T1 ∷ more
 
 module _ (cfg : Cfg) (w : World) (h : SessionsJoined both_down cfg Dte w) (near_off : awaits_ua w.near.link.phase ≡ false) (far_off : awaits_ua w.far.link.phase ≡ false)
-    (more : List line.Event) (on_time : AreTimely (c_of cfg) (d_of cfg) more (links.run (c_of cfg) (d_of cfg) (fired_then []) h.links)) where
+    (more : List line.LinkEvent) (on_time : AreTimely (c_of cfg) (d_of cfg) more (links.run (c_of cfg) (d_of cfg) (fired_then []) h.links)) where
   abbrev here_then : Sessions
   here_then = links.run (c_of cfg) (d_of cfg) (fired_then more) h.links
 
   timely : AreTimely (c_of cfg) (d_of cfg) (fired_then more) h.links
   timely = (
-    off_timely (c_of cfg) (d_of cfg) h.links (ap (λ (s : LinkStation). awaits_ua s.phase) h.near.link ∙ near_off),
+    off_timely (c_of cfg) (d_of cfg) h.links (ap (λ s. awaits_ua s.phase) h.near.link ∙ near_off),
     (
       off_timely (d_of cfg) (c_of cfg) (links.swapped (links.acts (c_of cfg) line.T1 h.links))
-          (ap (λ (e : links.SessionEnd). awaits_ua e.station.phase) (fires_alone (c_of cfg) h.links) ∙ ap (λ (s : LinkStation). awaits_ua s.phase) h.far.link ∙ far_off),
+          (ap (λ e. awaits_ua e.station.phase) (fires_alone (c_of cfg) h.links) ∙ ap (λ s. awaits_ua s.phase) h.far.link ∙ far_off),
       on_time,
     ),
   )
 
-  pub gone_are : (u : World) → Alike u here_then → AreLinksOf cfg u here_then
-  gone_are u alike = (
+  pub gone_are : {u : World} → Alike u here_then → AreLinksOf cfg u here_then
+  gone_are alike = (
     standing_run (c_of cfg) (d_of cfg) (h.reach.events ++ fired_then more) from_nothing (standing_at (c_of cfg) (d_of cfg) from_nothing),
     record {
       events = h.reach.events ++ fired_then more;
@@ -217,7 +216,7 @@ module _ (cfg : Cfg) (w : World) (h : SessionsJoined both_down cfg Dte w) (near_
 module _ (laws : SessionLaws) (keeps : ConnectKeeps) where
   pub rest_shows : claims.Throughout EachRestShows → Throughout AllArrive → Throughout RestShows
   rest_shows law arrive cfg fine begin is events octets =
-      record { at_rest = at_rest; links = h.links; are = links_are cfg w h; arrived = shown; messages = messages }
+      record { at_rest = at_rest; links = h.links; are = links_are h; arrived = shown; messages = messages }
     where
       w : World
       w = run cfg events begin
@@ -226,7 +225,7 @@ module _ (laws : SessionLaws) (keeps : ConnectKeeps) where
       h = throughout_joined laws keeps cfg fine begin is events octets
 
       shown : EachRestShows (c_of cfg) (d_of cfg) h.links
-      shown = known_sessions EachRestShows law cfg (is_configured cfg fine) Dte h.links h.reach
+      shown = known_sessions EachRestShows law (is_configured cfg fine) h.reach
 
       rests : (s t : LinkStation) → s ≡ t → (is_up t.phase ≡ true → timer_runs t.phase t ≡ false → IsAtRest t) → is_up s.phase ≡ true → timer_runs s.phase s ≡ false → IsAtRest s
       rests s t same there = rw same there
@@ -256,23 +255,23 @@ module _ (laws : SessionLaws) (keeps : ConnectKeeps) where
 
     last : NonePut cfg ends (run cfg (firing Dte ∷ firing Dce ∷ []) w) → Alike (run cfg (all_received ends) (run cfg (firing Dte ∷ firing Dce ∷ []) w)) gone
     last none =
-        all_alike cfg ends (run cfg (firing Dte ∷ firing Dce ∷ []) w) (links.run c d (line.Near line.T1 ∷ line.Far line.T1 ∷ []) h.links) (both_alike cfg w h.links (joined_alike cfg w h) may.near may.far) none
+        all_alike cfg ends (both_alike cfg (joined_alike h) may.near may.far) none
 
     abbrev HealsOnce : LinkSettings → LinkSettings → Sessions → Type 0
     HealsOnce c d x =
         x.out ≡ [] → x.back ≡ [] → OneIsFree x.near.station x.far.station
-        → (deliveries : List line.Event) → Each IsDelivery deliveries
+        → (deliveries : List line.LinkEvent) → Each IsDelivery deliveries
         → (let v = links.run c d (line.Near line.T1 ∷ line.Far line.T1 ∷ deliveries) x in v.out ≡ [] → v.back ≡ [] → EachSessionHeals c d x v)
 
-    each : (u : World) → Alike u gone → IsDrained u → EachSessionHeals c d h.links gone
-    each u alike after_all =
-        known_sessions HealsOnce law cfg fine Dte h.links h.reach (none_of h.links.out (h.out ∙ may.drained.out)) (none_of h.links.back (h.back ∙ may.drained.back))
-        (rw h.near.link (subst (λ (s : LinkStation). OneIsFree w.near.link s) (sym h.far.link) may.free))
+    each : {u : World} → Alike u gone → IsDrained u → EachSessionHeals c d h.links gone
+    each alike after_all =
+        known_sessions HealsOnce law fine h.reach (none_of h.links.out (h.out ∙ may.drained.out)) (none_of h.links.back (h.back ∙ may.drained.back))
+        (rw h.near.link (subst (λ s. OneIsFree w.near.link s) (sym h.far.link) may.free))
         (received ends) (are_deliveries ends) (none_of gone.out (alike.out ∙ after_all.out)) (none_of gone.back (alike.back ∙ after_all.back))
 
-    heals_at : (u : World) → Alike u gone → IsDrained u → Heals cfg w u
-    heals_at u alike after_all =
-        let r = each u alike after_all in
+    heals_at : {u : World} → Alike u gone → IsDrained u → Heals cfg w u
+    heals_at {u} alike after_all =
+        let r = each alike after_all in
         record {
           dte = subst IsAtRestOrOut alike.near r.near;
           dce = subst IsAtRestOrOut alike.far r.far;
@@ -283,8 +282,8 @@ module _ (laws : SessionLaws) (keeps : ConnectKeeps) where
                 dce = subst IsAtRest alike.far healed.far_rest;
                 before = h.links;
                 behind = gone;
-                before_are = links_are cfg w h;
-                behind_are = gone_are cfg w h may.near may.far (received ends) (deliveries_timely c d ends (links.run c d (fired_then []) h.links)) u alike;
+                before_are = links_are h;
+                behind_are = gone_are cfg w h may.near may.far (received ends) (deliveries_timely c d ends (links.run c d (fired_then []) h.links)) alike;
                 healed = healed;
               };
         }
@@ -293,18 +292,18 @@ module _ (laws : SessionLaws) (keeps : ConnectKeeps) where
   heals_where law cfg fine begin is events octets may ends none after_all =
       let w = run cfg events begin in
       let configured = is_configured cfg fine in
-      let h : SessionsJoined both_down cfg Dte w = throughout_joined laws keeps cfg fine begin is events octets in
-      heals_at law cfg configured w h may ends (run cfg (all_received ends) (run cfg (firing Dte ∷ firing Dce ∷ []) w)) (last law cfg configured w h may ends none) after_all
+      let h = throughout_joined laws keeps cfg fine begin is events octets in
+      heals_at law cfg configured w h may ends (last law cfg configured w h may ends none) after_all
 
   -- ---- deliveries come to an end
 
   pub drains_where : SessionsDrainEnd → Throughout DrainsWhereNonePut
   drains_where law cfg fine begin is events octets =
       let w = run cfg events begin in
-      let h : SessionsJoined both_down cfg Dte w = throughout_joined laws keeps cfg fine begin is events octets in
-      let bound = law (c_of cfg) (d_of cfg) (joined_at cfg Dte (is_configured cfg fine)) from_nothing (inl refl) h.reach.events in (
+      let h = throughout_joined laws keeps cfg fine begin is events octets in
+      let bound = law (c_of cfg) (d_of cfg) (joined_at Dte (is_configured cfg fine)) from_nothing (inl refl) h.reach.events in (
         bound.0,
         λ ends none accepted.
-            subst (λ (n : ℕ). n ≤ bound.0) (received_length ends)
-            (bound.1 (received ends) (are_deliveries ends) (rw h.reach.run (each_finds cfg ends w h.links (joined_alike cfg w h) none accepted))),
+            subst (λ n. n ≤ bound.0) (received_length ends)
+            (bound.1 (received ends) (are_deliveries ends) (rw h.reach.run (each_finds cfg ends (joined_alike h) none accepted))),
       )

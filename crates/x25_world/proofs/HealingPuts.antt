@@ -1,16 +1,16 @@
 -- How the two links of a world heal while the layers put packets: each event of the world is a delivery to a link, where octets come, and then packets
 -- that are handed down to it.
-use Rattle.std.proofs.Common.{◌≡◌, ℕ, List, [], ◌∷◌, ◌++◌, map, Bool, true, false, if◌then◌else◌, option_to_list, refl, sym, ap, ◌∙◌, subst}
+use Rattle.std.proofs.Common.{◌≡◌, ℕ, List, [], ◌∷◌, ◌++◌, map, Bool, true, false, if◌then◌else◌, refl, sym, ap, ◌∙◌, subst}
 use Rattle.x25_bits.specs.{declared.role.Role.{Role}, declared.role.Role.TheVariants.{Dte, Dce}}
 use Rattle.x25_frame.specs.Spelling.{spelling_of}
 use Rattle.x25_link.specs.{declared.phase.Phase.{Phase}, declared.phase.Phase.TheVariants.{Waiting}, laws.RestLaw.{IsAtRest}}
-use Rattle.x25_line.specs.{laws.Sessions.{SessionEnd, Meeting, Sessions, begun_by, IsTimely, AreTimely}, laws.SessionClaims.{Each, octets_of}}
+use Rattle.x25_line.specs.{laws.Sessions.{Meeting, Sessions, IsTimely, AreTimely}, laws.SessionClaims.{Each, octets_of}}
 use Rattle.x25_line.specs.laws.HealingPuts.{LinkMayHeal, AreFree, IsDeliverOrPut, IsDeliveryOrPut, SessionsFreeThroughout, SessionsHaveArrived, PutsHealSessions}
 use Rattle.x25_given.specs.Given.{PlainGiven}
 use Rattle.x25_layer.specs.Calls.{LayerRequest}
 use Rattle.x25_station.specs.{declared.config.Cfg.{Cfg}, Config.{Settings, settings_from}, Step.{Step, Outcome, Did, Refused, follows, requests, gives}}
 use Rattle.x25_station.specs.{laws.GivenLaw.{GivesOctets}, laws.KeepLaw.{ConnectKeeps}, laws.ReadLaw.{RequestsOctets}}
-use Rattle.x25_world.specs.World.{World, swapped, Act, Commands, Receives, Fires, Event, acts, delivered, of_station, happens, after, after_step, run}
+use Rattle.x25_world.specs.World.{World, mirrored, Act, Commands, Receives, Fires, Event, acts, delivered, of_station, happens, after, after_step, run}
 use Rattle.x25_world.specs.{laws.Claims.{ActsInOctets, AreInOctets, link_of}, laws.LawsBelow.{SessionLaws}, laws.SessionClaims.{Throughout}}
 use Rattle.x25_world.specs.laws.SessionWindow.{all_at}
 use Rattle.x25_world.specs.Healing.{firing, IsReceiptOrRequest, AreReceiptsAndRequests, ComeFreely, ActsFreely, FreeAt, FreeThroughout, HealsWithPuts}
@@ -49,14 +49,14 @@ module _ (laws : SessionLaws) (cfg : Cfg) (fine : IsConfigured cfg) (end : Role)
   none_asked : Asked cfg end w w v
   none_asked = record { comes = false; handed = []; free = λ is. true_false (sym is); alike = like }
 
-  puts_alike : (v₁ : Sessions) (session : ℕ) (t : Side) (lifted : List (List ℕ)) (left : List links.Entry) (met : List Meeting) (step : Step) → SessionGoes (link_of cfg end) v v₁ session t.near t.out [] lifted left met → (p : HasPut c t step)
+  puts_alike : {v₁ : Sessions} {session : ℕ} {t : Side} {lifted : List (List ℕ)} {left : List links.Entry} {met : List Meeting} {step : Step} → SessionGoes (link_of cfg end) v v₁ session t.near t.out [] lifted left met → (p : HasPut c t step)
       → Alike (after_step c w (octets_of left) step) (all_act (link_of cfg end) (puts_of p.handed) v₁)
-  puts_alike v₁ session t lifted left met step g p =
+  puts_alike {v₁} {session} {t} {lifted} {left} {met} {step} g p =
       let r = puts_go c v v₁ session p.packets p.handed t step lifted left met g p.put in
       record {
         near = r.station;
-        far = ap (λ (e : SessionEnd). e.station) r.far ∙ like.far;
-        out = ap octets_of r.out ∙ octets_put v.out session end step.out ∙ ap (λ (os : List (List ℕ)). os ++ map (spelling_of end) step.out) like.out;
+        far = ap (λ e. e.station) r.far ∙ like.far;
+        out = ap octets_of r.out ∙ octets_put v.out session end step.out ∙ ap (λ os. os ++ map (spelling_of end) step.out) like.out;
         back = ap octets_of r.back;
       }
 
@@ -67,27 +67,27 @@ module _ (laws : SessionLaws) (cfg : Cfg) (fine : IsConfigured cfg) (end : Role)
       by [] is free = none_asked
       by (octets ∷ back) is free =
           let k = take_step (link_of cfg end) octets w.near.link in
-          let v₁ : Sessions = links.acts (link_of cfg end) line.Deliver v in
+          let v₁ = links.acts (link_of cfg end) line.Deliver v in
           let f = front_entry octets back v.back (like.back ∙ is) in
-          let next : Step = follows c w.near.layer k in
-          let goes : StepGoes (link_of cfg end) v v₁ k f.others v₁.met = subst (λ (os : List ℕ). StepGoes (link_of cfg end) v v₁ (take_step (link_of cfg end) os w.near.link) f.others v₁.met) f.octets
+          let next = follows c w.near.layer k in
+          let goes : StepGoes (link_of cfg end) v v₁ k f.others v₁.met = subst (λ os. StepGoes (link_of cfg end) v v₁ (take_step (link_of cfg end) os w.near.link) f.others v₁.met) f.octets
           (deliver_goes (link_of cfg end) v w.near.link f.entry f.others like.near f.is) in
           let p = taken_puts laws cfg fine end w h (λ before e same. absurd (down_at_none before e same)) octets back is free.0 in
-          subst (λ (b : Bool). Asked cfg end w (after_step c w back (follows c w.near.layer (if b then abandon_step (link_of cfg end) w.near.link else k))) v) (sym free.0)
+          subst (λ b. Asked cfg end w (after_step c w back (follows c w.near.layer (if b then abandon_step (link_of cfg end) w.near.link else k))) v) (sym free.0)
           (record {
             comes = true;
             handed = p.handed;
             free = λ same. free.1;
-            alike = subst (λ (os : List (List ℕ)). Alike (after_step c w os next) (all_act (link_of cfg end) (puts_of p.handed) v₁)) f.left
-                (puts_alike v₁ (begun_by k.notes.up v.near.begun) k.side (option_to_list k.packet) f.others v₁.met next goes p);
+            alike = subst (λ os. Alike (after_step c w os next) (all_act (link_of cfg end) (puts_of p.handed) v₁)) f.left
+                (puts_alike goes p);
           })
 
-  puts_asked : (step : Step) → HasPut c (alone w.near.link) step → Asked cfg end w (after_step c w w.back step) v
-  puts_asked step p = record {
+  puts_asked : {step : Step} → HasPut c (alone w.near.link) step → Asked cfg end w (after_step c w w.back step) v
+  puts_asked {step} p = record {
     comes = false;
     handed = p.handed;
     free = λ same. true_false (sym same);
-    alike = rw (sym like.back) (puts_alike v v.near.begun (alone w.near.link) [] v.back v.met step (stays_goes (link_of cfg end) v w.near.link like.near) p);
+    alike = rw (sym like.back) (puts_alike (stays_goes (link_of cfg end) v w.near.link like.near) p);
   }
 
   request_asked : (request : LayerRequest) → RequestsOctets request → Asked cfg end w (after w (of_station c w (requests c w.near request))) v
@@ -95,14 +95,14 @@ module _ (laws : SessionLaws) (cfg : Cfg) (fine : IsConfigured cfg) (end : Role)
     where
       by : (o : Outcome) → requests c w.near request ≡ o → Asked cfg end w (after w (of_station c w o)) v
       by (Refused e) is = none_asked
-      by (Did step) is = puts_asked step (request_puts laws cfg fine end w h request octets step is)
+      by (Did step) is = puts_asked (request_puts laws cfg fine end w h request octets step is)
 
   given_asked : (g : PlainGiven) (request : LayerRequest) → GivesOctets g → RequestsOctets request → Asked cfg end w (after w (of_station c w (gives c w.near g request))) v
   given_asked g request of_given octets = by (gives c w.near g request) refl
     where
       by : (o : Outcome) → gives c w.near g request ≡ o → Asked cfg end w (after w (of_station c w o)) v
       by (Refused e) is = none_asked
-      by (Did step) is = puts_asked step (given_puts laws cfg fine end w h g request of_given octets step is)
+      by (Did step) is = puts_asked (given_puts laws cfg fine end w h g request of_given octets step is)
 
   near_asked : (act : Act) → IsReceiptOrRequest act → ActsInOctets act → ActsFreely c w.near w.far.link w.back act → Asked cfg end w (after w (acts c w act)) v
   near_asked Receives are octets free = came_asked free
@@ -120,7 +120,7 @@ far_run : (c d : LinkSettings) (asked : List line.Act) (v : Sessions) → links.
 far_run c d [] v = sym (twice v)
 far_run c d (act ∷ asked) v =
     let x = links.acts d act (links.swapped v) in
-    far_run c d asked (links.swapped x) ∙ ap (λ (z : Sessions). links.swapped (all_act d asked z)) (twice x)
+    far_run c d asked (links.swapped x) ∙ ap (λ z. links.swapped (all_act d asked z)) (twice x)
 
 record EventAsked (cfg : Cfg) (at : Role) (w u : World) (v : Sessions) : Type 0 where
   pub comes : Bool
@@ -139,67 +139,67 @@ event_asked laws cfg fine Dte act w h v like are octets free =
       alike = subst (Alike (after w (happens cfg w (record { at = Dte; act = act })))) (sym (near_run (c_of cfg) (d_of cfg) (asked_of a.comes a.handed) v)) a.alike;
     }
 event_asked laws cfg fine Dce act w h v like are octets free =
-    let a = near_asked laws cfg fine Dce (swapped w) (sessions_swapped cfg Dte w h) (links.swapped v) (turned w v like) act are octets free in
-    let o = acts (settings_from Dce cfg) (swapped w) act in
+    let a = near_asked laws cfg fine Dce (mirrored w) (sessions_swapped h) (links.swapped v) (turned like) act are octets free in
+    let o = acts (settings_from Dce cfg) (mirrored w) act in
     let x = all_act (d_of cfg) (asked_of a.comes a.handed) (links.swapped v) in
     record {
       comes = a.comes;
       handed = a.handed;
       free = λ is. free_turned w.far.link w.near.link (a.free is);
-      alike = rw (back_after w o) (subst (Alike (swapped (after (swapped w) o))) (sym (far_run (c_of cfg) (d_of cfg) (asked_of a.comes a.handed) v)) (turned (after (swapped w) o) x a.alike));
+      alike = rw (back_after w o) (subst (Alike (mirrored (after (mirrored w) o))) (sym (far_run (c_of cfg) (d_of cfg) (asked_of a.comes a.handed) v)) (turned a.alike));
     }
 
 -- ---- events are deliveries and packets that are put
 
-puts_are : (at : Role) (packets : List (List ℕ)) (rest : List line.Event) → Each IsDeliveryOrPut rest → Each IsDeliveryOrPut (all_at at (puts_of packets) ++ rest)
+puts_are : (at : Role) (packets : List (List ℕ)) (rest : List line.LinkEvent) → Each IsDeliveryOrPut rest → Each IsDeliveryOrPut (all_at at (puts_of packets) ++ rest)
 puts_are at [] rest h = h
 puts_are Dte (p ∷ packets) rest h = (tt, puts_are Dte packets rest h)
 puts_are Dce (p ∷ packets) rest h = (tt, puts_are Dce packets rest h)
 
-asked_are : (at : Role) (comes : Bool) (packets : List (List ℕ)) (rest : List line.Event) → Each IsDeliveryOrPut rest → Each IsDeliveryOrPut (all_at at (asked_of comes packets) ++ rest)
+asked_are : (at : Role) (comes : Bool) (packets : List (List ℕ)) (rest : List line.LinkEvent) → Each IsDeliveryOrPut rest → Each IsDeliveryOrPut (all_at at (asked_of comes packets) ++ rest)
 asked_are at false packets rest h = puts_are at packets rest h
 asked_are Dte true packets rest h = (tt, puts_are Dte packets rest h)
 asked_are Dce true packets rest h = (tt, puts_are Dce packets rest h)
 
 -- packets are put whatever waits
 
-puts_free : (c d : LinkSettings) (at : Role) (packets : List (List ℕ)) (rest : List line.Event) (v : Sessions) → SessionsFreeThroughout c d rest (links.run c d (all_at at (puts_of packets)) v)
+puts_free : (c d : LinkSettings) (at : Role) (packets : List (List ℕ)) (rest : List line.LinkEvent) (v : Sessions) → SessionsFreeThroughout c d rest (links.run c d (all_at at (puts_of packets)) v)
     → SessionsFreeThroughout c d (all_at at (puts_of packets) ++ rest) v
 puts_free c d at [] rest v h = h
 puts_free c d Dte (p ∷ packets) rest v h = (tt, puts_free c d Dte packets rest _ h)
 puts_free c d Dce (p ∷ packets) rest v h = (tt, puts_free c d Dce packets rest _ h)
 
-asked_free : (c d : LinkSettings) (at : Role) (comes : Bool) (packets : List (List ℕ)) (rest : List line.Event) (v : Sessions) → (comes ≡ true → AreFree v.near.station v.far.station)
+asked_free : (c d : LinkSettings) (at : Role) (comes : Bool) (packets : List (List ℕ)) (rest : List line.LinkEvent) (v : Sessions) → (comes ≡ true → AreFree v.near.station v.far.station)
     → SessionsFreeThroughout c d rest (links.run c d (all_at at (asked_of comes packets)) v) → SessionsFreeThroughout c d (all_at at (asked_of comes packets) ++ rest) v
 asked_free c d at false packets rest v free h = puts_free c d at packets rest v h
 asked_free c d Dte true packets rest v free h = (free refl, puts_free c d Dte packets rest _ h)
 asked_free c d Dce true packets rest v free h = (free refl, puts_free c d Dce packets rest _ h)
 
-free_alike : (w : World) (v : Sessions) → Alike w v → AreFree w.near.link w.far.link → AreFree v.near.station v.far.station
-free_alike w v like free = (ap is_busy like.near ∙ free.0, ap is_busy like.far ∙ free.1)
+free_alike : {w : World} {v : Sessions} → Alike w v → AreFree w.near.link w.far.link → AreFree v.near.station v.far.station
+free_alike like free = (ap is_busy like.near ∙ free.0, ap is_busy like.far ∙ free.1)
 
 -- the links go by such events where the world goes by these
 record AllAsked (cfg : Cfg) (u : World) (v : Sessions) : Type 0 where
-  pub asked : List line.Event
+  pub asked : List line.LinkEvent
   pub are : Each IsDeliveryOrPut asked
   pub free : SessionsFreeThroughout (c_of cfg) (d_of cfg) asked v
   pub alike : Alike u (links.run (c_of cfg) (d_of cfg) asked v)
 
-all_asked : (laws : SessionLaws) (cfg : Cfg) → IsConfigured cfg → (events : List Event) (w : World) → SessionsJoined both_down cfg Dte w → (v : Sessions) → Alike w v → AreReceiptsAndRequests events → AreInOctets events → FreeThroughout cfg events w
+all_asked : (laws : SessionLaws) {cfg : Cfg} → IsConfigured cfg → (events : List Event) {w : World} → SessionsJoined both_down cfg Dte w → {v : Sessions} → Alike w v → AreReceiptsAndRequests events → AreInOctets events → FreeThroughout cfg events w
     → AllAsked cfg (run cfg events w) v
-all_asked laws cfg fine [] w h v like are octets free = record { asked = []; are = tt; free = free_alike w v like free; alike = like }
-all_asked laws cfg fine (e ∷ events) w h v like are octets free =
+all_asked laws fine [] {w} h {v} like are octets free = record { asked = []; are = tt; free = free_alike like free; alike = like }
+all_asked laws {cfg} fine (e ∷ events) {w} h {v} like are octets free =
     let c = c_of cfg in
     let d = d_of cfg in
     let next = after w (happens cfg w e) in
     let a = event_asked laws cfg fine e.at e.act w h v like are.0 octets.0 free.0 in
     let first = all_at e.at (asked_of a.comes a.handed) in
     let joined = (event_joined laws cfg fine e.at e.act w (λ before x is. absurd (down_at_none before x is)) octets.0 (λ off. not_set_up off) h).joined in
-    let r = all_asked laws cfg fine events next joined (links.run c d first v) a.alike are.1 octets.1 free.1 in
+    let r = all_asked laws fine events joined a.alike are.1 octets.1 free.1 in
     record {
       asked = first ++ r.asked;
       are = asked_are e.at a.comes a.handed r.asked r.are;
-      free = asked_free c d e.at a.comes a.handed r.asked v (λ comes. free_alike w v like (a.free comes)) r.free;
+      free = asked_free c d e.at a.comes a.handed r.asked v (λ comes. free_alike like (a.free comes)) r.free;
       alike = subst (Alike (run cfg events next)) (sym (links_append c d first r.asked v)) r.alike;
     }
 
@@ -214,14 +214,14 @@ timely_act c d line.Deliver v is = tt
 timely_act c d (line.Put packet) v is = tt
 timely_act c d act v is = absurd is
 
-asked_timely : (c d : LinkSettings) (es : List line.Event) (v : Sessions) → Each IsDeliveryOrPut es → AreTimely c d es v
+asked_timely : (c d : LinkSettings) (es : List line.LinkEvent) (v : Sessions) → Each IsDeliveryOrPut es → AreTimely c d es v
 asked_timely c d [] v are = tt
 asked_timely c d (line.Near act ∷ es) v are = (timely_act c d act v are.0, asked_timely c d es (links.acts c act v) are.1)
 asked_timely c d (line.Far act ∷ es) v are = (timely_act d c act (links.swapped v) are.0, asked_timely c d es (links.happens c d (line.Far act) v) are.1)
 
 abbrev HealsOnce : LinkSettings → LinkSettings → Sessions → Type 0
 HealsOnce c d x =
-    x.out ≡ [] → x.back ≡ [] → LinkMayHeal c.retries x.near.station → LinkMayHeal d.retries x.far.station → (more : List line.Event) → Each IsDeliveryOrPut more
+    x.out ≡ [] → x.back ≡ [] → LinkMayHeal c.retries x.near.station → LinkMayHeal d.retries x.far.station → (more : List line.LinkEvent) → Each IsDeliveryOrPut more
     → (let fired = links.run c d (line.Near line.T1 ∷ line.Far line.T1 ∷ []) x in SessionsFreeThroughout c d more fired → (let v = links.run c d more fired in v.out ≡ [] → v.back ≡ [] → SessionsHaveArrived x v))
 
 module _ (laws : SessionLaws) (keeps : ConnectKeeps) where
@@ -232,8 +232,8 @@ module _ (laws : SessionLaws) (keeps : ConnectKeeps) where
         dce = subst IsAtRest all.alike.far arrived.far_rest;
         before = h.links;
         behind = gone;
-        before_are = links_are cfg w h;
-        behind_are = gone_are cfg w h near_off far_off all.asked (asked_timely (c_of cfg) (d_of cfg) all.asked fired all.are) u all.alike;
+        before_are = links_are h;
+        behind_are = gone_are cfg w h near_off far_off all.asked (asked_timely (c_of cfg) (d_of cfg) all.asked fired all.are) all.alike;
         asked = all.asked;
         are = all.are;
         goes = refl;
@@ -266,7 +266,7 @@ module _ (laws : SessionLaws) (keeps : ConnectKeeps) where
       fired = links.run (c_of cfg) (d_of cfg) (fired_then []) h.links
 
       all : AllAsked cfg (run cfg more both) fired
-      all = all_asked laws cfg configured more both (fire Dce (after w (happens cfg w (firing Dte))) (fire Dte w h)) fired (both_alike cfg w h.links (joined_alike cfg w h) near_off far_off) are more_octets free
+      all = all_asked laws configured more (fire Dce (after w (happens cfg w (firing Dte))) (fire Dte w h)) (both_alike cfg (joined_alike h) near_off far_off) are more_octets free
 
       u : World
       u = run cfg more both
@@ -276,6 +276,6 @@ module _ (laws : SessionLaws) (keeps : ConnectKeeps) where
 
       arrived : SessionsHaveArrived h.links gone
       arrived =
-          known_sessions HealsOnce law cfg configured Dte h.links h.reach (none_of h.links.out (h.out ∙ may.drained.out)) (none_of h.links.back (h.back ∙ may.drained.back))
+          known_sessions HealsOnce law configured h.reach (none_of h.links.out (h.out ∙ may.drained.out)) (none_of h.links.back (h.back ∙ may.drained.back))
           (subst (LinkMayHeal cfg.n2) (sym h.near.link) may.near) (subst (LinkMayHeal cfg.n2) (sym h.far.link) may.far) all.asked all.are all.free
           (none_of gone.out (all.alike.out ∙ after_all.out)) (none_of gone.back (all.alike.back ∙ after_all.back))

@@ -7,7 +7,7 @@ use Rattle.x25_station.specs.{declared.config.Cfg.{Cfg}, Config.{settings_from, 
 use Rattle.x25_station.specs.{Station.Told.{is_at_rest}, Step.{Outcome, Did, Refused, commands}}
 use Rattle.x25_link.specs.{Station.{LinkStation, is_up}, Link.{is_idle, timer_runs}, laws.RestLaw.{IsAtRest}}
 use Rattle.x25_layer.specs.{Calls.{PullsAll}, laws.WaitLaw.{PullsNone}}
-use Rattle.x25_world.specs.World.{World, AtEnd, swapped, WorldOutcome, Happened, Declined, of_station, swapped_back, Event, happens, after, run}
+use Rattle.x25_world.specs.World.{World, AtEnd, mirrored, WorldOutcome, Happened, Declined, of_station, swapped_back, Event, happens, after, run}
 use Rattle.x25_world.specs.{laws.Claims.{AreInOctets, IsBeginning}, laws.SessionClaims.{Throughout}}
 use Rattle.x25_world.specs.laws.WaitClaims.{pull_at, AllWaitForUsers, HasNoneToPull, PullsLeaveNone, UnpulledWaitForUsers}
 use Rattle.x25_world.specs.Healing.{receipt, all_received, firing, next_end, arrivals, deliveries, one_if, if_accepted, behind, both_tried, pull_round, unless_empty, pull_rounds, fire_and_pull, healing, received_by, received_in, IsDrained, AreReceiptsAndRequests, FreeThroughout, BothMayHeal, HaveArrived, HealsWithPuts, RestShows, ArrivesByHealing, AllArrives, RestShowsAll}
@@ -33,11 +33,11 @@ is_none_true (Some x) e = absurd (cc)
 module _ (cfg : Cfg) (most : ℕ) where
   pub no_rounds : (n : ℕ) (w : World) → n ≡ 0 → pull_rounds cfg most n w ≡ []
   unfolding pull_rounds
-  no_rounds n w e = ap (λ (m : ℕ). pull_rounds cfg most m w) e
+  no_rounds n w e = ap (λ m. pull_rounds cfg most m w) e
 
   pub round_more : (n m : ℕ) (w : World) → n ≡ suc m → pull_rounds cfg most n w ≡ pull_round cfg most w ++ left_behind cfg most m (run cfg (pull_round cfg most w) w)
   unfolding pull_rounds
-  round_more n m w e = ap (λ (k : ℕ). pull_rounds cfg most k w) e
+  round_more n m w e = ap (λ k. pull_rounds cfg most k w) e
 
   by_line : (rest : World → List Event) (w : World) (at : Option Role) → at ≡ None → unless_empty rest w at ≡ []
   by_line rest w None e = refl
@@ -56,18 +56,18 @@ module _ (cfg : Cfg) (most : ℕ) where
 module _ (cfg : Cfg) (most : ℕ) (events : List Event) (w : World) (before : List AtEnd) (all done count : ℕ) where
   abbrev pub next_round : (v : TellingWorld) → done < all → Begun cfg events w v before (pull_rounds cfg most (all - done)) count → Begun cfg events w v before (behind cfg (pull_round cfg most) (left_behind cfg most (all - (done + 1)))) count
   next_round v low h =
-      rest_is cfg events w v before (pull_rounds cfg most (all - done)) count h (behind cfg (pull_round cfg most) (left_behind cfg most (all - (done + 1))))
+      rest_is h (behind cfg (pull_round cfg most) (left_behind cfg most (all - (done + 1))))
       (round_more cfg most (all - done) (all - (done + 1)) (run cfg h.done w) (omega (arith, low)))
 
-  pub round_done : (u v : TellingWorld) (more : ℕ) (low : done < all) (h : Begun cfg events w u before (pull_rounds cfg most (all - done)) count)
+  pub round_done : {u : TellingWorld} (v : TellingWorld) (more : ℕ) (low : done < all) (h : Begun cfg events w u before (pull_rounds cfg most (all - done)) count)
       → (let x = run cfg h.done w in GoesBy cfg (pull_round cfg most x) x v before → more ≡ received_in (pull_round cfg most x) → Begun cfg events w v before (left_behind cfg most (all - (done + 1))) (count + more))
-  round_done u v more low h goes counted = goes_on cfg events w u v before (pull_round cfg most) (left_behind cfg most (all - (done + 1))) count (next_round u low h) more goes counted
+  round_done {u} v more low h goes counted = goes_on v (pull_round cfg most) (left_behind cfg most (all - (done + 1))) (next_round u low h) more goes counted
 
 -- ---- how many arrive
 
 pub count_received : (ends : List Role) → received_in (all_received ends) ≡ length ends
 count_received [] = refl
-count_received (at ∷ ends) = let rest = count_received ends in omega (arith, rest)
+count_received (at ∷ ends) = omega (arith, count_received ends)
 
 count_tried : (cfg : Cfg) (e : Event) (w : World) → received_by e.act ≡ 0 → received_in (if_accepted cfg e w) ≡ 0
 count_tried cfg e w none = by (happens cfg w e)
@@ -79,18 +79,12 @@ count_tried cfg e w none = by (happens cfg w e)
 pub count_both : (cfg : Cfg) (first second : Event) (w : World) → received_by first.act ≡ 0 → received_by second.act ≡ 0 → received_in (both_tried cfg first second w) ≡ 0
 count_both cfg first second w none none_there =
     let x = run cfg (if_accepted cfg first w) w in
-    let both = count_append (if_accepted cfg first w) (if_accepted cfg second x) in
-    let one = count_tried cfg first w none in
-    let two = count_tried cfg second x none_there in
-    omega (arith, both, one, two)
+    omega (arith, count_append (if_accepted cfg first w) (if_accepted cfg second x), count_tried cfg first w none, count_tried cfg second x none_there)
 
 pub count_round : (cfg : Cfg) (most : ℕ) (w : World) (count : ℕ) → count ≡ length (arrivals cfg most w) → count ≡ received_in (pull_round cfg most w)
 count_round cfg most w count counted =
     let x = run cfg (deliveries cfg most w) w in
-    let both = count_append (deliveries cfg most w) (both_tried cfg (pull_at Dte) (pull_at Dce) x) in
-    let one = count_received (arrivals cfg most w) in
-    let two = count_both cfg (pull_at Dte) (pull_at Dce) x refl refl in
-    omega (arith, counted, both, one, two)
+    omega (arith, counted, count_append (deliveries cfg most w) (both_tried cfg (pull_at Dte) (pull_at Dce) x), count_received (arrivals cfg most w), count_both cfg (pull_at Dte) (pull_at Dce) x refl refl)
 
 -- both firings have been tried
 abbrev pub fired_at : Cfg → World → World
@@ -102,11 +96,7 @@ counts_both cfg most w before behind same first second kept =
     let v = run cfg (deliveries cfg most w) w in
     let fired = both_tried cfg (firing Dte) (firing Dce) v in
     let x = fired_at cfg v in
-    let whole = count_append (deliveries cfg most w) (fire_and_pull cfg most v) in
-    let one = count_received (arrivals cfg most w) in
-    let rest = count_append fired (pull_rounds cfg most most x) in
-    let two = count_both cfg (firing Dte) (firing Dce) v refl refl in
-    omega (arith, first, second, kept, whole, one, rest, two)
+    omega (arith, first, second, kept, count_append (deliveries cfg most w) (fire_and_pull cfg most v), count_received (arrivals cfg most w), count_append fired (pull_rounds cfg most most x), count_both cfg (firing Dte) (firing Dce) v refl refl)
 
 -- a round more has brought at most so many more
 pub few_more : (count rounds more : ℕ) → more ≤ most_times → count ≤ rounds * most_times → count + more ≤ (rounds + 1) * most_times
@@ -173,12 +163,12 @@ healing_octets cfg most w =
     octets_append (deliveries cfg most w) (fire_and_pull cfg most v) (received_octets (arrivals cfg most w))
     (octets_append fired (pull_rounds cfg most most x) (both_are_so AreInOctets tt octets_append cfg (firing Dte) (firing Dce) v (tt, tt) (tt, tt)) (rounds_octets cfg most most x))
 
-pub holds_healed : (Holds : Cfg → World → World → Type 0) (old : ShownWorld) (new : TellingWorld) (cfg : Cfg) (most : ℕ) (from : World) (past : List Event) (before : List AtEnd)
+pub holds_healed : (Holds : Cfg → World → World → Type 0) {old : ShownWorld} (new : TellingWorld) {cfg : Cfg} (most : ℕ) {from : World} {past : List Event} (before : List AtEnd)
     → FitsRun cfg from old past
     → (let w = run cfg past from in GoesBy cfg (healing cfg most w) w new before
     → (AreInOctets (past ++ healing cfg most w) → Holds cfg w (run cfg (past ++ healing cfg most w) from))
-    → Leaves (λ (c : Cfg) (u : World). Holds c w u) cfg from new.world (past ++ healing cfg most w))
-holds_healed Holds old new cfg most from past before h goes law =
+    → Leaves (λ c u. Holds c w u) cfg from new.world (past ++ healing cfg most w))
+holds_healed Holds new {cfg} most {from} {past} before h goes law =
     let w = run cfg past from in
     let octets = octets_append past (healing cfg most w) h.octets (healing_octets cfg most w) in
     record {
@@ -210,7 +200,7 @@ pulled_both cfg w =
 both_are : (cfg : Cfg) (first second : Event) (w : World) → (let x = after w (happens cfg w first) in run cfg (both_tried cfg first second w) w ≡ after x (happens cfg x second))
 both_are cfg first second w =
     let y = run cfg (if_accepted cfg first w) w in
-    run_append cfg (if_accepted cfg first w) (if_accepted cfg second y) w ∙ tried_is cfg second y ∙ ap (λ (x : World). after x (happens cfg x second)) (tried_is cfg first w)
+    run_append cfg (if_accepted cfg first w) (if_accepted cfg second y) w ∙ tried_is cfg second y ∙ ap (λ x. after x (happens cfg x second)) (tried_is cfg first w)
 
 -- a world of which the last two events tried were the pulls
 record ArePulled (cfg : Cfg) (u : World) : Type 0 where
@@ -222,37 +212,37 @@ round_pulls cfg most w =
     let x = run cfg (deliveries cfg most w) w in
     record { from = x; is = run_append cfg (deliveries cfg most w) (both_tried cfg (pull_at Dte) (pull_at Dce) x) w ∙ both_are cfg (pull_at Dte) (pull_at Dce) x }
 
-unless_pulls : (cfg : Cfg) (rest : World → List Event) → ((w : World) → ArePulled cfg w → ArePulled cfg (run cfg (rest w) w)) → (w : World) (at : Option Role) → ArePulled cfg w → ArePulled cfg (run cfg (unless_empty rest w at) w)
-unless_pulls cfg rest pulls w None are = are
-unless_pulls cfg rest pulls w (Some at) are = pulls w are
+unless_pulls : {cfg : Cfg} (rest : World → List Event) → ((w : World) → ArePulled cfg w → ArePulled cfg (run cfg (rest w) w)) → {w : World} (at : Option Role) → ArePulled cfg w → ArePulled cfg (run cfg (unless_empty rest w at) w)
+unless_pulls rest pulls None are = are
+unless_pulls rest pulls {w} (Some at) are = pulls w are
 
 rounds_pull : (cfg : Cfg) (most : ℕ) (n : ℕ) (w : World) → ArePulled cfg w → ArePulled cfg (run cfg (pull_rounds cfg most n w) w)
 unfolding pull_rounds
 rounds_pull cfg most zero w are = are
 rounds_pull cfg most (suc n) w are =
     let x = run cfg (pull_round cfg most w) w in
-    subst (ArePulled cfg) (sym (run_append cfg (pull_round cfg most w) (left_behind cfg most n x) w)) (unless_pulls cfg (pull_rounds cfg most n) (rounds_pull cfg most n) x (next_end x.out x.back) (round_pulls cfg most w))
+    subst (ArePulled cfg) (sym (run_append cfg (pull_round cfg most w) (left_behind cfg most n x) w)) (unless_pulls (pull_rounds cfg most n) (rounds_pull cfg most n) (next_end x.out x.back) (round_pulls cfg most w))
 
 all_pull : (cfg : Cfg) (most : ℕ) (n m : ℕ) (w : World) → n ≡ suc m → ArePulled cfg (run cfg (pull_rounds cfg most n w) w)
 all_pull cfg most n m w is =
     let x = run cfg (pull_round cfg most w) w in
-    subst (λ (es : List Event). ArePulled cfg (run cfg es w)) (sym (round_more cfg most n m w is))
-    (subst (ArePulled cfg) (sym (run_append cfg (pull_round cfg most w) (left_behind cfg most m x) w)) (unless_pulls cfg (pull_rounds cfg most m) (rounds_pull cfg most m) x (next_end x.out x.back) (round_pulls cfg most w)))
+    subst (λ es. ArePulled cfg (run cfg es w)) (sym (round_more cfg most n m w is))
+    (subst (ArePulled cfg) (sym (run_append cfg (pull_round cfg most w) (left_behind cfg most m x) w)) (unless_pulls (pull_rounds cfg most m) (rounds_pull cfg most m) (next_end x.out x.back) (round_pulls cfg most w)))
 
 -- the pull of the DCE leaves the DTE as it was
 keeps_dte : (cfg : Cfg) (w : World) → (after w (happens cfg w (pull_at Dce))).near ≡ w.near
 keeps_dte cfg w = by (commands (settings_from Dce cfg) w.far (Requests PullsAll))
   where
-    by : (o : Outcome) → (after w (swapped_back (of_station (settings_from Dce cfg) (swapped w) o))).near ≡ w.near
+    by : (o : Outcome) → (after w (swapped_back (of_station (settings_from Dce cfg) (mirrored w) o))).near ≡ w.near
     by (Did step) = refl
     by (Refused e) = refl
 
 -- a link that is at rest is up, and its timer T1 doesn't run
 up_of : {s t : LinkStation} → s ≡ t → IsAtRest t → is_up s.phase ≡ true
-up_of {s} {t} is rest = ap (λ (x : LinkStation). is_up x.phase) is ∙ (and_parts (is_up t.phase) _ rest.idle).0
+up_of {s} {t} is rest = ap (λ x. is_up x.phase) is ∙ (and_parts (is_up t.phase) _ rest.idle).0
 
 off_of : {s t : LinkStation} → s ≡ t → IsAtRest t → timer_runs s.phase s ≡ false
-off_of is rest = ap (λ (x : LinkStation). timer_runs x.phase x) is ∙ rest.no_timer
+off_of is rest = ap (λ x. timer_runs x.phase x) is ∙ rest.no_timer
 
 rest_of : (s : Station) → is_at_rest s ≡ true → IsAtRest s.link
 rest_of s rest =
@@ -266,13 +256,13 @@ both_rest s t here there = rw (here.idle, here.no_timer, there.idle, there.no_ti
 both_left : PullsLeaveNone → (cfg : Cfg) (w : World) → (let u = pulled_both cfg w in is_idle u.near.link ≡ true → is_idle u.far.link ≡ true → HasNoneToPull cfg u Dte × HasNoneToPull cfg u Dce)
 both_left law cfg w idle idle_there =
     let x = after w (happens cfg w (pull_at Dte)) in
-    let same : (pulled_both cfg w).near ≡ x.near = keeps_dte cfg x in (
-      subst (λ (s : Station). s.layer.restarting ≡ false → PullsNone (layer_settings (settings_from Dte cfg)) s.layer) (sym same) (law cfg w Dte (ap (λ (s : Station). is_idle s.link) (sym same) ∙ idle)),
+    let same = keeps_dte cfg x in (
+      subst (λ s. s.layer.restarting ≡ false → PullsNone (layer_settings (settings_from Dte cfg)) s.layer) (sym same) (law cfg w Dte (ap (λ s. is_idle s.link) (sym same) ∙ idle)),
       law cfg x Dce idle_there,
     )
 
-pulled_left : PullsLeaveNone → (cfg : Cfg) (u : World) → ArePulled cfg u → is_idle u.near.link ≡ true → is_idle u.far.link ≡ true → HasNoneToPull cfg u Dte × HasNoneToPull cfg u Dce
-pulled_left law cfg u are =
+pulled_left : PullsLeaveNone → {cfg : Cfg} {u : World} → ArePulled cfg u → is_idle u.near.link ≡ true → is_idle u.far.link ≡ true → HasNoneToPull cfg u Dte × HasNoneToPull cfg u Dce
+pulled_left law {cfg} are =
     rw are.is (both_left law cfg are.from)
 
 module _ (left : PullsLeaveNone) (unpulled : Throughout UnpulledWaitForUsers) (cfg : Cfg) (fine : config_refusal cfg ≡ None) (from : World) (begins : IsBeginning cfg from) (past : List Event) (octets : AreInOctets past) (most : ℕ) (some : 0 < most) where
@@ -292,7 +282,7 @@ module _ (left : PullsLeaveNone) (unpulled : Throughout UnpulledWaitForUsers) (c
   ends_so =
       let tried = both_tried cfg (firing Dte) (firing Dce) v in
       run_append cfg (deliveries cfg most w) (fire_and_pull cfg most v) w ∙ run_append cfg tried (pull_rounds cfg most most (run cfg tried v)) v
-      ∙ ap (λ (x : World). run cfg (pull_rounds cfg most most x) x) (both_are cfg (firing Dte) (firing Dce) v)
+      ∙ ap (λ x. run cfg (pull_rounds cfg most most x) x) (both_are cfg (firing Dte) (firing Dce) v)
 
   -- what holds throughout holds behind healing
   behind_it : (Holds : Cfg → World → Type 0) → Throughout Holds → Holds cfg u
@@ -309,7 +299,7 @@ module _ (left : PullsLeaveNone) (unpulled : Throughout UnpulledWaitForUsers) (c
 
   wait_alone : IsAtRest u.near.link → IsAtRest u.far.link → AllWaitForUsers cfg u
   wait_alone dte dce =
-      let none = pulled_left left cfg u (all_pull cfg most most (most - 1) fired (omega (arith, some))) dte.idle dce.idle in
+      let none = pulled_left left (all_pull cfg most most (most - 1) fired (omega (arith, some))) dte.idle dce.idle in
       behind_it UnpulledWaitForUsers unpulled dte.idle dce.idle none.0 none.1
 
   pub brings_all : Throughout HealsWithPuts → ArrivesByHealing cfg most w (run cfg (healing cfg most w) w)
@@ -322,7 +312,7 @@ module _ (left : PullsLeaveNone) (unpulled : Throughout UnpulledWaitForUsers) (c
       let both = and_parts (is_at_rest u.near) (is_at_rest u.far) rest in
       let dte = rest_of u.near both.0 in
       let dce = rest_of u.far both.1 in
-      let shows : RestShows cfg u = behind_it RestShows law in
+      let shows = behind_it RestShows law in
       let are = shows.are.1 in
       let near = shows.arrived.near (up_of are.near dte) (off_of are.near dte) in
       let far = shows.arrived.far (up_of are.far dce) (off_of are.far dce) in

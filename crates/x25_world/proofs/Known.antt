@@ -1,10 +1,7 @@
 -- The settings of a world, as the laws of its links want them.
 use Rattle.std.proofs.{Common.{◌≡◌, ◌≤◌, Bool, true, false, ◌&&◌, nat_le, if◌then◌else◌, Option, Some, None, refl}, lemmas.Bool.{and_parts, leb-true}}
-use Rattle.x25_bits.specs.declared.role.Role.TheVariants.{Dte, Dce}
-use Rattle.x25_line.specs.laws.StationClaims.{AreJoined}
 use Rattle.x25_layer.specs.Ranges.{is_number, are_ranges}
 use Rattle.x25_station.specs.{declared.config.Cfg.{Cfg}, declared.error.StationError.{StationError}, Config.{config_refusal}}
-use Rattle.x25_world.specs.laws.Claims.{link_of}
 use Rattle.x25_station.specs.declared.error.StationError.TheVariants as error
 
 -- ---- the settings

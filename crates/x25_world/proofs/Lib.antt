@@ -1,4 +1,3 @@
-pub mod OneLink
 pub mod Known
 pub mod Growing
 pub mod Established

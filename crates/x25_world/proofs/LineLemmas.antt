@@ -10,7 +10,7 @@ map-remove f xs k = map-append f (take k xs) (drop (suc k) xs) ∙ cc (take-map 
 replaced-set : (xs : List (List ℕ)) (k : ℕ) (y : List ℕ) → set xs k y ≡ replaced xs k y
 replaced-set [] k y = refl
 replaced-set (x ∷ xs) zero y = refl
-replaced-set (x ∷ xs) (suc k) y = ap (λ (l : List (List ℕ)). x ∷ l) (replaced-set xs k y)
+replaced-set (x ∷ xs) (suc k) y = ap (λ l. x ∷ l) (replaced-set xs k y)
 
 pub map-replaced : {X : Type 0} (f : X → List ℕ) (xs : List X) (k : ℕ) (y : X) → map f (set xs k y) ≡ replaced (map f xs) k (f y)
 map-replaced f xs k y = map-set f xs k y ∙ replaced-set (map f xs) k (f y)

@@ -1,5 +1,5 @@
 -- What an end did is its act by the definition, and its refusal is due.
-use Rattle.std.proofs.Common.{◌≡◌, ℕ, Bool, true, false, ◌&&◌, if◌then◌else◌, List, [], ◌∷◌, ◌++◌, map, Some, None, slice_get, Result, Ok, Err, OnOk, OnErr, IfErr, ◌⊎◌, inl, inr, refl, ap, sym, ◌∙◌}
+use Rattle.std.proofs.Common.{◌≡◌, ℕ, true, false, ◌&&◌, if◌then◌else◌, List, [], ◌∷◌, ◌++◌, map, Some, None, slice_get, Result, Ok, Err, OnOk, OnErr, IfErr, ◌⊎◌, inl, inr, refl, ap, sym, ◌∙◌}
 use Rattle.std.proofs.lemmas.List.{append-nil}
 use Rattle.std.specs.List.{remove}
 use Rattle.x25_bits.specs.{Role.{other}, declared.role.Role.{Role}, declared.role.Role.TheVariants.{Dte, Dce}}
@@ -22,18 +22,18 @@ pub record FitsShared (at : Role) (line : ShownLine) (w : World) (left : List (L
   pub back : line_to line at ≡ left
 
 -- what a step answers was put on the line and told
-pub step_told : (cfg : Cfg) (at : Role) (near : code.Station) (line : ShownLine) (w : World) (left : List (List ℕ)) (step : Step) (frames : List (List ℕ)) (entries : List StationEntry)
+pub step_told : (cfg : Cfg) (at : Role) {near : code.Station} {line : ShownLine} {w : World} {left : List (List ℕ)} (step : Step) (frames : List (List ℕ)) (entries : List StationEntry)
     → FitsShared at line w left → FitsStation (settings_from at cfg) near step.near → frames ≡ map (spelling_of at) step.out → entries ≡ step.entries
     → HasHappened cfg at near (put_by line at frames) (entered at entries) w (Happened (after_step (settings_from at cfg) w left step))
-step_told cfg Dte near line w left step frames entries shared fits sent told =
+step_told cfg Dte {near} {w} step frames entries shared fits sent told =
     (record { near = fits; out = rw (shared.out, sent) refl; back = shared.back }, ap (λ l. w.transcript ++ entered Dte l) (sym told))
-step_told cfg Dce near line w left step frames entries shared fits sent told =
+step_told cfg Dce {near} {w} step frames entries shared fits sent told =
     (record { near = fits; out = rw (shared.out, sent) refl; back = shared.back }, ap (λ l. w.transcript ++ entered Dce l) (sym told))
 
 -- memory that was set aside shows nowhere
-pub shared_of : (cfg : Cfg) (at : Role) (near : code.Station) (line : ShownLine) (w : World) (room : ShownLine) → FitsSide cfg at near line w → FitsShared at (with_room_of room line) w w.back
-shared_of cfg Dte near line w room side = record { out = side.out; back = side.back }
-shared_of cfg Dce near line w room side = record { out = side.out; back = side.back }
+pub shared_of : {cfg : Cfg} (at : Role) {near : code.Station} {line : ShownLine} {w : World} (room : ShownLine) → FitsSide cfg at near line w → FitsShared at (with_room_of room line) w w.back
+shared_of Dte room side = record { out = side.out; back = side.back }
+shared_of Dce room side = record { out = side.out; back = side.back }
 
 -- ---- places for frames on the line
 
@@ -62,13 +62,13 @@ none_arrives c w (octets ∷ back) is = cc
 abbrev ok : Result (Unit {0}) StationError
 ok = Ok tt
 
-pub has_happened : (cfg : Cfg) (at : Role) (near : code.Station) (line : ShownLine) (w : World) (outcome : Outcome) (answer : code_step.Step)
+pub has_happened : (cfg : Cfg) {at : Role} (near : code.Station) {line : ShownLine} {w : World} (outcome : Outcome) (answer : code_step.Step)
     → FitsShared at line w w.back → Leaves (settings_from at cfg) near ok outcome
     → Sends (settings_from at cfg) answer ok outcome → Enters answer ok outcome → Refuses ok outcome
     → HasHappened cfg at near (put_by line at answer.frames) (entered at (map plain_entry answer.entries.items)) w (of_station (settings_from at cfg) w outcome)
-has_happened cfg at near line w (Did step) answer shared leaves sends enters refuses =
-    step_told cfg at near line w w.back step answer.frames (map plain_entry answer.entries.items) shared leaves sends enters
-has_happened cfg at near line w (Refused e) answer shared leaves sends enters refuses = absurd refuses
+has_happened cfg {at} near {line} {w} (Did step) answer shared leaves sends enters refuses =
+    step_told cfg at step answer.frames (map plain_entry answer.entries.items) shared leaves sends enters
+has_happened cfg near (Refused e) answer shared leaves sends enters refuses = absurd refuses
 
 -- ---- a refused one
 
@@ -84,25 +84,25 @@ pub is_refusal : (cfg : Cfg) (at : Role) (w : World) (outcome : Outcome) (e : St
 is_refusal cfg at w (Did step) e refuses = inr (no_memory e refuses)
 is_refusal cfg at w (Refused d) e is = its_own e d is
 
-pub side_stays : (cfg : Cfg) (at : Role) (near new : code.Station) (line : ShownLine) (w : World) (room : ShownLine)
+pub side_stays : {cfg : Cfg} (at : Role) {near new : code.Station} {line : ShownLine} {w : World} (room : ShownLine)
     → FitsSide cfg at near line w → FitsStation (settings_from at cfg) new w.near → FitsSide cfg at new (with_room_of room line) w
-side_stays cfg Dte near new line w room side fits = record { near = fits; out = side.out; back = side.back }
-side_stays cfg Dce near new line w room side fits = record { near = fits; out = side.out; back = side.back }
+side_stays Dte {near} room side fits = record { near = fits; out = side.out; back = side.back }
+side_stays Dce {near} room side fits = record { near = fits; out = side.out; back = side.back }
 
 -- ---- timer T1 runs out, or doesn't while UA can still come
 
 pub holds_back : (c : Settings) (w : World) → (awaits_ua w.near.link.phase && is_on_line c w) ≡ true → fired c w ≡ Declined error.OnLine
-holds_back c w waits = ap (λ (b : Bool). if b then Declined error.OnLine else of_station c w (fires c w.near)) waits
+holds_back c w waits = ap (λ b. if b then Declined error.OnLine else of_station c w (fires c w.near)) waits
 
 pub lets_fire : (c : Settings) (w : World) → (awaits_ua w.near.link.phase && is_on_line c w) ≡ false → fired c w ≡ of_station c w (fires c w.near)
-lets_fire c w runs = ap (λ (b : Bool). if b then Declined error.OnLine else of_station c w (fires c w.near)) runs
+lets_fire c w runs = ap (λ b. if b then Declined error.OnLine else of_station c w (fires c w.near)) runs
 
 -- ---- the front octets arrive
 
-taken_off : (at : Role) (line : ShownLine) (w : World) (octets : List ℕ) (left : List (List ℕ))
+taken_off : (at : Role) {line : ShownLine} {w : World} (octets : List ℕ) (left : List (List ℕ))
     → FitsShared at line w (octets ∷ left) → FitsShared at (with_line_to line at (remove (line_to line at) 0)) w left
-taken_off Dte line w octets left shared = record { out = shared.out; back = ap (λ l. remove l 0) shared.back }
-taken_off Dce line w octets left shared = record { out = shared.out; back = ap (λ l. remove l 0) shared.back }
+taken_off Dte octets left shared = record { out = shared.out; back = ap (λ l. remove l 0) shared.back }
+taken_off Dce octets left shared = record { out = shared.out; back = ap (λ l. remove l 0) shared.back }
 
 pub has_arrived : (cfg : Cfg) (at : Role) (near : code.Station) (line : ShownLine) (w : World) (back : List (List ℕ)) (octets : List ℕ) (answer : code_step.Step)
     → FitsShared at line w back → Some octets ≡ slice_get back 0
@@ -115,24 +115,24 @@ has_arrived cfg at near line w (o ∷ left) octets answer shared front leaves se
     let same : octets ≡ o = cc in
     let step = receives (settings_from at cfg) w.near octets in
     rw (sym same)
-    (step_told cfg at near _ w left step answer.frames (map plain_entry answer.entries.items) (taken_off at line w o left shared) leaves sends enters)
+    (step_told cfg at step answer.frames (map plain_entry answer.entries.items) (taken_off at o left shared) leaves sends enters)
 
 -- ---- octets on the line are lost, or others come in their place
 
-pub line_changes : (cfg : Cfg) (at : Role) (near : code.Station) (line new : ShownLine) (w : World) (result : Result (Unit {0}) WorldError) (outcome : WorldOutcome)
+pub line_changes : {cfg : Cfg} {at : Role} {near : code.Station} {line : ShownLine} (new : ShownLine) {w : World} (result : Result (Unit {0}) WorldError) (outcome : WorldOutcome)
     → FitsSide cfg at near line w → OnOk result (outcome ≡ Happened (on_line w (line_to new at))) → new ≡ with_line_to line at (line_to new at)
     → OnOk result (HasHappened cfg at near new [] w outcome)
-line_changes cfg at near line new w (Err e) outcome side happened only = tt
-line_changes cfg at near line new w (Ok x) outcome side happened only = rw happened (go at side only)
+line_changes new (Err e) outcome side happened only = tt
+line_changes {cfg} {at} {near} {line} new {w} (Ok x) outcome side happened only = rw happened (go at side only)
   where
     go : (end : Role) → FitsSide cfg end near line w → new ≡ with_line_to line end (line_to new end) → HasHappened cfg end near new [] w (Happened (on_line w (line_to new end)))
     go Dte f o = (record { near = f.near; out = ap (λ l. l.to_dce) o ∙ f.out; back = refl }, sym (append-nil w.transcript))
     go Dce f o = (record { near = f.near; out = ap (λ l. l.to_dte) o ∙ f.out; back = refl }, sym (append-nil w.transcript))
 
-pub line_stays : (cfg : Cfg) (at : Role) (near : code.Station) (line new : ShownLine) (w : World) (result : Result (Unit {0}) WorldError)
+pub line_stays : {cfg : Cfg} {at : Role} {near : code.Station} {line : ShownLine} (new : ShownLine) {w : World} (result : Result (Unit {0}) WorldError)
     → FitsSide cfg at near line w → OnErr result (new ≡ line) → OnErr result (FitsSide cfg at near new w)
-line_stays cfg at near line new w (Ok x) side same = tt
-line_stays cfg at near line new w (Err e) side same = rw same side
+line_stays new (Ok x) side same = tt
+line_stays new (Err e) side same = rw same side
 
 pub loses_or_not : (result : Result (Unit {0}) WorldError) (outcome : WorldOutcome) → IfErr result (λ e. outcome ≡ Declined e) → IfErr result (λ e. (refusal_of outcome ≡ Some e) ⊎ (e ≡ error.NoMemory))
 loses_or_not (Ok x) outcome is = tt

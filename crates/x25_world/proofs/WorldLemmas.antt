@@ -9,7 +9,7 @@ use Rattle.x25_line.specs.laws.Stations.{is_visible, replaced}
 use Rattle.x25_station.specs.{declared.config.Cfg.{Cfg}, declared.error.StationError.{StationError}, Entry.{StationEntry}, code.FitsStation.{FitsStation}}
 use Rattle.x25_station.specs.{Config.{Settings, settings_from, config_refusal}, Step.{Step, Outcome, Did, Refused, commands, fires, receives}}
 use Rattle.x25_world.specs.declared.error.WorldError.{WorldError}
-use Rattle.x25_world.specs.World.{World, swapped, Event, Act, Commands, Receives, Fires, Loses, Damages, WorldOutcome, Happened, Declined, after_step, of_station, delivered, on_line, is_on_line, acts, acts_at, tapped, entered, swapped_back, AtEnd, happens, after, refusal_of, run, AreAccepted, connected, established, start}
+use Rattle.x25_world.specs.World.{World, mirrored, Event, Act, Commands, Receives, Fires, Loses, Damages, WorldOutcome, Happened, Declined, after_step, of_station, delivered, on_line, is_on_line, acts, acts_at, tapped, entered, swapped_back, AtEnd, happens, after, refusal_of, run, AreAccepted, connected, established, start}
 use Rattle.x25_world.specs.laws.Claims.{ActsInOctets, AreInOctets, IsUpOnce, IsUpAtMostOnce, IsBeginning, NoneConnects, UpOnceUnlessConnected, UntilSecondUp, IsLawful, IsNamed, ArrivesAll, HasNoProcedureError}
 use Rattle.x25_world.specs.laws.SessionClaims.{Throughout, ThroughoutAlong, MeetInStep, AreLawfulWhereMet, AreNamedInSessions, AllArrive, UnmetAreToldNothing, OpenStretchesMeet, SessionsKeepOrder}
 use Rattle.x25_world.specs.{laws.BesideClaims.{BesideIsGiven}, laws.SessionWindow.{SessionsStayInWindow}}
@@ -83,22 +83,22 @@ out_from w Dce = w.back
 
 event_puts : (cfg : Cfg) (w : World) (at : Role) (a : Act) → (let next = after w (acts_at cfg w at a) in next.tap ≡ w.tap ++ tapped at (drop (length (out_from w at)) (out_from next at)))
 event_puts cfg w Dte a = acts_put (settings_from Dte cfg) w a
-event_puts cfg w Dce a = go (acts (settings_from Dce cfg) (swapped w) a) (acts_put (settings_from Dce cfg) (swapped w) a)
+event_puts cfg w Dce a = go (acts (settings_from Dce cfg) (mirrored w) a) (acts_put (settings_from Dce cfg) (mirrored w) a)
   where
-    go : (o : WorldOutcome) → PutsLast Dce (swapped w) (after (swapped w) o)
+    go : (o : WorldOutcome) → PutsLast Dce (mirrored w) (after (mirrored w) o)
         → (let next = after w (swapped_back o) in next.tap ≡ w.tap ++ tapped Dce (drop (length (out_from w Dce)) (out_from next Dce)))
     go (Happened next) h = h
     go (Declined e) h = h
 
-shown_from : (cfg : Cfg) (v : ShownWorld) (w : World) (at : Role) → FitsWorld cfg v w → line_from v at ≡ out_from w at
-shown_from cfg v w Dte f = f.to_dce
-shown_from cfg v w Dce f = f.to_dte
+shown_from : {cfg : Cfg} {v : ShownWorld} {w : World} (at : Role) → FitsWorld cfg v w → line_from v at ≡ out_from w at
+shown_from Dte f = f.to_dce
+shown_from Dce f = f.to_dte
 
 -- what an accepted event put
-pub put_last : (cfg : Cfg) (old new : ShownWorld) (w : World) (e : Event) (r : Result (Unit {0}) WorldError) → FitsWorld cfg old w → OnOk r (FitsWorld cfg new (after w (happens cfg w e)))
+pub put_last : {cfg : Cfg} {old : ShownWorld} (new : ShownWorld) {w : World} (e : Event) (r : Result (Unit {0}) WorldError) → FitsWorld cfg old w → OnOk r (FitsWorld cfg new (after w (happens cfg w e)))
     → OnOk r ((after w (happens cfg w e)).tap ≡ w.tap ++ tapped e.at (drop (length (line_from old e.at)) (line_from new e.at)))
-put_last cfg old new w e (Ok x) f g = rw (shown_from cfg old w e.at f, shown_from cfg new (after w (happens cfg w e)) e.at g) (event_puts cfg w e.at e.act)
-put_last cfg old new w e (Err error) f g = tt
+put_last {cfg} {old} new {w} e (Ok x) f g = rw (shown_from e.at f, shown_from e.at g) (event_puts cfg w e.at e.act)
+put_last new e (Err error) f g = tt
 
 -- ---- what an end did is what happened in its world
 
@@ -108,23 +108,23 @@ pub record HasDone (cfg : Cfg) (v : ShownWorld) (told : List AtEnd) (w : World) 
   pub tells : (after w o).transcript ≡ w.transcript ++ told
   pub accepted : refusal_of o ≡ None
 
-dte_done : (cfg : Cfg) (near dce : code.Station) (line : ShownLine) (told : List AtEnd) (w : World) (o : WorldOutcome) → KeepsFar w o → FitsStation (settings_from Dce cfg) dce w.far
+dte_done : {cfg : Cfg} {near dce : code.Station} (line : ShownLine) {told : List AtEnd} {w : World} (o : WorldOutcome) → KeepsFar w o → FitsStation (settings_from Dce cfg) dce w.far
     → HasHappened cfg Dte near line told w o → HasDone cfg (shown_with near dce line) told w o
-dte_done cfg near dce line told w (Happened next) far fits h = record {
+dte_done {dce} line (Happened next) far fits h = record {
   fits = record { dte = h.0.near; dce = rw far fits; to_dce = h.0.out; to_dte = h.0.back };
   tells = h.1;
   accepted = refl;
 }
-dte_done cfg near dce line told w (Declined e) far fits h = absurd h
+dte_done line (Declined e) far fits h = absurd h
 
-dce_done : (cfg : Cfg) (near dte : code.Station) (line : ShownLine) (told : List AtEnd) (w : World) (o : WorldOutcome) → KeepsFar (swapped w) o → FitsStation (settings_from Dte cfg) dte w.near
-    → HasHappened cfg Dce near line told (swapped w) o → HasDone cfg (shown_with dte near line) told w (swapped_back o)
-dce_done cfg near dte line told w (Happened next) far fits h = record {
+dce_done : {cfg : Cfg} {near dte : code.Station} (line : ShownLine) {told : List AtEnd} (w : World) (o : WorldOutcome) → KeepsFar (mirrored w) o → FitsStation (settings_from Dte cfg) dte w.near
+    → HasHappened cfg Dce near line told (mirrored w) o → HasDone cfg (shown_with dte near line) told w (swapped_back o)
+dce_done {dte} line w (Happened next) far fits h = record {
   fits = record { dte = rw far fits; dce = h.0.near; to_dce = h.0.back; to_dte = h.0.out };
   tells = h.1;
   accepted = refl;
 }
-dce_done cfg near dte line told w (Declined e) far fits h = absurd h
+dce_done line w (Declined e) far fits h = absurd h
 
 pub refusal-swapped : (o : WorldOutcome) → refusal_of (swapped_back o) ≡ refusal_of o
 refusal-swapped (Happened next) = refl
@@ -133,26 +133,26 @@ refusal-swapped (Declined e) = refl
 -- an act of the DTE of a world
 pub dte_fits : (cfg : Cfg) (near dce : code.Station) (line : ShownLine) (told : List AtEnd) (w : World) (o : WorldOutcome) (r : Result (Unit {0}) WorldError) → KeepsFar w o
     → FitsStation (settings_from Dce cfg) dce w.far → OnOk r (HasHappened cfg Dte near line told w o) → OnOk r (FitsWorld cfg (shown_with near dce line) (after w o))
-dte_fits cfg near dce line told w o (Ok x) far fits h = (dte_done cfg near dce line told w o far fits h).fits
+dte_fits cfg near dce line told w o (Ok x) far fits h = (dte_done line o far fits h).fits
 dte_fits cfg near dce line told w o (Err e) far fits h = tt
 
-pub dte_acted : (cfg : Cfg) (near dce : code.Station) (line : ShownLine) (w : World) (e : Event) (r : Result (Unit {0}) WorldError) (told : List StationEntry) → e.at ≡ Dte
+pub dte_acted : {cfg : Cfg} {near dce : code.Station} {line : ShownLine} {w : World} (e : Event) (r : Result (Unit {0}) WorldError) (told : List StationEntry) → e.at ≡ Dte
     → FitsStation (settings_from Dce cfg) dce w.far → HasActed cfg Dte near line (entered Dte told) r w (acts (settings_from Dte cfg) w e.act)
     → HasActedAt cfg (shown_with near dce line) (entered e.at told) r w e
-dte_acted cfg near dce line w e (Ok x) told at fits h =
-    let done = dte_done cfg near dce line (entered Dte told) w (acts (settings_from Dte cfg) w e.act) (acts_keep_far (settings_from Dte cfg) w e.act) fits h.happened in
+dte_acted {cfg} {near} {dce} {line} {w} e (Ok x) told at fits h =
+    let done = dte_done line (acts (settings_from Dte cfg) w e.act) (acts_keep_far (settings_from Dte cfg) w e.act) fits h.happened in
     record { happened = rw at done.fits; tells = rw at done.tells; accepted = rw at done.accepted; refused = tt; stays = tt }
-dte_acted cfg near dce line w e (Err x) told at fits h =
+dte_acted {dce} e (Err x) told at fits h =
     record { happened = tt; tells = tt; accepted = tt; refused = rw at h.refused; stays = record { dte = h.stays.near; dce = fits; to_dce = h.stays.out; to_dte = h.stays.back } }
 
 -- an act of its DCE
-pub dce_acted : (cfg : Cfg) (near dte : code.Station) (line : ShownLine) (w : World) (e : Event) (r : Result (Unit {0}) WorldError) (told : List StationEntry) → e.at ≡ Dce
-    → FitsStation (settings_from Dte cfg) dte w.near → HasActed cfg Dce near line (entered Dce told) r (swapped w) (acts (settings_from Dce cfg) (swapped w) e.act)
+pub dce_acted : {cfg : Cfg} {near dte : code.Station} {line : ShownLine} (w : World) (e : Event) (r : Result (Unit {0}) WorldError) (told : List StationEntry) → e.at ≡ Dce
+    → FitsStation (settings_from Dte cfg) dte w.near → HasActed cfg Dce near line (entered Dce told) r (mirrored w) (acts (settings_from Dce cfg) (mirrored w) e.act)
     → HasActedAt cfg (shown_with dte near line) (entered e.at told) r w e
-dce_acted cfg near dte line w e (Ok x) told at fits h =
-    let done = dce_done cfg near dte line (entered Dce told) w (acts (settings_from Dce cfg) (swapped w) e.act) (acts_keep_far (settings_from Dce cfg) (swapped w) e.act) fits h.happened in
+dce_acted {cfg} {near} {dte} {line} w e (Ok x) told at fits h =
+    let done = dce_done line w (acts (settings_from Dce cfg) (mirrored w) e.act) (acts_keep_far (settings_from Dce cfg) (mirrored w) e.act) fits h.happened in
     record { happened = rw at done.fits; tells = rw at done.tells; accepted = rw at done.accepted; refused = tt; stays = tt }
-dce_acted cfg near dte line w e (Err x) told at fits h =
+dce_acted {dte} w e (Err x) told at fits h =
     record { happened = tt; tells = tt; accepted = tt; refused = rw (at, refusal-swapped) h.refused; stays = record { dte = fits; dce = h.stays.near; to_dce = h.stays.back; to_dte = h.stays.out } }
 
 -- ---- accepted and refused
@@ -183,7 +183,7 @@ refused_later U (Some d) x e made memory = cc
 
 -- what is told comes behind what was told
 pub told_behind : (all before told more next : List AtEnd) → all ≡ before ++ told → next ≡ all ++ more → next ≡ before ++ (told ++ more)
-told_behind all before told more next e f = f ∙ ap (λ (l : List AtEnd). l ++ more) e ∙ append_assoc before told more
+told_behind all before told more next e f = f ∙ ap (λ l. l ++ more) e ∙ append_assoc before told more
 
 -- ---- runs
 
@@ -200,16 +200,16 @@ octets_append [] ys f g = g
 octets_append (x ∷ xs) ys f g = (f.0, octets_append xs ys f.1 g)
 
 -- one more event, where it is accepted
-pub run_and_then : (cfg : Cfg) (from : World) (old new : ShownWorld) (past : List Event) (e : Event) (r : Result (Unit {0}) WorldError) → FitsRun cfg from old past → ActsInOctets e.act
+pub run_and_then : {cfg : Cfg} {from : World} {old : ShownWorld} (new : ShownWorld) {past : List Event} (e : Event) (r : Result (Unit {0}) WorldError) → FitsRun cfg from old past → ActsInOctets e.act
     → ((w : World) → FitsWorld cfg old w → OnOk r (FitsWorld cfg new (after w (happens cfg w e)))) → ((w : World) → FitsWorld cfg old w → OnOk r (refusal_of (happens cfg w e) ≡ None))
     → ((w : World) → FitsWorld cfg old w → OnErr r (FitsWorld cfg new w)) → FitsRun cfg from new (and_then past e r)
-run_and_then cfg from old new past e (Ok x) h octets step accepted stays = record {
+run_and_then {cfg} {from} new {past} e (Ok x) h octets step accepted stays = record {
   settings = h.settings;
   octets = octets_append past (e ∷ []) h.octets (octets, tt);
   accepted = accepted_append cfg past (e ∷ []) from h.accepted (accepted (run cfg past from) h.fits, tt);
   fits = subst (FitsWorld cfg new) (sym (run_append cfg past (e ∷ []) from)) (step (run cfg past from) h.fits);
 }
-run_and_then cfg from old new past e (Err x) h octets step accepted stays = record { settings = h.settings; octets = h.octets; accepted = h.accepted; fits = stays (run cfg past from) h.fits }
+run_and_then {cfg} {from} new {past} e (Err x) h octets step accepted stays = record { settings = h.settings; octets = h.octets; accepted = h.accepted; fits = stays (run cfg past from) h.fits }
 
 -- ---- claims
 
@@ -225,7 +225,7 @@ connected_up cfg = none_up cfg (connected cfg) (connected_tells cfg)
 
 -- an end that went up once went up once at most
 once_at_most : (cfg : Cfg) (w : World) → IsUpOnce cfg w → IsUpAtMostOnce cfg w
-once_at_most cfg w once = λ end. let told = once end in omega (arith, told)
+once_at_most cfg w once = λ end. omega (arith, once end)
 
 -- the claims on sessions together
 pub all_of_sessions : Throughout MeetInStep → Throughout AreLawfulWhereMet → Throughout AreNamedInSessions → Throughout AllArrive → Throughout UnmetAreToldNothing → Throughout OpenStretchesMeet → Throughout HasNoProcedureError → ThroughoutAlong SessionsStayInWindow
@@ -244,8 +244,8 @@ all_of_sessions step lawful named arrives unmet stand quiet window cfg fine from
 -- by the laws on two stations the claims hold of each run
 module _ (lawful : UntilSecondUp IsLawful) (named : UntilSecondUp IsNamed) (arrives : UntilSecondUp ArrivesAll) (up_once : UpOnceUnlessConnected) (sessions : Throughout SessionsKeepOrder) (links : ThroughoutAlong SessionsStayInWindow)
     (beside : ThroughoutAlong BesideIsGiven) where
-  run_holds : (cfg : Cfg) (from : World) (v : ShownWorld) (events : List Event) → IsBeginning cfg from → FitsRun cfg from v events → RunHolds cfg from v events
-  run_holds cfg from v events begins h = record {
+  run_holds : {cfg : Cfg} {from : World} {v : ShownWorld} {events : List Event} → IsBeginning cfg from → FitsRun cfg from v events → RunHolds cfg from v events
+  run_holds {cfg} {from} {events} begins h = record {
     fits = h;
     lawful = lawful cfg h.settings from begins events h.octets;
     named = named cfg h.settings from begins events h.octets;
@@ -258,21 +258,21 @@ module _ (lawful : UntilSecondUp IsLawful) (named : UntilSecondUp IsNamed) (arri
 
   pub claims_hold : (old new : ShownWorld) (more : List Event → List Event)
       → ((cfg : Cfg) (from : World) (past : List Event) → FitsRun cfg from old past → FitsRun cfg from new (more past)) → Claims old new more
-  claims_hold old new more runs = record { run = runs; holds = λ cfg from past begins h. run_holds cfg from new (more past) begins (runs cfg from past h) }
+  claims_hold old new more runs = record { run = runs; holds = λ cfg from past begins h. run_holds begins (runs cfg from past h) }
 
   -- they hold of a world that was just made
   pub claims_of_new : (cfg : Cfg) (from : World) (v : ShownWorld) → IsBeginning cfg from → IsUpAtMostOnce cfg from → FitsRun cfg from v [] → ClaimsOfNew cfg from v
-  claims_of_new cfg from v begins once h = record { once = once; holds = run_holds cfg from v [] begins h }
+  claims_of_new cfg from v begins once h = record { once = once; holds = run_holds begins h }
 
   pub established_up : (cfg : Cfg) → config_refusal cfg ≡ None → IsUpAtMostOnce cfg (established cfg)
   established_up cfg fine = once_at_most cfg (established cfg) (up_once cfg fine [] tt tt)
 
 -- a world that was just made
-new_run : (cfg : Cfg) (from : World) (v : ShownWorld) → config_refusal cfg ≡ None → FitsWorld cfg v from → FitsRun cfg from v []
-new_run cfg from v fine fits = record { settings = fine; octets = tt; accepted = tt; fits = fits }
+new_run : {cfg : Cfg} {from : World} {v : ShownWorld} → config_refusal cfg ≡ None → FitsWorld cfg v from → FitsRun cfg from v []
+new_run fine fits = record { settings = fine; octets = tt; accepted = tt; fits = fits }
 
 -- what holds of it, where one was made
 pub made_world : (cfg : Cfg) (from : World) (P : ShownWorld → Type 0) (made : Result ShownWorld WorldError) → RefusesConfig made (config_refusal cfg) → IfOk made (λ v. FitsWorld cfg v from)
     → ((v : ShownWorld) → FitsRun cfg from v [] → P v) → IfOk made P
-made_world cfg from P (Ok v) refused fits holds = holds v (new_run cfg from v (in_range (config_refusal cfg) v refused) fits)
+made_world cfg from P (Ok v) refused fits holds = holds v (new_run (in_range (config_refusal cfg) v refused) fits)
 made_world cfg from P (Err e) refused fits holds = tt

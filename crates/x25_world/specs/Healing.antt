@@ -238,7 +238,7 @@ pub record HaveArrived (cfg : Cfg) (w u : World) : Type 0 where
   pub behind : Sessions
   pub before_are : AreLinksOf cfg w before
   pub behind_are : AreLinksOf cfg u behind
-  pub asked : List line.Event
+  pub asked : List line.LinkEvent
   pub are : Each IsDeliveryOrPut asked
   pub goes : links.run (link_of cfg Dte) (link_of cfg Dce) (line.Near line.T1 ∷ line.Far line.T1 ∷ asked) before
       ≡ behind

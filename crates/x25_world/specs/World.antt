@@ -35,8 +35,8 @@ pub record World : Type 0 where
   pub tap : List OnTap
   pub transcript : List AtEnd
 
-abbrev pub swapped : World → World
-swapped w = record { near = w.far; far = w.near; out = w.back; back = w.out; tap = w.tap; transcript = w.transcript }
+abbrev pub mirrored : World → World
+mirrored w = record { near = w.far; far = w.near; out = w.back; back = w.out; tap = w.tap; transcript = w.transcript }
 
 -- ---- a step of the near end
 
@@ -127,13 +127,13 @@ event_of (event.Damage direction place octets) = record { at = end_of direction;
 event_of (event.T1 at) = record { at = at; act = Fires }
 
 abbrev pub swapped_back : WorldOutcome → WorldOutcome
-swapped_back (Happened w) = Happened (swapped w)
+swapped_back (Happened w) = Happened (mirrored w)
 swapped_back (Declined e) = Declined e
 
 -- in a world the near end is the DTE
 abbrev pub acts_at : Cfg → World → Role → Act → WorldOutcome
 acts_at cfg w Dte act = acts (settings_from Dte cfg) w act
-acts_at cfg w Dce act = swapped_back (acts (settings_from Dce cfg) (swapped w) act)
+acts_at cfg w Dce act = swapped_back (acts (settings_from Dce cfg) (mirrored w) act)
 
 abbrev pub happens : Cfg → World → Event → WorldOutcome
 happens cfg w e = acts_at cfg w e.at e.act

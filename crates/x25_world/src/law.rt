@@ -3,10 +3,8 @@ ghost use Rattle.x25_given.specs.Given.{plain_given};
 ghost use Rattle.x25_station.specs.Command.{RequestsWith, request_of};
 ghost use Rattle.x25_station.specs.laws.ReadLaw.{AreOctets};
 ghost use Rattle.x25_world.specs.World.{event_of};
-ghost use Rattle.x25_world.specs.rows.WorldRows.{SetsUp, MessageArrives, LostArrives, DamagedArrives};
 ghost use Rattle.x25_world.specs.rows.WorldRows.{GivenArrives, ConfirmedArrives};
-ghost use Rattle.x25_world.specs.rows.WorldRows.{DisconnectEndsBoth, ConnectSetsUp, ConnectGoesAgain, SecondMeetsFirst};
-ghost use Rattle.x25_world.specs.rows.WorldRows.{SecondMeet, TimerWaits, IsRefused};
+ghost use Rattle.x25_world.specs.rows.WorldRows.{ConnectGoesAgain, SecondMeetsFirst, SecondMeet};
 ghost use Rattle.x25_world.specs.laws.SessionClaims.{Throughout, ThroughoutAlong, MeetInStep, AreLawfulWhereMet};
 ghost use Rattle.x25_world.specs.laws.SessionClaims.{AreNamedInSessions, AllArrive, UnmetAreToldNothing};
 ghost use Rattle.x25_world.specs.laws.SessionClaims.{OpenStretchesMeet};
@@ -25,7 +23,7 @@ ghost use Rattle.x25_world.specs.laws.ConfirmedClaims.{ConfirmedAreHandedUp};
 use crate::Event;
 use x25_frame::reads_what_is_spelled;
 use x25_layer::{acknowledged_are_handed_up, apart_layers_keep_order, each_end_is_by_itself};
-use x25_line::{each_session_event_hands_one, links_keep_order, sessions_keep_order};
+use x25_line::{each_session_event_hands_one, sessions_keep_order};
 use x25_link::{notes_what_changes, sets_up_by_rows};
 use x25_packet::{reading_is_the_grammar, taking_keeps_octets};
 use x25_station::{
@@ -80,7 +78,6 @@ pub fn two_stations_keep_order()
     ensures up_once { UpOnceUnlessConnected }
 {
     laws_below();
-    links_keep_order();
 }
 
 /// Two stations joined by such a line, over set-up and re-set-up at any moment: what holds after each list of commands,
@@ -163,26 +160,15 @@ pub fn worlds_hold_few()
     stations_hold_few();
 }
 
-/// Worked rows: the octets of set-up; a message that arrives, also where its frame is lost or damaged and goes again;
-/// what is given with a call and its acceptance, of which the other user is told; a message whose confirmation is
-/// asked, and told;
-/// `disconnect`, by which both ends go down; `connect`, by which both come up, also where both ask, or UA is lost, so
-/// that the second session of the DCE meets the first of the DTE, and again after the DTE left, so that the second of
-/// both meet; timer T1, which waits for SABM and UA that are on the line; and refusals.
+/// Worked rows of what no code computes: what is given with a call and its acceptance, of which the other user is told;
+/// a message whose confirmation is asked, and told; `connect`, where UA is lost, so that the second session of the DCE
+/// meets the first of the DTE, and again after the DTE left, so that the second of both meet.
 pub fn two_stations_move()
-    ensures sets_up { SetsUp }
-    ensures arrives { MessageArrives }
-    ensures lost { LostArrives }
-    ensures damaged { DamagedArrives }
     ensures given { GivenArrives }
     ensures confirmed { ConfirmedArrives }
-    ensures disconnect { DisconnectEndsBoth }
-    ensures connect { ConnectSetsUp }
     ensures connect_again { ConnectGoesAgain }
     ensures sessions { SecondMeetsFirst }
     ensures second { SecondMeet }
-    ensures timer { TimerWaits }
-    ensures refused { IsRefused }
 {}
 
 /// What an event hands down is octets, as the laws above want it.

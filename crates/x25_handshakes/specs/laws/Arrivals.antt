@@ -3,7 +3,7 @@ use Rattle.std.specs.Prelude.{◌≡◌, ℕ, List, [], Option, Some, None}
 use Rattle.x25_circuit.specs.Message.{wholes}
 use Rattle.x25_handshakes.specs.{laws.Handshake.{Side, Live, Left, At, state_of}, laws.Stretch.{Stretch}}
 use Rattle.x25_handshakes.specs.laws.Calls.{Phase, Talking, Connection}
-use Rattle.x25_handshakes.specs.laws.Layers.{Channels, Event, pair_run, pair_start}
+use Rattle.x25_handshakes.specs.laws.Layers.{Channels, LayerEvent, pair_run, pair_start}
 use Rattle.x25_handshakes.specs.laws.Histories.{messages, name_at}
 
 abbrev pub open_in : Side Stretch → Option Stretch
@@ -35,7 +35,7 @@ pub record HasArrived (giver taker : Stretch) : Type 0 where
 
 -- in every run, where a stretch is open at both ends under one name and nothing is on the way
 abbrev pub AllArrives : Type 0
-AllArrives = (events : List Event) (k : ℕ) (x y : Stretch) →
+AllArrives = (events : List LayerEvent) (k : ℕ) (x y : Stretch) →
     let w = pair_run events pair_start in
     open_at w.near k ≡ Some x → open_at w.far k ≡ Some y
     → name_at messages (state_of w.near) k ≡ name_at messages (state_of w.far) k

@@ -2,7 +2,8 @@
 use Rattle.std.specs.Prelude.{◌≡◌, ◌⊎◌, ℕ, List, [], length, Bool, true, false, Some}
 use Rattle.x25_handshakes.specs.{laws.Handshake.{Side, Live, Left, At, state_of}, laws.Stretch.{Stretch, Pull}}
 use Rattle.x25_handshakes.specs.{laws.Transfer.{Inside}, laws.Calls.{Talks}, laws.Channel.{Within}}
-use Rattle.x25_handshakes.specs.laws.Layers.{Channels, LayerPacket, OnChannel, layer_acts, Event, pair_run, pair_start}
+use Rattle.x25_handshakes.specs.laws.Layers.{Channels, LayerPacket, OnChannel, layer_acts, LayerEvent, pair_run}
+use Rattle.x25_handshakes.specs.laws.Layers.{pair_start}
 use Rattle.x25_handshakes.specs.{laws.Histories.{messages, name_at}, laws.Arrivals.{open_at}}
 
 -- the link of the end is up
@@ -27,7 +28,7 @@ pub record IsOpenThere (k : ℕ) (near far : Side (At Channels)) (x : Stretch) :
 
 -- in every run, where nothing is on the way and the other end is up, of each stretch that is open
 abbrev pub AllIsKnown : Type 0
-AllIsKnown = (events : List Event) (k : ℕ) (x : Stretch) →
+AllIsKnown = (events : List LayerEvent) (k : ℕ) (x : Stretch) →
     let w = pair_run events pair_start in
     w.out ≡ [] → w.back ≡ []
     → (is_up w.far ≡ true → open_at w.near k ≡ Some x → IsOpenThere k w.near w.far x)

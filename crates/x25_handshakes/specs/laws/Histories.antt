@@ -4,7 +4,7 @@ use Rattle.x25_circuit.specs.{declared.message.Message.{Message}, Notice.{CallRe
 use Rattle.x25_bits.specs.{declared.role.Role.{Role}, declared.role.Role.TheVariants.{Dte, Dce}}
 use Rattle.x25_handshakes.specs.{laws.Handshake.{At, state_of}, laws.Stretch.{Stretch}}
 use Rattle.x25_handshakes.specs.laws.Calls.{Phase, Talking, Connection}
-use Rattle.x25_handshakes.specs.laws.Layers.{Channels, Pair, Move, Event, turned, pair_moves, pair_start}
+use Rattle.x25_handshakes.specs.laws.Layers.{Channels, Pair, Move, LayerEvent, turned, pair_moves, pair_start}
 use Rattle.x25_handshakes.specs.laws.Names.{Name, same_name, IsEarlier}
 
 -- of one kind, as messages: those handed down, those handed up
@@ -103,11 +103,11 @@ histories_moves kind r g what =
       far = g.far;
     }
 
-abbrev pub histories_happens : {M : Type 0} → Kind M → Histories M → Event → Histories M
+abbrev pub histories_happens : {M : Type 0} → Kind M → Histories M → LayerEvent → Histories M
 histories_happens kind g e = if e.first then histories_moves kind Dte g e.what
     else turned_histories (histories_moves kind Dce (turned_histories g) e.what)
 
-abbrev pub histories_run : {M : Type 0} → Kind M → List Event → Histories M → Histories M
+abbrev pub histories_run : {M : Type 0} → Kind M → List LayerEvent → Histories M → Histories M
 histories_run kind [] g = g
 histories_run kind (e ∷ es) g = histories_run kind es (histories_happens kind g e)
 
@@ -116,7 +116,7 @@ histories_start = record { pair = pair_start; near = λ k n. none; far = λ k n.
 
 -- of a kind: in every run, the histories of the two ends are lawful on each channel
 abbrev pub AreInOrder : {M : Type 0} → Kind M → Type 0
-AreInOrder kind = (events : List Event) (k : ℕ) →
+AreInOrder kind = (events : List LayerEvent) (k : ℕ) →
     let g = histories_run kind events histories_start in
     IsLawful (channel_view kind (state_of g.pair.near) k (g.near k))
     (channel_view kind (state_of g.pair.far) k (g.far k))

@@ -4,9 +4,9 @@ use Rattle.std.specs.Prelude.{List, length, None}
 use Rattle.x25_bits.specs.{declared.role.Role.{Role}, declared.role.Role.TheVariants.{Dte, Dce}}
 use Rattle.x25_handshakes.specs.{laws.Handshake.{Side, Live, Left, At}, laws.Stretch.{Stretch}}
 use Rattle.x25_handshakes.specs.laws.Calls.{Phase, Unused, Waiting, Offered, Crossed, Talking, Connection, Stage}
-use Rattle.x25_handshakes.specs.laws.Layers.{LayerPacket, Channels, Event, Pair, pair_run, pair_start}
+use Rattle.x25_handshakes.specs.laws.Layers.{LayerPacket, Channels, LayerEvent, Pair, pair_run, pair_start}
 use Rattle.x25_handshakes.specs.{laws.PeerStretch.{PeerStretch}, laws.PeerCalls.{PeerCall}}
-use Rattle.x25_handshakes.specs.{laws.PeerLayer.{PeerChannels}, laws.PeerLayers.{IsReached}}
+use Rattle.x25_handshakes.specs.{laws.PeerLayer.{PeerChannels}, laws.PeerLayers.{ReachedInLayers}}
 
 -- what a peer is that stands where our own end stands, level by level
 abbrev pub as_peer_stretch : Stretch → PeerStretch
@@ -47,7 +47,7 @@ as_peer x = as_at as_peer_channels x
 -- the second end is a peer of the first one, whose role this is, and no error was found
 abbrev pub IsPeerOf : Role → Side (At Channels) → List LayerPacket → List LayerPacket → Side (At Channels) → Type 0
 IsPeerOf r (Live x) out back (Live y) =
-    IsReached r (record { near = x; peer = as_peer y; out = out; back = back; error = None })
+    ReachedInLayers r (record { near = x; peer = as_peer y; out = out; back = back; error = None })
 IsPeerOf r x out back y = Unit {0}
 
 pub record AreBothPeers (w : Pair) : Type 0 where
@@ -55,4 +55,4 @@ pub record AreBothPeers (w : Pair) : Type 0 where
   pub first : IsPeerOf Dce w.far w.back w.out w.near
 
 abbrev pub LayersArePeers : Type 0
-LayersArePeers = (events : List Event) → AreBothPeers (pair_run events pair_start)
+LayersArePeers = (events : List LayerEvent) → AreBothPeers (pair_run events pair_start)

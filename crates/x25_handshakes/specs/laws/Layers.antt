@@ -96,15 +96,15 @@ pair_moves r w (Live x) LinkDown = record { near = Left x; far = w.far; out = w.
 pair_moves r w (Left x) what = w
 
 -- a move of the first end, or of the second
-pub record Event : Type 0 where
+pub record LayerEvent : Type 0 where
   pub first : Bool
   pub what : Move
 
-abbrev pub pair_happens : Pair → Event → Pair
+abbrev pub pair_happens : Pair → LayerEvent → Pair
 pair_happens w e =
     if e.first then pair_moves Dte w w.near e.what else turned (pair_moves Dce (turned w) w.far e.what)
 
-abbrev pub pair_run : List Event → Pair → Pair
+abbrev pub pair_run : List LayerEvent → Pair → Pair
 pair_run [] w = w
 pair_run (e ∷ events) w = pair_run events (pair_happens w e)
 

@@ -8,8 +8,8 @@ use Rattle.x25_handshakes.specs.laws.Calls.{Phase, Talking, Connection, fresh_ca
 use Rattle.x25_handshakes.specs.{laws.Layers.{Channels, all_fresh}, laws.Histories.{IsPrefix}}
 use Rattle.x25_handshakes.specs.{laws.Arrivals.{open_channel}, laws.PeerStretch.{PeerStretch, fresh_peer}}
 use Rattle.x25_handshakes.specs.{laws.PeerTransfer.{fresh_peer_transfer}, laws.PeerCalls.{PeerCall, fresh_peer_call}}
-use Rattle.x25_handshakes.specs.{laws.PeerLayer.{PeerChannels, peer_fresh}, laws.PeerJoined.{Joined, IsReached}}
-use Rattle.x25_handshakes.specs.laws.PeerLayers.{JoinedLayers, IsReached as LayersAreReached}
+use Rattle.x25_handshakes.specs.{laws.PeerLayer.{PeerChannels, peer_fresh}, laws.PeerJoined.{JoinedCall, ReachedInCall}}
+use Rattle.x25_handshakes.specs.laws.PeerLayers.{JoinedLayers, ReachedInLayers}
 use Rattle.x25_handshakes.specs.laws.Terms.{Terms}
 
 -- Two ends of a handshake, of which R is said in one epoch, also where an end or both have left it. Their counts differ
@@ -100,15 +100,16 @@ pub record TookLayer (k : ℕ) (z : At Channels) (y : At PeerChannels) (x : Stre
 
 -- ---- whatever happens, with any peer that keeps the rules
 
-abbrev pub WithAnyPeer : (Joined → Type 0) → Type 0
+abbrev pub WithAnyPeer : (JoinedCall → Type 0) → Type 0
 WithAnyPeer Holds =
-    (t : Terms) (longest size : ℕ) → t.window ≤ 7 → 1 ≤ t.size → (w : Joined) → IsReached t longest size w → Holds w
+    (t : Terms) (longest size : ℕ) → t.window ≤ 7 → 1 ≤ t.size → (w : JoinedCall) → ReachedInCall t longest size w
+    → Holds w
 
 abbrev pub WithAnyPeerLayer : (JoinedLayers → Type 0) → Type 0
-WithAnyPeerLayer Holds = (r : Role) (w : JoinedLayers) → LayersAreReached r w → Holds w
+WithAnyPeerLayer Holds = (r : Role) (w : JoinedLayers) → ReachedInLayers r w → Holds w
 
 -- what comes to our end is no error of procedure
-abbrev pub FindsNoError : Joined → Type 0
+abbrev pub FindsNoError : JoinedCall → Type 0
 FindsNoError w = w.error ≡ None
 
 abbrev pub LayerFindsNoError : JoinedLayers → Type 0
@@ -119,7 +120,7 @@ abbrev pub LayerHasArrived : JoinedLayers → Type 0
 LayerHasArrived w = w.out ≡ [] → (k : ℕ) (x : Stretch) → open_channel w.near.side k ≡ Some x
     → is_open_there w.peer.side k ≡ true → TookLayer k w.near w.peer x
 
-abbrev pub KeepsStretches : Joined → Type 0
+abbrev pub KeepsStretches : JoinedCall → Type 0
 KeepsStretches w = StretchesAreInOrder w.near w.peer
 
 abbrev pub KeepsLayers : JoinedLayers → Type 0

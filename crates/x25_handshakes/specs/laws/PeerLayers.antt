@@ -45,28 +45,29 @@ AreElsewhere h [] = Unit {0}
 AreElsewhere h (p ∷ ps) = IsElsewhere h p × AreElsewhere h ps
 
 -- What may happen next, where our layer has this role.
-pub data Happens (r : Role) (w : JoinedLayers) : JoinedLayers → Type 0 where
+pub data HappensInLayers (r : Role) (w : JoinedLayers) : JoinedLayers → Type 0 where
   -- our layer acts by its definition: a call of the user, or a pull
   Acts : (act : LayerAct)
-      → Happens r w (near_stepped w w.back (layer_acts w.near act) (layer_acts w.near act).error)
+      → HappensInLayers r w (near_stepped w w.back (layer_acts w.near act) (layer_acts w.near act).error)
   -- it takes the packet in front
   Takes : (p : LayerPacket) (rest : List LayerPacket) → w.back ≡ p ∷ rest
-      → Happens r w (near_stepped w rest (layer_takes r w.near p) (layer_found p (layer_takes r w.near p).error))
+      → HappensInLayers r w (near_stepped w rest (layer_takes r w.near p)
+      (layer_found p (layer_takes r w.near p).error))
   -- the peer sends a packet
   Does : (deed : LayerDeed) → MayDoLayer w.peer.side deed
-      → Happens r w (record w {
+      → HappensInLayers r w (record w {
         peer = does_layer w.peer.epoch w.peer.side deed;
         back = w.back ++ layer_packet_of w.peer.side deed ∷ [];
       })
   -- it takes the packet in front
   Hears : (p : LayerPacket) (rest : List LayerPacket) → w.out ≡ p ∷ rest
-      → Happens r w (peer_stepped w rest (layer_taking (other_role r) w.peer.epoch w.peer.side p))
+      → HappensInLayers r w (peer_stepped w rest (layer_taking (other_role r) w.peer.epoch w.peer.side p))
   -- it takes the first packet of a channel before those of other channels that stand in front of it
   HearsChannel : (y : PeerChannels) (h : ℕ) (passed : List LayerPacket) (p : Packet) (rest : List LayerPacket)
       → w.peer.side ≡ Live y → AreElsewhere h passed → w.out ≡ passed ++ On h p ∷ rest
-      → Happens r w (peer_stepped w (passed ++ rest) (ready_taking (other_role r) w.peer.epoch y (On h p)))
+      → HappensInLayers r w (peer_stepped w (passed ++ rest) (ready_taking (other_role r) w.peer.epoch y (On h p)))
 
 -- what is reached, event by event
-pub data IsReached (r : Role) : JoinedLayers → Type 0 where
-  at_start : IsReached r start
-  goes_on : (w v : JoinedLayers) → IsReached r w → Happens r w v → IsReached r v
+pub data ReachedInLayers (r : Role) : JoinedLayers → Type 0 where
+  at_start : ReachedInLayers r start
+  goes_on : (w v : JoinedLayers) → ReachedInLayers r w → HappensInLayers r w v → ReachedInLayers r v

@@ -7,48 +7,49 @@ use Rattle.x25_handshakes.specs.laws.Handshake.{state_of, near_stepped, peer_ste
 use Rattle.x25_handshakes.specs.laws.Stretch.{Data, Call, Accept, Send, Pull}
 use Rattle.x25_handshakes.specs.{laws.Transfer.{Inside, transfer_acts, transfer_takes}, laws.PeerStretch.{Sends, Says}}
 use Rattle.x25_handshakes.specs.laws.PeerTransfer.{InStretch, TransferDeed, does_transfer, transfer_packet_of}
-use Rattle.x25_handshakes.specs.{laws.PeerTransfer.{transfer_taking}, laws.PeerJoined.{Joined, start, IsReached}}
+use Rattle.x25_handshakes.specs.laws.PeerTransfer.{transfer_taking}
+use Rattle.x25_handshakes.specs.laws.PeerJoined.{JoinedCall, start, ReachedInCall}
 use Rattle.x25_handshakes.specs.{laws.Calls.{AcceptsCall}, laws.Channel.{Within}}
 use Rattle.x25_handshakes.specs.laws.Layers.{LayerPacket, On, Restart, RestartConf, layer_takes, LayerAct, OnChannel}
 use Rattle.x25_handshakes.specs.{laws.Layers.{layer_acts}, laws.PeerCalls.{PlacesCall, InTransfer}}
 use Rattle.x25_handshakes.specs.laws.PeerChannel.{InCall}
 use Rattle.x25_handshakes.specs.laws.PeerLayer.{LayerDeed, InChannel, does_layer, layer_packet_of, layer_taking}
 use Rattle.x25_handshakes.specs.laws.PeerLayers.{layer_found, JoinedLayers, start as layers_start}
-use Rattle.x25_handshakes.specs.{laws.PeerLayers.{IsReached as LayersAreReached}, laws.PeerClaims.{transfer_of}}
+use Rattle.x25_handshakes.specs.{laws.PeerLayers.{ReachedInLayers}, laws.PeerClaims.{transfer_of}}
 use Rattle.x25_handshakes.specs.laws.Terms.{Terms}
 
 abbrev pub terms : Terms
 terms = record { window = 1; size = 128; longest = 1 }
 
-abbrev pub peer_does : Joined → TransferDeed → Joined
+abbrev pub peer_does : JoinedCall → TransferDeed → JoinedCall
 peer_does w deed = record w {
   peer = does_transfer w.peer.epoch w.peer.side deed;
   back = w.back ++ transfer_packet_of w.peer.side deed ∷ [];
 }
 
 -- the user hands down an octet, and it goes
-abbrev pub handed_down : Joined
+abbrev pub handed_down : JoinedCall
 handed_down = near_stepped start [] (transfer_acts terms start.near (Inside (Send (with_q false) (5 ∷ [])))) None
 
-abbrev pub pulled : Joined
+abbrev pub pulled : JoinedCall
 pulled = near_stepped handed_down [] (transfer_acts terms handed_down.near (Inside Pull)) None
 
 -- the peer takes it, says nothing, and sends one of its own, by which it acknowledges none
-abbrev pub heard : Joined
+abbrev pub heard : JoinedCall
 heard = peer_stepped pulled [] (transfer_taking 0 pulled.peer.side (Data 0 0 (Last (with_q false) (5 ∷ []))))
 
-abbrev pub answered : Joined
+abbrev pub answered : JoinedCall
 answered = peer_does heard (InStretch (Sends (Last (with_q false) (7 ∷ [])) 0))
 
 -- the circuit takes it, and only then the peer acknowledges
-abbrev pub taken : Joined
+abbrev pub taken : JoinedCall
 taken = near_stepped answered [] (transfer_takes 1 128 answered.near (Data 0 0 (Last (with_q false) (7 ∷ [])))) None
 
-abbrev pub acknowledged : Joined
+abbrev pub acknowledged : JoinedCall
 acknowledged = peer_does taken (InStretch (Says true 1))
 
 pub record LatePeerMoves : Type 0 where
-  pub reached : IsReached terms 1 128 acknowledged
+  pub reached : ReachedInCall terms 1 128 acknowledged
   pub up : (state_of acknowledged.near.side).up ≡ record { marks = with_q false; user = 7 ∷ [] } ∷ []
   pub there : (state_of acknowledged.peer.side).taken ≡ Last (with_q false) (5 ∷ []) ∷ []
   pub before : (state_of taken.peer.side).told ≡ 0
@@ -90,7 +91,7 @@ abbrev pub came : JoinedLayers
 came = layer_hears (layer_does accepted message) (On 1 (Data 0 0 (Last (with_q false) (7 ∷ [])))) []
 
 pub record PeerLayerMoves : Type 0 where
-  pub reached : LayersAreReached Dte came
+  pub reached : ReachedInLayers Dte came
   pub calls : (state_of (state_of came.near.side 1).side).indicated ≡ proposal ∷ []
   pub up : (state_of (transfer_of (state_of (state_of came.near.side 1).side).phase).side).up
       ≡ record { marks = with_q false; user = 7 ∷ [] } ∷ []

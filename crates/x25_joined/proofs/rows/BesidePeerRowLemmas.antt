@@ -34,7 +34,7 @@ use Rattle.x25_pipe.specs.Pipe.{saying_line, event_in, event_turn, turn, turns, 
 use Rattle.x25_world.specs.laws.TapOctets.{AreOfFrame}
 use Rattle.x25_peer.specs.laws.BesideSessions as beside
 use Rattle.x25_peer.specs.laws.BesideSessions.{BesideSessions, links_of, their_now, their_layer, layer_went, layer_heard}
-use Rattle.x25_joined.specs.laws.BesidePeer.{Program, nothing_read, bare, reads, IsReached, at_start, goes_on, Reads, Takes, Elsewhere}
+use Rattle.x25_joined.specs.laws.BesidePeer.{Program, nothing_read, bare, reads, ReachedProgram, at_start, goes_on, Reads, Takes, Elsewhere}
 use Rattle.x25_joined.specs.rows.BesidePeerRows.{of_all_forms, CallIsAccepted}
 use Rattle.x25_joined.proofs.rows.JoinedRowLemmas.{opens}
 
@@ -110,33 +110,33 @@ unfolding with_in part_in are_facilities own_in digits decode_pairs piped event_
 call_is_accepted =
     let p0 : Program = nothing_read in
     let p1 : Program = record p0 { read = codes "dte connect\n"; out = sent 0 sabm_octets ∷ [] } in
-    let r1 : IsReached ours p1 = goes_on p0 p1 at_start (Reads (codes "dte connect") (record { is_line = opens (codes "dte connect") refl; is_no_frame = tt; in_time = tt })) in
+    let r1 : ReachedProgram ours p1 = goes_on p0 p1 at_start (Reads (codes "dte connect") (record { is_line = opens (codes "dte connect") refl; is_no_frame = tt; in_time = tt })) in
     let e2 : PeerEnd = begins p0.peer in
     let p2 : Program = record p1 { peer = e2; out = []; back = sent 1 ua_octets ∷ [] } in
     let v2 : BesideSessions = record (bare ours p1) { peer = e2; out = []; back = sent 1 ua_octets ∷ [] } in
-    let r2 : IsReached ours p2 = goes_on p1 p2 r1 (Elsewhere v2
+    let r2 : ReachedProgram ours p2 = goes_on p1 p2 r1 (Elsewhere v2
     (beside.Links (links_of v2) (record { does = λ crossing. moves _ (takes_sabm 0 [] refl); left = without 0; puts = put _ (λ odd. tt) })) tt) in
     let p3 : Program = record p2 { read = codes "dte connect\n< 01738357\n"; out = sent 1 restart_octets ∷ []; back = [] } in
-    let r3 : IsReached ours p3 = goes_on p2 p3 r2 (Takes (sent 1 ua_octets) [] refl ua_fits) in
+    let r3 : ReachedProgram ours p3 = goes_on p2 p3 r2 (Takes (sent 1 ua_octets) [] refl ua_fits) in
     let x4 : Peer = taking true restart_packet (hearing true 0 (now e2)) in
     let e4 : PeerEnd = with_now x4 e2 in
     let met : Meeting = record { near = 1; far = 1 } in
     let p4 : Program = record p3 { peer = e4; out = []; met = met ∷ [] } in
     let v4 : BesideSessions = record (bare ours p3) { peer = e4; out = []; met = met ∷ [] } in
-    let r4 : IsReached ours p4 = goes_on p3 p4 r3 (Elsewhere v4
+    let r4 : ReachedProgram ours p4 = goes_on p3 p4 r3 (Elsewhere v4
     (beside.Links (links_of v4) (record { does = λ crossing. listens _ [] x4 refl refl (true, true, refl, refl); left = without 0; puts = nothing })) tt) in
     let v5 : BesideSessions = layer_heard (bare ours p4) (layer_after ours p4) [] (confirmation_packet ∷ []) in
     let p5 : Program = record p4 { peer = v5.peer; theirs = v5.theirs } in
-    let r5 : IsReached ours p5 = goes_on p4 p5 r4 (Elsewhere v5 (beside.LayerHears (restart 0 0) (restart 0 0 ∷ []) [] (restart_conf ∷ []) (confirmation_packet ∷ []) refl (refl, tt) refl (record { are = refl; configured = (λ has. absurd has, tt) }) (refl, tt)) tt) in
+    let r5 : ReachedProgram ours p5 = goes_on p4 p5 r4 (Elsewhere v5 (beside.LayerHears (restart 0 0) (restart 0 0 ∷ []) [] (restart_conf ∷ []) (confirmation_packet ∷ []) refl (refl, tt) refl (record { are = refl; configured = (λ has. absurd has, tt) }) (refl, tt)) tt) in
     let deed : LayerDeed = InChannel 1 (InCall (PlacesCall (request_in [] [] [] []))) in
     let v6 : BesideSessions = layer_went (bare ours p5) (record (their_now (bare ours p5)) { layer = layer_does ours p5 deed }) (call_packet ∷ []) in
     let p6 : Program = record p5 { peer = v6.peer; theirs = v6.theirs } in
-    let r6 : IsReached ours p6 = goes_on p5 p6 r5 (Elsewhere v6 (beside.LayerDoes deed (call 1 [] [] [] []) call_packet refl refl refl (λ has. refl) refl) tt) in
+    let r6 : ReachedProgram ours p6 = goes_on p5 p6 r5 (Elsewhere v6 (beside.LayerDoes deed (call 1 [] [] [] []) call_packet refl refl refl (λ has. refl) refl) tt) in
     let x7 : Peer = told_to 1 (numbered_to 0 (now p6.peer)) in
     let e7 : PeerEnd = with_now x7 p6.peer in
     let p7 : Program = record p6 { peer = e7; back = sent 1 confirmation_octets ∷ [] } in
     let v7 : BesideSessions = record (bare ours p6) { peer = e7; back = sent 1 confirmation_octets ∷ [] } in
-    let r7 : IsReached ours p7 = goes_on p6 p7 r6 (Elsewhere v7 (beside.Links (links_of v7) (record {
+    let r7 : ReachedProgram ours p7 = goes_on p6 p7 r6 (Elsewhere v7 (beside.Links (links_of v7) (record {
       does = λ crossing. sends (Some (record { ns = 0; packet = confirmation_packet })) 1 x7 refl (0, 1, record { number = refl; same = refl; window = omega arith; again = omega arith }, record { number = refl; rising = omega arith; taken = omega arith }, refl);
       left = untouched;
       puts = put _ (λ odd. tt);
@@ -145,15 +145,15 @@ call_is_accepted =
     let e8 : PeerEnd = with_now x8 p7.peer in
     let p8 : Program = record p7 { peer = e8; back = sent 1 confirmation_octets ∷ sent 1 call_octets ∷ [] } in
     let v8 : BesideSessions = record (bare ours p7) { peer = e8; back = sent 1 confirmation_octets ∷ sent 1 call_octets ∷ [] } in
-    let r8 : IsReached ours p8 = goes_on p7 p8 r7 (Elsewhere v8 (beside.Links (links_of v8) (record {
+    let r8 : ReachedProgram ours p8 = goes_on p7 p8 r7 (Elsewhere v8 (beside.Links (links_of v8) (record {
       does = λ crossing. sends (Some (record { ns = 1; packet = call_packet })) 1 x8 refl (1, 1, record { number = refl; same = refl; window = omega arith; again = omega arith }, record { number = refl; rising = omega arith; taken = omega arith }, refl);
       left = untouched;
       puts = put _ (λ odd. tt);
     })) tt) in
     let p9 : Program = reads ours p8 (codes "< 03201000ff05d7\n") (sent 1 call_octets ∷ []) (met ∷ met ∷ []) in
-    let r9 : IsReached ours p9 = goes_on p8 p9 r8 (Takes (sent 1 confirmation_octets) (sent 1 call_octets ∷ []) refl confirmation_fits) in
+    let r9 : ReachedProgram ours p9 = goes_on p8 p9 r8 (Takes (sent 1 confirmation_octets) (sent 1 call_octets ∷ []) refl confirmation_fits) in
     let p10 : Program = reads ours p9 (codes "< 032210010b00007528\n") [] (met ∷ met ∷ met ∷ []) in
-    let r10 : IsReached ours p10 = goes_on p9 p10 r9 (Takes (sent 1 call_octets) [] refl call_fits) in
+    let r10 : ReachedProgram ours p10 = goes_on p9 p10 r9 (Takes (sent 1 call_octets) [] refl call_fits) in
     let p11 : Program = reads ours p10 (codes "dte with 0180 - d accept 1\n") [] p10.met in
-    let r11 : IsReached ours p11 = goes_on p10 p11 r10 (Reads (codes "dte with 0180 - d accept 1") (record { is_line = opens (codes "dte with 0180 - d accept 1") refl; is_no_frame = tt; in_time = tt })) in
+    let r11 : ReachedProgram ours p11 = goes_on p10 p11 r10 (Reads (codes "dte with 0180 - d accept 1") (record { is_line = opens (codes "dte with 0180 - d accept 1") refl; is_no_frame = tt; in_time = tt })) in
     record { program = p11; reached = r11; text = refl; met = refl }

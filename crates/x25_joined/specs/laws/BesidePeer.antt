@@ -91,7 +91,7 @@ pub record IsOfUser (c : Settings) (p : Program) (line : List ℕ) : Type 0 wher
   pub in_time : IsInTime c p (event_in c.wide c.role line)
 
 -- it happens at the peer, or on the line
-abbrev pub IsElsewhere : {c : Settings} {w v : BesideSessions} → beside.Happens c w v → Type 0
+abbrev pub IsElsewhere : {c : Settings} {w v : BesideSessions} → beside.HappensBeside c w v → Type 0
 IsElsewhere (beside.Asks request step octets is) = ⊥
 IsElsewhere (beside.AsksWith given request step of_given octets is) = ⊥
 IsElsewhere (beside.Connects none) = ⊥
@@ -103,17 +103,17 @@ IsElsewhere (beside.Receives e rest front free) = ⊥
 IsElsewhere (beside.Abandons e rest front full) = ⊥
 IsElsewhere other = Unit {0}
 
-pub data Happens (c : Settings) (p : Program) : Program → Type 0 where
+pub data HappensToProgram (c : Settings) (p : Program) : Program → Type 0 where
   -- a line comes of the user, or of one who has a clock
-  Reads : (line : List ℕ) → IsOfUser c p line → Happens c p (reads c p (line ++ codes "\n") p.back p.met)
+  Reads : (line : List ℕ) → IsOfUser c p line → HappensToProgram c p (reads c p (line ++ codes "\n") p.back p.met)
   -- the front frame comes, as a line of a trace
   Takes : (e : Entry) (rest : List Entry) → p.back ≡ e ∷ rest → AreOfFrame e.octets
-      → Happens c p (reads c p (saying_line (other c.role) (sends e.octets)) rest (met_by c p e))
+      → HappensToProgram c p (reads c p (saying_line (other c.role) (sends e.octets)) rest (met_by c p e))
   -- the peer does something, or the line loses or damages a frame
-  Elsewhere : (v : BesideSessions) (h : beside.Happens c (bare c p) v) → IsElsewhere h
-      → Happens c p (record p { peer = v.peer; theirs = v.theirs; out = v.out; back = v.back; met = v.met })
+  Elsewhere : (v : BesideSessions) (h : beside.HappensBeside c (bare c p) v) → IsElsewhere h
+      → HappensToProgram c p (record p { peer = v.peer; theirs = v.theirs; out = v.out; back = v.back; met = v.met })
 
 -- what is reached, event by event
-pub data IsReached (c : Settings) : Program → Type 0 where
-  at_start : IsReached c nothing_read
-  goes_on : (p q : Program) → IsReached c p → Happens c p q → IsReached c q
+pub data ReachedProgram (c : Settings) : Program → Type 0 where
+  at_start : ReachedProgram c nothing_read
+  goes_on : (p q : Program) → ReachedProgram c p → HappensToProgram c p q → ReachedProgram c q

@@ -61,8 +61,8 @@ pub record Joined : Type 0 where
   pub out : List (List ℕ)
   pub back : List (List ℕ)
 
-abbrev pub swapped : Joined → Joined
-swapped j = record { near = j.far; far = j.near; out = j.back; back = j.out }
+abbrev pub exchanged : Joined → Joined
+exchanged j = record { near = j.far; far = j.near; out = j.back; back = j.out }
 
 -- nothing was read yet, and nothing is on the line
 abbrev pub nothing_read : Joined
@@ -145,11 +145,11 @@ pub record Happening : Type 0 where
 -- at first the near end is the DTE
 abbrev pub acts_at : Cfg → Joined → Role → Act → Joined
 acts_at cfg j Dte act = acts (settings_from Dte cfg) j act
-acts_at cfg j Dce act = swapped (acts (settings_from Dce cfg) (swapped j) act)
+acts_at cfg j Dce act = exchanged (acts (settings_from Dce cfg) (exchanged j) act)
 
 abbrev pub IsPossibleAt : Cfg → Joined → Role → Act → Type 0
 IsPossibleAt cfg j Dte act = IsPossible (settings_from Dte cfg) j act
-IsPossibleAt cfg j Dce act = IsPossible (settings_from Dce cfg) (swapped j) act
+IsPossibleAt cfg j Dce act = IsPossible (settings_from Dce cfg) (exchanged j) act
 
 abbrev pub run : Cfg → List Happening → Joined → Joined
 run cfg [] j = j

@@ -5,7 +5,7 @@ use Rattle.x25_line.specs.laws.Sessions.{Meeting}
 use Rattle.x25_station.specs.declared.config.Cfg.{Cfg}
 use Rattle.x25_station.specs.Config.{settings_from}
 use Rattle.x25_pipe.specs.Pipe.{station_text}
-use Rattle.x25_joined.specs.laws.BesidePeer.{Program, IsReached}
+use Rattle.x25_joined.specs.laws.BesidePeer.{Program, ReachedProgram}
 use Rattle.x25_joined.specs.rows.JoinedRows.{usual}
 
 -- as usual, and with packets in all their forms
@@ -20,7 +20,7 @@ first_sessions = record { near = 1; far = 1 }
 -- first session of the one in that of the other.
 pub record CallIsAccepted : Type 0 where
   pub program : Program
-  pub reached : IsReached (settings_from Dte of_all_forms) program
+  pub reached : ReachedProgram (settings_from Dte of_all_forms) program
   pub text : station_text Dte of_all_forms program.read
       ≡ codes ". off busy\ndte connect\n> 013febdf\n. start busy\ndte linkup\n> 01001000fb00007702\n. start busy\ndte restartdone\n> 0321a415\n. off idle\ndte incoming ch=1 at 1.0.0 called=- calling=- data=-\n> 0341a276\n. off idle\ndte accept ch=1\n> 014250010f00020180f4a6\n. start busy\n"
   pub met : program.met ≡ first_sessions ∷ first_sessions ∷ first_sessions ∷ []

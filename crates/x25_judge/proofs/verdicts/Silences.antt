@@ -6,7 +6,7 @@ use Rattle.x25_possible_links.proofs.Stands.{IsNumbered as MayBeNumbered}
 use Rattle.x25_frame.specs.Spelling.{IsWithin as IsWithinLine, information_of}
 use Rattle.x25_line.specs.laws.InWindow.{IsPrefix}
 use Rattle.x25_line.specs.laws.PeerClaims.{KeepsOrder, OnAnySilentTape}
-use Rattle.x25_line.specs.laws.PeerJoined.{Joined}
+use Rattle.x25_line.specs.laws.PeerJoined.{JoinedOnce}
 use Rattle.x25_judge.proofs.verdicts.Following.{numbers_of, sent_is}
 use Rattle.x25_judge.proofs.verdicts.Guilty.{untold}
 use Rattle.x25_judge.proofs.verdicts.Innocents.{IsEnd, sent_end, shown_end}
@@ -338,7 +338,7 @@ passes_line reads from j line octets frame p shows is own e =
 
 -- ---- traces
 
-abbrev joined : Watched → Peer → Joined
+abbrev joined : Watched → Peer → JoinedOnce
 joined w p = record { near = w.near; peer = p; out = w.out; back = w.back }
 
 record Explained (c : Settings) (w : Watched) : Type 0 where

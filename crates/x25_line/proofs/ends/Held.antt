@@ -52,43 +52,41 @@ module _ {sx sy : Stand} {bx p b q : ℕ} {out back : List Letter} where
   -- ---- where the line to x is this one, and where x stands so
 
   pub near_at : {fs : List Letter} → back ≡ fs → Side sx bx p sy b q out back → Side sx bx p sy b q out fs
-  near_at is h = subst (λ (es : List Letter). Side sx bx p sy b q out es) is h
+  near_at is h = subst (λ es. Side sx bx p sy b q out es) is h
 
   pub far_at : {fs : List Letter} → back ≡ fs → Side sy b q sx bx p back out → Side sy b q sx bx p fs out
-  far_at is h = subst (λ (es : List Letter). Side sy b q sx bx p es out) is h
+  far_at is h = subst (λ es. Side sy b q sx bx p es out) is h
 
   pub near_stands : {s : Stand} → sx ≡ s → Side sx bx p sy b q out back → Side s bx p sy b q out back
-  near_stands is h = subst (λ (z : Stand). Side z bx p sy b q out back) is h
+  near_stands is h = subst (λ z. Side z bx p sy b q out back) is h
 
   pub far_stands : {s : Stand} → sx ≡ s → Side sy b q sx bx p back out → Side sy b q s bx p back out
-  far_stands is h = subst (λ (z : Stand). Side sy b q z bx p back out) is h
+  far_stands is h = subst (λ z. Side sy b q z bx p back out) is h
 
   -- ---- the line to x is less
 
   pub less_near : {fs : List Letter} → Less back fs → Side sx bx p sy b q out back → Side sx bx p sy b q out fs
   less_near {fs} l h =
-      let uas = count_less ua_of refl back fs l in
-      let sabms = count_less sabm_of refl back fs l in
+      let uas = count_less ua_of refl l in
       let one = h.one in
       record {
         view = h.view;
-        tags = tags_less b back fs l h.tags;
+        tags = tags_less b l h.tags;
         is_in = h.is_in;
-        live = λ k. told_less (Of q) back fs l (h.live k);
-        soon = λ k less. (let all = (h.asks_once k).0 in after_less q b back fs l (omega (arith, all)) (h.soon k less));
-        left = λ k here. (let none = h.left k here in omega (arith, none, uas));
-        asked = asked_less _ _ b q back fs l h.asked;
-        one = omega (arith, one, sabms);
-        asks_once = λ k. (let all = (h.asks_once k).0 in (omega (arith, all, uas), (h.asks_once k).1));
+        live = λ k. told_less (Of q) l (h.live k);
+        soon = λ k less. (after_less q b l (omega (arith, (h.asks_once k).0)) (h.soon k less));
+        left = λ k here. (omega (arith, h.left k here, uas));
+        asked = asked_less _ _ b q l h.asked;
+        one = omega (arith, one, count_less sabm_of refl l);
+        asks_once = λ k. ((omega (arith, (h.asks_once k).0, uas), (h.asks_once k).1));
       }
 
   -- the same of the line from y
   pub less_far : {fs : List Letter} → Less back fs → Side sy b q sx bx p back out → Side sy b q sx bx p fs out
   less_far {fs} l h =
-      let sabms = count_less sabm_of refl back fs l in
-      let discs = count_less disc_of refl back fs l in
-      from_near fs (asked_map _ _ _ _ bx p (λ n. n) (λ o. (let none = o.1 in (o.0, omega (arith, none, sabms), o.2))) out h.asked)
-      (λ k. (let all = (h.asks_once k).0 in let none = (h.asks_once k).1 in (omega (arith, all, sabms), omega (arith, none, discs)))) h
+      let sabms = count_less sabm_of refl l in
+      from_near fs (asked_map _ _ bx p (λ n. n) (λ o. ((o.0, omega (arith, o.1, sabms), o.2))) out h.asked)
+      (λ k. ((omega (arith, (h.asks_once k).0, sabms), omega (arith, (h.asks_once k).1, (count_less disc_of refl l))))) h
 
   -- ---- x sends, and its session stays
 
@@ -96,28 +94,26 @@ module _ {sx sy : Stand} {bx p b q : ℕ} {out back : List Letter} where
   pub push_near : (e : Letter) → sabm_of e.said ≡ 0 → disc_of e.said ≡ 0 → Side sx bx p sy b q out back → Side sx bx p sy b q (out ++ e ∷ []) back
   push_near e no_sabm no_disc h =
       let sabms = count_push sabm_of out e in
-      let discs = count_push disc_of out e in
-      from_near (out ++ e ∷ []) (asked_map _ _ _ _ b q (λ n. n) (λ o. (let none = o.1 in (o.0, omega (arith, none, sabms, no_sabm), o.2))) back h.asked)
-      (λ k. (let all = (h.asks_once k).0 in let none = (h.asks_once k).1 in (omega (arith, all, sabms, no_sabm), omega (arith, none, discs, no_disc)))) h
+      from_near (out ++ e ∷ []) (asked_map _ _ b q (λ n. n) (λ o. ((o.0, omega (arith, o.1, sabms, no_sabm), o.2))) back h.asked)
+      (λ k. ((omega (arith, (h.asks_once k).0, sabms, no_sabm), omega (arith, (h.asks_once k).1, (count_push disc_of out e), no_disc)))) h
 
   -- and as y does: what has an N(R) is sent in the session that stands; and no UA comes that y doesn't await
   pub push_far : (e : Letter) → sabm_of e.said ≡ 0 → e.session ≤ bx → OfTells e.said (((sx ≡ In → ⊥) → ⊥) × (e.session ≡ p)) → (sy ≡ Asking → ua_of e.said ≡ 0)
       → Side sy b q sx bx p back out → Side sy b q sx bx p back (out ++ e ∷ [])
   push_far e no_sabm tag told no_ua h =
       let uas = count_push ua_of out e in
-      let sabms = count_push sabm_of out e in
       let one = h.one in
-      let is = of_tells e.said _ (e.session ≡ p) (λ k. k.1) told in
+      let is = of_tells e.said (e.session ≡ p) (λ k. k.1) told in
       record {
         view = h.view;
-        tags = tags_push bx out e h.tags tag;
+        tags = tags_push out e h.tags tag;
         is_in = h.is_in;
         live = λ k. told_push (Of p) out e (h.live k) is;
         soon = λ k less. after_push p bx out e (h.soon k less) is (sabm_free e.said (e.session ≡ bx) no_sabm);
-        left = λ k here. (let none = h.left k here in let new = no_ua k in omega (arith, none, new, uas));
+        left = λ k here. (omega (arith, h.left k here, no_ua k, uas));
         asked = asked_push _ _ bx p out e h.asked told (sabm_free e.said _ no_sabm);
-        one = omega (arith, one, sabms, no_sabm);
-        asks_once = λ k. (let all = (h.asks_once k).0 in let new = no_ua k in (omega (arith, all, new, uas), (h.asks_once k).1));
+        one = omega (arith, one, count_push sabm_of out e, no_sabm);
+        asks_once = λ k. ((omega (arith, (h.asks_once k).0, no_ua k, uas), (h.asks_once k).1));
       }
 
   -- ---- x leaves
@@ -143,7 +139,7 @@ module _ {sx sy : Stand} {bx p b q : ℕ} {out back : List Letter} where
     live = h.live;
     soon = h.soon;
     left = h.left;
-    asked = asked_map _ _ _ _ bx p (λ n k. absurd (cc)) (λ o. (o.0, o.1, λ k. absurd (cc))) out h.asked;
+    asked = asked_map _ _ bx p (λ n k. absurd (cc)) (λ o. (o.0, o.1, λ k. absurd (cc))) out h.asked;
     one = h.one;
     asks_once = h.asks_once;
   }
@@ -152,15 +148,12 @@ module _ {sx sy : Stand} {bx p b q : ℕ} {out back : List Letter} where
   pub close_near : Side sx bx p sy b q out back → Side Out bx p sy b q (out ++ letter bx Disc ∷ []) back
   close_near h =
       let left = leave_near h in
-      let sabms = count_push sabm_of out (letter bx Disc) in
-      from_near (out ++ letter bx Disc ∷ []) (asked_map _ _ _ _ b q (λ n. n) (λ o. (let none = o.1 in (o.0, omega (arith, none, sabms), o.2))) back left.asked) (λ k. absurd (cc)) left
+      from_near (out ++ letter bx Disc ∷ []) (asked_map _ _ b q (λ n. n) (λ o. ((o.0, omega (arith, o.1, (count_push sabm_of out (letter bx Disc))), o.2))) back left.asked) (λ k. absurd (cc)) left
 
   -- ---- x asks
 
   pub ask_near : how_many sabm_of out ≡ 0 → how_many disc_of out ≡ 0 → how_many ua_of back ≡ 0 → AreOf b back → Side sx bx p sy b q out back → Side Asking bx p sy b q (out ++ letter bx Sabm ∷ []) back
   ask_near no_sabm no_disc no_ua present h =
-      let sabms = count_push sabm_of out (letter bx Sabm) in
-      let discs = count_push disc_of out (letter bx Sabm) in
       record {
         view = h.view;
         tags = h.tags;
@@ -170,24 +163,23 @@ module _ {sx sy : Stand} {bx p b q : ℕ} {out back : List Letter} where
         left = λ _ _. no_ua;
         asked = asked_now _ _ _ b q q back present h.asked;
         one = h.one;
-        asks_once = λ _. (omega (arith, sabms, no_sabm, no_ua), omega (arith, discs, no_disc));
+        asks_once = λ _. (omega (arith, count_push sabm_of out (letter bx Sabm), no_sabm, no_ua), omega (arith, count_push disc_of out (letter bx Sabm), no_disc));
       }
 
   pub ask_far : how_many sabm_of out ≡ 0 → Side sy b q sx bx p back out → Side sy b q Asking bx p back (out ++ letter bx Sabm ∷ [])
   ask_far no_sabm h =
       let e = letter bx Sabm in
       let uas = count_push ua_of out e in
-      let sabms = count_push sabm_of out e in
       record {
         view = h.view;
-        tags = tags_push bx out e h.tags (omega arith);
+        tags = tags_push out e h.tags (omega arith);
         is_in = h.is_in;
         live = λ k. told_push (Of p) out e (h.live k) tt;
         soon = λ k less. after_push p bx out e (h.soon k less) tt refl;
-        left = λ k here. (let none = h.left k here in omega (arith, none, uas));
+        left = λ k here. (omega (arith, h.left k here, uas));
         asked = asked_push _ _ bx p out e (asked_none _ _ bx p out no_sabm) tt ((λ k. absurd (cc)), refl);
-        one = omega (arith, sabms, no_sabm);
-        asks_once = λ k. (let all = (h.asks_once k).0 in (omega (arith, all, uas), (h.asks_once k).1));
+        one = omega (arith, count_push sabm_of out e, no_sabm);
+        asks_once = λ k. ((omega (arith, (h.asks_once k).0, uas), (h.asks_once k).1));
       }
 
   -- ---- x begins its session of the two that stand, as a UA or an older SABM comes, and no SABM of it is on the line
@@ -208,21 +200,19 @@ module _ {sx sy : Stand} {bx p b q : ℕ} {out back : List Letter} where
   -- ---- a SABM of y's present session comes, by which two new sessions stand
 
   -- y is about to begin its own; it may await the UA
-  pub new_far : (s : Stand) → (sy ≡ In → ⊥) → Side sy b q sx bx p (letter b Sabm ∷ back) out → (bn : ℕ) → bx ≤ bn → bn ≤ suc bx → AllAsked (s ≡ In → ⊥) (IsOlder b (suc b) back s) bn (suc bx) out
+  pub new_far : (s : Stand) → (sy ≡ In → ⊥) → Side sy b q sx bx p (letter b Sabm ∷ back) out → {bn : ℕ} → bx ≤ bn → bn ≤ suc bx → AllAsked (s ≡ In → ⊥) (IsOlder b (suc b) back s) bn (suc bx) out
       → Side sy b (suc b) s bn (suc bx) back (out ++ letter bn Ua ∷ [])
-  new_far s off h bn low high asked =
+  new_far s off h {bn} low high asked =
       let e = letter bn Ua in
-      let uas = count_push ua_of out e in
-      let sabms = count_push sabm_of out e in
       let one = h.one in
       record {
         view = inr refl;
-        tags = tags_push bn out e (tags_more bx bn out low h.tags) (omega arith);
+        tags = tags_push out e (tags_more bx bn out low h.tags) (omega arith);
         is_in = λ k. absurd (off k);
         live = λ k. absurd (off k);
-        soon = λ k _. (let all = (h.asks_once k).0 in after_push (suc bx) bn out e (after_none (suc bx) bn out (omega (arith, all))) tt tt);
+        soon = λ k _. (after_push (suc bx) bn out e (after_none (suc bx) bn out (omega (arith, (h.asks_once k).0))) tt tt);
         left = λ k here. absurd (omega (arith, here));
         asked = asked_push _ _ bn (suc bx) out e asked tt tt;
-        one = omega (arith, one, sabms);
-        asks_once = λ k. (let all = (h.asks_once k).0 in let none = (h.asks_once k).1 in (omega (arith, all, uas), omega (arith, none)));
+        one = omega (arith, one, count_push sabm_of out e);
+        asks_once = λ k. ((omega (arith, (h.asks_once k).0, count_push ua_of out e), omega (arith, (h.asks_once k).1)));
       }

@@ -14,7 +14,7 @@ choose_map (suc n) A B C D f g h = g h
 
 pub count_push : (k : Said → ℕ) (es : List Letter) (e : Letter) → how_many k (es ++ e ∷ []) ≡ how_many k es + k e.said
 count_push k [] e = omega arith
-count_push k (x ∷ es) e = (let rest = count_push k es e in omega (arith, rest))
+count_push k (x ∷ es) e = (omega (arith, count_push k es e))
 
 -- one letter at most is gone
 pub data Less : List Letter → List Letter → Type 0 where
@@ -34,49 +34,49 @@ less_spoils [] i = whole []
 less_spoils (e ∷ es) zero = hurt e es
 less_spoils (e ∷ es) (suc i) = deeper e es (spoilt es i) (less_spoils es i)
 
-pub count_less : (k : Said → ℕ) → k Else ≡ 0 → (es fs : List Letter) → Less es fs → how_many k fs ≤ how_many k es
-count_less k quiet es fs (whole xs) = omega arith
-count_less k quiet es fs (gone e xs) = omega arith
-count_less k quiet es fs (hurt e xs) = omega (arith, quiet)
-count_less k quiet es fs (deeper e xs ys h) = (let rest = count_less k quiet xs ys h in omega (arith, rest))
+pub count_less : (k : Said → ℕ) → k Else ≡ 0 → {es fs : List Letter} → Less es fs → how_many k fs ≤ how_many k es
+count_less k quiet (whole xs) = omega arith
+count_less k quiet (gone e xs) = omega arith
+count_less k quiet (hurt e xs) = omega (arith, quiet)
+count_less k quiet (deeper e xs ys h) = (omega (arith, count_less k quiet h))
 
 -- each with an N(R) is of such a session
 abbrev pub AllTold : (ℕ → Type 0) → List Letter → Type 0
-AllTold P es = Each (λ (e : Letter). OfTells e.said (P e.session)) es
+AllTold P es = Each (λ e. OfTells e.said (P e.session)) es
 
 abbrev pub AllTags : ℕ → List Letter → Type 0
-AllTags b es = Each (λ (e : Letter). e.session ≤ b) es
+AllTags b es = Each (λ e. e.session ≤ b) es
 
 -- what holds of each, where it holds of one that is damaged
-less_each : (P : Letter → Type 0) → ((e : Letter) → P e → P (letter e.session Else)) → (es fs : List Letter) → Less es fs → Each P es → Each P fs
-less_each P hurts es fs (whole xs) h = h
-less_each P hurts es fs (gone e xs) h = h.1
-less_each P hurts es fs (hurt e xs) h = (hurts e h.0, h.1)
-less_each P hurts es fs (deeper e xs ys l) h = (h.0, less_each P hurts xs ys l h.1)
+less_each : (P : Letter → Type 0) → ((e : Letter) → P e → P (letter e.session Else)) → {es fs : List Letter} → Less es fs → Each P es → Each P fs
+less_each P hurts (whole xs) h = h
+less_each P hurts (gone e xs) h = h.1
+less_each P hurts (hurt e xs) h = (hurts e h.0, h.1)
+less_each P hurts (deeper e xs ys l) h = (h.0, less_each P hurts l h.1)
 
-pub tags_push : (b : ℕ) (es : List Letter) (e : Letter) → AllTags b es → e.session ≤ b → AllTags b (es ++ e ∷ [])
-tags_push b es e h k = each_append (λ (x : Letter). x.session ≤ b) es (e ∷ []) h (k, tt)
+pub tags_push : {b : ℕ} (es : List Letter) (e : Letter) → AllTags b es → e.session ≤ b → AllTags b (es ++ e ∷ [])
+tags_push {b} es e h k = each_append (λ x. x.session ≤ b) es (e ∷ []) h (k, tt)
 
 pub tags_more : (b c : ℕ) (es : List Letter) → b ≤ c → AllTags b es → AllTags c es
 tags_more b c [] le h = tt
-tags_more b c (x ∷ es) le h = (let here = h.0 in (omega (arith, le, here), tags_more b c es le h.1))
+tags_more b c (x ∷ es) le h = ((omega (arith, le, h.0), tags_more b c es le h.1))
 
-pub tags_less : (b : ℕ) (es fs : List Letter) → Less es fs → AllTags b es → AllTags b fs
-tags_less b es fs l h = less_each (λ (e : Letter). e.session ≤ b) (λ e k. k) es fs l h
+pub tags_less : (b : ℕ) {es fs : List Letter} → Less es fs → AllTags b es → AllTags b fs
+tags_less b {es} {fs} l h = less_each (λ e. e.session ≤ b) (λ e k. k) l h
 
 pub told_push : (P : ℕ → Type 0) (es : List Letter) (e : Letter) → AllTold P es → OfTells e.said (P e.session) → AllTold P (es ++ e ∷ [])
-told_push P es e h k = each_append (λ (x : Letter). OfTells x.said (P x.session)) es (e ∷ []) h (k, tt)
+told_push P es e h k = each_append (λ x. OfTells x.said (P x.session)) es (e ∷ []) h (k, tt)
 
-pub told_less : (P : ℕ → Type 0) (es fs : List Letter) → Less es fs → AllTold P es → AllTold P fs
-told_less P es fs l h = less_each (λ (e : Letter). OfTells e.said (P e.session)) (λ e k. tt) es fs l h
+pub told_less : (P : ℕ → Type 0) {es fs : List Letter} → Less es fs → AllTold P es → AllTold P fs
+told_less P {es} {fs} l h = less_each (λ e. OfTells e.said (P e.session)) (λ e k. tt) l h
 
-pub of_tells : (s : Said) (P Q : Type 0) → (P → Q) → OfTells s P → OfTells s Q
-of_tells (Tells c n) P Q f h = f h
-of_tells s P Q f h = tt
+pub of_tells : (s : Said) {P : Type 0} (Q : Type 0) → (P → Q) → OfTells s P → OfTells s Q
+of_tells (Tells c n) Q f h = f h
+of_tells s Q f h = tt
 
 pub told_map : (P Q : ℕ → Type 0) → ((n : ℕ) → P n → Q n) → (es : List Letter) → AllTold P es → AllTold Q es
 told_map P Q f [] h = tt
-told_map P Q f (e ∷ es) h = (of_tells e.said (P e.session) (Q e.session) (f e.session) h.0, told_map P Q f es h.1)
+told_map P Q f (e ∷ es) h = (of_tells e.said (Q e.session) (f e.session) h.0, told_map P Q f es h.1)
 
 abbrev pub Never : ℕ → Type 0
 Never n = ⊥
@@ -84,9 +84,9 @@ Never n = ⊥
 abbrev pub Of : ℕ → ℕ → Type 0
 Of q n = n ≡ q
 
-of_sabm : (s : Said) (P Q : Type 0) → (P → Q) → OfSabm s P → OfSabm s Q
-of_sabm Sabm P Q f h = f h
-of_sabm s P Q f h = tt
+of_sabm : (s : Said) {P : Type 0} (Q : Type 0) → (P → Q) → OfSabm s P → OfSabm s Q
+of_sabm Sabm Q f h = f h
+of_sabm s Q f h = tt
 
 pub sabm_free : (s : Said) (P : Type 0) → sabm_of s ≡ 0 → OfSabm s P
 sabm_free Sabm P h = absurd (omega (arith, h))
@@ -97,10 +97,10 @@ are_none b [] h = tt
 are_none b (e ∷ es) h = (sabm_free e.said (e.session ≡ b) (omega (arith, h)), are_none b es (omega (arith, h)))
 
 pub are_push : (b : ℕ) (es : List Letter) (e : Letter) → AreOf b es → OfSabm e.said (e.session ≡ b) → AreOf b (es ++ e ∷ [])
-are_push b es e h k = each_append (λ (x : Letter). OfSabm x.said (x.session ≡ b)) es (e ∷ []) h (k, tt)
+are_push b es e h k = each_append (λ x. OfSabm x.said (x.session ≡ b)) es (e ∷ []) h (k, tt)
 
-pub are_less : (b : ℕ) (es fs : List Letter) → Less es fs → AreOf b es → AreOf b fs
-are_less b es fs l h = less_each (λ (e : Letter). OfSabm e.said (e.session ≡ b)) (λ e k. tt) es fs l h
+pub are_less : (b : ℕ) {es fs : List Letter} → Less es fs → AreOf b es → AreOf b fs
+are_less b {es} {fs} l h = less_each (λ e. OfSabm e.said (e.session ≡ b)) (λ e k. tt) l h
 
 -- ---- behind the first UA
 
@@ -116,7 +116,7 @@ pub after_none : (q b : ℕ) (es : List Letter) → how_many ua_of es ≡ 0 → 
 after_none q b [] h = tt
 after_none q b (e ∷ es) h =
     let here : ua_of e.said ≡ 0 = omega (arith, h) in
-    subst (λ (n : ℕ). choose n (AfterUa q b es) (Clean q b es)) (sym here) (after_none q b es (omega (arith, h)))
+    subst (λ n. choose n (AfterUa q b es) (Clean q b es)) (sym here) (after_none q b es (omega (arith, h)))
 
 both : (n : ℕ) (P Q : Type 0) → P → Q → choose n P Q
 both zero P Q p q = p
@@ -139,13 +139,13 @@ after_rest q b e es few h = go (ua_of e.said) refl h
     go zero is k = k
     go (suc n) is k = after_none q b es (omega (arith, few, is))
 
-pub after_less : (q b : ℕ) (es fs : List Letter) → Less es fs → how_many ua_of es ≤ 1 → AfterUa q b es → AfterUa q b fs
-after_less q b es fs (whole xs) few h = h
-after_less q b es fs (gone e xs) few h = after_rest q b e xs few h
-after_less q b es fs (hurt e xs) few h = after_rest q b e xs few h
-after_less q b es fs (deeper e xs ys l) few h =
-    choose_map (ua_of e.said) (AfterUa q b xs) (Clean q b xs) (AfterUa q b ys) (Clean q b ys) (λ k. after_less q b xs ys l (omega (arith, few)) k)
-    (λ k. (told_less (Of q) xs ys l k.0, are_less b xs ys l k.1)) h
+pub after_less : (q b : ℕ) {es fs : List Letter} → Less es fs → how_many ua_of es ≤ 1 → AfterUa q b es → AfterUa q b fs
+after_less q b (whole xs) few h = h
+after_less q b (gone e xs) few h = after_rest q b e xs few h
+after_less q b (hurt e xs) few h = after_rest q b e xs few h
+after_less q b (deeper e xs ys l) few h =
+    choose_map (ua_of e.said) (AfterUa q b xs) (Clean q b xs) (AfterUa q b ys) (Clean q b ys) (λ k. after_less q b l (omega (arith, few)) k)
+    (λ k. (told_less (Of q) l k.0, are_less b l k.1)) h
 
 -- without a SABM the session that it is of is any
 pub after_base : (q b c : ℕ) (es : List Letter) → how_many sabm_of es ≡ 0 → AfterUa q b es → AfterUa q c es
@@ -168,11 +168,11 @@ pub asked_none : (N O : Type 0) (b q : ℕ) (es : List Letter) → how_many sabm
 asked_none N O b q [] h = tt
 asked_none N O b q (e ∷ es) h = (sabm_free e.said (IsAsked N O b q e es) (omega (arith, h)), asked_none N O b q es (omega (arith, h)))
 
-pub asked_map : (N O M P : Type 0) (b q : ℕ) → (N → M) → (O → P) → (es : List Letter) → AllAsked N O b q es → AllAsked M P b q es
-asked_map N O M P b q f g [] h = tt
-asked_map N O M P b q f g (e ∷ es) h = (
-  of_sabm e.said (IsAsked N O b q e es) (IsAsked M P b q e es) (λ k. elim k [ inl now ↦ inl (f now.0, now.1, now.2) | inr old ↦ inr (g old.0, old.1, old.2) ]) h.0,
-  asked_map N O M P b q f g es h.1,
+pub asked_map : {N O : Type 0} (M P : Type 0) (b q : ℕ) → (N → M) → (O → P) → (es : List Letter) → AllAsked N O b q es → AllAsked M P b q es
+asked_map M P b q f g [] h = tt
+asked_map {N} {O} M P b q f g (e ∷ es) h = (
+  of_sabm e.said (IsAsked M P b q e es) (λ k. elim k [ inl now ↦ inl (f now.0, now.1, now.2) | inr old ↦ inr (g old.0, old.1, old.2) ]) h.0,
+  asked_map M P b q f g es h.1,
 )
 
 -- none is older
@@ -181,14 +181,14 @@ asked_now N O P b q r [] a h = tt
 asked_now N O P b q r (e ∷ es) a h = (here e.said a.0 h.0, asked_now N O P b q r es a.1 h.1)
   where
     here : (s : Said) → OfSabm s (e.session ≡ b) → OfSabm s (IsAsked N O b q e es) → OfSabm s (IsAsked N P b r e es)
-    here Sabm x y = elim y [ inl now ↦ inl now | inr old ↦ (let less = old.1 in absurd (omega (arith, x, less))) ]
+    here Sabm x y = elim y [ inl now ↦ inl now | inr old ↦ (absurd (omega (arith, x, old.1))) ]
     here s x y = tt
 
 -- none can be older: of any other pair
 pub asked_never : (N O P : Type 0) (b q r : ℕ) → (O → ⊥) → (es : List Letter) → AllAsked N O b q es → AllAsked N P b r es
 asked_never N O P b q r never [] h = tt
 asked_never N O P b q r never (e ∷ es) h = (
-  of_sabm e.said (IsAsked N O b q e es) (IsAsked N P b r e es) (λ k. elim k [ inl now ↦ inl now | inr old ↦ absurd (never old.0) ]) h.0,
+  of_sabm e.said (IsAsked N P b r e es) (λ k. elim k [ inl now ↦ inl now | inr old ↦ absurd (never old.0) ]) h.0,
   asked_never N O P b q r never es h.1,
 )
 
@@ -196,28 +196,28 @@ asked_never N O P b q r never (e ∷ es) h = (
 pub asked_begins : (N O M P : Type 0) (b q r : ℕ) → P → (O → ⊥) → (es : List Letter) → AllAsked N O b q es → AllAsked M P (suc b) r es
 asked_begins N O M P b q r p never [] h = tt
 asked_begins N O M P b q r p never (e ∷ es) h = (
-  of_sabm e.said (IsAsked N O b q e es) (IsAsked M P (suc b) r e es)
-      (λ k. elim k [ inl now ↦ (let is = now.1 in inr (p, omega (arith, is), told_map Never (Of r) (λ n none. absurd none) es now.2)) | inr old ↦ absurd (never old.0) ]) h.0,
+  of_sabm e.said (IsAsked M P (suc b) r e es)
+      (λ k. elim k [ inl now ↦ (inr (p, omega (arith, now.1), told_map Never (Of r) (λ n none. absurd none) es now.2)) | inr old ↦ absurd (never old.0) ]) h.0,
   asked_begins N O M P b q r p never es h.1,
 )
 
 pub asked_push : (N O : Type 0) (b q : ℕ) (es : List Letter) (e : Letter) → AllAsked N O b q es → OfTells e.said ((N → ⊥) × (e.session ≡ q)) → OfSabm e.said (N × (e.session ≡ b)) → AllAsked N O b q (es ++ e ∷ [])
-asked_push N O b q [] e h t s = (of_sabm e.said (N × (e.session ≡ b)) (IsAsked N O b q e []) (λ k. inl (k.0, k.1, tt)) s, tt)
+asked_push N O b q [] e h t s = (of_sabm e.said (IsAsked N O b q e []) (λ k. inl (k.0, k.1, tt)) s, tt)
 asked_push N O b q (x ∷ es) e h t s = (
-  of_sabm x.said (IsAsked N O b q x es) (IsAsked N O b q x (es ++ e ∷ []))
+  of_sabm x.said (IsAsked N O b q x (es ++ e ∷ []))
       (λ k. elim k [
-        | inl now ↦ inl (now.0, now.1, told_push Never es e now.2 (of_tells e.said ((N → ⊥) × (e.session ≡ q)) ⊥ (λ u. u.0 now.0) t))
-        | inr old ↦ inr (old.0, old.1, told_push (Of q) es e old.2 (of_tells e.said ((N → ⊥) × (e.session ≡ q)) (e.session ≡ q) (λ u. u.1) t))
+        | inl now ↦ inl (now.0, now.1, told_push Never es e now.2 (of_tells e.said ⊥ (λ u. u.0 now.0) t))
+        | inr old ↦ inr (old.0, old.1, told_push (Of q) es e old.2 (of_tells e.said (e.session ≡ q) (λ u. u.1) t))
       ]) h.0,
   asked_push N O b q es e h.1 t s,
 )
 
-pub asked_less : (N O : Type 0) (b q : ℕ) (es fs : List Letter) → Less es fs → AllAsked N O b q es → AllAsked N O b q fs
-asked_less N O b q es fs (whole xs) h = h
-asked_less N O b q es fs (gone e xs) h = h.1
-asked_less N O b q es fs (hurt e xs) h = (tt, h.1)
-asked_less N O b q es fs (deeper e xs ys l) h = (
-  of_sabm e.said (IsAsked N O b q e xs) (IsAsked N O b q e ys)
-      (λ k. elim k [ inl now ↦ inl (now.0, now.1, told_less Never xs ys l now.2) | inr old ↦ inr (old.0, old.1, told_less (Of q) xs ys l old.2) ]) h.0,
-  asked_less N O b q xs ys l h.1,
+pub asked_less : (N O : Type 0) (b q : ℕ) {es fs : List Letter} → Less es fs → AllAsked N O b q es → AllAsked N O b q fs
+asked_less N O b q (whole xs) h = h
+asked_less N O b q (gone e xs) h = h.1
+asked_less N O b q (hurt e xs) h = (tt, h.1)
+asked_less N O b q (deeper e xs ys l) h = (
+  of_sabm e.said (IsAsked N O b q e ys)
+      (λ k. elim k [ inl now ↦ inl (now.0, now.1, told_less Never l now.2) | inr old ↦ inr (old.0, old.1, told_less (Of q) l old.2) ]) h.0,
+  asked_less N O b q l h.1,
 )

@@ -12,16 +12,16 @@ pub all_some : (P Q : Meeting → Type 0) (R : Type 0) → ((m : Meeting) → P 
 all_some P Q R f [] h g = absurd g
 all_some P Q R f (m ∷ ms) h g = elim g [ inl here ↦ f m h.0 here | inr there ↦ all_some P Q R f ms h.1 there ]
 
-no_earlier_trans : (a b c : Meeting) → IsNoEarlier a b → IsNoEarlier b c → IsNoEarlier a c
-no_earlier_trans a b c (inl same) (inl again) = inl (again.0 ∙ same.0, again.1 ∙ same.1)
-no_earlier_trans a b c (inl same) (inr less) = inr (omega (arith, same.0, less.0), omega (arith, same.1, less.1))
-no_earlier_trans a b c (inr less) (inl same) = inr (omega (arith, same.0, less.0), omega (arith, same.1, less.1))
-no_earlier_trans a b c (inr less) (inr more) = inr (omega (arith, less.0, more.0), omega (arith, less.1, more.1))
+no_earlier_trans : {a b c : Meeting} → IsNoEarlier a b → IsNoEarlier b c → IsNoEarlier a c
+no_earlier_trans (inl same) (inl again) = inl (again.0 ∙ same.0, again.1 ∙ same.1)
+no_earlier_trans (inl same) (inr less) = inr (omega (arith, same.0, less.0), omega (arith, same.1, less.1))
+no_earlier_trans (inr less) (inl same) = inr (omega (arith, same.0, less.0), omega (arith, same.1, less.1))
+no_earlier_trans (inr less) (inr more) = inr (omega (arith, less.0, more.0), omega (arith, less.1, more.1))
 
 -- all that met before are the same two sessions or earlier ones
 pub all_no_earlier : (m : Meeting) (ms : List Meeting) → InStep (m ∷ ms) → Each (IsNoEarlier m) ms
 all_no_earlier m [] h = tt
-all_no_earlier m (n ∷ ms) h = (h.0, all_map (IsNoEarlier n) (IsNoEarlier m) (λ (x : Meeting) before. no_earlier_trans m n x h.0 before) ms (all_no_earlier n ms h.1))
+all_no_earlier m (n ∷ ms) h = (h.0, all_map (IsNoEarlier n) (IsNoEarlier m) (λ (x : Meeting) before. no_earlier_trans h.0 before) ms (all_no_earlier n ms h.1))
 
 -- ---- the two that stand
 
@@ -48,7 +48,7 @@ above_paired p q (m ∷ ms) h = h.0
 
 pub twice_turned : (met : List Meeting) → map turned (map turned met) ≡ met
 twice_turned [] = refl
-twice_turned (m ∷ ms) = ap (λ (xs : List Meeting). m ∷ xs) (twice_turned ms)
+twice_turned (m ∷ ms) = ap (λ xs. m ∷ xs) (twice_turned ms)
 
 pub begun_turned : (p q : ℕ) (met : List Meeting) → Each (IsBegun p q) met → Each (IsBegun q p) (map turned met)
 begun_turned p q [] h = tt
@@ -77,15 +77,15 @@ far_turned n (m ∷ ms) h = elim h [ inl here ↦ inl here | inr there ↦ inr (
 -- ---- the latest
 
 -- who meets the near end's session that stands is the latest
-pub meets : (p q near far : ℕ) (m : Meeting) → near ≡ p → far ≤ q → IsBegun near far m → IsPaired p q m → m.near ≡ near → (m.far ≡ far) × (q ≡ far)
-meets p q near far m is high begun (inl same) here = (omega (arith, same.1, begun.1, high), omega (arith, same.1, begun.1, high))
-meets p q near far m is high begun (inr less) here = absurd (omega (arith, less.0, is, here))
+pub meets : {p q near far : ℕ} {m : Meeting} → near ≡ p → far ≤ q → IsBegun near far m → IsPaired p q m → m.near ≡ near → (m.far ≡ far) × (q ≡ far)
+meets is high begun (inl same) here = (omega (arith, same.1, begun.1, high), omega (arith, same.1, begun.1, high))
+meets is high begun (inr less) here = absurd (omega (arith, less.0, is, here))
 
 pub all_meet : (p q near far : ℕ) (met : List Meeting) → near ≡ p → far ≤ q → Each (IsBegun near far) met → Each (IsPaired p q) met → Each (λ (m : Meeting). m.near ≡ near → m.far ≡ far) met
 all_meet p q near far [] is high begun paired = tt
-all_meet p q near far (m ∷ ms) is high begun paired = (λ here. (meets p q near far m is high begun.0 paired.0 here).0, all_meet p q near far ms is high begun.1 paired.1)
+all_meet p q near far (m ∷ ms) is high begun paired = (λ here. (meets is high begun.0 paired.0 here).0, all_meet p q near far ms is high begun.1 paired.1)
 
 pub some_meets : (p q near far : ℕ) (met : List Meeting) → near ≡ p → far ≤ q → Each (IsBegun near far) met → Each (IsPaired p q) met → SomeMet (λ (m : Meeting). m.near ≡ near) met → q ≡ far
 some_meets p q near far [] is high begun paired some = absurd some
 some_meets p q near far (m ∷ ms) is high begun paired some =
-    elim some [ inl here ↦ (meets p q near far m is high begun.0 paired.0 here).1 | inr there ↦ some_meets p q near far ms is high begun.1 paired.1 there ]
+    elim some [ inl here ↦ (meets is high begun.0 paired.0 here).1 | inr there ↦ some_meets p q near far ms is high begun.1 paired.1 there ]

@@ -1,7 +1,7 @@
 -- Whatever an end does keeps what holds of two ends over sessions.
 use Rattle.std.proofs.Common.{◌≡◌, ◌≤◌, ◌+◌, ◌⊎◌, inl, inr, ℕ, suc, List, [], ◌∷◌, ◌++◌, map, remove, Option, refl, sym, subst, arith, ap}
 use Rattle.x25_line.specs.{laws.Said.{sabm_of, ua_of, disc_of, Said, Carried, Tells, Sabm, Disc, Ua, Else, Odd}, laws.Sessions.{Meeting, turned}, laws.SessionClaims.{Each, InStep}}
-use Rattle.x25_line.specs.laws.Ends.{Stand, Out, Asking, In, Letter, letter, Two, swapped, how_many, OfTells, IsPatient, heard, spoilt, Moves, free, odd, asks, closes, leaves, hears, takes_ua, takes_sabm, waits_on, takes_disc, loses, damages, begin_at}
+use Rattle.x25_line.specs.laws.Ends.{Stand, Out, Asking, In, Letter, letter, Two, two_swapped, how_many, OfTells, IsPatient, heard, spoilt, Moves, free, odd, asks, closes, leaves, hears, takes_ua, takes_sabm, waits_on, takes_disc, loses, damages, begin_at}
 use Rattle.x25_line.proofs.ends.Meetings.{IsPaired, IsBegun, begun_later, paired_anew, above_paired, begun_turned, paired_turned, in_step_turned}
 use Rattle.x25_line.proofs.ends.Lines.{count_push, Less, gone, less_removes, less_spoils, AllTold, told_map, Never, Of, are_none, after_clean, asked_none, asked_now, asked_never, asked_begins}
 use Rattle.x25_line.proofs.ends.Held.{IsOlder, Side, first_side, near_at, far_at, near_stands, far_stands, less_near, less_far, push_near, push_far, leave_near, leave_far, close_near, ask_near, ask_far, begin_near, begin_far, new_far}
@@ -13,16 +13,16 @@ pub record Meets (b c p q : ℕ) (met : List Meeting) : Type 0 where
   pub paired : Each (IsPaired p q) met
   pub step : InStep met
 
-pub meets_turned : (b c p q : ℕ) (ms : List Meeting) → Meets b c p q ms → Meets c b q p (map turned ms)
-meets_turned b c p q ms h = record { begun = begun_turned b c ms h.begun; paired = paired_turned p q ms h.paired; step = in_step_turned ms h.step }
+pub meets_turned : {b c p q : ℕ} {ms : List Meeting} → Meets b c p q ms → Meets c b q p (map turned ms)
+meets_turned {b} {c} {p} {q} {ms} h = record { begun = begun_turned b c ms h.begun; paired = paired_turned p q ms h.paired; step = in_step_turned ms h.step }
 
 -- the same pair, and one session more
-meets_more : (b c p q : ℕ) (ms : List Meeting) → Meets b c p q ms → Meets (suc b) c p q ms
-meets_more b c p q ms h = record { begun = begun_later b c (suc b) c ms (omega arith) (omega arith) h.begun; paired = h.paired; step = h.step }
+meets_more : {b c p q : ℕ} (ms : List Meeting) → Meets b c p q ms → Meets (suc b) c p q ms
+meets_more {b} {c} ms h = record { begun = begun_later b c (suc b) c ms (omega arith) (omega arith) h.begun; paired = h.paired; step = h.step }
 
 -- a new pair
-meets_new : (b c p q : ℕ) (ms : List Meeting) → Meets b c p q ms → Meets b c (suc b) (suc c) ms
-meets_new b c p q ms h = record { begun = h.begun; paired = paired_anew b c (suc b) (suc c) ms (omega arith) (omega arith) h.begun; step = h.step }
+meets_new : {b c p q : ℕ} {ms : List Meeting} → Meets b c p q ms → Meets b c (suc b) (suc c) ms
+meets_new {b} {c} {ms = ms} h = record { begun = h.begun; paired = paired_anew b c (suc b) (suc c) ms (omega arith) (omega arith) h.begun; step = h.step }
 
 -- the two that stand meet
 meets_here : (b c p q s : ℕ) (ms : List Meeting) → b ≡ p → s ≡ q → s ≤ c → Meets b c p q ms → Meets b c p q (record { near = b; far = s } ∷ ms)
@@ -51,8 +51,8 @@ pub record Onward (w v : Two) (p q : ℕ) : Type 0 where
   pub held : Held v
   pub pair : ((held.p ≡ p) × (held.q ≡ q)) ⊎ ((held.p ≡ suc w.near.begun) × (held.q ≡ suc w.far.begun))
 
-abbrev pub held_turned : (w : Two) → Held w → Held (swapped w)
-held_turned w h = holds h.far h.near (meets_turned w.near.begun w.far.begun h.p h.q w.met h.meets)
+abbrev pub held_turned : (w : Two) → Held w → Held (two_swapped w)
+held_turned w h = holds h.far h.near (meets_turned h.meets)
 
 -- ---- each move
 
@@ -96,37 +96,37 @@ module _ (w : Two) where
       holds (leave_near h.near) (leave_far h.far) h.meets
 
   -- the UA that the near end awaits
-  ua_held : (s : ℕ) (rest : List Letter) (p q : ℕ) → Side Asking bx p sy b q w.out (letter s Ua ∷ rest) → Side sy b q Asking bx p (letter s Ua ∷ rest) w.out → Meets bx b p q w.met
+  ua_held : (s : ℕ) (rest : List Letter) {p q : ℕ} → Side Asking bx p sy b q w.out (letter s Ua ∷ rest) → Side sy b q Asking bx p (letter s Ua ∷ rest) w.out → Meets bx b p q w.met
       → Onward w (record w { near = record { stand = In; begun = suc bx }; back = rest }) p q
-  ua_held s rest p q near far meets = elim near.view [
-    | inl is ↦ (let none = near.left refl is in absurd (omega (arith, none)))
-    | inr is ↦ (let once = (near.asks_once refl).0 in let none : how_many sabm_of w.out ≡ 0 = omega (arith, once) in let one = near.one in let clean = near.soon refl is in record {
+  ua_held s rest {p} {q} near far meets = elim near.view [
+    | inl is ↦ (absurd (omega (arith, near.left refl is)))
+    | inr is ↦ (let none : how_many sabm_of w.out ≡ 0 = omega (arith, (near.asks_once refl).0) in let clean = near.soon refl is in record {
       pair = inl (refl, refl);
-      held = holds (begin_near is near.tags.1 clean.0 (asked_now _ _ _ b q q rest clean.1 near.asked.1) (omega (arith, one))) (begin_far none (less_far (gone (letter s Ua) rest) far)) (meets_more bx b p q w.met meets);
+      held = holds (begin_near is near.tags.1 clean.0 (asked_now _ _ _ b q q rest clean.1 near.asked.1) (omega (arith, near.one))) (begin_far none (less_far (gone (letter s Ua) rest) far)) (meets_more w.met meets);
     })
   ]
 
   -- a SABM
-  sabm_held : (s : ℕ) (rest : List Letter) (p q : ℕ) → Side w.near.stand bx p sy b q w.out (letter s Sabm ∷ rest) → Side sy b q w.near.stand bx p (letter s Sabm ∷ rest) w.out → Meets bx b p q w.met
+  sabm_held : (s : ℕ) (rest : List Letter) {p q : ℕ} → Side w.near.stand bx p sy b q w.out (letter s Sabm ∷ rest) → Side sy b q w.near.stand bx p (letter s Sabm ∷ rest) w.out → Meets bx b p q w.met
       → Onward w (record w { near = record { stand = In; begun = suc bx }; out = w.out ++ letter (suc bx) Ua ∷ []; back = rest }) p q
-  sabm_held s rest p q near far meets = elim near.asked.0 [
+  sabm_held s rest {p} {q} near far meets = elim near.asked.0 [
     | inl now ↦ new_pair now.0 now.1 now.2
     | inr old ↦ same_pair old.0 old.2
   ]
     where
       none : how_many sabm_of rest ≡ 0
-      none = (let one = near.one in omega (arith, one))
+      none = (omega (arith, near.one))
 
       new_pair : (sy ≡ In → ⊥) → s ≡ b → AllTold Never rest → Onward w (record w { near = record { stand = In; begun = suc bx }; out = w.out ++ letter (suc bx) Ua ∷ []; back = rest }) p q
       new_pair off is told =
-          let that = far_at (ap (λ (z : ℕ). letter z Sabm ∷ rest) is) far in
+          let that = far_at (ap (λ z. letter z Sabm ∷ rest) is) far in
           record {
             pair = inr (refl, refl);
             held = holds
                 (begin_near refl near.tags.1 (told_map Never (Of (suc b)) (λ n no. absurd no) rest told) (asked_none _ _ b (suc b) rest none) (omega (arith, none)))
-                (new_far In off that (suc bx) (omega arith) (omega arith)
-                (asked_begins _ _ _ _ bx p (suc bx) (refl, none, λ k. absurd (cc)) (λ o. (let k = o.1 in absurd (omega (arith, k)))) w.out that.asked))
-                (meets_more bx b (suc bx) (suc b) w.met (meets_new bx b p q w.met meets));
+                (new_far In off that (omega arith) (omega arith)
+                (asked_begins _ _ _ _ bx p (suc bx) (refl, none, λ k. absurd (cc)) (λ o. (absurd (omega (arith, o.1)))) w.out that.asked))
+                (meets_more w.met (meets_new meets));
           }
 
       same_pair : IsOlder bx p w.out sy → AllTold (Of q) rest
@@ -135,19 +135,19 @@ module _ (w : Two) where
           record {
             pair = inl (refl, refl);
             held = holds (begin_near ok.0 near.tags.1 told (asked_none _ _ b q rest none) (omega (arith, none)))
-                (push_far (letter (suc bx) Ua) refl (omega arith) tt (λ k. absurd (ok.2 k)) (begin_far ok.1 (less_far (gone (letter s Sabm) rest) far))) (meets_more bx b p q w.met meets);
+                (push_far (letter (suc bx) Ua) refl (omega arith) tt (λ k. absurd (ok.2 k)) (begin_far ok.1 (less_far (gone (letter s Sabm) rest) far))) (meets_more w.met meets);
           }
 
   -- a SABM that crossed that of the near end, which waits on
-  waits_held : (s : ℕ) (rest : List Letter) (p q : ℕ) → Side Asking bx p sy b q w.out (letter s Sabm ∷ rest) → Side sy b q Asking bx p (letter s Sabm ∷ rest) w.out → Meets bx b p q w.met
+  waits_held : (s : ℕ) (rest : List Letter) {p q : ℕ} → Side Asking bx p sy b q w.out (letter s Sabm ∷ rest) → Side sy b q Asking bx p (letter s Sabm ∷ rest) w.out → Meets bx b p q w.met
       → Onward w (record w { near = record { stand = Asking; begun = bx }; out = w.out ++ letter bx Ua ∷ []; back = rest }) p q
-  waits_held s rest p q near far meets = elim near.asked.0 [
+  waits_held s rest {p} {q} near far meets = elim near.asked.0 [
     | inl now ↦ new_pair now.0 now.1 now.2
     | inr old ↦ same_pair old.0
   ]
     where
       none : how_many sabm_of rest ≡ 0
-      none = (let one = near.one in omega (arith, one))
+      none = (omega (arith, near.one))
 
       sabms : how_many sabm_of (w.out ++ letter bx Ua ∷ []) ≡ how_many sabm_of w.out + 0
       sabms = count_push sabm_of w.out (letter bx Ua)
@@ -157,7 +157,7 @@ module _ (w : Two) where
 
       new_pair : (sy ≡ In → ⊥) → s ≡ b → AllTold Never rest → Onward w (record w { near = record { stand = Asking; begun = bx }; out = w.out ++ letter bx Ua ∷ []; back = rest }) p q
       new_pair off is told =
-          let that = far_at (ap (λ (z : ℕ). letter z Sabm ∷ rest) is) far in
+          let that = far_at (ap (λ z. letter z Sabm ∷ rest) is) far in
           let once = (near.asks_once refl).0 in
           let closed = (near.asks_once refl).1 in
           record {
@@ -174,8 +174,8 @@ module _ (w : Two) where
                   one = omega (arith, none);
                   asks_once = λ _. (omega (arith, once, sabms), omega (arith, closed, discs));
                 })
-                (new_far Asking off that bx (omega arith) (omega arith) (asked_never _ _ _ bx p (suc bx) (λ o. (let k = o.1 in absurd (omega (arith, k)))) w.out that.asked))
-                (meets_new bx b p q w.met meets);
+                (new_far Asking off that (omega arith) (omega arith) (asked_never _ _ _ bx p (suc bx) (λ o. (absurd (omega (arith, o.1)))) w.out that.asked))
+                (meets_new meets);
           }
 
       same_pair : IsOlder bx p w.out sy → Onward w (record w { near = record { stand = Asking; begun = bx }; out = w.out ++ letter bx Ua ∷ []; back = rest }) p q
@@ -200,27 +200,27 @@ come_held w e rest is h =
     holds k.near k.far
     (live_heard e.said w.near.stand (near_at is h.near) w.met h.meets)
 
-pub moves_held : (w v : Two) → Moves w v → (h : Held w) → Onward w v h.p h.q
+pub moves_held : {w v : Two} → Moves w v → (h : Held w) → Onward w v h.p h.q
 unfolding asked_held closed_held left_held
-moves_held w v free h = record { held = longer w Else refl refl h tt (λ _. refl); pair = inl (refl, refl) }
-moves_held w v odd h = record { held = longer w Odd refl refl h tt (λ _. refl); pair = inl (refl, refl) }
-moves_held w v (asks patient) h = record { held = asked_held w patient h; pair = inl (refl, refl) }
-moves_held w v closes h = record { held = closed_held w h; pair = inl (refl, refl) }
-moves_held w v leaves h = record { held = left_held w h; pair = inl (refl, refl) }
-moves_held w v (hears e rest is) h = record { held = come_held w e rest is h; pair = inl (refl, refl) }
-moves_held w v (takes_ua s rest is asking) h =
-    ua_held w s rest h.p h.q (near_stands asking (near_at is h.near)) (far_stands asking (far_at is h.far)) h.meets
-moves_held w v (takes_sabm s rest is) h =
-    sabm_held w s rest h.p h.q (near_at is h.near) (far_at is h.far) h.meets
-moves_held w v (waits_on s rest is asking) h =
-    subst (λ (z : Stand). Onward w (record w { near = record { stand = z; begun = w.near.begun }; out = w.out ++ letter w.near.begun Ua ∷ []; back = rest }) h.p h.q) (sym asking)
-    (waits_held w s rest h.p h.q (near_stands asking (near_at is h.near)) (far_stands asking (far_at is h.far)) h.meets)
-moves_held w v (takes_disc s rest is) h =
+moves_held {w} free h = record { held = longer w Else refl refl h tt (λ _. refl); pair = inl (refl, refl) }
+moves_held {w} odd h = record { held = longer w Odd refl refl h tt (λ _. refl); pair = inl (refl, refl) }
+moves_held {w} (asks patient) h = record { held = asked_held w patient h; pair = inl (refl, refl) }
+moves_held {w} closes h = record { held = closed_held w h; pair = inl (refl, refl) }
+moves_held {w} leaves h = record { held = left_held w h; pair = inl (refl, refl) }
+moves_held {w} (hears e rest is) h = record { held = come_held w e rest is h; pair = inl (refl, refl) }
+moves_held {w} (takes_ua s rest is asking) h =
+    ua_held w s rest (near_stands asking (near_at is h.near)) (far_stands asking (far_at is h.far)) h.meets
+moves_held {w} (takes_sabm s rest is) h =
+    sabm_held w s rest (near_at is h.near) (far_at is h.far) h.meets
+moves_held {w} (waits_on s rest is asking) h =
+    subst (λ z. Onward w (record w { near = record { stand = z; begun = w.near.begun }; out = w.out ++ letter w.near.begun Ua ∷ []; back = rest }) h.p h.q) (sym asking)
+    (waits_held w s rest (near_stands asking (near_at is h.near)) (far_stands asking (far_at is h.far)) h.meets)
+moves_held {w} (takes_disc s rest is) h =
     let k = shorter w rest (popped w.back rest (letter s Disc) is) h in
     let far = far_at is h.far in
-    record { held = longer (record w { back = rest }) Ua refl refl k tt (λ k. (let none = (far.asks_once k).1 in absurd (omega (arith, none)))); pair = inl (refl, refl) }
-moves_held w v (loses i) h = record { held = shorter w (remove w.back i) (less_removes w.back i) h; pair = inl (refl, refl) }
-moves_held w v (damages i) h = record { held = shorter w (spoilt w.back i) (less_spoils w.back i) h; pair = inl (refl, refl) }
+    record { held = longer (record w { back = rest }) Ua refl refl k tt (λ k. (absurd (omega (arith, (far.asks_once k).1)))); pair = inl (refl, refl) }
+moves_held {w} (loses i) h = record { held = shorter w (remove w.back i) (less_removes w.back i) h; pair = inl (refl, refl) }
+moves_held {w} (damages i) h = record { held = shorter w (spoilt w.back i) (less_spoils w.back i) h; pair = inl (refl, refl) }
 
 pub first_held : (s : Stand) (b : ℕ) → Held (begin_at s b).two
 first_held s b = holds (first_side s b) (first_side s b) (record { begun = tt; paired = tt; step = tt })

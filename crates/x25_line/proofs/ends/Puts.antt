@@ -10,10 +10,10 @@ same_or_other n b = go (n == b) refl
     go false e = inr e
 
 pub put_same : (b n : ℕ) (r : Peer) (all : ℕ → Peer) → n ≡ b → put_for b r all n ≡ r
-put_same b n r all is = ap (λ (x : Bool). if x then r else all n) (eq-eqb n b is)
+put_same b n r all is = ap (λ x. if x then r else all n) (eq-eqb n b is)
 
 pub put_apart : (b n : ℕ) (r : Peer) (all : ℕ → Peer) → (n == b) ≡ false → put_for b r all n ≡ all n
-put_apart b n r all not = ap (λ (x : Bool). if x then r else all n) not
+put_apart b n r all not = ap (λ x. if x then r else all n) not
 
 pub put_other : (b n : ℕ) (r : Peer) (all : ℕ → Peer) → (n ≡ b → ⊥) → put_for b r all n ≡ all n
 put_other b n r all never = elim (same_or_other n b) [ inl is ↦ absurd (never is) | inr not ↦ put_apart b n r all not ]
@@ -21,6 +21,6 @@ put_other b n r all never = elim (same_or_other n b) [ inl is ↦ absurd (never 
 -- what the other has in common with the one
 pub put_alike : {X : Type 0} (f : Peer → X) (b : ℕ) (r : Peer) (all : ℕ → Peer) → f r ≡ f (all b) → (n : ℕ) → f (put_for b r all n) ≡ f (all n)
 put_alike f b r all same n = elim (same_or_other n b) [
-  | inl is ↦ ap f (put_same b n r all is) ∙ same ∙ ap (λ (m : ℕ). f (all m)) (sym is)
+  | inl is ↦ ap f (put_same b n r all is) ∙ same ∙ ap (λ m. f (all m)) (sym is)
   | inr not ↦ ap f (put_apart b n r all not)
 ]

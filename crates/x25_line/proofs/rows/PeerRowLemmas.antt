@@ -1,11 +1,10 @@
 -- The worked rows, by computing.
-use Rattle.std.proofs.Common.{◌≡◌, [], ◌∷◌, ◌++◌, true, false, Result, Ok, arith, refl, ap}
+use Rattle.std.proofs.Common.{◌≡◌, [], ◌∷◌, ◌++◌, true, false, Ok, arith, refl, ap}
 use Rattle.x25_bits.specs.declared.role.Role.TheVariants.{Dte, Dce}
 use Rattle.x25_frame.specs.{Frame.{PlainFrame, rr}, Spelling.{spelling_of}, Reading.{frame_of}, laws.ReadingLaw.{ReadsSpelled}}
-use Rattle.x25_frame.specs.declared.error.FrameError.{FrameError}
 use Rattle.x25_link.specs.Station.{pumped}
-use Rattle.x25_line.specs.{laws.Stations.{Stations, Put, Deliver, acts}, rows.StationRows.{dte}, laws.Peer.{Peer, fresh_peer, numbered_to, told_to}}
-use Rattle.x25_line.specs.laws.PeerJoined.{Joined, start, our_end, with_peer, Ours, HandsDown, Sends, Hears, IsReached, at_start, goes_on}
+use Rattle.x25_line.specs.{laws.Stations.{Put, Deliver, acts}, rows.StationRows.{dte}, laws.Peer.{Peer, fresh_peer, numbered_to, told_to}}
+use Rattle.x25_line.specs.laws.PeerJoined.{JoinedOnce, start, our_end, with_peer, Ours, HandsDown, Sends, Hears, ReachedOnce, at_start, goes_on}
 use Rattle.x25_line.specs.laws.Tape.{judges, notes, IsSilent, Begins, Acts, Shows, Comes}
 use Rattle.x25_line.specs.rows.PeerRows.{polling_frame, OddPeerMoves, SilentTapeMoves, TapeTells}
 use Rattle.x25_line.proofs.rows.StationRowLemmas.{taken_as, comes, packet_frame, packet_reads}
@@ -17,26 +16,26 @@ module _ (reads : ReadsSpelled) where
   pub odd_peer_moves : OddPeerMoves
   unfolding pumped
   odd_peer_moves =
-      let w1 : Joined = with_peer fresh_peer (acts dte (Put (5 ∷ [])) (our_end start)) in
-      let r1 : IsReached ⊥ dte w1 = goes_on start w1 at_start (Ours (Put (5 ∷ []))) in
-      let w2 : Joined = record w1 { peer = record w1.peer { given = w1.peer.given ++ (7 ∷ []) ∷ [] } } in
-      let r2 : IsReached ⊥ dte w2 = goes_on w1 w2 r1 (HandsDown (7 ∷ [])) in
+      let w1 : JoinedOnce = with_peer fresh_peer (acts dte (Put (5 ∷ [])) (our_end start)) in
+      let r1 : ReachedOnce ⊥ dte w1 = goes_on start w1 at_start (Ours (Put (5 ∷ []))) in
+      let w2 : JoinedOnce = record w1 { peer = record w1.peer { given = w1.peer.given ++ (7 ∷ []) ∷ [] } } in
+      let r2 : ReachedOnce ⊥ dte w2 = goes_on w1 w2 r1 (HandsDown (7 ∷ [])) in
       let p3 : Peer = record w2.peer { taken = (5 ∷ []) ∷ [] } in
-      let w3 : Joined = record w2 { peer = p3; out = [] } in
-      let r3 : IsReached ⊥ dte w3 = goes_on w2 w3 r2
+      let w3 : JoinedOnce = record w2 { peer = p3; out = [] } in
+      let r3 : ReachedOnce ⊥ dte w3 = goes_on w2 w3 r2
       (Hears (spelling_of Dte packet_frame) [] p3 refl (rw (packet_reads reads Dte) (false, true, refl, refl)))
       in
       let q : Peer = told_to 0 (numbered_to 0 p3) in
-      let w4 : Joined = record w3 { peer = q; back = spelling_of Dce polling_frame ∷ [] } in
-      let r4 : IsReached ⊥ dte w4 = goes_on w3 w4 r3
+      let w4 : JoinedOnce = record w3 { peer = q; back = spelling_of Dce polling_frame ∷ [] } in
+      let r4 : ReachedOnce ⊥ dte w4 = goes_on w3 w4 r3
       (Sends (spelling_of Dce polling_frame) q (rw polling_reads (0, 0, record { number = refl; same = refl; window = omega arith; again = omega arith }, record { number = refl; rising = omega arith; taken = omega arith }, refl)))
       in
-      let w5 : Joined = with_peer q (acts dte Deliver (our_end w4)) in
-      let r5 : IsReached ⊥ dte w5 = goes_on w4 w5 r4 (Ours Deliver) in
+      let w5 : JoinedOnce = with_peer q (acts dte Deliver (our_end w4)) in
+      let r5 : ReachedOnce ⊥ dte w5 = goes_on w4 w5 r4 (Ours Deliver) in
       let same : acts dte Deliver (our_end w4) ≡ taken_as dte (Ok polling_frame) (spelling_of Dce polling_frame) [] (our_end w4) =
       comes dte (Ok polling_frame) (spelling_of Dce polling_frame) [] (our_end w4) polling_reads refl
       in
-      (w5, r5, ap (λ (v : Stations). v.near.up) same, refl, ap (λ (v : Stations). v.near.came_up) same)
+      (w5, r5, ap (λ v. v.near.up) same, refl, ap (λ v. v.near.came_up) same)
 
   -- RR with N(R)=1 and F=1
   abbrev answer : PlainFrame
@@ -49,18 +48,18 @@ module _ (reads : ReadsSpelled) where
   unfolding pumped
   silent_tape_moves =
       let q : Peer = told_to 0 (numbered_to 0 (record { given = (7 ∷ []) ∷ []; acked = 0; sent = 0; told = 0; taken = [] })) in
-      let w1 : Joined = record { near = start.near; peer = q; out = []; back = spelling_of Dce polling_frame ∷ [] } in
-      let s1 : IsSilent dte w1 = Comes start (spelling_of Dce polling_frame) q (ap (λ (r : Result PlainFrame FrameError). judges r fresh_peer) polling_reads) Begins in
-      let w2 : Joined = with_peer q (acts dte Deliver (our_end w1)) in
+      let w1 : JoinedOnce = record { near = start.near; peer = q; out = []; back = spelling_of Dce polling_frame ∷ [] } in
+      let s1 : IsSilent dte w1 = Comes start (spelling_of Dce polling_frame) q (ap (λ r. judges r fresh_peer) polling_reads) Begins in
+      let w2 : JoinedOnce = with_peer q (acts dte Deliver (our_end w1)) in
       let s2 : IsSilent dte w2 = Acts w1 Deliver s1 in
       let same : acts dte Deliver (our_end w1) ≡ taken_as dte (Ok polling_frame) (spelling_of Dce polling_frame) [] (our_end w1) =
       comes dte (Ok polling_frame) (spelling_of Dce polling_frame) [] (our_end w1) polling_reads refl
       in
-      let out : w2.out ≡ spelling_of Dte answer ∷ [] = ap (λ (v : Stations). v.out) same in
+      let out : w2.out ≡ spelling_of Dte answer ∷ [] = ap (λ v. v.out) same in
       let p3 : Peer = notes (frame_of Dte 128 (spelling_of Dte answer)) q in
-      let w3 : Joined = record w2 { peer = p3; out = [] } in
+      let w3 : JoinedOnce = record w2 { peer = p3; out = [] } in
       let s3 : IsSilent dte w3 = Shows w2 (spelling_of Dte answer) [] out s2 in
-      (w3, s3, ap (λ (v : Stations). v.near.up) same, ap (λ (r : Result PlainFrame FrameError). (notes r q).acked) answer_reads, ap (λ (v : Stations). v.near.came_up) same)
+      (w3, s3, ap (λ v. v.near.up) same, ap (λ r. (notes r q).acked) answer_reads, ap (λ v. v.near.came_up) same)
 
 pub tape_tells : TapeTells
 tape_tells = record { other_packet = refl; eighth = refl; never_sent = refl; falls = refl }

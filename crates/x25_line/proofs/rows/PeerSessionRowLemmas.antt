@@ -1,14 +1,14 @@
 -- The worked row, by computing.
-use Rattle.std.proofs.Common.{◌≡◌, ℕ, List, [], ◌∷◌, ◌++◌, true, Ok, arith, refl, ap, subst, Result}
+use Rattle.std.proofs.Common.{◌≡◌, ℕ, List, [], ◌∷◌, ◌++◌, true, Ok, arith, refl, ap, subst}
 use Rattle.x25_bits.specs.declared.role.Role.TheVariants.{Dte, Dce}
-use Rattle.x25_frame.specs.{Frame.{PlainFrame, sabm, ua}, Spelling.{spelling_of}, Reading.{frame_of}, laws.ReadingLaw.{ReadsSpelled}, declared.error.FrameError.{FrameError}}
+use Rattle.x25_frame.specs.{Frame.{PlainFrame, sabm, ua}, Spelling.{spelling_of}, Reading.{frame_of}, laws.ReadingLaw.{ReadsSpelled}}
 use Rattle.x25_link.specs.Station.{pumped}
 use Rattle.x25_line.specs.{laws.Stations.{Deliver, Connect}, rows.StationRows.{dte}}
-use Rattle.x25_line.specs.{laws.Sessions.{Entry, Sessions, acts, from_nothing}, laws.Peer.{Peer, numbered_to, told_to}}
-use Rattle.x25_line.specs.laws.PeerSessions.{PeerSessions, untouched, without, begins, now, with_now, both_ends, with_peer, begin_with, IsReached}
+use Rattle.x25_line.specs.{laws.Sessions.{Entry, acts, from_nothing}, laws.Peer.{Peer, numbered_to, told_to}}
+use Rattle.x25_line.specs.laws.PeerSessions.{PeerSessions, untouched, without, begins, now, with_now, both_ends, with_peer, begin_with, ReachedInSessions}
 use Rattle.x25_line.specs.{laws.Ends.{Out, Asking, letter, moves, asks, takes_sabm}, laws.Said.{said}}
 use Rattle.x25_line.specs.{rows.PeerSessionRows.{CrossingPeerMoves}, rows.PeerRows.{polling_frame}}
-use Rattle.x25_line.proofs.{rows.SessionRowLemmas.{taken_as, comes}, rows.StationRowLemmas.{sabm_reads, ua_reads}}
+use Rattle.x25_line.proofs.{rows.SessionRowLemmas.{taken_as, comes}, rows.StationRowLemmas.{bare_reads}}
 use Rattle.x25_line.proofs.{sessions.Letters.{puts_frame}, sessions.SessionWith.{tells_does}}
 use Rattle.x25_line.specs.laws.PeerSessions as sessions
 
@@ -17,10 +17,10 @@ module _ (reads : ReadsSpelled) where
   polling_reads = reads Dce 128 polling_frame _ (record { in_range = (omega arith, omega arith); carries = tt; within = omega arith; spelling = refl })
 
   -- the station takes the front
-  takes : (f : PlainFrame) (session : ℕ) (back : List Entry) (w : PeerSessions) → frame_of Dce 128 (spelling_of Dce f) ≡ Ok f → w.back ≡ record { session = session; octets = spelling_of Dce f } ∷ back → IsReached ⊥ dte w
-      → IsReached ⊥ dte (with_peer w.peer (taken_as dte (Ok f) (record { session = session; octets = spelling_of Dce f }) back (both_ends w)))
-  takes f session back w read is reached =
-      subst (λ (v : Sessions). IsReached ⊥ dte (with_peer w.peer v)) (comes dte (Ok f) (record { session = session; octets = spelling_of Dce f }) back (both_ends w) read is)
+  takes : (f : PlainFrame) (session : ℕ) (back : List Entry) {w : PeerSessions} → frame_of Dce 128 (spelling_of Dce f) ≡ Ok f → w.back ≡ record { session = session; octets = spelling_of Dce f } ∷ back → ReachedInSessions ⊥ dte w
+      → ReachedInSessions ⊥ dte (with_peer w.peer (taken_as dte (Ok f) (record { session = session; octets = spelling_of Dce f }) back (both_ends w)))
+  takes f session back {w} read is reached =
+      subst (λ v. ReachedInSessions ⊥ dte (with_peer w.peer v)) (comes dte (Ok f) (record { session = session; octets = spelling_of Dce f }) back (both_ends w) read is)
       (sessions.goes_on w (with_peer w.peer (acts dte Deliver (both_ends w))) reached (sessions.Ours Deliver tt))
 
   pub crossing_peer_moves : CrossingPeerMoves
@@ -29,32 +29,32 @@ module _ (reads : ReadsSpelled) where
       let entry : ℕ → PlainFrame → Entry = λ session f. record { session = session; octets = spelling_of Dce f } in
       let w0 : PeerSessions = begin_with Out from_nothing in
       let w1 : PeerSessions = record w0 { peer = record (w0.peer) { stand = Asking }; back = entry 0 (sabm true) ∷ [] } in
-      let r1 : IsReached ⊥ dte w1 = sessions.goes_on w0 w1 sessions.at_start
-      (sessions.Theirs w1 (record { does = λ crossing. rw (sabm_reads reads Dce) (moves _ (asks (record { sabm = refl; disc = refl; ua = refl; crossing = crossing }))); left = untouched; puts = puts_frame 0 _ (sabm true) (sabm_reads reads Dce) })) in
+      let r1 : ReachedInSessions ⊥ dte w1 = sessions.goes_on w0 w1 sessions.at_start
+      (sessions.Theirs w1 (record { does = λ crossing. rw (bare_reads reads Dce (sabm true) (tt, tt)) (moves _ (asks (record { sabm = refl; disc = refl; ua = refl; crossing = crossing }))); left = untouched; puts = puts_frame 0 _ (sabm true) (bare_reads reads Dce (sabm true) (tt, tt)) })) in
       let w2 : PeerSessions = with_peer w1.peer (acts dte Connect (both_ends w1)) in
-      let r2 : IsReached ⊥ dte w2 = sessions.goes_on w1 w2 r1 (sessions.Ours Connect tt) in
+      let r2 : ReachedInSessions ⊥ dte w2 = sessions.goes_on w1 w2 r1 (sessions.Ours Connect tt) in
       let w3 : PeerSessions = record w2 { peer = begins w2.peer; out = []; back = entry 0 (sabm true) ∷ entry 1 (ua true) ∷ [] } in
-      let r3 : IsReached ⊥ dte w3 = sessions.goes_on w2 w3 r2
+      let r3 : ReachedInSessions ⊥ dte w3 = sessions.goes_on w2 w3 r2
       (sessions.Theirs w3 (record {
-        does = λ crossing. rw (ua_reads reads Dce) (moves _ (takes_sabm 0 [] (ap (λ (r : Result PlainFrame FrameError). letter 0 (said r) ∷ []) (sabm_reads reads Dte))));
+        does = λ crossing. rw (bare_reads reads Dce (ua true) tt) (moves _ (takes_sabm 0 [] (ap (λ r. letter 0 (said r) ∷ []) (bare_reads reads Dte (sabm true) (tt, tt)))));
         left = without 0;
-        puts = puts_frame 1 _ (ua true) (ua_reads reads Dce);
+        puts = puts_frame 1 _ (ua true) (bare_reads reads Dce (ua true) tt);
       })) in
       let p4 : Peer = record (now w3.peer) { given = (now w3.peer).given ++ (7 ∷ []) ∷ [] } in
       let w4 : PeerSessions = record w3 { peer = with_now p4 w3.peer } in
-      let r4 : IsReached ⊥ dte w4 = sessions.goes_on w3 w4 r3 (sessions.HandsDown (7 ∷ []) refl) in
+      let r4 : ReachedInSessions ⊥ dte w4 = sessions.goes_on w3 w4 r3 (sessions.HandsDown (7 ∷ []) refl) in
       let p5 : Peer = told_to 0 (numbered_to 0 (now w4.peer)) in
       let w5 : PeerSessions = record w4 { peer = with_now p5 w4.peer; back = entry 0 (sabm true) ∷ entry 1 (ua true) ∷ entry 1 polling_frame ∷ [] } in
-      let r5 : IsReached ⊥ dte w5 = sessions.goes_on w4 w5 r4
+      let r5 : ReachedInSessions ⊥ dte w5 = sessions.goes_on w4 w5 r4
       (sessions.Theirs w5 (record {
         does = λ crossing. rw polling_reads (tells_does _ polling_frame p5 refl refl (0, 0, record { number = refl; same = refl; window = omega arith; again = omega arith }, record { number = refl; rising = omega arith; taken = omega arith }, refl));
         left = untouched;
         puts = puts_frame 1 _ polling_frame polling_reads;
       })) in
       let w6 : PeerSessions = with_peer w5.peer (taken_as dte (Ok (sabm true)) (entry 0 (sabm true)) (entry 1 (ua true) ∷ entry 1 polling_frame ∷ []) (both_ends w5)) in
-      let r6 : IsReached ⊥ dte w6 = takes (sabm true) 0 (entry 1 (ua true) ∷ entry 1 polling_frame ∷ []) w5 (sabm_reads reads Dce) refl r5 in
+      let r6 : ReachedInSessions ⊥ dte w6 = takes (sabm true) 0 (entry 1 (ua true) ∷ entry 1 polling_frame ∷ []) (bare_reads reads Dce (sabm true) (tt, tt)) refl r5 in
       let w7 : PeerSessions = with_peer w6.peer (taken_as dte (Ok (ua true)) (entry 1 (ua true)) (entry 1 polling_frame ∷ []) (both_ends w6)) in
-      let r7 : IsReached ⊥ dte w7 = takes (ua true) 1 (entry 1 polling_frame ∷ []) w6 (ua_reads reads Dce) refl r6 in
+      let r7 : ReachedInSessions ⊥ dte w7 = takes (ua true) 1 (entry 1 polling_frame ∷ []) (bare_reads reads Dce (ua true) tt) refl r6 in
       let w8 : PeerSessions = with_peer w7.peer (taken_as dte (Ok polling_frame) (entry 1 polling_frame) [] (both_ends w7)) in
-      let r8 : IsReached ⊥ dte w8 = takes polling_frame 1 [] w7 polling_reads refl r7 in
+      let r8 : ReachedInSessions ⊥ dte w8 = takes polling_frame 1 [] polling_reads refl r7 in
       (w8, r8, refl, refl, refl, refl)

@@ -7,7 +7,7 @@ use Rattle.x25_link.specs.{Station.{Settings, is_up, pumped}, Hearing.{other}, L
 use Rattle.x25_line.specs.{laws.Stations.{Put, Deliver, T1, Connect, Abandon, Lose, Near, Far}, rows.StationRows.{dte, dce}, laws.StationClaims.{number_in}}
 use Rattle.x25_line.specs.laws.Sessions.{Entry, Sessions, after_step, heard, delivered, swapped, acts, happens, run, from_nothing, from_set_up}
 use Rattle.x25_line.specs.rows.SessionRows.{IsFirst, SetsUpFromNothing, IsSecond, SetsUpAgain}
-use Rattle.x25_line.proofs.rows.StationRowLemmas.{packet_frame, crossing_frame, packet_reads, crossing_reads, sabm_reads, ua_reads}
+use Rattle.x25_line.proofs.rows.StationRowLemmas.{packet_frame, crossing_frame, packet_reads, crossing_reads, bare_reads}
 
 -- the two stations once octets that read as this have come to the near end
 abbrev pub taken_as : Settings → Result PlainFrame FrameError → Entry → List Entry → Sessions → Sessions
@@ -17,7 +17,7 @@ taken_as c r e back w =
 
 pub comes : (c : Settings) (r : Result PlainFrame FrameError) (e : Entry) (back : List Entry) (w : Sessions) → frame_of (other c.role) c.longest e.octets ≡ r → w.back ≡ e ∷ back
     → acts c Deliver w ≡ taken_as c r e back w
-comes c r e back w reads is = ap (λ (es : List Entry). delivered c es w) is ∙ ap (λ (z : Result PlainFrame FrameError). taken_as c z e back w) reads
+comes c r e back w reads is = ap (λ es. delivered c es w) is ∙ ap (λ z. taken_as c z e back w) reads
 
 -- an entry of a frame that was sent in a session
 abbrev sent : ℕ → Role → PlainFrame → Entry
@@ -40,14 +40,12 @@ module _ (reads : ReadsSpelled) where
   sets_up_from_nothing =
       let w = happens dte dce (Near T1) (happens dte dce (Far (Lose 0)) (happens dte dce (Near Connect) from_nothing)) in
       let v = swapped (taken_as dce (Ok (sabm true)) (sent 0 Dte (sabm true)) [] (swapped w)) in
-      let u = taken_as dte (Ok (ua true)) (sent 1 Dce (ua true)) [] v in
-      let t = happens dte dce (Near (Put (5 ∷ []))) u in
+      let t = happens dte dce (Near (Put (5 ∷ []))) (taken_as dte (Ok (ua true)) (sent 1 Dce (ua true)) [] v) in
       let s = swapped (taken_as dce (Ok packet_frame) (sent 1 Dte packet_frame) [] (swapped t)) in
-      let first = far_takes (sabm true) 0 [] w (sabm_reads reads Dte) refl in
-      let second = near_takes (ua true) 1 [] v (ua_reads reads Dce) refl in
-      let third = far_takes packet_frame 1 [] t (packet_reads reads Dte) refl in (
+      let first = far_takes (sabm true) 0 [] w (bare_reads reads Dte (sabm true) (tt, tt)) refl in
+      let second = near_takes (ua true) 1 [] v (bare_reads reads Dce (ua true) tt) refl in (
         (tt, (tt, ((λ waiting. refl), (tt, (tt, (tt, (tt, tt))))))),
-        subst IsFirst (sym (ap (run dte dce (Near Deliver ∷ Near (Put (5 ∷ [])) ∷ Far Deliver ∷ [])) first ∙ ap (run dte dce (Near (Put (5 ∷ [])) ∷ Far Deliver ∷ [])) second ∙ third))
+        subst IsFirst (sym (ap (run dte dce (Near Deliver ∷ Near (Put (5 ∷ [])) ∷ Far Deliver ∷ [])) first ∙ ap (run dte dce (Near (Put (5 ∷ [])) ∷ Far Deliver ∷ [])) second ∙ (far_takes packet_frame 1 [] t (packet_reads reads Dte) refl)))
             (refl, refl, refl, refl),
       )
 
@@ -58,12 +56,11 @@ module _ (reads : ReadsSpelled) where
       let v = swapped (taken_as dce (Ok packet_frame) (sent 1 Dte packet_frame) (sent 1 Dte (sabm true) ∷ []) (swapped w)) in
       let u = swapped (taken_as dce (Ok (sabm true)) (sent 1 Dte (sabm true)) [] (swapped v)) in
       let t = taken_as dte (Ok (rr false 1 false)) (sent 1 Dce (rr false 1 false)) (sent 2 Dce (ua true) ∷ []) u in
-      let s = taken_as dte (Ok (ua true)) (sent 2 Dce (ua true)) [] t in
-      let r = happens dte dce (Near (Put (7 ∷ []))) s in
+      let r = happens dte dce (Near (Put (7 ∷ []))) (taken_as dte (Ok (ua true)) (sent 2 Dce (ua true)) [] t) in
       let first = far_takes packet_frame 1 (sent 1 Dte (sabm true) ∷ []) w (packet_reads reads Dte) refl in
-      let second = far_takes (sabm true) 1 [] v (sabm_reads reads Dte) refl in
+      let second = far_takes (sabm true) 1 [] v (bare_reads reads Dte (sabm true) (tt, tt)) refl in
       let third = near_takes (rr false 1 false) 1 (sent 2 Dce (ua true) ∷ []) u ready_reads refl in
-      let fourth = near_takes (ua true) 2 [] t (ua_reads reads Dce) refl in
+      let fourth = near_takes (ua true) 2 [] t (bare_reads reads Dce (ua true) tt) refl in
       let fifth = far_takes crossing_frame 2 [] r (crossing_reads reads Dte) refl in (
         (tt, (tt, (tt, (tt, (tt, (tt, (tt, (tt, (tt, tt))))))))),
         subst IsSecond

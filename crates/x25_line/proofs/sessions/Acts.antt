@@ -31,20 +31,20 @@ module _ (c : Settings) (P : LinkStation → Type 0) (keeps : Keeps c P) (w : Se
 
   delivered_stays : (es : List Entry) → w.back ≡ es → Stays P w (delivered c es w)
   delivered_stays [] is = as_it_was
-  delivered_stays (e ∷ es) is = record { near = keeps.takes e.octets s h; far = refl; less = subst (λ (xs : List Entry). Less xs es) (sym is) (gone e es) }
+  delivered_stays (e ∷ es) is = record { near = keeps.takes e.octets s h; far = refl; less = subst (λ xs. Less xs es) (sym is) (gone e es) }
 
   pub act_stays : (a : Act) → Stays P w (acts c a w)
   act_stays (Put packet) =
-      if_by (Stays P w) (nat_le (length packet) c.longest) w _ as_it_was
-      (λ short. unless_by (Stays P w) (put_refusal s) w _ as_it_was (λ _. record { near = keeps.puts packet s (leb-true _ _ short) h; far = refl; less = whole w.back }))
+      if_by (Stays P w) (nat_le (length packet) c.longest) as_it_was
+      (λ short. unless_by (Stays P w) (put_refusal s) as_it_was (λ _. record { near = keeps.puts packet s (leb-true _ _ short) h; far = refl; less = whole w.back }))
   act_stays Deliver = delivered_stays w.back refl
-  act_stays T1 = unless_by (Stays P w) (timer_refusal s) w _ as_it_was (λ _. record { near = keeps.fires s h; far = refl; less = whole w.back })
-  act_stays Connect = unless_by (Stays P w) (connect_refusal s.phase) w _ as_it_was (λ _. record { near = keeps.connects s h; far = refl; less = whole w.back })
-  act_stays Disconnect = unless_by (Stays P w) (disconnect_refusal s.phase) w _ as_it_was (λ _. record { near = keeps.disconnects s h; far = refl; less = whole w.back })
-  act_stays Abandon = if_by (Stays P w) (is_up s.phase) w _ as_it_was (λ _. record { near = keeps.abandons s h; far = refl; less = whole w.back })
-  act_stays Probe = if_by (Stays P w) (is_up s.phase) w _ as_it_was (λ _. record { near = keeps.fires s h; far = refl; less = whole w.back })
+  act_stays T1 = unless_by (Stays P w) (timer_refusal s) as_it_was (λ _. record { near = keeps.fires s h; far = refl; less = whole w.back })
+  act_stays Connect = unless_by (Stays P w) (connect_refusal s.phase) as_it_was (λ _. record { near = keeps.connects s h; far = refl; less = whole w.back })
+  act_stays Disconnect = unless_by (Stays P w) (disconnect_refusal s.phase) as_it_was (λ _. record { near = keeps.disconnects s h; far = refl; less = whole w.back })
+  act_stays Abandon = if_by (Stays P w) (is_up s.phase) as_it_was (λ _. record { near = keeps.abandons s h; far = refl; less = whole w.back })
+  act_stays Probe = if_by (Stays P w) (is_up s.phase) as_it_was (λ _. record { near = keeps.fires s h; far = refl; less = whole w.back })
   act_stays (Lose i) = record { near = h; far = refl; less = less_removes w.back i }
-  act_stays (Damage i octets) = if_by (Stays P w) (is_visible octets) w _ as_it_was (λ visible. record { near = h; far = refl; less = less_replaces octets visible w.back i })
+  act_stays (Damage i octets) = if_by (Stays P w) (is_visible octets) as_it_was (λ visible. record { near = h; far = refl; less = less_replaces octets visible w.back i })
 
 -- where nothing is asked of the station
 abbrev pub Anything : LinkStation → Type 0

@@ -1,10 +1,10 @@
 -- What is lost or damaged on a line of octets, and what that leaves.
-use Rattle.std.proofs.Common.{◌≡◌, ◌≤◌, ℕ, zero, suc, List, [], ◌∷◌, inl, inr, remove, true, Result, Err, ap, ◌∙◌, arith}
+use Rattle.std.proofs.Common.{◌≡◌, ◌≤◌, ℕ, zero, suc, List, [], ◌∷◌, inl, remove, true, Result, Err, refl, arith}
 use Rattle.x25_bits.specs.declared.role.Role.{Role}
 use Rattle.x25_frame.specs.{Frame.{PlainFrame}, Reading.{frame_of}, declared.error.FrameError.{FrameError}}
 use Rattle.x25_frame.specs.declared.error.FrameError.TheVariants.{Short, BadFcs}
 use Rattle.x25_line.specs.{laws.Stations.{is_visible}, laws.Sessions.{Entry, sabm_in, how_many, replaced}, laws.PeerSessions.{IsAskedIn, AllAskedIn}, laws.StationClaims.{Each}}
-use Rattle.x25_line.proofs.StationLines.{visible_reads}
+use Rattle.x25_line.proofs.StationLines.{visible_is}
 
 -- one entry at most is lost or damaged
 pub data Less : List Entry → List Entry → Type 0 where
@@ -31,35 +31,35 @@ replaces_at o visible [] i = nothing i
 replaces_at o visible (e ∷ es) zero = hurt_at e es o visible
 replaces_at o visible (e ∷ es) (suc i) = deeper_at i e es (replaced es i o) (replaces_at o visible es i)
 
-pub less_at : (i : ℕ) (es fs : List Entry) → LessAt i es fs → Less es fs
-less_at i es fs (nothing j) = whole []
-less_at i es fs (gone_at e xs) = gone e xs
-less_at i es fs (hurt_at e xs o visible) = hurt e xs o visible
-less_at i es fs (deeper_at j e xs ys l) = deeper e xs ys (less_at j xs ys l)
+pub less_at : {i : ℕ} {es fs : List Entry} → LessAt i es fs → Less es fs
+less_at (nothing j) = whole []
+less_at (gone_at e xs) = gone e xs
+less_at (hurt_at e xs o visible) = hurt e xs o visible
+less_at (deeper_at j e xs ys l) = deeper e xs ys (less_at l)
 
 pub less_removes : (es : List Entry) (i : ℕ) → Less es (remove es i)
-less_removes es i = less_at i es (remove es i) (removes_at es i)
+less_removes es i = less_at (removes_at es i)
 
 pub less_replaces : (o : List ℕ) → is_visible o ≡ true → (es : List Entry) (i : ℕ) → Less es (replaced es i o)
-less_replaces o visible es i = less_at i es (replaced es i o) (replaces_at o visible es i)
+less_replaces o visible es i = less_at (replaces_at o visible es i)
 
 -- of no kind there is more
-pub many_less : (kind : Result PlainFrame FrameError → ℕ) → kind (Err Short) ≡ 0 → kind (Err BadFcs) ≡ 0 → (from : Role) (n1 : ℕ) (es fs : List Entry) → Less es fs → how_many kind from n1 fs ≤ how_many kind from n1 es
-many_less kind short bad from n1 es fs (whole xs) = omega arith
-many_less kind short bad from n1 es fs (gone e xs) = omega arith
-many_less kind short bad from n1 es fs (hurt e xs o visible) =
-    let none : kind (frame_of from n1 o) ≡ 0 = elim (visible_reads from n1 o visible) [ inl is ↦ ap kind is ∙ short | inr is ↦ ap kind is ∙ bad ] in
+pub many_less : (kind : Result PlainFrame FrameError → ℕ) → kind (Err Short) ≡ 0 → kind (Err BadFcs) ≡ 0 → (from : Role) (n1 : ℕ) {es fs : List Entry} → Less es fs → how_many kind from n1 fs ≤ how_many kind from n1 es
+many_less kind short bad from n1 (whole xs) = omega arith
+many_less kind short bad from n1 (gone e xs) = omega arith
+many_less kind short bad from n1 (hurt e xs o visible) =
+    let none : kind (frame_of from n1 o) ≡ 0 = visible_is (λ r. kind r ≡ 0) from n1 o visible short bad in
     omega (arith, none)
-many_less kind short bad from n1 es fs (deeper e xs ys l) = (let rest = many_less kind short bad from n1 xs ys l in omega (arith, rest))
+many_less kind short bad from n1 (deeper e xs ys l) = (omega (arith, many_less kind short bad from n1 l))
 
 -- what holds of each, where it holds of what is damaged
-pub each_less : (P : Entry → Type 0) → ((e : Entry) (o : List ℕ) → is_visible o ≡ true → P (record { session = e.session; octets = o })) → (es fs : List Entry) → Less es fs → Each P es → Each P fs
-each_less P hurts es fs (whole xs) h = h
-each_less P hurts es fs (gone e xs) h = h.1
-each_less P hurts es fs (hurt e xs o visible) h = (hurts e o visible, h.1)
-each_less P hurts es fs (deeper e xs ys l) h = (h.0, each_less P hurts xs ys l h.1)
+pub each_less : (P : Entry → Type 0) → ((e : Entry) (o : List ℕ) → is_visible o ≡ true → P (record { session = e.session; octets = o })) → {es fs : List Entry} → Less es fs → Each P es → Each P fs
+each_less P hurts (whole xs) h = h
+each_less P hurts (gone e xs) h = h.1
+each_less P hurts (hurt e xs o visible) h = (hurts e o visible, h.1)
+each_less P hurts (deeper e xs ys l) h = (h.0, each_less P hurts l h.1)
 
 -- a SABM that is lost or damaged is none
-pub asked_fewer : (from : Role) (n1 b : ℕ) (es fs : List Entry) → Less es fs → AllAskedIn from n1 b es → AllAskedIn from n1 b fs
-asked_fewer from n1 b es fs l h =
-    each_less (IsAskedIn from n1 b) (λ e o visible. elim (visible_reads from n1 o visible) [ inl short ↦ inl (ap sabm_in short) | inr bad ↦ inl (ap sabm_in bad) ]) es fs l h
+pub asked_fewer : (from : Role) (n1 b : ℕ) {es fs : List Entry} → Less es fs → AllAskedIn from n1 b es → AllAskedIn from n1 b fs
+asked_fewer from n1 b {es} {fs} l h =
+    each_less (IsAskedIn from n1 b) (λ e o visible. inl (visible_is (λ r. sabm_in r ≡ 0) from n1 o visible refl refl)) l h

@@ -5,8 +5,8 @@ use Rattle.x25_frame.specs.{Frame.{PlainFrame, sabm}, Reading.{frame_of}, declar
 use Rattle.x25_link.specs.{declared.phase.Phase.{Phase}, declared.phase.Phase.TheVariants.{Up}, Station.{Settings, is_up}, Hearing.{other}}
 use Rattle.x25_line.specs.{laws.Stations.{is_visible}, laws.StationClaims.{number_in}, laws.Said.{Said, Else, Odd as OddSaid, said, sabm_of, ua_of, disc_of}}
 use Rattle.x25_line.specs.laws.Sessions.{Entry, Meeting, sabm_in, ua_in, disc_in, how_many, heard, replaced}
-use Rattle.x25_line.specs.{laws.PeerSessions.{AllAskedIn, stand_of, letters, Puts, put}, laws.Ends.{Letter, letter, OfSabm, AreOf, meets, spoilt}}
-use Rattle.x25_line.proofs.{StationLines.{visible_reads}, sessions.SessionLines.{Read}, sessions.SessionMay.{entry}}
+use Rattle.x25_line.specs.{laws.PeerSessions.{AllAskedIn, stand_of, letters, Puts, put}, laws.Ends.{letter, OfSabm, AreOf, meets, spoilt}}
+use Rattle.x25_line.proofs.{StationLines.{visible_is}, sessions.SessionLines.{Read}, sessions.SessionMay.{entry}}
 use Rattle.x25_line.specs.laws.Ends as ends
 
 -- ---- one of them
@@ -26,17 +26,17 @@ heard_said p b t r met = refl
 
 module _ (from : Role) (n1 : ℕ) where
   pub letters_push : (es : List Entry) (b : ℕ) (octets : List ℕ) (r : Read) → frame_of from n1 octets ≡ r → letters from n1 (es ++ entry b octets ∷ []) ≡ letters from n1 es ++ letter b (said r) ∷ []
-  letters_push [] b octets r read = ap (λ (x : Read). letter b (said x) ∷ []) read
-  letters_push (e ∷ es) b octets r read = ap (λ (xs : List Letter). letter e.session (said (frame_of from n1 e.octets)) ∷ xs) (letters_push es b octets r read)
+  letters_push [] b octets r read = ap (λ x. letter b (said x) ∷ []) read
+  letters_push (e ∷ es) b octets r read = ap (λ xs. letter e.session (said (frame_of from n1 e.octets)) ∷ xs) (letters_push es b octets r read)
 
   pub letters_removed : (es : List Entry) (i : ℕ) → letters from n1 (remove es i) ≡ remove (letters from n1 es) i
   letters_removed [] zero = refl
   letters_removed [] (suc i) = refl
   letters_removed (e ∷ es) zero = refl
-  letters_removed (e ∷ es) (suc i) = ap (λ (xs : List Letter). letter e.session (said (frame_of from n1 e.octets)) ∷ xs) (letters_removed es i)
+  letters_removed (e ∷ es) (suc i) = ap (λ xs. letter e.session (said (frame_of from n1 e.octets)) ∷ xs) (letters_removed es i)
 
   pub visible_said : (o : List ℕ) → is_visible o ≡ true → said (frame_of from n1 o) ≡ Else
-  visible_said o visible = elim (visible_reads from n1 o visible) [ inl short ↦ ap said short | inr bad ↦ ap said bad ]
+  visible_said o visible = visible_is (λ r. said r ≡ Else) from n1 o visible refl refl
 
   -- so it is answered by no FRMR
   pub visible_fine : (o : List ℕ) → is_visible o ≡ true → said (frame_of from n1 o) ≡ OddSaid → ⊥
@@ -47,13 +47,13 @@ module _ (from : Role) (n1 : ℕ) where
 
   pub letters_replaced : (o : List ℕ) → is_visible o ≡ true → (es : List Entry) (i : ℕ) → letters from n1 (replaced es i o) ≡ spoilt (letters from n1 es) i
   letters_replaced o visible [] i = refl
-  letters_replaced o visible (e ∷ es) zero = ap (λ (s : Said). letter e.session s ∷ letters from n1 es) (visible_said o visible)
-  letters_replaced o visible (e ∷ es) (suc i) = ap (λ (xs : List Letter). letter e.session (said (frame_of from n1 e.octets)) ∷ xs) (letters_replaced o visible es i)
+  letters_replaced o visible (e ∷ es) zero = ap (λ s. letter e.session s ∷ letters from n1 es) (visible_said o visible)
+  letters_replaced o visible (e ∷ es) (suc i) = ap (λ xs. letter e.session (said (frame_of from n1 e.octets)) ∷ xs) (letters_replaced o visible es i)
 
   -- how many there are of a kind
   pub many_said : (kind : Said → ℕ) (es : List Entry) → how_many (λ r. kind (said r)) from n1 es ≡ ends.how_many kind (letters from n1 es)
   many_said kind [] = refl
-  many_said kind (e ∷ es) = ap (λ (n : ℕ). kind (said (frame_of from n1 e.octets)) + n) (many_said kind es)
+  many_said kind (e ∷ es) = ap (λ n. kind (said (frame_of from n1 e.octets)) + n) (many_said kind es)
 
   pub sabms : (es : List Entry) → how_many sabm_in from n1 es ≡ ends.how_many sabm_of (letters from n1 es)
   sabms es = many_said sabm_of es

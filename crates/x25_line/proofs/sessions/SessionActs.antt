@@ -6,7 +6,7 @@ use Rattle.x25_frame.specs.{Frame.{PlainFrame, sabm, disc}, laws.ReadingLaw.{Rea
 use Rattle.x25_link.specs.{declared.phase.Phase.{Phase}, declared.phase.Phase.TheVariants.{Down, Waiting, Up, Closed}, declared.phase.Reason.{Reason}}
 use Rattle.x25_link.specs.{declared.phase.Reason.TheVariants.{Retries, Local, Counts}, laws.SetUp.{Is}, Station.{Settings, LinkStation, is_up, with_nothing}}
 use Rattle.x25_link.specs.{Hearing.{Step, other}, Link.{put_step, timer_step, connect_step, disconnect_step, disconnect_refusal, abandon_step}}
-use Rattle.x25_link.specs.{laws.WindowMachine.{hands_down, nothing}, laws.NoteLaw.{Tells}, laws.WindowLaw.{IsRunning, IsSound, IsOut, Ends}}
+use Rattle.x25_link.specs.{laws.WindowMachine.{nothing}, laws.NoteLaw.{Tells}, laws.WindowLaw.{IsRunning, IsSound, IsOut, Ends}}
 use Rattle.x25_line.specs.{laws.StationClaims.{AreJoined}, laws.SessionNumbers.{Standing}}
 use Rattle.x25_line.specs.{laws.Sessions.{Entry, Meeting, Sessions, sabm_in, ua_in, how_many, begun_by, after_step}, laws.LawsBelow.{Laws}}
 use Rattle.x25_line.proofs.{StationHears.{by_disc, by_reset}, sessions.SessionSeenActs.{by_neither}, StationLines.{AreParting}, StationSteps.{AsUp, up_of, Leaves, ends_joint}}
@@ -18,7 +18,7 @@ use Rattle.x25_link.specs.declared.error.LinkError.TheVariants as error
 -- what holds of a step in which no LinkUp is noted
 pub quiet_held : {stand : Standing} (c d : Settings) (w : Sessions) (es : List Entry) (met : List Meeting) (down : List (List ℕ)) (step : Step) → step.notes.up ≡ false
     → Held stand c d (stepped c w es met down w.near.begun step) → Held stand c d (after_step c w es met down step)
-quiet_held {stand} c d w es met down step quiet h = rw (ap (λ (b : Bool). begun_by b w.near.begun) quiet) h
+quiet_held {stand} c d w es met down step quiet h = rw (ap (λ b. begun_by b w.near.begun) quiet) h
 
 -- ---- an end that is Up is in the session
 
@@ -30,28 +30,27 @@ pub record InSession (stand : Standing) (c d : Settings) (w : Sessions) (h : Hel
 pub in_session : {stand : Standing} (c d : Settings) (w : Sessions) (h : Held stand c d w) → is_up w.near.station.phase ≡ true → InSession stand c d w h
 in_session {stand} c d w h up =
     let is = h.near.up up in
-    let u = up_of ⊥ c h.alone.near.station stand.machine.near h.holds.near (ap (λ (s : LinkStation). is_up s.phase) is.station ∙ up) in
-    record { is = is; machine = u; running = record { up = up; sound = subst (λ (s : LinkStation). IsSound c.window s.outgoing) is.station u.sound } }
+    let u = up_of ⊥ h.holds.near (ap (λ s. is_up s.phase) is.station ∙ up) in
+    record { is = is; machine = u; running = record { up = up; sound = subst (λ s. IsSound c.window s.outgoing) is.station u.sound } }
 
 -- ---- by the phase
 
-down_owes : (p : Phase) (n m : ℕ) → p ≡ Down → Owes p n m → (n ≡ 0) × (m ≡ 0)
-down_owes p n m is h = subst (λ (z : Phase). Owes z n m) is h
+down_owes : {p : Phase} {n m : ℕ} → p ≡ Down → Owes p n m → (n ≡ 0) × (m ≡ 0)
+down_owes {n = n} {m} is h = subst (λ z. Owes z n m) is h
 
-pub waiting_owes : (p : Phase) (n m : ℕ) → p ≡ Waiting → Owes p n m → (n ≤ 1) × (m ≡ 0)
-waiting_owes p n m is h = subst (λ (z : Phase). Owes z n m) is h
+pub waiting_owes : {p : Phase} {n m : ℕ} → p ≡ Waiting → Owes p n m → (n ≤ 1) × (m ≡ 0)
+waiting_owes {n = n} {m} is h = subst (λ z. Owes z n m) is h
 
-module _ (c d : Settings) (joined : AreJoined c d) (reads : ReadsSpelled) (laws : Laws) where
+module _ {c d : Settings} (joined : AreJoined c d) (reads : ReadsSpelled) (laws : Laws) where
   -- ---- in Up
 
   pub put_held : {stand : Standing} (w : Sessions) → Held stand c d w → is_up w.near.station.phase ≡ true → (packet : List ℕ) → length packet ≤ c.longest
       → Held (went_by c (put_step c packet w.near.station) None stand) c d (after_step c w w.back w.met (packet ∷ []) (put_step c packet w.near.station))
   put_held {stand} w h up packet short =
       let i = in_session c d w h up in
-      let stays = laws.window.put c packet w.near.station i.running in
-      live_goes_on c d joined reads w h i.is.session w.back h.alone.back w.met (packet ∷ []) (put_step c packet w.near.station) None
-      (rw (sym i.is.station) (put_up ⊥ c d joined reads laws h.alone stand.machine packet h.holds i.machine short))
-      i.is.comes i.is.of (stays_answers w c.window (hands_down packet) w.near.station (put_step c packet w.near.station) stays)
+      live_goes_on joined reads w h i.is.session w.back h.alone.back w.met (packet ∷ []) (put_step c packet w.near.station) None
+      (rw (sym i.is.station) (put_up ⊥ joined reads laws packet h.holds i.machine short))
+      i.is.comes i.is.of (stays_answers w (laws.window.put c packet w.near.station i.running))
 
   pub timer_up_held : {stand : Standing} (w : Sessions) → Held stand c d w → is_up w.near.station.phase ≡ true → Held (went_by c (timer_step c w.near.station) None stand) c d (after_step c w w.back w.met [] (timer_step c w.near.station))
   timer_up_held {stand} w h up =
@@ -60,11 +59,10 @@ module _ (c d : Settings) (joined : AreJoined c d) (reads : ReadsSpelled) (laws 
       let t = h.alone.near.station in
       let step = timer_step c s in
       let o : Option Reason = if nat_lt s.tries c.retries then None else Some Retries in
-      let follows = laws.window.timer c s i.running in
-      live_goes_on c d joined reads w h i.is.session w.back h.alone.back w.met [] step None
-      (rw (sym i.is.station) (timer_by ⊥ c d joined reads laws h.alone stand.machine h.holds i.machine (nat_lt t.tries c.retries) (timer_step c t) (laws.timer_tells c t)
+      live_goes_on joined reads w h i.is.session w.back h.alone.back w.met [] step None
+      (rw (sym i.is.station) (timer_by ⊥ joined reads laws h.holds i.machine (nat_lt t.tries c.retries) (laws.timer_tells c t)
       (laws.window.timer c t (record { up = i.machine.up; sound = i.machine.sound }))))
-      i.is.comes i.is.of (follows_answers w o c.window nothing s step (λ one. (let none = by_neither by_disc None (Some Retries) refl refl (nat_lt s.tries c.retries) in absurd (omega (arith, one, none)))) (by_neither by_reset None (Some Retries) refl refl (nat_lt s.tries c.retries)) follows)
+      i.is.comes i.is.of (follows_answers w o c.window nothing s step (λ one. (absurd (omega (arith, one, by_neither by_disc None (Some Retries) refl refl (nat_lt s.tries c.retries))))) (by_neither by_reset None (Some Retries) refl refl (nat_lt s.tries c.retries)) (laws.window.timer c s i.running))
 
   -- it leaves, by a call of its user
   leaves_held : {stand : Standing} (w : Sessions) → Held stand c d w → is_up w.near.station.phase ≡ true → (reason : Reason) → Leaves reason → by_disc (Some reason) ≡ 0 → by_reset (Some reason) ≡ 0
@@ -73,8 +71,8 @@ module _ (c d : Settings) (joined : AreJoined c d) (reads : ReadsSpelled) (laws 
   leaves_held {stand} w h up reason leaves by_own stays f tells ends =
       let i = in_session c d w h up in
       let t = h.alone.near.station in
-      live_goes_on c d joined reads w h i.is.session w.back h.alone.back w.met [] (f w.near.station) None
-      (rw (sym i.is.station) (ends_joint ⊥ c d joined reads h.alone stand.machine h.holds i.machine.up h.alone.back (f t) reason leaves h.holds.back h.holds.back_orderly (tells t) (ends t (record { up = i.machine.up; sound = i.machine.sound }))))
+      live_goes_on joined reads w h i.is.session w.back h.alone.back w.met [] (f w.near.station) None
+      (rw (sym i.is.station) (ends_joint ⊥ joined reads h.holds i.machine.up leaves h.holds.back h.holds.back_orderly (tells t) (ends t (record { up = i.machine.up; sound = i.machine.sound }))))
       i.is.comes i.is.of (follows_answers w (Some reason) c.window nothing w.near.station (f w.near.station) (λ one. absurd (omega (arith, one, by_own))) stays (ends w.near.station i.running))
 
   pub disconnect_up_held : {stand : Standing} (w : Sessions) → Held stand c d w → is_up w.near.station.phase ≡ true → Held (went_by c (disconnect_step c w.near.station) None stand) c d (after_step c w w.back w.met [] (disconnect_step c w.near.station))
@@ -89,9 +87,9 @@ module _ (c d : Settings) (joined : AreJoined c d) (reads : ReadsSpelled) (laws 
   out_held : {stand : Standing} (w : Sessions) → Held stand c d w → (near : LinkStation) (frames : List PlainFrame) (ends : Option Reason) (step : Step) → Is near frames ends false step → is_up near.phase ≡ false
       → (near.phase ≡ Waiting → how_many ua_in (other c.role) c.longest w.back ≡ 0) → AreParting (Unit {0}) frames → count ua_in frames ≡ 0 → Held (went_by c step None stand) c d (after_step c w w.back w.met [] step)
   out_held {stand} w h near frames ends step i off none parting no_ua =
-      let same : step.side.near.phase ≡ near.phase = ap (λ (s : LinkStation). s.phase) i.near in
+      let same : step.side.near.phase ≡ near.phase = ap (λ s. s.phase) i.near in
       quiet_held c d w w.back w.met [] step i.up
-      (apart_held c d joined reads w h w.back w.met w.near.begun step i.packet
+      (apart_held joined reads w h w.back w.met w.near.begun step i.packet
       (is_out step.side.near.phase (ap is_up same ∙ off) (λ waiting. none (sym same ∙ waiting)))
       (subst (AreParting (Unit {0})) (sym i.out) parting) (ap (count ua_in) i.out ∙ no_ua))
 
@@ -99,13 +97,13 @@ module _ (c d : Settings) (joined : AreJoined c d) (reads : ReadsSpelled) (laws 
       → Held (went_by c step None stand) c d (after_step c w w.back w.met [] step)
   closes_held {stand} w h step closed sent none quiet =
       quiet_held c d w w.back w.met [] step quiet
-      (apart_held c d joined reads w h w.back w.met w.near.begun step none
+      (apart_held joined reads w h w.back w.met w.near.begun step none
       (is_out step.side.near.phase (ap is_up closed) (λ waits. waiting_is_closed step.side.near.phase waits closed))
       (subst (AreParting (Unit {0})) (sym sent) tt) (ap (count ua_in) sent))
 
   pub connect_held : {stand : Standing} (w : Sessions) → Held stand c d w → OnLine c d w → w.near.station.phase ≡ Down → Held (went_by c (connect_step c w.near.station) None stand) c d (after_step c w w.back w.met [] (connect_step c w.near.station))
   connect_held {stand} w h line down =
-      let owed = down_owes w.near.station.phase _ _ down line.near_owes in
+      let owed = down_owes down line.near_owes in
       out_held w h (record w.near.station { phase = Waiting; tries = 0 }) (sabm true ∷ []) None (connect_step c w.near.station) (laws.set_up.connects c w.near.station down) refl (λ _. omega (arith, owed.0)) (tt, tt) refl
 
   -- timer T1 while UA is awaited: none of the end's SABMs, and no UA to it, is on the line
@@ -128,10 +126,10 @@ module _ (c d : Settings) (joined : AreJoined c d) (reads : ReadsSpelled) (laws 
       by : (p : Phase) → s.phase ≡ p → disconnect_refusal p ≡ None → Held (went_by c (disconnect_step c s) None stand) c d (after_step c w w.back w.met [] (disconnect_step c s))
       by Down is ok =
           let out = laws.window.disconnect_out c s (subst IsOut (sym is) tt) in
-          closes_held w h (disconnect_step c s) out.phase out.frames out.packet (ap (λ (n : _). n.up) out.quiet)
+          closes_held w h (disconnect_step c s) out.phase out.frames out.packet (ap (λ n. n.up) out.quiet)
       by Waiting is ok =
           let i = laws.set_up.disconnects c s is in
-          closes_held w h (disconnect_step c s) (ap (λ (z : LinkStation). z.phase) i.near) i.out i.packet i.up
+          closes_held w h (disconnect_step c s) (ap (λ z. z.phase) i.near) i.out i.packet i.up
       by Up is ok = disconnect_up_held w h (ap is_up is)
       by Closed is ok = absurd (never ok)
         where

@@ -9,13 +9,13 @@ use Rattle.x25_line.proofs.sessions.SessionLines.{Read, numbers, behind_ua, behi
 use Rattle.x25_line.proofs.sessions.SessionHeld.{IsThere, EndIsThere, is_soon, is_out, OnLine, HasLists, SameLists, Held, whole_apart}
 use Rattle.x25_line.proofs.sessions.SessionSteps.{end_after, stepped, nothing_handed, waiting_is_closed, asked_by, many_out}
 
-module _ (c d : Settings) (joined : AreJoined c d) (reads : ReadsSpelled) where
+module _ {c d : Settings} (joined : AreJoined c d) (reads : ReadsSpelled) where
   -- the near end answers UA; the far end asked, so that it is about to be in its session, or it is Closed
   pub begins_held : {stand : Standing} (w : Sessions) (h : Held stand c d w) (line : OnLine c d w) (e : Entry) (es : List Entry) (met : List Meeting) → w.back ≡ e ∷ es → sabm_in (frame_of (other c.role) c.longest e.octets) ≡ 1 → (n : ℕ) (f : Bool) (step : Step)
       → step.packet ≡ None → step.side.out ≡ ua f ∷ []
       → IsThere step.side.near.phase (other c.role) c.longest step.side.near n es fresh [] (suc w.near.begun) (suc w.far.begun)
       → Held (anew c d w) c d (stepped c w es met [] n step)
-  begins_held {stand} w h line e es met is one n f step none answer there = by (elim (asked_by w.far.station.phase _ _ some line.far_owes) [
+  begins_held {stand} w h line e es met is one n f step none answer there = by (elim (asked_by w.far.station.phase some line.far_owes) [
     | inl waits ↦ is_soon w.far.station.phase waits.0 (λ _. record { station = refl; session = refl; comes = ap (numbers (other d.role) d.longest) (last waits.1); of = subst (AllOf (other d.role) d.longest (suc w.near.begun)) (sym (last waits.1)) tt })
     | inr closed ↦ is_out w.far.station.phase (ap is_up closed) (λ waits. waiting_is_closed w.far.station.phase waits closed)
   ])
@@ -30,14 +30,14 @@ module _ (c d : Settings) (joined : AreJoined c d) (reads : ReadsSpelled) where
       all_back kind = ap (how_many kind (other c.role) c.longest) is
 
       some_back : 1 ≤ how_many sabm_in (other c.role) c.longest w.back
-      some_back = (let all = all_back sabm_in in omega (arith, all, one))
+      some_back = (omega (arith, all_back sabm_in, one))
 
       some : 1 ≤ how_many sabm_in (other c.role) c.longest w.back + how_many ua_in (other d.role) d.longest w.out
       some = omega (arith, some_back)
 
       ua_reads : ua_in (frame_of (other d.role) d.longest (spelling_of c.role (ua f))) ≡ 1
       ua_reads =
-          let one_ua = many_out c d joined reads ua_in n [] (ua f ∷ []) (parting_whole (Unit {0}) d.longest [] (ua f ∷ []) (parts_of (Unit {0}) (ua f ∷ []) tt)) in
+          let one_ua = many_out joined reads ua_in n [] (ua f ∷ []) (parting_whole (Unit {0}) d.longest [] (ua f ∷ []) (parts_of (Unit {0}) (ua f ∷ []) tt)) in
           omega (arith, one_ua)
 
       -- the UA is the last on the line
@@ -54,11 +54,11 @@ module _ (c d : Settings) (joined : AreJoined c d) (reads : ReadsSpelled) where
       by far =
           record {
             alone = start;
-            holds = start_machine ⊥ c d joined;
+            holds = start_machine ⊥ joined;
             near = there;
             far = far;
             near_lists = near_lists;
             far_lists = record { down = line.far_next.0; up = line.far_next.1 };
             no_frmr = rw answer (no_frmr_append w.sent (ua f ∷ []) h.no_frmr tt);
-            whole = whole_apart d.longest w.near (end_after w.near n [] step) w.far w.sent fs same (subst (AreParting (Unit {0})) (sym answer) tt) h.whole;
+            whole = whole_apart fs same (subst (AreParting (Unit {0})) (sym answer) tt) h.whole;
           }

@@ -2,14 +2,14 @@
 use Rattle.std.proofs.Common.{◌≡◌, ◌<◌, ◌⊎◌, ℕ, suc, List, [], ◌∷◌, length, map, inl, inr, Bool, true, false, if◌then◌else◌, Option, Some, None, Ok, refl, sym, ap, ◌∙◌, subst, arith, append-nil}
 use Rattle.std.specs.Prelude.{nat_le, option_to_list}
 use Rattle.x25_frame.specs.{Frame.{PlainFrame, info, rr, rnr, rej}, laws.ReadingLaw.{ReadsSpelled}}
-use Rattle.x25_link.specs.{declared.error.LinkError.{LinkError}, declared.phase.Notes.{Notes}, declared.phase.Reason.{Reason}}
+use Rattle.x25_link.specs.{declared.error.LinkError.{LinkError}, declared.phase.Reason.{Reason}}
 use Rattle.x25_link.specs.{declared.phase.Reason.TheVariants.{FrmrSent}, laws.NoteLaw.{Tells, HandsUp, TakeHandsUp}, Station.{Settings, LinkStation, is_up}}
 use Rattle.x25_link.specs.Hearing.{Step, other}
 use Rattle.x25_link.specs.Link.{take_step, put_step, put_refusal}
 use Rattle.x25_link.specs.{laws.WindowMachine.{Window, Input}, laws.WindowLaw.{window_of, brought_by, ending_of, Follows}}
 use Rattle.x25_line.specs.laws.Stations.{Act, Put, Deliver, Lose, Damage, Near, Far, is_visible}
-use Rattle.x25_line.specs.laws.StationClaims.{AreJoined, number_in}
-use Rattle.x25_line.specs.laws.Sessions.{Entry, SessionEnd, Meeting, Sessions, turned, swapped, begun_by, after_step, unless, heard, delivered, replaced, acts}
+use Rattle.x25_line.specs.laws.StationClaims.{number_in}
+use Rattle.x25_line.specs.laws.Sessions.{Entry, SessionEnd, Meeting, Sessions, turned, swapped, begun_by, after_step, unless, heard, delivered, acts}
 use Rattle.x25_line.specs.laws.SessionClaims.{Throughout, AllOf}
 use Rattle.x25_line.specs.laws.SessionEvents.{NextBegins, GoesOn, HandsInSession, EachEventHandsInSession, latest, BeginsAfresh, MeetsNone, MeetsOne, EachEventMeetsLatest}
 use Rattle.x25_line.specs.laws.LawsBelow.{SessionLaws}
@@ -40,24 +40,24 @@ step_goes e down step low =
 
 -- nor is anything handed up
 quiet_goes : (e : SessionEnd) (step : Step) → step.packet ≡ None → step.notes.up ≡ false → GoesOn [] [] e (end_by e [] step)
-quiet_goes e step none low = subst (λ (o : Option (List ℕ)). GoesOn [] (option_to_list o) e (end_by e [] step)) none (step_goes e [] step low)
+quiet_goes e step none low = subst (λ o. GoesOn [] (option_to_list o) e (end_by e [] step)) none (step_goes e [] step low)
 
 step_begins : (e : SessionEnd) (step : Step) → step.packet ≡ None → step.notes.up ≡ true → NextBegins e (end_by e [] step)
 step_begins e step none high =
     let same = nothing_handed e (suc e.begun) step none in
-    subst (λ (b : Bool). NextBegins e (end_after e (begun_by b e.begun) [] step)) (sym high) (record { begun = refl; down = same.down; up = same.up })
+    subst (λ b. NextBegins e (end_after e (begun_by b e.begun) [] step)) (sym high) (record { begun = refl; down = same.down; up = same.up })
 
 -- as LinkUp is noted nothing is handed up
-begins_empty : (s : LinkStation) (step : Step) → HandsUp s step → step.notes.up ≡ true → step.packet ≡ None
-begins_empty s step h high = go step.packet refl
+begins_empty : {s : LinkStation} {step : Step} → HandsUp s step → step.notes.up ≡ true → step.packet ≡ None
+begins_empty {step = step} h high = go step.packet refl
   where
     go : (o : Option (List ℕ)) → step.packet ≡ o → step.packet ≡ None
     go None is = is
-    go (Some packet) is = not_both step.notes.up high (ap (λ (n : Notes). n.up) (h.quiet packet is))
+    go (Some packet) is = not_both step.notes.up high (ap (λ n. n.up) (h.quiet packet is))
 
 -- nor outside of Up
-out_empty : (s : LinkStation) (step : Step) → HandsUp s step → is_up s.phase ≡ false → step.packet ≡ None
-out_empty s step h off = go step.packet refl
+out_empty : {s : LinkStation} {step : Step} → HandsUp s step → is_up s.phase ≡ false → step.packet ≡ None
+out_empty {s} {step} h off = go step.packet refl
   where
     go : (o : Option (List ℕ)) → step.packet ≡ o → step.packet ≡ None
     go None is = is
@@ -91,7 +91,7 @@ deliver_hands hands_up c (e ∷ es) w = (by (take_step c e.octets w.near.station
     by step h = go step.notes.up refl
       where
         go : (b : Bool) → step.notes.up ≡ b → HandsInSession Deliver w.near (end_by w.near [] step)
-        go true high = inl (step_begins w.near step (begins_empty w.near.station step h high) high)
+        go true high = inl (step_begins w.near step (begins_empty h high) high)
         go false low = inr (step.packet, step_goes w.near [] step low)
 
 acts_hands : TakeHandsUp → (c : Settings) (a : Act) (w : Sessions) → Hands a w (acts c a w)
@@ -100,7 +100,7 @@ acts_hands hands_up c (Put packet) w =
     (put_hands (put_refusal w.near.station) c packet w)
 acts_hands hands_up c Deliver w = deliver_hands hands_up c w.back w
 acts_hands hands_up c (Lose i) w = (stays w.near, refl)
-acts_hands hands_up c (Damage i octets) w = if_by (HandsNothing w) (is_visible octets) w (record w { back = replaced w.back i octets }) (as_it_was w) (λ _. (stays w.near, refl))
+acts_hands hands_up c (Damage i octets) w = if_by (HandsNothing w) (is_visible octets) (as_it_was w) (λ _. (stays w.near, refl))
 acts_hands hands_up c act w = own_by (HandsNothing w) c w.near.station w (after_step c w w.back w.met []) (as_it_was w) (λ step none low. (quiet_goes w.near step none low, refl)) act
 
 pub each_hands_in_session : TakeHandsUp → EachEventHandsInSession
@@ -109,16 +109,16 @@ each_hands_in_session hands_up c d (Far act) w = acts_hands hands_up d act (swap
 
 -- ---- no LinkUp is noted where a frame with a number comes
 
-valid_quiet : (b : Bool) (k : ℕ) (input : Input) (s : LinkStation) (step : Step) → Tells s step → (let o : Option Reason = if b then None else Some FrmrSent in Follows o k input s step) → step.notes.up ≡ false
-valid_quiet true k input s step tells stay = ap (λ (n : Notes). n.up) stay.quiet
-valid_quiet false k input s step tells end = not_afresh s step tells (ap is_up end.phase)
+valid_quiet : (b : Bool) (k : ℕ) (input : Input) {s : LinkStation} {step : Step} → Tells s step → (let o : Option Reason = if b then None else Some FrmrSent in Follows o k input s step) → step.notes.up ≡ false
+valid_quiet true k input tells stay = ap (λ n. n.up) stay.quiet
+valid_quiet false k input {s} {step} tells end = not_afresh tells (ap is_up end.phase)
 
-number_quiet : (r : Read) (f : PlainFrame) (k : ℕ) (v : Window) (s : LinkStation) (step : Step) → number_in r ≡ Some f → Tells s step → Follows (ending_of r v) k (brought_by r) s step → step.notes.up ≡ false
-number_quiet (Ok (info ns nr p x)) f k v s step some tells h = valid_quiet _ k _ s step tells h
-number_quiet (Ok (rr command nr pf)) f k v s step some tells h = valid_quiet _ k _ s step tells h
-number_quiet (Ok (rnr command nr pf)) f k v s step some tells h = valid_quiet _ k _ s step tells h
-number_quiet (Ok (rej command nr pf)) f k v s step some tells h = valid_quiet _ k _ s step tells h
-number_quiet r f k v s step some tells h = none_is_some f some
+number_quiet : (r : Read) (f : PlainFrame) (k : ℕ) (v : Window) {s : LinkStation} {step : Step} → number_in r ≡ Some f → Tells s step → Follows (ending_of r v) k (brought_by r) s step → step.notes.up ≡ false
+number_quiet (Ok (info ns nr p x)) f k v {s} {step} some tells h = valid_quiet _ k _ tells h
+number_quiet (Ok (rr command nr pf)) f k v {s} {step} some tells h = valid_quiet _ k _ tells h
+number_quiet (Ok (rnr command nr pf)) f k v {s} {step} some tells h = valid_quiet _ k _ tells h
+number_quiet (Ok (rej command nr pf)) f k v {s} {step} some tells h = valid_quiet _ k _ tells h
+number_quiet r f k v some tells h = none_is_some f some
 
 -- ---- which sessions meet
 
@@ -126,8 +126,8 @@ abbrev SameMet : Sessions → Sessions → Type 0
 SameMet w v = v.met ≡ w.met
 
 -- the session that begins has no lists
-afresh : (old new : SessionEnd) → ((n : ℕ) → old.begun < n → (old.down n ≡ []) × (old.up n ≡ [])) → NextBegins old new → BeginsAfresh old new
-afresh old new later next =
+afresh : {old new : SessionEnd} → ((n : ℕ) → old.begun < n → (old.down n ≡ []) × (old.up n ≡ [])) → NextBegins old new → BeginsAfresh old new
+afresh {old} {new} later next =
     let none = later (suc old.begun) (omega arith) in
     record { begins = next; down = ap new.down next.begun ∙ next.down (suc old.begun) ∙ none.0; up = ap new.up next.begun ∙ next.up (suc old.begun) ∙ none.1 }
 
@@ -136,7 +136,7 @@ step_meets_none : (w : Sessions) → ((n : ℕ) → w.near.begun < n → (w.near
 step_meets_none w later step now none same = record { met = same; nothing_up = by step.notes.up refl }
   where
     by : (b : Bool) → step.notes.up ≡ b → BeginsAfresh w.near (end_by w.near [] step) ⊎ GoesOn [] [] w.near (end_by w.near [] step)
-    by true high = inl (afresh w.near (end_by w.near [] step) later (step_begins w.near step none high))
+    by true high = inl (afresh later (step_begins w.near step none high))
     by false low = inr (quiet_goes w.near step none low)
 
 -- an end that isn't Up hears none
@@ -145,10 +145,10 @@ heard_out true f m met off = not_both true refl off
 heard_out false f m met off = refl
 
 module _ (reads : ReadsSpelled) (rests : SessionLaws) (hands_up : TakeHandsUp) where
-  deliver_meets : (c d : Settings) (near_joined : AreJoined d c) (far_joined : AreJoined c d) (w : Sessions) → Both c d near_joined far_joined w → (es : List Entry) → w.back ≡ es
+  deliver_meets : (c d : Settings) (w : Sessions) → Both c d w → (es : List Entry) → w.back ≡ es
       → MeetsOne Deliver (latest w) w.near (delivered c es w).near w.met (delivered c es w).met
-  deliver_meets c d near_joined far_joined w h [] is = inr (record { met = refl; nothing_up = inr (stays w.near) })
-  deliver_meets c d near_joined far_joined w h (e ∷ es) is = by (is_up w.near.station.phase) refl
+  deliver_meets c d w h [] is = inr (record { met = refl; nothing_up = inr (stays w.near) })
+  deliver_meets c d w h (e ∷ es) is = by (is_up w.near.station.phase) refl
     where
       step : Step
       step = take_step c e.octets w.near.station
@@ -160,15 +160,15 @@ module _ (reads : ReadsSpelled) (rests : SessionLaws) (hands_up : TakeHandsUp) w
       pair = record { near = w.near.begun; far = e.session }
 
       follows : is_up w.near.station.phase ≡ true → Follows (ending_of (read_of c e) (window_of c.window w.near.station)) c.window (brought_by (read_of c e)) w.near.station step
-      follows up = rests.laws.window.take c e.octets w.near.station (running reads rests c d near_joined far_joined w h up) (read_of c e) refl
+      follows up = rests.laws.window.take c e.octets w.near.station (running reads rests c d w h up) (read_of c e) refl
 
       -- the front was sent in the far end's latest session, where it carries a number
       front_latest : is_up w.near.station.phase ≡ true → (number_in (read_of c e) ≡ None) ⊎ (e.session ≡ w.far.begun)
-      front_latest up = (subst (λ (xs : List Entry). AllOf (other c.role) c.longest w.far.begun xs) is (hears_latest reads rests c d near_joined far_joined w h up)).0
+      front_latest up = (subst (λ xs. AllOf (other c.role) c.longest w.far.begun xs) is (hears_latest reads rests c d w h up)).0
 
       heard_up : is_up w.near.station.phase ≡ true → (o : Option PlainFrame) → number_in (read_of c e) ≡ o → met ≡ heard true o pair w.met
       heard_up up o number =
-          ap (λ (b : Bool). heard b (number_in (read_of c e)) pair w.met) up ∙ ap (λ (x : Option PlainFrame). heard true x pair w.met) number
+          ap (λ b. heard b (number_in (read_of c e)) pair w.met) up ∙ ap (λ x. heard true x pair w.met) number
 
       goes : is_up w.near.station.phase ≡ true → (o : Option PlainFrame) → number_in (read_of c e) ≡ o → (number_in (read_of c e) ≡ None) ⊎ (e.session ≡ w.far.begun)
           → MeetsOne Deliver (latest w) w.near (end_by w.near [] step) w.met met
@@ -177,25 +177,25 @@ module _ (reads : ReadsSpelled) (rests : SessionLaws) (hands_up : TakeHandsUp) w
       goes up (Some f) some (inl none) = none_is_some f (sym none ∙ some)
       goes up (Some f) some (inr session) =
           inl (record {
-            met = heard_up up (Some f) some ∙ ap (λ (n : ℕ). let m : Meeting = record { near = w.near.begun; far = n } in m ∷ w.met) session;
+            met = heard_up up (Some f) some ∙ ap (λ n. let m : Meeting = record { near = w.near.begun; far = n } in m ∷ w.met) session;
             packet = step.packet;
             goes_on = step_goes w.near [] step
-                (number_quiet (read_of c e) f c.window (window_of c.window w.near.station) w.near.station step some (rests.laws.take_tells c e.octets w.near.station) (follows up));
+                (number_quiet (read_of c e) f c.window (window_of c.window w.near.station) some (rests.laws.take_tells c e.octets w.near.station) (follows up));
           })
 
       by : (b : Bool) → is_up w.near.station.phase ≡ b → MeetsOne Deliver (latest w) w.near (end_by w.near [] step) w.met met
       by true up = goes up (number_in (read_of c e)) refl (front_latest up)
       by false off =
-          inr (step_meets_none w h.near.later step met (out_empty w.near.station step (hands_up c e.octets w.near.station) off) (heard_out (is_up w.near.station.phase) (number_in (read_of c e)) pair w.met off))
+          inr (step_meets_none w h.near.later step met (out_empty (hands_up c e.octets w.near.station) off) (heard_out (is_up w.near.station.phase) (number_in (read_of c e)) pair w.met off))
 
-  acts_meet : (c d : Settings) (near_joined : AreJoined d c) (far_joined : AreJoined c d) (a : Act) (w : Sessions) → Both c d near_joined far_joined w → MeetsOne a (latest w) w.near (acts c a w).near w.met (acts c a w).met
-  acts_meet c d near_joined far_joined (Put packet) w h =
+  acts_meet : {c d : Settings} (a : Act) {w : Sessions} → Both c d w → MeetsOne a (latest w) w.near (acts c a w).near w.met (acts c a w).met
+  acts_meet {c} (Put packet) {w} h =
       let done = after_step c w w.back w.met (packet ∷ []) (put_step c packet w.near.station) in
-      if_by (SameMet w) (nat_le (length packet) c.longest) w (unless (put_refusal w.near.station) w done) refl (λ _. unless_by (SameMet w) (put_refusal w.near.station) w done refl (λ _. refl))
-  acts_meet c d near_joined far_joined Deliver w h = deliver_meets c d near_joined far_joined w h w.back refl
-  acts_meet c d near_joined far_joined (Lose i) w h = refl
-  acts_meet c d near_joined far_joined (Damage i octets) w h = if_by (SameMet w) (is_visible octets) w (record w { back = replaced w.back i octets }) refl (λ _. refl)
-  acts_meet c d near_joined far_joined act w h = own_by (SameMet w) c w.near.station w (after_step c w w.back w.met []) refl (λ step none low. refl) act
+      if_by (SameMet w) (nat_le (length packet) c.longest) refl (λ _. unless_by (SameMet w) (put_refusal w.near.station) refl (λ _. refl))
+  acts_meet {c} {d} Deliver {w} h = deliver_meets c d w h w.back refl
+  acts_meet (Lose i) h = refl
+  acts_meet (Damage i octets) {w} h = if_by (SameMet w) (is_visible octets) refl (λ _. refl)
+  acts_meet {c} act {w} h = own_by (SameMet w) c w.near.station w (after_step c w w.back w.met []) refl (λ step none low. refl) act
 
   -- ---- the other end
 
@@ -205,18 +205,18 @@ module _ (reads : ReadsSpelled) (rests : SessionLaws) (hands_up : TakeHandsUp) w
   meets_turned : (a : Act) (pair : Meeting) (old new : SessionEnd) (before now : List Meeting) → MeetsOne a pair old new (map turned before) now
       → MeetsOne a (turned pair) old new before (map turned now)
   meets_turned Deliver pair old new before now h = elim h [
-    | inl m ↦ inl (record { met = ap (map turned) m.met ∙ ap (λ (xs : List Meeting). turned pair ∷ xs) (twice_turned before); packet = m.packet; goes_on = m.goes_on })
+    | inl m ↦ inl (record { met = ap (map turned) m.met ∙ ap (λ xs. turned pair ∷ xs) (twice_turned before); packet = m.packet; goes_on = m.goes_on })
     | inr m ↦ inr (record { met = turned_back now before m.met; nothing_up = m.nothing_up })
   ]
   meets_turned a pair old new before now h = turned_back now before h
 
   -- ---- the claim
 
-  event_meets : (c d : Settings) (near_joined : AreJoined d c) (far_joined : AreJoined c d) (w : Sessions) → Both c d near_joined far_joined w → EachEventMeetsLatest c d w
-  event_meets c d near_joined far_joined w h (Near act) = acts_meet c d near_joined far_joined act w h
-  event_meets c d near_joined far_joined w h (Far act) =
+  event_meets : (c d : Settings) (w : Sessions) → Both c d w → EachEventMeetsLatest c d w
+  event_meets c d w h (Near act) = acts_meet act h
+  event_meets c d w h (Far act) =
       let v = acts d act (swapped w) in
-      meets_turned act (latest (swapped w)) w.far v.near w.met v.met (acts_meet d c far_joined near_joined act (swapped w) (both_swapped c d near_joined far_joined w h))
+      meets_turned act (latest (swapped w)) w.far v.near w.met v.met (acts_meet act (both_swapped h))
 
   pub each_event_meets_latest : Throughout EachEventMeetsLatest
   each_event_meets_latest = throughout_of reads rests EachEventMeetsLatest event_meets

@@ -40,9 +40,9 @@ Owes Waiting asked closed = (asked ≤ 1) × (closed ≡ 0)
 Owes Closed asked closed = Unit {0}
 Owes phase asked closed = (asked ≡ 0) × (closed ≡ 0)
 
-pub owes_less : (p : Phase) (n m a b : ℕ) → a ≤ n → b ≤ m → Owes p n m → Owes p a b
-owes_less Closed n m a b f g h = tt
-owes_less p n m a b f g h = (omega (arith, f, h.0), omega (arith, g, h.1))
+pub owes_less : (p : Phase) {n m : ℕ} (a b : ℕ) → a ≤ n → b ≤ m → Owes p n m → Owes p a b
+owes_less Closed a b f g h = tt
+owes_less p a b f g h = (omega (arith, f, h.0), omega (arith, g, h.1))
 
 -- what the rules of both ends say
 pub record OnLine (c d : Settings) (w : Sessions) : Type 0 where
@@ -65,8 +65,8 @@ pub record SameLists (e f : SessionEnd) : Type 0 where
   pub down : (n : ℕ) → f.down n ≡ e.down n
   pub up : (n : ℕ) → f.up n ≡ e.up n
 
-pub lists_same : (e f : SessionEnd) (session : ℕ) (v : StationEnd) → SameLists e f → HasLists e session v → HasLists f session v
-lists_same e f session v same h = record { down = same.down session ∙ h.down; up = same.up session ∙ h.up }
+pub lists_same : {e f : SessionEnd} {session : ℕ} {v : StationEnd} → SameLists e f → HasLists e session v → HasLists f session v
+lists_same {session = session} same h = record { down = same.down session ∙ h.down; up = same.up session ∙ h.up }
 
 -- ---- what holds
 
@@ -145,8 +145,8 @@ whole_on n1 e f far more fs es grows of whole h =
     }
 
 -- none of them carries a packet
-pub whole_apart : (n1 : ℕ) (e f far : SessionEnd) (fs es : List PlainFrame) → SameLists e f → AreParting (Unit {0}) es → AreWholeIn n1 e far fs → AreWholeIn n1 f far (fs ++ es)
-whole_apart n1 e f far fs es same parting h =
+pub whole_apart : {n1 : ℕ} {e f far : SessionEnd} {fs : List PlainFrame} (es : List PlainFrame) → SameLists e f → AreParting (Unit {0}) es → AreWholeIn n1 e far fs → AreWholeIn n1 f far (fs ++ es)
+whole_apart {n1} {e} {f} {far} {fs} es same parting h =
     whole_on n1 e f far [] fs es (λ n x old. rw (same.down n) old) (λ x new. absurd (omega (arith, new.1))) (parting_whole (Unit {0}) n1 [] es (parts_of (Unit {0}) es parting)) h
 
 -- ---- by the phase
@@ -159,7 +159,7 @@ module _ {from : Role} {n1 : ℕ} {s : LinkStation} {begun : ℕ} {es : List Ent
   is_soon waits h = record { up = λ up. not_both (is_up phase) up (ap is_up waits); awaits = λ _. h }
 
   pub is_out : is_up phase ≡ false → (phase ≡ Waiting → how_many ua_in from n1 es ≡ 0) → IsThere phase from n1 s begun es a os p q
-  is_out off none = record { up = λ up. not_both (is_up phase) up off; awaits = λ waits some. (let no_ua = none waits in absurd (omega (arith, some, no_ua))) }
+  is_out off none = record { up = λ up. not_both (is_up phase) up off; awaits = λ waits some. (absurd (omega (arith, some, none waits))) }
 
 -- more goes on the line, with the same numbers on that of the session alone
 of_more : {from : Role} {n1 : ℕ} {s : LinkStation} {begun : ℕ} {es : List Entry} {a : LinkStation} {os : List (List ℕ)} {p q : ℕ} (more : List Entry) (xs : List (List ℕ)) → numbers from n1 more ≡ numbered_on from n1 xs → AllOf from n1 q more
@@ -167,7 +167,7 @@ of_more : {from : Role} {n1 : ℕ} {s : LinkStation} {begun : ℕ} {es : List En
 of_more {from} {n1} {s} {begun} {es} {a} {os} {p} {q} more xs same of h = record {
   station = h.station;
   session = h.session;
-  comes = numbers_append from n1 es more ∙ ap (λ (fs : List _). fs ++ numbers from n1 more) h.comes ∙ ap (λ (fs : List _). numbered_on from n1 os ++ fs) same ∙ sym (numbered_append from n1 os xs);
+  comes = numbers_append from n1 es more ∙ ap (λ fs. fs ++ numbers from n1 more) h.comes ∙ ap (λ fs. numbered_on from n1 os ++ fs) same ∙ sym (numbered_append from n1 os xs);
   of = of_append from n1 q es more h.of of;
 }
 
@@ -176,19 +176,19 @@ module _ {phase : Phase} {from : Role} {n1 : ℕ} {s : LinkStation} {begun : ℕ
       → IsThere phase from n1 s begun es a os p q → IsThere phase from n1 s begun (es ++ more) a (os ++ xs) p q
   there_more more xs same of none h = record {
     up = λ up. of_more more xs same of (h.up up);
-    awaits = λ waits some. (let all = many_append from n1 ua_in es more in let no_ua = none waits in let before : 1 ≤ how_many ua_in from n1 es = omega (arith, all, no_ua, some) in
-        subst (λ (zs : List Entry). IsOf from n1 fresh (suc begun) zs a (os ++ xs) p q) (sym (behind_append from n1 es more before)) (of_more more xs same of (h.awaits waits before)));
+    awaits = λ waits some. (let before : 1 ≤ how_many ua_in from n1 es = omega (arith, many_append from n1 ua_in es more, none waits, some) in
+        subst (λ zs. IsOf from n1 fresh (suc begun) zs a (os ++ xs) p q) (sym (behind_append from n1 es more before)) (of_more more xs same of (h.awaits waits before)));
   }
 
   -- what comes to an end that waits on is passed over
   pub there_passes : (e : Entry) → phase ≡ Waiting → how_many ua_in from n1 (e ∷ es) ≤ 1 → IsThere phase from n1 s begun (e ∷ es) a os p q → IsThere phase from n1 s begun es a os p q
   there_passes e waits few h = is_soon phase waits (λ some. (let none : ua_in (frame_of from n1 e.octets) ≡ 0 = omega (arith, few, some) in
-      subst (λ (n : ℕ). IsOf from n1 fresh (suc begun) (by_first n (behind_ua from n1 es) es) a os p q) none (h.awaits waits (omega (arith, some)))))
+      subst (λ n. IsOf from n1 fresh (suc begun) (by_first n (behind_ua from n1 es) es) a os p q) none (h.awaits waits (omega (arith, some)))))
 
 -- the machine stands still where the end isn't in the session
-pub counted_there : {es : List Entry} {os : List (List ℕ)} {p q : ℕ} (c : Settings) (e : SessionEnd) (a : LinkStation) (l : End (List ℕ)) → EndIsThere c e es a os p q → FitsEnd ⊥ c a l → counted c.window e.station l ≡ l
-counted_there c e a l h fits = go (is_up e.station.phase) refl
+pub counted_there : {es : List Entry} {os : List (List ℕ)} {p q : ℕ} {c : Settings} (e : SessionEnd) {a : LinkStation} {l : End (List ℕ)} → EndIsThere c e es a os p q → FitsEnd ⊥ c a l → counted c.window e.station l ≡ l
+counted_there {c = c} e {a} {l} h fits = go (is_up e.station.phase) refl
   where
     go : (b : Bool) → is_up e.station.phase ≡ b → counted c.window e.station l ≡ l
-    go true up = ap (λ (z : LinkStation). counted c.window z l) (sym (h.up up).station) ∙ counted_fits ⊥ c a l fits
+    go true up = ap (λ z. counted c.window z l) (sym (h.up up).station) ∙ counted_fits ⊥ fits
     go false off = counted_off c.window e.station l off

@@ -11,7 +11,7 @@ use Rattle.x25_line.specs.{laws.Stations.{is_visible}, laws.StationClaims.{Each,
 use Rattle.x25_line.specs.{laws.Sessions.{Entry, sabm_in, ua_in, disc_in, how_many, sent_in}, laws.SessionClaims.{octets_of, AllOf}}
 use Rattle.x25_line.specs.{laws.WholeNumbers.{place_of, taken_out}, laws.SessionNumbers.{by_answers, place_behind_ua}}
 use Rattle.x25_line.proofs.sessions.EntryLines.{LessAt, nothing, gone_at, hurt_at, deeper_at}
-use Rattle.x25_line.proofs.StationLines.{IsOrderly, AreOrderly, consed, numbered_append, shows_first, shows_behind, visible_reads}
+use Rattle.x25_line.proofs.StationLines.{IsOrderly, AreOrderly, consed, numbered_append, shows_first, shows_behind, visible_is}
 
 abbrev pub Read : Type 0
 Read = Result PlainFrame FrameError
@@ -20,11 +20,11 @@ Read = Result PlainFrame FrameError
 
 pub octets_append : (xs ys : List Entry) → octets_of (xs ++ ys) ≡ octets_of xs ++ octets_of ys
 octets_append [] ys = refl
-octets_append (e ∷ xs) ys = ap (λ (os : List (List ℕ)). e.octets ∷ os) (octets_append xs ys)
+octets_append (e ∷ xs) ys = ap (λ os. e.octets ∷ os) (octets_append xs ys)
 
 pub octets_sent : (s : ℕ) (from : Role) (fs : List PlainFrame) → octets_of (sent_in s from fs) ≡ map (spelling_of from) fs
 octets_sent s from [] = refl
-octets_sent s from (f ∷ fs) = ap (λ (os : List (List ℕ)). spelling_of from f ∷ os) (octets_sent s from fs)
+octets_sent s from (f ∷ fs) = ap (λ os. spelling_of from f ∷ os) (octets_sent s from fs)
 
 -- ---- kinds
 
@@ -45,14 +45,12 @@ count kind [] = 0
 count kind (f ∷ fs) = kind (Ok f) + count kind fs
 
 abbrev pub AllNumbered : List PlainFrame → Type 0
-AllNumbered fs = Each (λ (f : PlainFrame). number_in (Ok f) ≡ Some f) fs
+AllNumbered fs = Each (λ f. number_in (Ok f) ≡ Some f) fs
 
 pub numbered_no_ua : (fs : List PlainFrame) → AllNumbered fs → count ua_in fs ≡ 0
 numbered_no_ua [] h = refl
 numbered_no_ua (f ∷ fs) h =
-    let here = (number_kinds (Ok f) f h.0).1 in
-    let there = numbered_no_ua fs h.1 in
-    omega (arith, here, there)
+    omega (arith, (number_kinds (Ok f) f h.0).1, numbered_no_ua fs h.1)
 
 quiet_rest : (m : Option PlainFrame) (fs : List PlainFrame) → consed m fs ≡ [] → (m ≡ None) × (fs ≡ [])
 quiet_rest None fs e = (refl, e)
@@ -101,13 +99,13 @@ module _ (from : Role) (n1 : ℕ) where
 
   kept_numbers : (m : Option PlainFrame) (o : List ℕ) (os : List (List ℕ)) → number_in (frame_of from n1 o) ≡ m → numbered_on from n1 (kept m o os) ≡ consed m (numbered_on from n1 os)
   kept_numbers None o os e = refl
-  kept_numbers (Some f) o os e = ap (λ (m : Option PlainFrame). consed m (numbered_on from n1 os)) e
+  kept_numbers (Some f) o os e = ap (λ m. consed m (numbered_on from n1 os)) e
 
   pub carried_numbers : (es : List Entry) → numbered_on from n1 (carried es) ≡ numbers es
   carried_numbers [] = refl
   carried_numbers (e ∷ es) =
       kept_numbers (number_in (frame_of from n1 e.octets)) e.octets (carried es) refl
-      ∙ ap (λ (fs : List PlainFrame). consed (number_in (frame_of from n1 e.octets)) fs) (carried_numbers es)
+      ∙ ap (λ fs. consed (number_in (frame_of from n1 e.octets)) fs) (carried_numbers es)
 
   some_orderly : (r : Read) (f : PlainFrame) → number_in r ≡ Some f → IsOrderly ⊥ r
   some_orderly (Ok (sabm p)) f e = none_is_some f e
@@ -126,31 +124,31 @@ module _ (from : Role) (n1 : ℕ) where
   -- ---- a frame is lost, or damaged
 
   damaged_number : (octets : List ℕ) → is_visible octets ≡ true → number_in (frame_of from n1 octets) ≡ None
-  damaged_number octets visible = elim (visible_reads from n1 octets visible) [ inl e ↦ ap number_in e | inr e ↦ ap number_in e ]
+  damaged_number octets visible = visible_is (λ r. number_in r ≡ None) from n1 octets visible refl refl
 
   damaged_ua : (octets : List ℕ) → is_visible octets ≡ true → ua_in (frame_of from n1 octets) ≡ 0
-  damaged_ua octets visible = elim (visible_reads from n1 octets visible) [ inl e ↦ ap ua_in e | inr e ↦ ap ua_in e ]
+  damaged_ua octets visible = visible_is (λ r. ua_in r ≡ 0) from n1 octets visible refl refl
 
   -- those that come by an end that is Up, of which the frame at this place of the line goes
   abbrev pub Come : List (Frame (List ℕ)) → ℕ → List Entry → Type 0
   Come gs s es = ShowAll (numbers es) gs × AllOf from n1 s es
 
-  shows_less : (i : ℕ) (es fs : List Entry) → LessAt i es fs → (gs : List (Frame (List ℕ))) → ShowAll (numbers es) gs → ShowAll (numbers fs) (taken_out (place_of from n1 (octets_of es) i) gs)
-  shows_less i es fs (nothing j) gs h = h
-  shows_less i es fs (gone_at e xs) gs h = shows_first (number_in (frame_of from n1 e.octets)) (numbers xs) gs h
-  shows_less i es fs (hurt_at e xs octets visible) gs h =
+  shows_less : {i : ℕ} {es fs : List Entry} → LessAt i es fs → (gs : List (Frame (List ℕ))) → ShowAll (numbers es) gs → ShowAll (numbers fs) (taken_out (place_of from n1 (octets_of es) i) gs)
+  shows_less (nothing j) gs h = h
+  shows_less (gone_at e xs) gs h = shows_first (number_in (frame_of from n1 e.octets)) (numbers xs) gs h
+  shows_less (hurt_at e xs octets visible) gs h =
       rw (damaged_number octets visible) (shows_first (number_in (frame_of from n1 e.octets)) (numbers xs) gs h)
-  shows_less i es fs (deeper_at j e xs ys l) gs h =
-      shows_behind (number_in (frame_of from n1 e.octets)) (numbers xs) (numbers ys) (place_of from n1 (octets_of xs) j) gs (λ hs k. shows_less j xs ys l hs k) h
+  shows_less (deeper_at j e xs ys l) gs h =
+      shows_behind (number_in (frame_of from n1 e.octets)) (numbers xs) (numbers ys) (place_of from n1 (octets_of xs) j) gs (λ hs k. shows_less l hs k) h
 
-  of_less : (s i : ℕ) (es fs : List Entry) → LessAt i es fs → AllOf from n1 s es → AllOf from n1 s fs
-  of_less s i es fs (nothing j) h = h
-  of_less s i es fs (gone_at e xs) h = h.1
-  of_less s i es fs (hurt_at e xs octets visible) h = (inl (damaged_number octets visible), h.1)
-  of_less s i es fs (deeper_at j e xs ys l) h = (h.0, of_less s j xs ys l h.1)
+  of_less : (s : ℕ) {i : ℕ} {es fs : List Entry} → LessAt i es fs → AllOf from n1 s es → AllOf from n1 s fs
+  of_less s (nothing j) h = h
+  of_less s (gone_at e xs) h = h.1
+  of_less s (hurt_at e xs octets visible) h = (inl (damaged_number octets visible), h.1)
+  of_less s (deeper_at j e xs ys l) h = (h.0, of_less s l h.1)
 
-  pub come_less : (s i : ℕ) (es fs : List Entry) → LessAt i es fs → (gs : List (Frame (List ℕ))) → Come gs s es → Come (taken_out (place_of from n1 (octets_of es) i) gs) s fs
-  come_less s i es fs l gs h = (shows_less i es fs l gs h.0, of_less s i es fs l h.1)
+  pub come_less : (s : ℕ) {i : ℕ} {es fs : List Entry} → LessAt i es fs → (gs : List (Frame (List ℕ))) → Come gs s es → Come (taken_out (place_of from n1 (octets_of es) i) gs) s fs
+  come_less s {i} {es} {fs} l gs h = (shows_less l gs h.0, of_less s l h.1)
 
   -- ---- behind the first UA
 
@@ -169,10 +167,10 @@ module _ (from : Role) (n1 : ℕ) where
 
   -- the UA is the last
   pub behind_last : (es : List Entry) (e : Entry) → how_many ua_in from n1 es ≡ 0 → ua_in (frame_of from n1 e.octets) ≡ 1 → behind_ua (es ++ e ∷ []) ≡ []
-  behind_last [] e none one = ap (λ (n : ℕ). by_first n [] []) one
+  behind_last [] e none one = ap (λ n. by_first n [] []) one
   behind_last (x ∷ es) e none one =
       let here : ua_in (frame_of from n1 x.octets) ≡ 0 = omega (arith, none) in
-      ap (λ (n : ℕ). by_first n (behind_ua (es ++ e ∷ [])) (es ++ e ∷ [])) here ∙ behind_last es e (omega (arith, none)) one
+      ap (λ n. by_first n (behind_ua (es ++ e ∷ [])) (es ++ e ∷ [])) here ∙ behind_last es e (omega (arith, none)) one
 
   pub behind_quiet : (es : List Entry) → numbers es ≡ [] → numbers (behind_ua es) ≡ []
   behind_quiet [] none = refl
@@ -183,28 +181,28 @@ module _ (from : Role) (n1 : ℕ) where
       go (suc n) rest = quiet_tail e es none
 
   -- and the frame that goes is one of these, or none where the UA goes
-  pub behind_less : (s i : ℕ) (es fs : List Entry) → LessAt i es fs → how_many ua_in from n1 es ≤ 1 → 1 ≤ how_many ua_in from n1 fs → (gs : List (Frame (List ℕ))) → Come gs s (behind_ua es)
+  pub behind_less : (s : ℕ) {i : ℕ} {es fs : List Entry} → LessAt i es fs → how_many ua_in from n1 es ≤ 1 → 1 ≤ how_many ua_in from n1 fs → (gs : List (Frame (List ℕ))) → Come gs s (behind_ua es)
       → Come (taken_out (place_behind_ua from n1 (octets_of es) i) gs) s (behind_ua fs)
-  behind_less s i es fs (nothing j) few some gs h = h
-  behind_less s i es fs (gone_at e xs) few some gs h = (let none : ua_in (frame_of from n1 e.octets) ≡ 0 = omega (arith, few, some) in subst (λ (n : ℕ). Come gs s (by_first n (behind_ua xs) xs)) none h)
-  behind_less s i es fs (hurt_at e xs octets visible) few some gs h =
+  behind_less s (nothing j) few some gs h = h
+  behind_less s (gone_at e xs) few some gs h = (let none : ua_in (frame_of from n1 e.octets) ≡ 0 = omega (arith, few, some) in subst (λ n. Come gs s (by_first n (behind_ua xs) xs)) none h)
+  behind_less s (hurt_at e xs octets visible) few some gs h =
       let new = damaged_ua octets visible in
       let none : ua_in (frame_of from n1 e.octets) ≡ 0 = omega (arith, few, some, new) in
-      subst (λ (n : ℕ). Come gs s (by_first n (behind_ua xs) xs)) (none ∙ sym new) h
-  behind_less s i es fs (deeper_at j e xs ys l) few some gs h = go (ua_in (frame_of from n1 e.octets)) refl (λ fewer more k. behind_less s j xs ys l fewer more gs k) h
+      subst (λ n. Come gs s (by_first n (behind_ua xs) xs)) (none ∙ sym new) h
+  behind_less s (deeper_at j e xs ys l) few some gs h = go (ua_in (frame_of from n1 e.octets)) refl (λ fewer more k. behind_less s l fewer more gs k) h
     where
       go : (n : ℕ) → ua_in (frame_of from n1 e.octets) ≡ n
           → (how_many ua_in from n1 xs ≤ 1 → 1 ≤ how_many ua_in from n1 ys → Come gs s (behind_ua xs) → Come (taken_out (place_behind_ua from n1 (octets_of xs) j) gs) s (behind_ua ys))
           → Come gs s (by_first n (behind_ua xs) xs)
           → Come (taken_out (by_answers n (place_behind_ua from n1 (octets_of xs) j) (place_of from n1 (octets_of xs) j)) gs) s (by_first n (behind_ua ys) ys)
       go zero is next k = next (omega (arith, few, is)) (omega (arith, some, is)) k
-      go (suc n) is next k = come_less s j xs ys l gs k
+      go (suc n) is next k = come_less s l gs k
 
-  pub behind_none : (i : ℕ) (es fs : List Entry) → LessAt i es fs → how_many ua_in from n1 fs ≡ 0 → place_behind_ua from n1 (octets_of es) i ≡ None
-  behind_none i es fs (deeper_at j e xs ys l) none =
+  pub behind_none : {i : ℕ} {es fs : List Entry} → LessAt i es fs → how_many ua_in from n1 fs ≡ 0 → place_behind_ua from n1 (octets_of es) i ≡ None
+  behind_none (deeper_at j e xs ys l) none =
       let here : ua_in (frame_of from n1 e.octets) ≡ 0 = omega (arith, none) in
-      ap (λ (n : ℕ). by_answers n (place_behind_ua from n1 (octets_of xs) j) (place_of from n1 (octets_of xs) j)) here ∙ behind_none j xs ys l (omega (arith, none))
-  behind_none i es fs l none = refl
+      ap (λ n. by_answers n (place_behind_ua from n1 (octets_of xs) j) (place_of from n1 (octets_of xs) j)) here ∙ behind_none l (omega (arith, none))
+  behind_none l none = refl
 
 -- ---- what is sent reads as it was spelled
 
@@ -214,5 +212,4 @@ module _ (reads : ReadsSpelled) (from : Role) (n1 : ℕ) where
   many_sent kind s given (f ∷ fs) h =
       let read = reads from n1 f (spelling_of from f) (record { in_range = h.0.in_range; carries = h.0.carries; within = h.0.within; spelling = refl }) in
       let here : kind (frame_of from n1 (spelling_of from f)) ≡ kind (Ok f) = ap kind read in
-      let there = many_sent kind s given fs h.1 in
-      omega (arith, here, there)
+      omega (arith, here, many_sent kind s given fs h.1)

@@ -1,10 +1,10 @@
 -- What an end over sessions may do, as what is known of it goes on: the rules of a peer, of an end that is in one of our phases.
-use Rattle.std.proofs.Common.{◌≡◌, ℕ, suc, List, [], ◌∷◌, ◌++◌, Bool, true, Some, Ok, remove}
-use Rattle.x25_frame.specs.{Frame.{PlainFrame, sabm, disc, ua, dm, frmr}, Reading.{frame_of}}
+use Rattle.std.proofs.Common.{◌≡◌, ◌≤◌, ℕ, suc, List, [], ◌∷◌, ◌++◌, Bool, true, Some, Ok, remove}
+use Rattle.x25_frame.specs.{Frame.{PlainFrame, sabm, disc, ua, dm, frmr}, Reading.{frame_of}, laws.ReadingLaw.{ReadsSpelled}}
 use Rattle.x25_link.specs.{declared.phase.Phase.{Phase}, declared.phase.Phase.TheVariants.{Down, Waiting, Up, Closed}}
 use Rattle.x25_link.specs.{declared.phase.Reason.TheVariants.{FrmrSent}, Station.{Settings, is_up}, Hearing.{other}, laws.SetUp.{TakesPart}}
 use Rattle.x25_link.specs.laws.WindowLaw.{ending_of}
-use Rattle.x25_line.specs.{laws.Stations.{is_visible}, laws.StationClaims.{number_in}}
+use Rattle.x25_line.specs.{laws.Stations.{is_visible}, laws.StationClaims.{number_in}, laws.LawsBelow.{SessionLaws}}
 use Rattle.x25_line.specs.{laws.Sessions.{Entry, Meeting, sabm_in, ua_in, disc_in, how_many, heard, replaced}, laws.Peer.{Peer, fresh_peer, MaySend, MayHear}}
 use Rattle.x25_line.specs.laws.Ends.{put_for}
 use Rattle.x25_line.proofs.{StationSays.{machine_of}, sessions.SessionLines.{Read}}
@@ -36,20 +36,23 @@ MayAsk Waiting Due = Due
 MayAsk phase Due = ⊥
 
 -- What is known of it: the line to it, who met whom, its phase, how many sessions it began, what it is in each, and the line from it.
--- This goes on as each thing happens that it may do; `Due` is what is due of the line to it as T1 runs out while UA is awaited.
-pub record MayDo (d : Settings) (Due : List Entry → Type 0) (R : List Entry → List Meeting → Phase → ℕ → (ℕ → Peer) → List Entry → Type 0) : Type 0 where
+abbrev pub Known : Type 1
+Known = List Entry → List Meeting → Phase → ℕ → (ℕ → Peer) → List Entry → Type 0
+
+-- This goes on as each thing happens that it may do; `Due` is what is due of the line to it as it asks in a phase.
+pub record MayDo (d : Settings) (Due : Phase → List Entry → Type 0) (R : Known) : Type 0 where
   pub handed : (es : List Entry) (met : List Meeting) (b : ℕ) (all : ℕ → Peer) (out : List Entry) (packet : List ℕ) → R es met Up b all out
       → R es met Up b (put_for b (record (all b) { given = (all b).given ++ packet ∷ [] }) all) out
   pub tells : (es : List Entry) (met : List Meeting) (b : ℕ) (all : ℕ → Peer) (out : List Entry) (octets : List ℕ) (f : PlainFrame) (q : Peer) → sends_read d octets ≡ Ok f → number_in (Ok f) ≡ Some f
       → MaySend ⊥ (all b) (Ok f) q → R es met Up b all out → R es met Up b (put_for b q all) (out ++ entry b octets ∷ [])
   pub declines : (es : List Entry) (met : List Meeting) (p : Phase) (b : ℕ) (all : ℕ → Peer) (out : List Entry) (octets : List ℕ) (f : Bool) → sends_read d octets ≡ Ok (dm f)
       → R es met p b all out → R es met p b all (out ++ entry b octets ∷ [])
-  pub asks : (es : List Entry) (met : List Meeting) (p : Phase) (b : ℕ) (all : ℕ → Peer) (out : List Entry) (octets : List ℕ) (pf : Bool) → sends_read d octets ≡ Ok (sabm pf) → MayAsk p (Due es) → IsClear d es out
+  pub asks : (es : List Entry) (met : List Meeting) (p : Phase) (b : ℕ) (all : ℕ → Peer) (out : List Entry) (octets : List ℕ) (pf : Bool) → sends_read d octets ≡ Ok (sabm pf) → Due p es → IsClear d es out
       → R es met p b all out → R es met Waiting b all (out ++ entry b octets ∷ [])
   pub closes : (es : List Entry) (met : List Meeting) (p : Phase) (b : ℕ) (all : ℕ → Peer) (out : List Entry) (octets : List ℕ) (pf : Bool) → sends_read d octets ≡ Ok (disc pf)
       → R es met p b all out → R es met Closed b all (out ++ entry b octets ∷ [])
   pub leaves : (es : List Entry) (met : List Meeting) (b : ℕ) (all : ℕ → Peer) (out : List Entry) → R es met Up b all out → R es met Down b all out
-  pub gives_up : (es : List Entry) (met : List Meeting) (b : ℕ) (all : ℕ → Peer) (out : List Entry) → Due es → IsClear d es out → R es met Waiting b all out → R es met Down b all out
+  pub gives_up : (es : List Entry) (met : List Meeting) (b : ℕ) (all : ℕ → Peer) (out : List Entry) → Due Waiting es → IsClear d es out → R es met Waiting b all out → R es met Down b all out
   -- what comes
   pub passes : (e : Entry) (es : List Entry) (met : List Meeting) (p : Phase) (b : ℕ) (all : ℕ → Peer) (out : List Entry) → R (e ∷ es) met p b all out → R es (heard_in d p b e met) p b all out
   pub hears : (e : Entry) (es : List Entry) (met : List Meeting) (b : ℕ) (all : ℕ → Peer) (out : List Entry) (q : Peer) → MayHear (all b) (hears_read d e.octets) q
@@ -68,3 +71,12 @@ pub record MayDo (d : Settings) (Due : List Entry → Type 0) (R : List Entry �
   pub loses : (es : List Entry) (met : List Meeting) (p : Phase) (b : ℕ) (all : ℕ → Peer) (out : List Entry) (place : ℕ) → R es met p b all out → R (remove es place) met p b all out
   pub damages : (es : List Entry) (met : List Meeting) (p : Phase) (b : ℕ) (all : ℕ → Peer) (out : List Entry) (place : ℕ) (octets : List ℕ) → is_visible octets ≡ true
       → R es met p b all out → R (replaced es place octets) met p b all out
+
+-- a kind of end, with settings d
+pub record Kind (d : Settings) : Type 1 where
+  pub high : d.window ≤ 7
+  pub reads : ReadsSpelled
+  pub rests : SessionLaws
+  pub Due : Phase → List Entry → Type 0
+  pub R : Known
+  pub does : MayDo d Due R

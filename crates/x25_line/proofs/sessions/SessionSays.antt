@@ -1,30 +1,33 @@
 -- What a station sends in its session, an end that keeps the rules may send.
 use Rattle.std.proofs.Common.{◌≡◌, ℕ, ◌+◌, ◌≤◌, List, [], ◌∷◌, ◌++◌, length, refl, sym, ap, ◌∙◌, append_assoc, append-nil}
 use Rattle.x25_bits.specs.declared.role.Role.{Role}
-use Rattle.x25_frame.specs.{Frame.{PlainFrame}, Spelling.{spelling_of}, laws.ReadingLaw.{ReadsSpelled}}
-use Rattle.x25_link.specs.{Station.{Settings}, declared.phase.Phase.{Phase}, declared.phase.Phase.TheVariants.{Up}, laws.WindowMachine.{Window, Runs}}
+use Rattle.x25_frame.specs.{Frame.{PlainFrame}, Spelling.{spelling_of}}
+use Rattle.x25_link.specs.{Station.{Settings}, declared.phase.Phase.TheVariants.{Up}, laws.WindowMachine.{Window, Runs}}
 use Rattle.x25_line.specs.{laws.Sessions.{Entry, Meeting, sent_in}, laws.Peer.{Peer}, laws.Ends.{put_for}}
 use Rattle.x25_line.proofs.{StationSays.{machine_of, Said, MaySay, said_run}, StationLines.{good_reads}, StationSends.{AllWithin}}
-use Rattle.x25_line.proofs.{sessions.SessionMay.{entry, MayDo}, ends.Puts.{put_same, put_alike}}
+use Rattle.x25_line.proofs.{sessions.SessionMay.{entry, Known, Kind}, ends.Puts.{put_same, put_alike}}
 
 pub sent_append : (b : ℕ) (from : Role) (fs es : List PlainFrame) → sent_in b from (fs ++ es) ≡ sent_in b from fs ++ sent_in b from es
 sent_append b from [] es = refl
-sent_append b from (f ∷ fs) es = ap (λ (xs : List Entry). record { session = b; octets = spelling_of from f } ∷ xs) (sent_append b from fs es)
+sent_append b from (f ∷ fs) es = ap (λ xs. record { session = b; octets = spelling_of from f } ∷ xs) (sent_append b from fs es)
 
 -- what was handed down and taken, by sessions, as before
 pub record SamePackets (all before : ℕ → Peer) : Type 0 where
   pub given : (n : ℕ) → (all n).given ≡ (before n).given
   pub taken : (n : ℕ) → (all n).taken ≡ (before n).taken
 
-pub same_put : (b : ℕ) (r : Peer) (all before : ℕ → Peer) → r.given ≡ (all b).given → r.taken ≡ (all b).taken → SamePackets all before → SamePackets (put_for b r all) before
-same_put b r all before given taken h = record {
-  given = λ n. put_alike (λ (p : Peer). p.given) b r all given n ∙ h.given n;
-  taken = λ n. put_alike (λ (p : Peer). p.taken) b r all taken n ∙ h.taken n;
+pub same_put : (b : ℕ) (r : Peer) {all before : ℕ → Peer} → r.given ≡ (all b).given → r.taken ≡ (all b).taken → SamePackets all before → SamePackets (put_for b r all) before
+same_put b r {all} given taken h = record {
+  given = λ n. put_alike (λ p. p.given) b r all given n ∙ h.given n;
+  taken = λ n. put_alike (λ p. p.taken) b r all taken n ∙ h.taken n;
 }
 
 -- ---- all that is sent in a step
 
-module _ (d : Settings) (high : d.window ≤ 7) (reads : ReadsSpelled) (Due : List Entry → Type 0) (R : List Entry → List Meeting → Phase → ℕ → (ℕ → Peer) → List Entry → Type 0) (does : MayDo d Due R) (es : List Entry) (met : List Meeting) where
+module _ {d : Settings} (k : Kind d) (es : List Entry) (met : List Meeting) where
+  abbrev R : Known
+  R = k.R
+
   -- the end in each session, once it said these frames in this one, in which it is q
   pub record Spoken (b : ℕ) (before : ℕ → Peer) (out : List Entry) (q : Peer) (frames : List PlainFrame) : Type 0 where
     pub all : ℕ → Peer
@@ -36,16 +39,16 @@ module _ (d : Settings) (high : d.window ≤ 7) (reads : ReadsSpelled) (Due : Li
   speaks b before out p q frames f good says next given taken h = record {
     all = put_for b q h.all;
     now = put_same b b q h.all refl;
-    reached = rw (sym (append_assoc out (sent_in b d.role frames) (entry b (spelling_of d.role f) ∷ []) ∙ ap (λ (xs : List Entry). out ++ xs) (sym (sent_append b d.role frames (f ∷ []))))) (does.tells es met b h.all (out ++ sent_in b d.role frames) (spelling_of d.role f) f q (good_reads reads d.role d.longest f good) good.number (rw h.now says) h.reached);
-    packets = same_put b q h.all before (given ∙ ap (λ (z : Peer). z.given) (sym h.now)) (taken ∙ ap (λ (z : Peer). z.taken) (sym h.now)) h.packets;
+    reached = rw (sym (append_assoc out (sent_in b d.role frames) (entry b (spelling_of d.role f) ∷ []) ∙ ap (λ xs. out ++ xs) (sym (sent_append b d.role frames (f ∷ []))))) (k.does.tells es met b h.all (out ++ sent_in b d.role frames) (spelling_of d.role f) f q (good_reads k.reads d.role d.longest good) good.number (rw h.now says) h.reached);
+    packets = same_put b q (given ∙ ap (λ z. z.given) (sym h.now)) (taken ∙ ap (λ z. z.taken) (sym h.now)) h.packets;
   }
 
   pub runs_said : (b : ℕ) (before : ℕ → Peer) (out : List Entry) (from : Window) → R es met Up b before out → machine_of d.window (before b) ≡ from → (before b).sent ≤ (before b).acked + d.window
       → (before b).told ≤ length (before b).taken → AllWithin d.longest (before b).given → (w : Window) (frames : List PlainFrame) → Runs from w frames → Said d (Spoken b before out) (before b) w frames
   runs_said b before out from reached is room told within w frames runs =
-      said_run d high (Spoken b before out) (speaks b before out) (before b) within from (record {
+      said_run k.high (speaks b before out) (before b) within (record {
         all = before;
         now = refl;
         reached = rw (append-nil out) reached;
         packets = record { given = λ n. refl; taken = λ n. refl };
-      }) is room told w frames runs
+      }) is room told runs

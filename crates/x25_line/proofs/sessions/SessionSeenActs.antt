@@ -1,17 +1,17 @@
 -- Each act of a station over sessions is what an end that keeps the rules may do, by its phase and by what comes.
-use Rattle.std.proofs.Common.{◌≡◌, ◌≤◌, ℕ, suc, List, [], ◌∷◌, ◌++◌, ◌⊎◌, inl, inr, Bool, true, false, if◌then◌else◌, Option, Some, None, Ok, Err, refl, sym, ap, ◌∙◌, subst, arith, append-nil, append_assoc}
+use Rattle.std.proofs.Common.{◌≡◌, ℕ, List, [], ◌∷◌, ◌++◌, ◌⊎◌, inl, inr, Bool, true, false, if◌then◌else◌, Option, Some, None, Ok, Err, refl, sym, ap, ◌∙◌, subst, arith, append-nil, append_assoc}
 use Rattle.x25_frame.specs.{Frame.{PlainFrame, sabm, disc, ua, dm, frmr}, Spelling.{spelling_of}, laws.ReadingLaw.{ReadsSpelled}}
 use Rattle.x25_frame.specs.declared.error.FrameError.TheVariants.{Short}
 use Rattle.x25_link.specs.{declared.phase.Phase.{Phase}, declared.phase.Phase.TheVariants.{Down, Waiting, Up, Closed}, declared.phase.Reason.{Reason}}
-use Rattle.x25_link.specs.{declared.phase.Reason.TheVariants.{Retries, Disc, Dm, FrmrSent, FrmrGot, Reset, Local, Counts}, declared.phase.Notes.{Notes}}
+use Rattle.x25_link.specs.{declared.phase.Reason.TheVariants.{Retries, Disc, Dm, FrmrSent, FrmrGot, Reset, Local, Counts}}
 use Rattle.x25_link.specs.{Station.{Settings, LinkStation, is_up, fresh}, Hearing.{Step}, Link.{take_step}}
 use Rattle.x25_link.specs.laws.SetUp.{Is, TakesPart, reset_from, waiting_after, waiting_sends, waiting_up}
 use Rattle.x25_link.specs.laws.WindowLaw.{window_of, brought_by, after_input, ending_of, ends_in, Ends, Follows, AreDeclining, StaysOut}
 use Rattle.x25_line.specs.{laws.StationClaims.{number_in}, laws.Sessions.{Entry, Meeting, Sessions, sabm_in, disc_in, how_many, sent_in, after_step, heard}}
-use Rattle.x25_line.specs.{laws.LawsBelow.{SessionLaws}, laws.Peer.{Peer, fresh_peer, MayHear}, laws.Ends.{put_for}}
+use Rattle.x25_line.specs.{laws.Peer.{Peer, MayHear}, laws.Ends.{put_for}}
 use Rattle.x25_line.proofs.{StationLines.{AreParting, parts_of, part_reads}, StationHears.{UpFacts, Hears, stays_hears, by_disc, by_reset, by_local, left_by}, StationSends.{AllWithin}, StationSteps.{not_afresh}}
 use Rattle.x25_line.proofs.{StationAway.{is_up_phase, frmr_three, waits_on}, sessions.SessionLines.{Read}}
-use Rattle.x25_line.proofs.sessions.SessionMay.{entry, sends_read, hears_read, heard_in, IsClear, MayAsk, MayDo}
+use Rattle.x25_line.proofs.sessions.SessionMay.{entry, sends_read, hears_read, heard_in, IsClear, Known, Kind}
 use Rattle.x25_line.proofs.sessions.SessionSeen.{Seen, build_quiet, build_up, stays_seen, changed}
 
 -- ---- why Up is left
@@ -32,43 +32,46 @@ ends_away reason never p is = ap is_up is
 
 -- a frame that may be spelled as it is
 alone_reads : ReadsSpelled → (d : Settings) (f : PlainFrame) → AreParting (Unit {0}) (f ∷ []) → sends_read d (spelling_of d.role f) ≡ Ok f
-alone_reads reads d f h = part_reads reads d.role d.longest (Unit {0}) f (parts_of (Unit {0}) (f ∷ []) h).0
+alone_reads reads d f h = part_reads reads d.role d.longest (Unit {0}) (parts_of (Unit {0}) (f ∷ []) h).0
 
-module _ (d : Settings) (high : d.window ≤ 7) (reads : ReadsSpelled) (rests : SessionLaws) (Due : List Entry → Type 0) (R : List Entry → List Meeting → Phase → ℕ → (ℕ → Peer) → List Entry → Type 0) (does : MayDo d Due R) where
+module _ {d : Settings} (k : Kind d) where
+  abbrev R : Known
+  R = k.R
+
   abbrev S : Sessions → Type 0
   S w = Seen d R w
 
   -- ---- what is put behind a line
 
   -- nothing
-  pub put_none : (es : List Entry) (met : List Meeting) (p : Phase) (b : ℕ) (all : ℕ → Peer) (out : List Entry) (fs : List PlainFrame) → fs ≡ [] → R es met p b all out → R es met p b all (out ++ sent_in b d.role fs)
-  put_none es met p b all out fs is reached =
-      subst (λ (xs : List Entry). R es met p b all xs) (sym (append-nil out) ∙ ap (λ (xs : List PlainFrame). out ++ sent_in b d.role xs) (sym is)) reached
+  pub put_none : {es : List Entry} {met : List Meeting} {p : Phase} {b : ℕ} {all : ℕ → Peer} {out : List Entry} (fs : List PlainFrame) → fs ≡ [] → R es met p b all out → R es met p b all (out ++ sent_in b d.role fs)
+  put_none {es} {met} {p} {b} {all} {out} fs is reached =
+      subst (λ xs. R es met p b all xs) (sym (append-nil out) ∙ ap (λ xs. out ++ sent_in b d.role xs) (sym is)) reached
 
   -- one frame
-  pub put_one : (es : List Entry) (met : List Meeting) (p : Phase) (b : ℕ) (all : ℕ → Peer) (out : List Entry) (f : PlainFrame) (fs : List PlainFrame) → fs ≡ f ∷ []
+  pub put_one : {es : List Entry} {met : List Meeting} {p : Phase} {b : ℕ} {all : ℕ → Peer} (out : List Entry) (f : PlainFrame) (fs : List PlainFrame) → fs ≡ f ∷ []
       → R es met p b all (out ++ entry b (spelling_of d.role f) ∷ []) → R es met p b all (out ++ sent_in b d.role fs)
-  put_one es met p b all out f fs is reached = rw is reached
+  put_one out f fs is reached = rw is reached
 
-  put_declining : (es : List Entry) (met : List Meeting) (p : Phase) (b : ℕ) (all : ℕ → Peer) (out : List Entry) (fs : List PlainFrame) → AreDeclining fs → R es met p b all out → R es met p b all (out ++ sent_in b d.role fs)
-  put_declining es met p b all out [] h reached = put_none es met p b all out [] refl reached
-  put_declining es met p b all out (dm f ∷ fs) h reached =
+  put_declining : {es : List Entry} {met : List Meeting} {p : Phase} {b : ℕ} {all : ℕ → Peer} (out : List Entry) (fs : List PlainFrame) → AreDeclining fs → R es met p b all out → R es met p b all (out ++ sent_in b d.role fs)
+  put_declining {es} {met} {p} {b} {all} out [] h reached = put_none [] refl reached
+  put_declining {es} {met} {p} {b} {all} out (dm f ∷ fs) h reached =
       let octets = spelling_of d.role (dm f) in
-      subst (λ (xs : List Entry). R es met p b all xs) (append_assoc out (entry b octets ∷ []) (sent_in b d.role fs))
-      (put_declining es met p b all (out ++ entry b octets ∷ []) fs h (does.declines es met p b all out octets f (alone_reads reads d (dm f) tt) reached))
-  put_declining es met p b all out (frame ∷ fs) h reached = absurd h
+      subst (λ xs. R es met p b all xs) (append_assoc out (entry b octets ∷ []) (sent_in b d.role fs))
+      (put_declining (out ++ entry b octets ∷ []) fs h (k.does.declines es met p b all out octets f (alone_reads k.reads d (dm f) tt) reached))
+  put_declining out (frame ∷ fs) h reached = absurd h
 
   -- SABM or DISC is sent
-  pub put_asks : (w : Sessions) (h : S w) (p : Bool) (fs : List PlainFrame) → fs ≡ sabm p ∷ [] → MayAsk w.near.station.phase (Due w.back) → IsClear d w.back w.out
+  pub put_asks : (w : Sessions) (h : S w) (p : Bool) (fs : List PlainFrame) → fs ≡ sabm p ∷ [] → k.Due w.near.station.phase w.back → IsClear d w.back w.out
       → R w.back w.met Waiting w.near.begun h.all (w.out ++ sent_in w.near.begun d.role fs)
   put_asks w h p fs is due clear =
-      put_one w.back w.met Waiting w.near.begun h.all w.out (sabm p) fs is
-      (does.asks w.back w.met w.near.station.phase w.near.begun h.all w.out (spelling_of d.role (sabm p)) p (alone_reads reads d (sabm p) (tt, tt)) due clear h.reached)
+      put_one w.out (sabm p) fs is
+      (k.does.asks w.back w.met w.near.station.phase w.near.begun h.all w.out (spelling_of d.role (sabm p)) p (alone_reads k.reads d (sabm p) (tt, tt)) due clear h.reached)
 
   pub put_closes : (w : Sessions) (h : S w) (p : Bool) (fs : List PlainFrame) → fs ≡ disc p ∷ [] → R w.back w.met Closed w.near.begun h.all (w.out ++ sent_in w.near.begun d.role fs)
   put_closes w h p fs is =
-      put_one w.back w.met Closed w.near.begun h.all w.out (disc p) fs is
-      (does.closes w.back w.met w.near.station.phase w.near.begun h.all w.out (spelling_of d.role (disc p)) p (alone_reads reads d (disc p) tt) h.reached)
+      put_one w.out (disc p) fs is
+      (k.does.closes w.back w.met w.near.station.phase w.near.begun h.all w.out (spelling_of d.role (disc p)) p (alone_reads k.reads d (disc p) tt) h.reached)
 
   -- ---- octets come
 
@@ -95,21 +98,21 @@ module _ (d : Settings) (high : d.window ≤ 7) (reads : ReadsSpelled) (rests : 
     came_in p phase = rw (sym phase) came
 
     passed : R es met s.phase b h.all w.out
-    passed = does.passes e es w.met s.phase b h.all w.out came
+    passed = k.does.passes e es w.met s.phase b h.all w.out came
 
     met_none : number_in r ≡ None → met ≡ w.met
     met_none none = go (is_up s.phase)
       where
         go : (x : Bool) → heard x (number_in r) (record { near = b; far = e.session }) w.met ≡ w.met
-        go true = ap (λ (o : Option PlainFrame). heard true o (record { near = b; far = e.session }) w.met) none
+        go true = ap (λ o. heard true o (record { near = b; far = e.session }) w.met) none
         go false = refl
 
     -- a SABM sets it up
     pub sets_up_seen : (p : Bool) → r ≡ Ok (sabm p) → TakesPart s.phase → Is fresh (ua p ∷ []) (reset_from s.phase) true step → how_many sabm_in d.role d.longest w.out ≡ 0 → S (after_step d w es met [] step)
     sets_up_seen p read part i unasked =
-        rw (met_none (ap number_in read)) (build_up d high reads Due R does w h es step i.up i.near i.packet unasked
-        (put_one es w.met Up (suc b) (put_for (suc b) fresh_peer h.all) w.out (ua p) step.side.out i.out
-        (does.takes_sabm e es w.met s.phase b h.all w.out (spelling_of d.role (ua p)) p p read (alone_reads reads d (ua p) tt) part came)))
+        rw (met_none (ap number_in read)) (build_up k h step i.up i.near i.packet unasked
+        (put_one w.out (ua p) step.side.out i.out
+        (k.does.takes_sabm e es w.met s.phase b h.all w.out (spelling_of d.role (ua p)) p p read (alone_reads k.reads d (ua p) tt) part came)))
 
     -- ---- in Up
 
@@ -124,102 +127,99 @@ module _ (d : Settings) (high : d.window ≤ 7) (reads : ReadsSpelled) (rests : 
       passed_in = rw (sym in_it) passed
 
       hears_it : (q : Peer) → MayHear (h.all b) r q → R es met Up b (put_for b q h.all) w.out
-      hears_it q may = rw in_it (does.hears e es w.met b h.all w.out q may (came_in Up in_it))
-
-      abbrev k : ℕ
-      k = d.window
+      hears_it q may = rw in_it (k.does.hears e es w.met b h.all w.out q may (came_in Up in_it))
 
       -- it stays Up
       stays_up : Hears d r s (h.all b) step → S (after_step d w es met [] step)
       stays_up x =
-          stays_seen d high reads Due R does w h es met [] x.input step
-          (changed d high reads Due R does w h es met [] step.packet x.peer (hears_it x.peer x.may) (after_input x.input step.packet (window_of k s)) x.is x.room x.told
+          stays_seen k h
+          (changed k h [] step.packet x.peer (hears_it x.peer x.may) (after_input x.input step.packet (window_of d.window s)) x.is x.room x.told
           (subst (AllWithin d.longest) (sym x.given) facts.within) (x.given ∙ sym (append-nil (h.all b).given)) x.taken) x.stays
 
       -- it leaves Up
-      left_seen : (reason : Reason) → (reason ≡ Reset → ⊥) → Ends reason step → R es met (ends_in reason) b h.all (w.out ++ sent_in b d.role step.side.out) → S (after_step d w es met [] step)
-      left_seen reason no_reset ends reached =
+      left_seen : {reason : Reason} → (reason ≡ Reset → ⊥) → Ends reason step → R es met (ends_in reason) b h.all (w.out ++ sent_in b d.role step.side.out) → S (after_step d w es met [] step)
+      left_seen {reason} no_reset ends reached =
           let off = ends_away reason no_reset step.side.near.phase ends.phase in
-          build_quiet d high reads Due R does w h es met step (not_afresh s step (rests.laws.take_tells d e.octets s) off) ends.packet off
+          build_quiet k h step (not_afresh (k.rests.laws.take_tells d e.octets s) off) ends.packet off
           (rw ends.phase reached)
 
       -- without a frame
       gone : (fs : List PlainFrame) → fs ≡ [] → R es met Down b h.all (w.out ++ sent_in b d.role fs)
-      gone fs none = put_none es met Down b h.all w.out fs none (does.leaves es met b h.all w.out passed_in)
+      gone fs none = put_none fs none (k.does.leaves es met b h.all w.out passed_in)
 
       -- by DISC, which it answers
       disc_seen : (p : Bool) → r ≡ Ok (disc p) → Ends Disc step → (Disc ≡ Reset → ⊥) → S (after_step d w es met [] step)
       disc_seen p read ends never =
           let f = ends.frames.0 in
-          left_seen Disc never ends
-          (rw (met_none (ap number_in read)) (put_one es w.met Down b h.all w.out (ua f) step.side.out ends.frames.1
-          (does.takes_disc e es w.met b h.all w.out (spelling_of d.role (ua f)) p f read (alone_reads reads d (ua f) tt) (came_in Up in_it))))
+          left_seen never ends
+          (rw (met_none (ap number_in read)) (put_one w.out (ua f) step.side.out ends.frames.1
+          (k.does.takes_disc e es w.met b h.all w.out (spelling_of d.role (ua f)) p f read (alone_reads k.reads d (ua f) tt) (came_in Up in_it))))
 
-      ends_seen : (reason : Reason) → (reason ≡ Reset → ⊥) → ending_of r (window_of k s) ≡ Some reason → Ends reason step → S (after_step d w es met [] step)
-      ends_seen Retries never ending ends = left_seen Retries never ends (gone step.side.out ends.frames)
+      ends_seen : (reason : Reason) → (reason ≡ Reset → ⊥) → ending_of r (window_of d.window s) ≡ Some reason → Ends reason step → S (after_step d w es met [] step)
+      ends_seen Retries never ending ends = left_seen never ends (gone step.side.out ends.frames)
       ends_seen Disc never ending ends = elim (disc_or_not r) [
         | inl closes ↦ disc_seen closes.0 closes.1 ends never
-        | inr none ↦ (let closes = (left_by r (window_of k s)).0 in let one = ap by_disc ending in absurd (omega (arith, closes, one, none)))
+        | inr none ↦ (absurd (omega (arith, (left_by r (window_of d.window s)).0, ap by_disc ending, none)))
       ]
-      ends_seen Dm never ending ends = left_seen Dm never ends (gone step.side.out ends.frames)
+      ends_seen Dm never ending ends = left_seen never ends (gone step.side.out ends.frames)
       ends_seen FrmrSent never ending ends =
           let f = ends.frames.0 in
           let why = ends.frames.1 in
           let three = frmr_three d e.octets s (is_up_phase s.phase up) r refl f why ending ends.frames.2 in
-          left_seen FrmrSent never ends
-          (put_one es met Down b h.all w.out (frmr f why) step.side.out ends.frames.2
-          (rw in_it (does.faults e es w.met b h.all w.out (spelling_of d.role (frmr f why)) f why (ap (ending_of r) facts.same ∙ ending)
-          (reads d.role d.longest (frmr f why) _ (record { in_range = tt; carries = three; within = tt; spelling = refl })) (came_in Up in_it))))
-      ends_seen FrmrGot never ending ends = left_seen FrmrGot never ends (gone step.side.out ends.frames)
+          left_seen never ends
+          (put_one w.out (frmr f why) step.side.out ends.frames.2
+          (rw in_it (k.does.faults e es w.met b h.all w.out (spelling_of d.role (frmr f why)) f why (ap (ending_of r) facts.same ∙ ending)
+          (k.reads d.role d.longest (frmr f why) _ (record { in_range = tt; carries = three; within = tt; spelling = refl })) (came_in Up in_it))))
+      ends_seen FrmrGot never ending ends = left_seen never ends (gone step.side.out ends.frames)
       ends_seen Reset never ending ends = absurd (never refl)
-      ends_seen Local never ending ends = (let none = (left_by r (window_of k s)).2 in let one = ap by_local ending in absurd (omega (arith, none, one)))
-      ends_seen Counts never ending ends = left_seen Counts never ends (gone step.side.out ends.frames)
+      ends_seen Local never ending ends = (absurd (omega (arith, (left_by r (window_of d.window s)).2, ap by_local ending)))
+      ends_seen Counts never ending ends = left_seen never ends (gone step.side.out ends.frames)
 
       pub up_seen : sabm_in r ≡ 0 → S (after_step d w es met [] step)
-      up_seen no_sabm = go (ending_of r (window_of k s)) refl (rests.laws.window.take d e.octets s (record { up = up; sound = facts.sound }) r refl)
+      up_seen no_sabm = go (ending_of r (window_of d.window s)) refl (k.rests.laws.window.take d e.octets s (record { up = up; sound = facts.sound }) r refl)
         where
-          go : (o : Option Reason) → ending_of r (window_of k s) ≡ o → Follows o k (brought_by r) s step → S (after_step d w es met [] step)
-          go None ending stays = stays_up (stays_hears d s (h.all b) facts step r no_sabm stays)
-          go (Some reason) ending ends = ends_seen reason (λ reset. (let asks = (left_by r (window_of k s)).1 in let one = ap by_reset (ending ∙ ap Some reset) in absurd (omega (arith, asks, one, no_sabm)))) ending ends
+          go : (o : Option Reason) → ending_of r (window_of d.window s) ≡ o → Follows o d.window (brought_by r) s step → S (after_step d w es met [] step)
+          go None ending stays = stays_up (stays_hears facts step r no_sabm stays)
+          go (Some reason) ending ends = ends_seen reason (λ reset. (let one = ap by_reset (ending ∙ ap Some reset) in absurd (omega (arith, (left_by r (window_of d.window s)).1, one, no_sabm)))) ending ends
 
     -- ---- out of Up
 
     -- the station that isn't Up and stays so
     pub out_seen : is_up s.phase ≡ false → step.side.near.phase ≡ s.phase → StaysOut step → S (after_step d w es met [] step)
     out_seen off same out =
-        build_quiet d high reads Due R does w h es met step (ap (λ (n : Notes). n.up) out.quiet) out.packet (ap is_up same ∙ off)
-        (put_declining es met step.side.near.phase b h.all w.out step.side.out out.frames (rw same passed))
+        build_quiet k h step (ap (λ n. n.up) out.quiet) out.packet (ap is_up same ∙ off)
+        (put_declining w.out step.side.out out.frames (rw same passed))
 
     -- UA, which it awaits
     pub answer_seen : s.phase ≡ Waiting → r ≡ Ok (ua true) → how_many sabm_in d.role d.longest w.out ≡ 0 → S (after_step d w es met [] step)
     answer_seen waiting read unasked =
-        let i = rests.laws.set_up.waits d e.octets s waiting r refl in
-        subst (λ (xs : List Meeting). S (after_step d w es xs [] step)) (sym (met_none (ap number_in read)))
-        (build_up d high reads Due R does w h es step (i.up ∙ ap waiting_up read) (i.near ∙ ap (λ (x : Read). waiting_after x s) read) i.packet unasked
-        (put_none es w.met Up (suc b) (put_for (suc b) fresh_peer h.all) w.out step.side.out (i.out ∙ ap waiting_sends read) (does.takes_ua e es w.met b h.all w.out read (came_in Waiting waiting))))
+        let i = k.rests.laws.set_up.waits d e.octets s waiting r refl in
+        subst (λ xs. S (after_step d w es xs [] step)) (sym (met_none (ap number_in read)))
+        (build_up k h step (i.up ∙ ap waiting_up read) (i.near ∙ ap (λ x. waiting_after x s) read) i.packet unasked
+        (put_none step.side.out (i.out ∙ ap waiting_sends read) (k.does.takes_ua e es w.met b h.all w.out read (came_in Waiting waiting))))
 
     -- anything else, while it awaits UA
     pub waiting_seen : s.phase ≡ Waiting → waiting_up r ≡ false → S (after_step d w es met [] step)
     waiting_seen waiting no_answer =
-        build_quiet d high reads Due R does w h es met step (i.up ∙ no_answer) i.packet (ap is_up phase) (rw phase (by r refl))
+        build_quiet k h step (i.up ∙ no_answer) i.packet (ap is_up phase) (rw phase (by r refl))
       where
         i : Is (waiting_after r s) (waiting_sends r) None (waiting_up r) step
-        i = rests.laws.set_up.waits d e.octets s waiting r refl
+        i = k.rests.laws.set_up.waits d e.octets s waiting r refl
 
         phase : step.side.near.phase ≡ Waiting
-        phase = ap (λ (z : LinkStation). z.phase) (i.near ∙ waits_on r s no_answer) ∙ waiting
+        phase = ap (λ z. z.phase) (i.near ∙ waits_on r s no_answer) ∙ waiting
 
         passed_waiting : R es met Waiting b h.all w.out
         passed_waiting = rw (sym waiting) passed
 
         none_put : waiting_sends r ≡ [] → R es met Waiting b h.all (w.out ++ sent_in b d.role step.side.out)
-        none_put none = put_none es met Waiting b h.all w.out step.side.out (i.out ∙ none) passed_waiting
+        none_put none = put_none step.side.out (i.out ∙ none) passed_waiting
 
         by : (x : Read) → r ≡ x → R es met Waiting b h.all (w.out ++ sent_in b d.role step.side.out)
         by (Ok (sabm p)) read =
-            subst (λ (xs : List Meeting). R es xs Waiting b h.all (w.out ++ sent_in b d.role step.side.out)) (sym (met_none (ap number_in read)))
-            (put_one es w.met Waiting b h.all w.out (ua p) step.side.out (i.out ∙ ap waiting_sends read)
-            (does.waits_on e es w.met b h.all w.out (spelling_of d.role (ua p)) p p read (alone_reads reads d (ua p) tt) (came_in Waiting waiting)))
+            subst (λ xs. R es xs Waiting b h.all (w.out ++ sent_in b d.role step.side.out)) (sym (met_none (ap number_in read)))
+            (put_one w.out (ua p) step.side.out (i.out ∙ ap waiting_sends read)
+            (k.does.waits_on e es w.met b h.all w.out (spelling_of d.role (ua p)) p p read (alone_reads k.reads d (ua p) tt) (came_in Waiting waiting)))
         by (Ok (disc p)) read =
-            put_one es met Waiting b h.all w.out (dm p) step.side.out (i.out ∙ ap waiting_sends read) (does.declines es met Waiting b h.all w.out (spelling_of d.role (dm p)) p (alone_reads reads d (dm p) tt) passed_waiting)
+            put_one w.out (dm p) step.side.out (i.out ∙ ap waiting_sends read) (k.does.declines es met Waiting b h.all w.out (spelling_of d.role (dm p)) p (alone_reads k.reads d (dm p) tt) passed_waiting)
         by x read = none_put (ap waiting_sends read)

@@ -1,20 +1,20 @@
 -- Each event at a station over sessions is what an end that keeps the rules may do.
-use Rattle.std.proofs.Common.{◌≡◌, ◌≤◌, ℕ, suc, ◌+◌, List, [], ◌∷◌, ◌++◌, ◌⊎◌, inl, inr, length, remove, Bool, true, false, not, if◌then◌else◌, Option, Some, None, Ok, refl, sym, ap, ◌∙◌, subst, arith, append-nil}
+use Rattle.std.proofs.Common.{◌≡◌, ◌≤◌, ℕ, suc, ◌+◌, List, [], ◌∷◌, ◌++◌, ◌⊎◌, inl, inr, length, Bool, true, false, not, if◌then◌else◌, Option, Some, None, Ok, refl, sym, ap, ◌∙◌, subst, arith, append-nil}
 use Rattle.std.proofs.lemmas.Bool.{leb-true}
 use Rattle.std.specs.Prelude.{nat_le, nat_lt, option_to_list}
-use Rattle.x25_frame.specs.{Frame.{PlainFrame, sabm, disc, ua}, laws.ReadingLaw.{ReadsSpelled}}
+use Rattle.x25_frame.specs.{Frame.{PlainFrame, sabm, disc, ua}}
 use Rattle.x25_link.specs.{declared.error.LinkError.{LinkError}, declared.phase.Phase.{Phase}, declared.phase.Phase.TheVariants.{Down, Waiting, Up, Closed}}
-use Rattle.x25_link.specs.{declared.phase.Notes.{Notes}, declared.phase.Reason.TheVariants.{Retries}, Station.{Settings, LinkStation, is_up, with_nothing}}
+use Rattle.x25_link.specs.{declared.phase.Reason.TheVariants.{Retries}, Station.{Settings, LinkStation, is_up, with_nothing}}
 use Rattle.x25_link.specs.Hearing.{Step, other}
 use Rattle.x25_link.specs.Link.{put_step, put_refusal, timer_step, timer_refusal, timer_runs, connect_step, connect_refusal, disconnect_step, disconnect_refusal, abandon_step}
-use Rattle.x25_link.specs.{laws.SetUp.{Is, TakesPart, waiting_up}, laws.WindowMachine.{Window, hands_down, nothing}}
+use Rattle.x25_link.specs.{laws.SetUp.{Is, TakesPart, waiting_up}, laws.WindowMachine.{hands_down, nothing}}
 use Rattle.x25_link.specs.laws.WindowLaw.{window_of, Follows, IsOut}
 use Rattle.x25_window.specs.{laws.Window.{after}, laws.Window.Step.{HandDown}}
 use Rattle.x25_line.specs.laws.Stations.{Act, Put, Deliver, T1, Connect, Disconnect, Abandon, Probe, Lose, Damage, is_visible}
-use Rattle.x25_line.specs.laws.Sessions.{Entry, Meeting, Sessions, sabm_in, ua_in, disc_in, how_many, sent_in, after_step, unless, delivered, replaced, acts}
-use Rattle.x25_line.specs.{laws.LawsBelow.{SessionLaws}, laws.Peer.{Peer}}
+use Rattle.x25_line.specs.laws.Sessions.{Entry, Sessions, sabm_in, ua_in, disc_in, how_many, sent_in, after_step, unless, delivered, acts}
+use Rattle.x25_line.specs.{laws.Peer.{Peer}}
 use Rattle.x25_line.proofs.{StationHears.{sabm_or_not, sets_none_up}, StationSends.{within_push}, StationSteps.{no_packet_of, not_afresh}, StationAway.{connects_from, closed_takes}}
-use Rattle.x25_line.proofs.{sessions.SessionLines.{Read}, sessions.SessionHeld.{Owes}, sessions.SessionMay.{hears_read, IsClear, MayDo}}
+use Rattle.x25_line.proofs.{sessions.SessionLines.{Read}, sessions.SessionHeld.{Owes}, sessions.SessionMay.{hears_read, IsClear, Known, Kind}}
 use Rattle.x25_line.proofs.sessions.SessionSeen.{Seen, build_quiet, stays_seen, reached_in, unchanged, changed}
 use Rattle.x25_line.proofs.sessions.SessionSeenActs.{put_none, put_asks, put_closes, sets_up_seen, up_seen, out_seen, answer_seen, waiting_seen}
 use Rattle.x25_line.proofs.Choices.{unless_by, if_by}
@@ -36,7 +36,10 @@ put_accepted s accepted = go (is_up s.phase) _ accepted
         never : Some error.NotUp ≡ None → ⊥
         never k = cc
 
-module _ (d : Settings) (high : d.window ≤ 7) (reads : ReadsSpelled) (rests : SessionLaws) (Due : List Entry → Type 0) (R : List Entry → List Meeting → Phase → ℕ → (ℕ → Peer) → List Entry → Type 0) (does : MayDo d Due R) where
+module _ {d : Settings} (k : Kind d) where
+  abbrev R : Known
+  R = k.R
+
   abbrev S : Sessions → Type 0
   S w = Seen d R w
 
@@ -49,10 +52,11 @@ module _ (d : Settings) (high : d.window ≤ 7) (reads : ReadsSpelled) (rests : 
 
   -- T1 may run out while it awaits UA
   abbrev pub IsOver : Sessions → Type 0
-  IsOver w = (how_many sabm_in d.role d.longest w.out ≡ 0) × (how_many ua_in (other d.role) d.longest w.back ≡ 0) × Due w.back
+  IsOver w = (how_many sabm_in d.role d.longest w.out ≡ 0) × (how_many ua_in (other d.role) d.longest w.back ≡ 0) × k.Due Waiting w.back
 
   abbrev pub IsTimely : Act → Sessions → Type 0
   IsTimely T1 w = w.near.station.phase ≡ Waiting → IsOver w
+  IsTimely Connect w = w.near.station.phase ≡ Down → k.Due Down w.back
   IsTimely act w = Unit {0}
 
   put_seen : (w : Sessions) (h : S w) (packet : List ℕ) → length packet ≤ d.longest → is_up w.near.station.phase ≡ true → S (after_step d w w.back w.met (packet ∷ []) (put_step d packet w.near.station))
@@ -61,28 +65,28 @@ module _ (d : Settings) (high : d.window ≤ 7) (reads : ReadsSpelled) (rests : 
       let f = h.up up in
       let s = w.near.station in
       let step = put_step d packet s in
-      let stays = rests.laws.window.put d packet s (record { up = up; sound = f.sound }) in
+      let stays = k.rests.laws.window.put d packet s (record { up = up; sound = f.sound }) in
       let none = no_packet_of (hands_down packet) step.packet (window_of d.window s) (λ y never. never) stays.hands_up in
       let r : Peer = record (h.all b) { given = (h.all b).given ++ packet ∷ [] } in
-      stays_seen d high reads Due R does w h w.back w.met (packet ∷ []) (hands_down packet) step
-      (changed d high reads Due R does w h w.back w.met (packet ∷ []) step.packet r (does.handed w.back w.met b h.all w.out packet (reached_in d high reads Due R does w h up))
-      (after (window_of d.window s) (HandDown packet)) (ap (λ (z : Window). after z (HandDown packet)) f.same) f.room f.told (within_push d.longest (h.all b).given packet f.within short) refl
-      (sym (ap (λ (o : Option (List ℕ)). (h.all b).taken ++ option_to_list o) none ∙ append-nil (h.all b).taken))) stays
+      stays_seen k h
+      (changed k h (packet ∷ []) step.packet r (k.does.handed w.back w.met b h.all w.out packet (reached_in k h up))
+      (after (window_of d.window s) (HandDown packet)) (ap (λ z. after z (HandDown packet)) f.same) f.room f.told (within_push d.longest (h.all b).given packet f.within short) refl
+      (sym (ap (λ o. (h.all b).taken ++ option_to_list o) none ∙ append-nil (h.all b).taken))) stays
 
   -- it isn't Up any more, with nothing taken off the line
-  away_seen : (w : Sessions) (h : S w) (step : Step) → step.notes.up ≡ false → step.packet ≡ None → (q : Phase) → step.side.near.phase ≡ q → is_up q ≡ false
+  away_seen : {w : Sessions} (h : S w) (step : Step) → step.notes.up ≡ false → step.packet ≡ None → {q : Phase} → step.side.near.phase ≡ q → is_up q ≡ false
       → R w.back w.met q w.near.begun h.all (w.out ++ sent_in w.near.begun d.role step.side.out) → S (after_step d w w.back w.met [] step)
-  away_seen w h step quiet none q phase off reached =
-      build_quiet d high reads Due R does w h w.back w.met step quiet none (ap is_up phase ∙ off)
+  away_seen {w} h step quiet none phase off reached =
+      build_quiet k h step quiet none (ap is_up phase ∙ off)
       (rw phase reached)
 
   -- without a frame
   left : (w : Sessions) (h : S w) → is_up w.near.station.phase ≡ true → (fs : List PlainFrame) → fs ≡ [] → R w.back w.met Down w.near.begun h.all (w.out ++ sent_in w.near.begun d.role fs)
   left w h up fs none =
-      put_none d high reads rests Due R does w.back w.met Down w.near.begun h.all w.out fs none (does.leaves w.back w.met w.near.begun h.all w.out (reached_in d high reads Due R does w h up))
+      put_none k fs none (k.does.leaves w.back w.met w.near.begun h.all w.out (reached_in k h up))
 
   timer_up : (w : Sessions) (h : S w) → is_up w.near.station.phase ≡ true → S (after_step d w w.back w.met [] (timer_step d w.near.station))
-  timer_up w h up = by (nat_lt w.near.station.tries d.retries) (rests.laws.window.timer d w.near.station (record { up = up; sound = (h.up up).sound }))
+  timer_up w h up = by (nat_lt w.near.station.tries d.retries) (k.rests.laws.window.timer d w.near.station (record { up = up; sound = (h.up up).sound }))
     where
       s : LinkStation
       s = w.near.station
@@ -92,13 +96,13 @@ module _ (d : Settings) (high : d.window ≤ 7) (reads : ReadsSpelled) (rests : 
 
       by : (b : Bool) → Follows (if b then None else Some Retries) d.window nothing s step → S (after_step d w w.back w.met [] step)
       by true stays =
-          stays_seen d high reads Due R does w h w.back w.met [] nothing step
-          (unchanged d high reads Due R does w h up w.back w.met (reached_in d high reads Due R does w h up) (window_of d.window s) refl step.packet (no_packet_of nothing step.packet (window_of d.window s) (λ y never. never) stays.hands_up)) stays
+          stays_seen k h
+          (unchanged k h up (reached_in k h up) (window_of d.window s) refl step.packet (no_packet_of nothing step.packet (window_of d.window s) (λ y never. never) stays.hands_up)) stays
       by false ends =
-          away_seen w h step (not_afresh s step (rests.laws.timer_tells d s) (ap is_up ends.phase)) ends.packet Down ends.phase refl (left w h up step.side.out ends.frames)
+          away_seen h step (not_afresh (k.rests.laws.timer_tells d s) (ap is_up ends.phase)) ends.packet ends.phase refl (left w h up step.side.out ends.frames)
 
   timer_waiting : (w : Sessions) (h : S w) → w.near.station.phase ≡ Waiting → IsOver w → OwesAt w → S (after_step d w w.back w.met [] (timer_step d w.near.station))
-  timer_waiting w h waiting over owes = by (nat_lt w.near.station.tries d.retries) (timer_step d w.near.station) (rests.laws.set_up.timer d w.near.station waiting)
+  timer_waiting w h waiting over owes = by (nat_lt w.near.station.tries d.retries) (timer_step d w.near.station) (k.rests.laws.set_up.timer d w.near.station waiting)
     where
       clear : IsClear d w.back w.out
       clear = record { sabm = over.0; disc = (owes_at w Waiting waiting owes).1; ua = over.1 }
@@ -107,12 +111,12 @@ module _ (d : Settings) (high : d.window ≤ 7) (reads : ReadsSpelled) (rests : 
           → (let s = w.near.station in Is (if b then record s { tries = suc s.tries } else with_nothing Down s.tries) (if b then sabm true ∷ [] else []) (if b then None else Some Retries) false step)
           → S (after_step d w w.back w.met [] step)
       by true step i =
-          away_seen w h step i.up i.packet Waiting (ap (λ (z : LinkStation). z.phase) i.near ∙ waiting) refl
-          (put_asks d high reads rests Due R does w h true step.side.out i.out (rw waiting over.2) clear)
+          away_seen h step i.up i.packet (ap (λ z. z.phase) i.near ∙ waiting) refl
+          (put_asks k w h true step.side.out i.out (rw waiting over.2) clear)
       by false step i =
-          away_seen w h step i.up i.packet Down (ap (λ (z : LinkStation). z.phase) i.near) refl
-          (put_none d high reads rests Due R does w.back w.met Down w.near.begun h.all w.out step.side.out i.out
-          (does.gives_up w.back w.met w.near.begun h.all w.out over.2 clear (rw (sym waiting) h.reached)))
+          away_seen h step i.up i.packet (ap (λ z. z.phase) i.near) refl
+          (put_none k step.side.out i.out
+          (k.does.gives_up w.back w.met w.near.begun h.all w.out over.2 clear (rw (sym waiting) h.reached)))
 
   timer_seen : (w : Sessions) (h : S w) → IsTimely T1 w → OwesAt w → S (unless (timer_refusal w.near.station) w (after_step d w w.back w.met [] (timer_step d w.near.station)))
   timer_seen w h timely owes = by w.near.station.phase refl
@@ -121,17 +125,17 @@ module _ (d : Settings) (high : d.window ≤ 7) (reads : ReadsSpelled) (rests : 
       done = after_step d w w.back w.met [] (timer_step d w.near.station)
 
       by : (p : Phase) → w.near.station.phase ≡ p → S (unless (timer_refusal w.near.station) w done)
-      by Waiting is = unless_by S (timer_refusal w.near.station) w done h (λ _. timer_waiting w h is (timely is) owes)
-      by Up is = unless_by S (timer_refusal w.near.station) w done h (λ _. timer_up w h (ap is_up is))
-      by phase is = rw (ap (λ (p : Phase). timer_runs p w.near.station) is) h
+      by Waiting is = unless_by S (timer_refusal w.near.station) h (λ _. timer_waiting w h is (timely is) owes)
+      by Up is = unless_by S (timer_refusal w.near.station) h (λ _. timer_up w h (ap is_up is))
+      by phase is = rw (ap (λ p. timer_runs p w.near.station) is) h
 
-  connect_seen : (w : Sessions) (h : S w) → w.near.station.phase ≡ Down → OwesAt w → S (after_step d w w.back w.met [] (connect_step d w.near.station))
-  connect_seen w h down owes =
+  connect_seen : (w : Sessions) (h : S w) → w.near.station.phase ≡ Down → k.Due Down w.back → OwesAt w → S (after_step d w w.back w.met [] (connect_step d w.near.station))
+  connect_seen w h down due owes =
       let owed = owes_at w Down down owes in
       let step = connect_step d w.near.station in
-      let i = rests.laws.set_up.connects d w.near.station down in
-      away_seen w h step i.up i.packet Waiting (ap (λ (z : LinkStation). z.phase) i.near) refl
-      (put_asks d high reads rests Due R does w h true step.side.out i.out (rw down tt) (record { sabm = omega (arith, owed.0); disc = owed.1; ua = omega (arith, owed.0) }))
+      let i = k.rests.laws.set_up.connects d w.near.station down in
+      away_seen h step i.up i.packet (ap (λ z. z.phase) i.near) refl
+      (put_asks k w h true step.side.out i.out (rw down due) (record { sabm = omega (arith, owed.0); disc = owed.1; ua = omega (arith, owed.0) }))
 
   disconnect_seen : (w : Sessions) (h : S w) → disconnect_refusal w.near.station.phase ≡ None → S (after_step d w w.back w.met [] (disconnect_step d w.near.station))
   disconnect_seen w h accepted = by w.near.station.phase refl
@@ -146,23 +150,23 @@ module _ (d : Settings) (high : d.window ≤ 7) (reads : ReadsSpelled) (rests : 
       refused k = cc
 
       closes : step.notes.up ≡ false → step.packet ≡ None → step.side.near.phase ≡ Closed → step.side.out ≡ disc true ∷ [] → S (after_step d w w.back w.met [] step)
-      closes quiet none phase sent = away_seen w h step quiet none Closed phase refl (put_closes d high reads rests Due R does w h true step.side.out sent)
+      closes quiet none phase sent = away_seen h step quiet none phase refl (put_closes k w h true step.side.out sent)
 
       by : (p : Phase) → s.phase ≡ p → S (after_step d w w.back w.met [] step)
-      by Down is = (let out = rests.laws.window.disconnect_out d s (subst IsOut (sym is) tt) in closes (ap (λ (n : Notes). n.up) out.quiet) out.packet out.phase out.frames)
-      by Waiting is = (let i = rests.laws.set_up.disconnects d s is in closes i.up i.packet (ap (λ (z : LinkStation). z.phase) i.near) i.out)
+      by Down is = (let out = k.rests.laws.window.disconnect_out d s (subst IsOut (sym is) tt) in closes (ap (λ n. n.up) out.quiet) out.packet out.phase out.frames)
+      by Waiting is = (let i = k.rests.laws.set_up.disconnects d s is in closes i.up i.packet (ap (λ z. z.phase) i.near) i.out)
       by Up is =
           let up : is_up s.phase ≡ true = ap is_up is in
-          let ends = rests.laws.window.disconnect d s (record { up = up; sound = (h.up up).sound }) in
-          closes (not_afresh s step (rests.laws.disconnect_tells d s) (ap is_up ends.phase)) ends.packet ends.phase ends.frames
+          let ends = k.rests.laws.window.disconnect d s (record { up = up; sound = (h.up up).sound }) in
+          closes (not_afresh (k.rests.laws.disconnect_tells d s) (ap is_up ends.phase)) ends.packet ends.phase ends.frames
       by Closed is = absurd (refused (sym (ap disconnect_refusal is) ∙ accepted))
 
   abandon_seen : (w : Sessions) (h : S w) → is_up w.near.station.phase ≡ true → S (after_step d w w.back w.met [] (abandon_step d w.near.station))
   abandon_seen w h up =
       let s = w.near.station in
       let step = abandon_step d s in
-      let ends = rests.laws.window.abandon d s (record { up = up; sound = (h.up up).sound }) in
-      away_seen w h step (not_afresh s step (rests.laws.abandon_tells d s) (ap is_up ends.phase)) ends.packet Down ends.phase refl (left w h up step.side.out ends.frames)
+      let ends = k.rests.laws.window.abandon d s (record { up = up; sound = (h.up up).sound }) in
+      away_seen h step (not_afresh (k.rests.laws.abandon_tells d s) (ap is_up ends.phase)) ends.packet ends.phase refl (left w h up step.side.out ends.frames)
 
   deliver_seen : (w : Sessions) (h : S w) → OwesAt w → (es : List Entry) → w.back ≡ es → S (delivered d es w)
   deliver_seen w h owes [] is = h
@@ -172,50 +176,48 @@ module _ (d : Settings) (high : d.window ≤ 7) (reads : ReadsSpelled) (rests : 
       r = hears_read d e.octets
 
       sets_up : (p : Bool) → r ≡ Ok (sabm p) → TakesPart w.near.station.phase → how_many sabm_in d.role d.longest w.out ≡ 0 → S (delivered d (e ∷ es) w)
-      sets_up p read part unasked = sets_up_seen d high reads rests Due R does w h e es is p read part (rests.laws.set_up.sets_up d e.octets w.near.station part p read) unasked
+      sets_up p read part unasked = sets_up_seen k w h e es is p read part (k.rests.laws.set_up.sets_up d e.octets w.near.station part p read) unasked
 
       -- the UA comes, so no SABM is on the line
       answered : w.near.station.phase ≡ Waiting → r ≡ Ok (ua true) → how_many sabm_in d.role d.longest w.out ≡ 0
       answered waiting read =
-          let few = (owes_at w Waiting waiting owes).0 in
-          let here = ap (how_many ua_in (other d.role) d.longest) is in
           let one : ua_in r ≡ 1 = ap ua_in read in
-          omega (arith, few, here, one)
+          omega (arith, (owes_at w Waiting waiting owes).0, ap (how_many ua_in (other d.role) d.longest) is, one)
 
       by : (p : Phase) → w.near.station.phase ≡ p → S (delivered d (e ∷ es) w)
       by Down phase = (let owed = owes_at w Down phase owes in elim (sabm_or_not r) [
         | inl sets ↦ sets_up sets.0 sets.1 (subst TakesPart (sym phase) tt) (omega (arith, owed.0))
-        | inr no_sabm ↦ (let out = rests.laws.window.take_out d e.octets w.near.station (subst IsOut (sym phase) tt) (sets_none_up r no_sabm) in
-            out_seen d high reads rests Due R does w h e es is (ap is_up phase) ((rests.continues d e.octets w.near.station).phase out.quiet) out)
+        | inr no_sabm ↦ (let out = k.rests.laws.window.take_out d e.octets w.near.station (subst IsOut (sym phase) tt) (sets_none_up r no_sabm) in
+            out_seen k w h e es is (ap is_up phase) ((k.rests.continues d e.octets w.near.station).phase out.quiet) out)
       ])
       by Waiting phase = elim (is_answer r) [
-        | inl answer ↦ answer_seen d high reads rests Due R does w h e es is phase answer (answered phase answer)
-        | inr no_answer ↦ waiting_seen d high reads rests Due R does w h e es is phase no_answer
+        | inl answer ↦ answer_seen k w h e es is phase answer (answered phase answer)
+        | inr no_answer ↦ waiting_seen k w h e es is phase no_answer
       ]
       by Up phase = (let owed = owes_at w Up phase owes in elim (sabm_or_not r) [
         | inl sets ↦ sets_up sets.0 sets.1 (subst TakesPart (sym phase) tt) (omega (arith, owed.0))
-        | inr no_sabm ↦ up_seen d high reads rests Due R does w h e es is (ap is_up phase) no_sabm
+        | inr no_sabm ↦ up_seen k w h e es is (ap is_up phase) no_sabm
       ])
       by Closed phase = (let out = closed_takes d e.octets w.near.station phase in
-          out_seen d high reads rests Due R does w h e es is (ap is_up phase) ((rests.continues d e.octets w.near.station).phase out.quiet) out)
+          out_seen k w h e es is (ap is_up phase) ((k.rests.continues d e.octets w.near.station).phase out.quiet) out)
 
-  line_seen : (w : Sessions) (h : S w) (es : List Entry) → R es w.met w.near.station.phase w.near.begun h.all w.out → S (record w { back = es })
-  line_seen w h es reached = record { all = h.all; reached = reached; up = h.up; given = h.given; taken = h.taken; later = h.later; tags = h.tags }
+  line_seen : {w : Sessions} (h : S w) {es : List Entry} → R es w.met w.near.station.phase w.near.begun h.all w.out → S (record w { back = es })
+  line_seen h reached = record { all = h.all; reached = reached; up = h.up; given = h.given; taken = h.taken; later = h.later; tags = h.tags }
 
   pub station_acts : (a : Act) (w : Sessions) → IsTimely a w → OwesAt w → S w → S (acts d a w)
   station_acts (Put packet) w timely owes h =
       let done = after_step d w w.back w.met (packet ∷ []) (put_step d packet w.near.station) in
-      if_by S (nat_le (length packet) d.longest) w (unless (put_refusal w.near.station) w done) h
-      (λ short. unless_by S (put_refusal w.near.station) w done h (λ accepted. put_seen w h packet (leb-true _ _ short) (put_accepted w.near.station accepted)))
+      if_by S (nat_le (length packet) d.longest) h
+      (λ short. unless_by S (put_refusal w.near.station) h (λ accepted. put_seen w h packet (leb-true _ _ short) (put_accepted w.near.station accepted)))
   station_acts Deliver w timely owes h = deliver_seen w h owes w.back refl
   station_acts T1 w timely owes h = timer_seen w h timely owes
   station_acts Connect w timely owes h =
-      unless_by S (connect_refusal w.near.station.phase) w (after_step d w w.back w.met [] (connect_step d w.near.station)) h (λ accepted. connect_seen w h (connects_from w.near.station.phase accepted) owes)
+      unless_by S (connect_refusal w.near.station.phase) h (λ accepted. (let down = connects_from w.near.station.phase accepted in connect_seen w h down (timely down) owes))
   station_acts Disconnect w timely owes h =
-      unless_by S (disconnect_refusal w.near.station.phase) w (after_step d w w.back w.met [] (disconnect_step d w.near.station)) h (λ accepted. disconnect_seen w h accepted)
-  station_acts Abandon w timely owes h = if_by S (is_up w.near.station.phase) w (after_step d w w.back w.met [] (abandon_step d w.near.station)) h (λ up. abandon_seen w h up)
-  station_acts Probe w timely owes h = if_by S (is_up w.near.station.phase) w (after_step d w w.back w.met [] (timer_step d w.near.station)) h (λ up. timer_up w h up)
-  station_acts (Lose i) w timely owes h = line_seen w h (remove w.back i) (does.loses w.back w.met w.near.station.phase w.near.begun h.all w.out i h.reached)
+      unless_by S (disconnect_refusal w.near.station.phase) h (λ accepted. disconnect_seen w h accepted)
+  station_acts Abandon w timely owes h = if_by S (is_up w.near.station.phase) h (λ up. abandon_seen w h up)
+  station_acts Probe w timely owes h = if_by S (is_up w.near.station.phase) h (λ up. timer_up w h up)
+  station_acts (Lose i) w timely owes h = line_seen h (k.does.loses w.back w.met w.near.station.phase w.near.begun h.all w.out i h.reached)
   station_acts (Damage i octets) w timely owes h =
-      if_by S (is_visible octets) w (record w { back = replaced w.back i octets }) h (λ visible. line_seen w h (replaced w.back i octets)
-      (does.damages w.back w.met w.near.station.phase w.near.begun h.all w.out i octets visible h.reached))
+      if_by S (is_visible octets) h (λ visible. line_seen h
+      (k.does.damages w.back w.met w.near.station.phase w.near.begun h.all w.out i octets visible h.reached))

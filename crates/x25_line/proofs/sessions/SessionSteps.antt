@@ -3,7 +3,6 @@
 use Rattle.std.proofs.Common.{◌≡◌, ◌≤◌, ℕ, List, [], ◌∷◌, ◌++◌, ◌⊎◌, inl, inr, map, length, Option, None, refl, sym, ap, ◌∙◌, subst, arith, append-nil}
 use Rattle.std.proofs.lemmas.List.Elements.{Contains-append_cases}
 use Rattle.std.specs.{Prelude.{option_to_list}, List.{Contains}}
-use Rattle.x25_bits.specs.declared.role.Role.{Role}
 use Rattle.x25_frame.specs.{Frame.{PlainFrame, frmr}, Spelling.{spelling_of}, laws.ReadingLaw.{ReadsSpelled}}
 use Rattle.x25_link.specs.{declared.phase.Phase.{Phase}, declared.phase.Phase.TheVariants.{Waiting, Closed}, Station.{Settings}, Hearing.{Step, other}}
 use Rattle.x25_line.specs.{laws.Stations.{Stations}, laws.StationClaims.{AreJoined, NoFrmr, AreWhole, numbered_on}}
@@ -36,15 +35,15 @@ went_by c step gone stand = standing_after c step.side.near (map (spelling_of c.
 
 pub nothing_handed : (e : SessionEnd) (n : ℕ) (step : Step) → step.packet ≡ None → SameLists e (end_after e n [] step)
 nothing_handed e n step none =
-    record { down = λ m. extended_nil e.down n m; up = λ m. ap (λ (o : Option (List ℕ)). extended e.up n (option_to_list o) m) none ∙ extended_nil e.up n m }
+    record { down = λ m. extended_nil e.down n m; up = λ m. ap (λ o. extended e.up n (option_to_list o) m) none ∙ extended_nil e.up n m }
 
-pub live_lists : (c : Settings) (e : SessionEnd) (p : ℕ) (v : Stations) (os down : List (List ℕ)) (step : Step) → e.begun ≡ p → HasLists e p v.near
+pub live_lists : (c : Settings) {e : SessionEnd} {p : ℕ} (v : Stations) (os down : List (List ℕ)) (step : Step) → e.begun ≡ p → HasLists e p v.near
     → HasLists (end_after e e.begun down step) p (one.after_step c v os down step).near
-live_lists c e p v os down step is h =
+live_lists c {e} v os down step is h =
     record {
-      down = ap (extended e.down e.begun down) (sym is) ∙ extended_same e.down e.begun down ∙ ap (λ (x : List (List ℕ)). x ++ down) (ap e.down is ∙ h.down);
+      down = ap (extended e.down e.begun down) (sym is) ∙ extended_same e.down e.begun down ∙ ap (λ x. x ++ down) (ap e.down is ∙ h.down);
       up = ap (extended e.up e.begun (option_to_list step.packet)) (sym is) ∙ extended_same e.up e.begun (option_to_list step.packet)
-          ∙ ap (λ (x : List (List ℕ)). x ++ option_to_list step.packet) (ap e.up is ∙ h.up);
+          ∙ ap (λ x. x ++ option_to_list step.packet) (ap e.up is ∙ h.up);
     }
 
 -- ---- what stands behind
@@ -61,20 +60,20 @@ no_frmr_behind (frame ∷ xs) ys h = no_frmr_behind xs ys h
 pub waiting_is_closed : {A : Type 0} (p : Phase) → p ≡ Waiting → p ≡ Closed → A
 waiting_is_closed p e f = absurd (cc)
 
-waiting_away : {A : Type 0} (p : Phase) → p ≡ Waiting → MayBeAway ⊥ p → A
-waiting_away p e h = absurd (subst (MayBeAway ⊥) e h)
+waiting_away : {A : Type 0} {p : Phase} → p ≡ Waiting → MayBeAway ⊥ p → A
+waiting_away e h = absurd (subst (MayBeAway ⊥) e h)
 
 -- who has a SABM on the line waits, or is Closed
-pub asked_by : (p : Phase) (n m : ℕ) → 1 ≤ n → Owes p n m → ((p ≡ Waiting) × (n ≤ 1) × (m ≡ 0)) ⊎ (p ≡ Closed)
-asked_by Waiting n m h g = inl (refl, g.0, g.1)
-asked_by Closed n m h g = inr refl
-asked_by p n m h g = absurd (omega (arith, h, g.0))
+pub asked_by : (p : Phase) {n m : ℕ} → 1 ≤ n → Owes p n m → ((p ≡ Waiting) × (n ≤ 1) × (m ≡ 0)) ⊎ (p ≡ Closed)
+asked_by Waiting h g = inl (refl, g.0, g.1)
+asked_by Closed h g = inr refl
+asked_by p h g = absurd (omega (arith, h, g.0))
 
 -- UA is sent to an end that is Closed
 abbrev pub Answers : Sessions → Step → Type 0
 Answers w step = (w.far.station.phase ≡ Closed) ⊎ (count ua_in step.side.out ≡ 0)
 
-module _ (c d : Settings) (joined : AreJoined c d) (reads : ReadsSpelled) where
+module _ {c d : Settings} (joined : AreJoined c d) (reads : ReadsSpelled) where
   pub many_out : (kind : Read → ℕ) (s : ℕ) (given : List (List ℕ)) (fs : List PlainFrame) → AreWhole d.longest given fs → how_many kind (other d.role) d.longest (sent_in s c.role fs) ≡ count kind fs
   many_out kind s given fs h =
       rw joined.near_role (many_sent reads c.role d.longest kind s given fs h)
@@ -84,7 +83,7 @@ module _ (c d : Settings) (joined : AreJoined c d) (reads : ReadsSpelled) where
   pub live_held : {stand : Standing} (w : Sessions) (h : Held stand c d w) → w.near.begun ≡ stand.near → (es : List Entry) (os : List (List ℕ)) (met : List Meeting) (down : List (List ℕ)) (step : Step) (gone : Option ℕ)
       → Leads ⊥ c d h.alone stand.machine (taken_out gone stand.machine.back) (one.after_step c h.alone os down step) → numbers (other c.role) c.longest es ≡ numbered_on (other c.role) c.longest os → AllOf (other c.role) c.longest stand.far es
       → Answers w step → Held (went_by c step gone stand) c d (stepped c w es met down w.near.begun step)
-  live_held {stand} w h near es os met down step gone holds comes from answers = subst (λ (z : Standing). Held z c d (stepped c w es met down w.near.begun step)) is_on (go holds.1.near)
+  live_held {stand} w h near es os met down step gone holds comes from answers = subst (λ z. Held z c d (stepped c w es met down w.near.begun step)) is_on (go holds.1.near)
     where
       fs : List PlainFrame
       fs = step.side.out
@@ -112,10 +111,10 @@ module _ (c d : Settings) (joined : AreJoined c d) (reads : ReadsSpelled) where
       handed : (x : List ℕ) → Contains (now.near.down ++ now.far.down) x
           → ((n : ℕ) × Contains ((end_after w.near w.near.begun down step).down n) x) ⊎ ((n : ℕ) × Contains (w.far.down n) x)
       handed x there =
-          let lists = live_lists c w.near stand.near h.alone os down step near h.near_lists in
+          let lists = live_lists c h.alone os down step near h.near_lists in
           elim (Contains-append_cases now.near.down now.far.down x there) [
-            | inl here ↦ inl (stand.near, subst (λ (xs : List (List ℕ)). Contains xs x) (sym lists.down) here)
-            | inr there ↦ inr (stand.far, subst (λ (xs : List (List ℕ)). Contains xs x) (sym h.far_lists.down) there)
+            | inl here ↦ inl (stand.near, subst (λ xs. Contains xs x) (sym lists.down) here)
+            | inr there ↦ inr (stand.far, subst (λ xs. Contains xs x) (sym h.far_lists.down) there)
           ]
 
       by : IsThere step.side.near.phase (other c.role) c.longest step.side.near w.near.begun es step.side.near os stand.near stand.far → Held (with_machine stand holds.0) c d (stepped c w es met down w.near.begun step)
@@ -125,7 +124,7 @@ module _ (c d : Settings) (joined : AreJoined c d) (reads : ReadsSpelled) where
             holds = holds.1;
             near = there;
             far = there_more more (map (spelling_of c.role) fs) same of none_to h.far;
-            near_lists = live_lists c w.near stand.near h.alone os down step near h.near_lists;
+            near_lists = live_lists c h.alone os down step near h.near_lists;
             far_lists = h.far_lists;
             no_frmr = no_frmr_append w.sent fs h.no_frmr (no_frmr_behind h.alone.sent fs holds.1.no_frmr);
             whole = whole_on d.longest w.near (end_after w.near w.near.begun down step) w.far (now.near.down ++ now.far.down) w.sent fs (λ n x old. extended_more w.near.down w.near.begun n down x old)
@@ -135,12 +134,12 @@ module _ (c d : Settings) (joined : AreJoined c d) (reads : ReadsSpelled) where
       is_on : with_machine stand holds.0 ≡ went_by c step gone stand
       is_on =
           standing_after_is c step.side.near (map (spelling_of c.role) fs) gone stand holds.0 holds.2.near holds.2.far
-          (holds.2.out ∙ ap (λ (put : List (List ℕ)). stand.machine.out ++ given holds.0.near.acked (length holds.0.near.taken) stand.machine.near.sent (numbered_on c.role c.longest put)) (put_behind h.alone.out (map (spelling_of c.role) fs)))
+          (holds.2.out ∙ ap (λ put. stand.machine.out ++ given holds.0.near.acked (length holds.0.near.taken) stand.machine.near.sent (numbered_on c.role c.longest put)) (put_behind h.alone.out (map (spelling_of c.role) fs)))
           holds.2.back
 
       go : FitsEnd ⊥ c step.side.near holds.0.near → Held (with_machine stand holds.0) c d (stepped c w es met down w.near.begun step)
       go (inl u) = by (is_there step.side.near.phase u.up (record { station = refl; session = near; comes = comes; of = from }))
-      go (inr away) = by (is_out step.side.near.phase (away_is_not_up ⊥ step.side.near.phase away.away) (λ waiting. waiting_away step.side.near.phase waiting away.away))
+      go (inr away) = by (is_out step.side.near.phase (away_is_not_up ⊥ step.side.near.phase away.away) (λ waiting. waiting_away waiting away.away))
 
   -- ---- an end that is out of the session, or goes into it
 
@@ -150,15 +149,15 @@ module _ (c d : Settings) (joined : AreJoined c d) (reads : ReadsSpelled) where
       → Held (went_by c step None stand) c d (stepped c w es met [] n step)
   apart_held {stand} w h es met n step none there parting no_ua =
       let same = nothing_handed w.near n step none in
-      subst (λ (z : Standing). Held z c d (stepped c w es met [] n step)) is_on (record {
+      subst (λ z. Held z c d (stepped c w es met [] n step)) is_on (record {
         alone = h.alone;
         holds = h.holds;
         near = there;
         far = rw (sym (append-nil h.alone.out)) (there_more more [] quiet (quiet_of (other d.role) d.longest stand.near more quiet) (λ waiting. many ua_in ∙ no_ua) h.far);
-        near_lists = lists_same w.near (end_after w.near n [] step) stand.near h.alone.near same h.near_lists;
+        near_lists = lists_same same h.near_lists;
         far_lists = h.far_lists;
         no_frmr = no_frmr_append w.sent fs h.no_frmr (parting_no_frmr (Unit {0}) fs (parts_of (Unit {0}) fs parting));
-        whole = whole_apart d.longest w.near (end_after w.near n [] step) w.far w.sent fs same parting h.whole;
+        whole = whole_apart fs same parting h.whole;
       })
     where
       fs : List PlainFrame
@@ -170,12 +169,12 @@ module _ (c d : Settings) (joined : AreJoined c d) (reads : ReadsSpelled) where
       quiet : numbers (other d.role) d.longest more ≡ []
       quiet =
           ap (numbered_on (other d.role) d.longest) (octets_sent n c.role step.side.out)
-          ∙ subst (λ (r : Role). numbered_on r d.longest (map (spelling_of c.role) step.side.out) ≡ []) (sym joined.near_role) (parting_numbered reads c.role d.longest (Unit {0}) step.side.out (parts_of (Unit {0}) step.side.out parting))
+          ∙ subst (λ r. numbered_on r d.longest (map (spelling_of c.role) step.side.out) ≡ []) (sym joined.near_role) (parting_numbered reads c.role d.longest (Unit {0}) step.side.out (parts_of (Unit {0}) step.side.out parting))
 
       many : (kind : Read → ℕ) → how_many kind (other d.role) d.longest more ≡ count kind step.side.out
       many kind = many_out kind n [] step.side.out (parting_whole (Unit {0}) d.longest [] step.side.out (parts_of (Unit {0}) step.side.out parting))
 
       is_on : stand ≡ went_by c step None stand
       is_on =
-          stays_on c step.side.near (map (spelling_of c.role) fs) stand (counted_there c (end_after w.near n [] step) h.alone.near.station stand.machine.near there h.holds.near)
+          stays_on c step.side.near (map (spelling_of c.role) fs) stand (counted_there (end_after w.near n [] step) there h.holds.near)
           (rw joined.longest (parting_numbered reads c.role d.longest (Unit {0}) fs (parts_of (Unit {0}) fs parting)))

@@ -1,7 +1,7 @@
 -- What comes to the near end keeps what holds of two stations over sessions.
 use Rattle.std.proofs.Common.{◌≡◌, ◌≤◌, ℕ, suc, ◌+◌, List, [], ◌∷◌, ◌⊎◌, inl, inr, Bool, true, false, if◌then◌else◌, Option, None, Ok, refl, sym, ap, ◌∙◌, subst, arith}
 use Rattle.x25_frame.specs.{Frame.{PlainFrame, sabm, disc, ua, dm}, Reading.{frame_of}, laws.ReadingLaw.{ReadsSpelled}}
-use Rattle.x25_link.specs.{declared.phase.Phase.{Phase}, declared.phase.Phase.TheVariants.{Down, Waiting, Up, Closed}, declared.phase.Notes.{Notes}}
+use Rattle.x25_link.specs.{declared.phase.Phase.{Phase}, declared.phase.Phase.TheVariants.{Down, Waiting, Up, Closed}}
 use Rattle.x25_link.specs.{laws.SetUp.{Is, TakesPart, waiting_sends, waiting_up}, Station.{Settings, LinkStation, is_up, fresh}, Hearing.{Step, other}}
 use Rattle.x25_link.specs.{Link.{take_step}, laws.WindowMachine.{ShowAll}, laws.WindowLaw.{window_of, brought_by, ending_of, IsOut, AreDeclining, StaysOut}}
 use Rattle.x25_line.specs.{laws.StationClaims.{AreJoined, number_in, numbered_on}, laws.WholeNumbers.{first_of, taken_out}, laws.SessionClaims.{octets_of}}
@@ -31,7 +31,7 @@ waiting_none r no_sabm = refl
 
 declining_none : (fs : List PlainFrame) → AreDeclining fs → count ua_in fs ≡ 0
 declining_none [] h = refl
-declining_none (dm f ∷ fs) h = (let there = declining_none fs h in omega (arith, there))
+declining_none (dm f ∷ fs) h = (omega (arith, declining_none fs h))
 declining_none (frame ∷ fs) h = absurd h
 
 -- ---- what comes first, what the near end does, and the two stations after it
@@ -63,18 +63,18 @@ pub closed_by : (p : Phase) (n m : ℕ) → 1 ≤ m → Owes p n m → p ≡ Clo
 closed_by Closed n m some h = refl
 closed_by p n m some h = absurd (omega (arith, some, h.1))
 
-out_is_waiting : {A : Type 0} (p : Phase) → IsOut p → p ≡ Waiting → A
-out_is_waiting p out waiting = absurd (subst IsOut waiting out)
+out_is_waiting : {A : Type 0} {p : Phase} → IsOut p → p ≡ Waiting → A
+out_is_waiting out waiting = absurd (subst IsOut waiting out)
 
-module _ (c d : Settings) (joined : AreJoined c d) (reads : ReadsSpelled) (laws : Laws) where
+module _ {c d : Settings} (joined : AreJoined c d) (reads : ReadsSpelled) (laws : Laws) where
   -- ---- the front is taken off the line
 
-  module _ {stand : Standing} (w : Sessions) (h : Held stand c d w) (line : OnLine c d w) (e : Entry) (es : List Entry) (is : w.back ≡ e ∷ es) where
+  module _ {stand : Standing} {w : Sessions} (h : Held stand c d w) (line : OnLine c d w) (e : Entry) (es : List Entry) (is : w.back ≡ e ∷ es) where
     all_back : (kind : Read → ℕ) → how_many kind (other c.role) c.longest w.back ≡ kind (read_of c e) + how_many kind (other c.role) c.longest es
     all_back kind = ap (how_many kind (other c.role) c.longest) is
 
     orderly : IsNoSabm (read_of c e) → IsOrderly ⊥ (read_of c e)
-    orderly no_sabm = orderly_where (Unit {0}) ⊥ (read_of c e) (λ p sabm_is asked. (let one = ap sabm_in sabm_is in absurd (omega (arith, no_sabm, one)))) (line.fine e es is)
+    orderly no_sabm = orderly_where ⊥ (read_of c e) (λ p sabm_is asked. (absurd (omega (arith, no_sabm, ap sabm_in sabm_is)))) (line.fine e es is)
 
     -- ---- a SABM
 
@@ -89,9 +89,9 @@ module _ (c d : Settings) (joined : AreJoined c d) (reads : ReadsSpelled) (laws 
     sabm_held : (p : Bool) → read_of c e ≡ Ok (sabm p) → TakesPart w.near.station.phase → Held (anew c d w) c d (taken c w e es)
     sabm_held p read part =
         let i = laws.set_up.sets_up c e.octets w.near.station part p read in
-        let up : is_up (step_of c w e).side.near.phase ≡ true = ap (λ (z : LinkStation). is_up z.phase) i.near in
-        subst (λ (n : ℕ). Held (anew c d w) c d (stepped c w es (heard_by c w e) [] n (step_of c w e))) (sym (ap (λ (b : Bool). begun_by b w.near.begun) i.up))
-        (begins_held c d joined reads w h line e es (heard_by c w e) is (ap sabm_in read) (suc w.near.begun) p (step_of c w e) i.packet i.out
+        let up : is_up (step_of c w e).side.near.phase ≡ true = ap (λ z. is_up z.phase) i.near in
+        subst (λ n. Held (anew c d w) c d (stepped c w es (heard_by c w e) [] n (step_of c w e))) (sym (ap (λ b. begun_by b w.near.begun) i.up))
+        (begins_held joined reads w h line e es (heard_by c w e) is (ap sabm_in read) (suc w.near.begun) p (step_of c w e) i.packet i.out
         (is_there (step_of c w e).side.near.phase up
         (new_one (step_of c w e).side.near (suc w.near.begun) es (sym i.near) refl (quiet_left p read))))
 
@@ -100,23 +100,23 @@ module _ (c d : Settings) (joined : AreJoined c d) (reads : ReadsSpelled) (laws 
     sabm_waiting p read waiting =
         let i : Is w.near.station (ua p ∷ []) None false (step_of c w e) = laws.set_up.waits c e.octets w.near.station waiting (Ok (sabm p)) (sym read) in
         quiet_held c d w es (heard_by c w e) [] (step_of c w e) i.up
-        (begins_held c d joined reads w h line e es (heard_by c w e) is (ap sabm_in read) w.near.begun p (step_of c w e) i.packet i.out
-        (is_soon (step_of c w e).side.near.phase (ap (λ (z : LinkStation). z.phase) i.near ∙ waiting) (λ _. new_one fresh (suc w.near.begun) (behind_ua (other c.role) c.longest es) refl refl (behind_quiet (other c.role) c.longest es (quiet_left p read)))))
+        (begins_held joined reads w h line e es (heard_by c w e) is (ap sabm_in read) w.near.begun p (step_of c w e) i.packet i.out
+        (is_soon (step_of c w e).side.near.phase (ap (λ z. z.phase) i.near ∙ waiting) (λ _. new_one fresh (suc w.near.begun) (behind_ua (other c.role) c.longest es) refl refl (behind_quiet (other c.role) c.longest es (quiet_left p read)))))
 
     -- ---- an end that is out and stays so
 
     stays_held : IsOut w.near.station.phase → StaysOut (step_of c w e) → Held (went_by c (step_of c w e) None stand) c d (taken c w e es)
     stays_held out stays =
         let t = step_of c w e in
-        quiet_held c d w es (heard_by c w e) [] t (ap (λ (n : Notes). n.up) stays.quiet)
-        (apart_held c d joined reads w h es (heard_by c w e) w.near.begun t stays.packet
-        (is_out t.side.near.phase (out_not_up t.side.near.phase stays.out) (λ waiting. out_is_waiting t.side.near.phase stays.out waiting))
+        quiet_held c d w es (heard_by c w e) [] t (ap (λ n. n.up) stays.quiet)
+        (apart_held joined reads w h es (heard_by c w e) w.near.begun t stays.packet
+        (is_out t.side.near.phase (out_not_up t.side.near.phase stays.out) (λ waiting. out_is_waiting stays.out waiting))
         (declining_parting (Unit {0}) t.side.out stays.frames) (declining_none t.side.out stays.frames))
 
     -- ---- while UA is awaited
 
     few_uas : w.near.station.phase ≡ Waiting → how_many ua_in (other c.role) c.longest (e ∷ es) ≤ 1
-    few_uas waiting = (let owes = waiting_owes w.near.station.phase _ _ waiting line.near_owes in let all = ap (how_many ua_in (other c.role) c.longest) is in omega (arith, all, owes.0))
+    few_uas waiting = (let owes = waiting_owes waiting line.near_owes in omega (arith, ap (how_many ua_in (other c.role) c.longest) is, owes.0))
 
     at_front : EndIsThere c w.near (e ∷ es) h.alone.near.station h.alone.back stand.near stand.far
     at_front = rw (sym is) h.near
@@ -124,9 +124,9 @@ module _ (c d : Settings) (joined : AreJoined c d) (reads : ReadsSpelled) (laws 
     -- the UA begins the session that the end was about to be in
     answered_held : read_of c e ≡ Ok (ua true) → w.near.station.phase ≡ Waiting → Held (went_by c (step_of c w e) None stand) c d (taken c w e es)
     answered_held read waiting =
-        subst (λ (n : ℕ). Held (went_by c (step_of c w e) None stand) c d (stepped c w es (heard_by c w e) [] n (step_of c w e))) (sym (ap (λ (b : Bool). begun_by b w.near.begun) i.up))
-        (apart_held c d joined reads w h es (heard_by c w e) (suc w.near.begun) (step_of c w e) i.packet
-        (is_there (step_of c w e).side.near.phase (ap (λ (z : LinkStation). is_up z.phase) i.near)
+        subst (λ n. Held (went_by c (step_of c w e) None stand) c d (stepped c w es (heard_by c w e) [] n (step_of c w e))) (sym (ap (λ b. begun_by b w.near.begun) i.up))
+        (apart_held joined reads w h es (heard_by c w e) (suc w.near.begun) (step_of c w e) i.packet
+        (is_there (step_of c w e).side.near.phase (ap (λ z. is_up z.phase) i.near)
         (record { station = now.station ∙ sym i.near; session = now.session; comes = now.comes; of = now.of }))
         (subst (AreParting (Unit {0})) (sym i.out) tt) (ap (count ua_in) i.out))
       where
@@ -138,7 +138,7 @@ module _ (c d : Settings) (joined : AreJoined c d) (reads : ReadsSpelled) (laws 
 
         now : IsOf (other c.role) c.longest fresh (suc w.near.begun) es h.alone.near.station h.alone.back stand.near stand.far
         now =
-            subst (λ (n : ℕ). IsOf (other c.role) c.longest fresh (suc w.near.begun) (by_first n (behind_ua (other c.role) c.longest es) es) h.alone.near.station h.alone.back stand.near stand.far) one_ua
+            subst (λ n. IsOf (other c.role) c.longest fresh (suc w.near.begun) (by_first n (behind_ua (other c.role) c.longest es) es) h.alone.near.station h.alone.back stand.near stand.far) one_ua
             (at_front.awaits waiting (omega (arith, one_ua)))
 
     -- what else comes
@@ -148,7 +148,7 @@ module _ (c d : Settings) (joined : AreJoined c d) (reads : ReadsSpelled) (laws 
         let i = laws.set_up.waits c e.octets w.near.station waiting (read_of c e) refl in
         let same : (step_of c w e).side.near ≡ w.near.station = i.near ∙ waits_on (read_of c e) w.near.station no_answer in
         quiet_held c d w es (heard_by c w e) [] (step_of c w e) (i.up ∙ no_answer)
-        (apart_held c d joined reads w h es (heard_by c w e) w.near.begun (step_of c w e) i.packet
+        (apart_held joined reads w h es (heard_by c w e) w.near.begun (step_of c w e) i.packet
         (rw same (there_passes e waiting (few_uas waiting) at_front))
         (subst (AreParting (Unit {0})) (sym i.out) (waiting_parting (Unit {0}) (read_of c e))) (ap (count ua_in) i.out ∙ waiting_none (read_of c e) no_sabm))
 
@@ -156,7 +156,7 @@ module _ (c d : Settings) (joined : AreJoined c d) (reads : ReadsSpelled) (laws 
 
     up_held : IsNoSabm (read_of c e) → is_up w.near.station.phase ≡ true
         → Held (went_by c (step_of c w e) (first_of (number_in (read_of c e))) stand) c d (taken c w e es)
-    up_held no_sabm up = live_goes_on c d joined reads w h i.is.session es (carried (other c.role) c.longest es) (heard_by c w e) [] (step_of c w e) gone leads (sym (carried_numbers (other c.role) c.longest es)) comes.of.1 answers
+    up_held no_sabm up = live_goes_on joined reads w h i.is.session es (carried (other c.role) c.longest es) (heard_by c w e) [] (step_of c w e) gone leads (sym (carried_numbers (other c.role) c.longest es)) comes.of.1 answers
       where
         i : InSession stand c d w h
         i = in_session c d w h up
@@ -166,8 +166,8 @@ module _ (c d : Settings) (joined : AreJoined c d) (reads : ReadsSpelled) (laws 
 
         shows : ShowAll (consed (number_in (read_of c e)) (numbered_on (other c.role) c.longest (carried (other c.role) c.longest es))) stand.machine.back
         shows =
-            subst (λ (fs : List PlainFrame). ShowAll fs stand.machine.back)
-            (sym comes.comes ∙ ap (λ (fs : List PlainFrame). consed (number_in (read_of c e)) fs) (sym (carried_numbers (other c.role) c.longest es)))
+            subst (λ fs. ShowAll fs stand.machine.back)
+            (sym comes.comes ∙ ap (λ fs. consed (number_in (read_of c e)) fs) (sym (carried_numbers (other c.role) c.longest es)))
             h.holds.back
 
         gone : Option ℕ
@@ -175,13 +175,13 @@ module _ (c d : Settings) (joined : AreJoined c d) (reads : ReadsSpelled) (laws 
 
         leads : Leads ⊥ c d h.alone stand.machine (taken_out gone stand.machine.back) (one.after_step c h.alone (carried (other c.role) c.longest es) [] (step_of c w e))
         leads =
-            rw (sym i.is.station) (read_joint ⊥ c d joined reads h.alone stand.machine h.holds i.machine (read_of c e) (carried (other c.role) c.longest es) (take_step c e.octets h.alone.near.station)
+            rw (sym i.is.station) (read_joint ⊥ joined reads h.holds i.machine (read_of c e)
             (orderly no_sabm) (carried_orderly (other c.role) c.longest es) shows (laws.take_tells c e.octets h.alone.near.station)
             (laws.window.take c e.octets h.alone.near.station (record { up = i.machine.up; sound = i.machine.sound }) (read_of c e) refl))
 
         -- who sent a DISC is Closed
         closed : disc_in (read_of c e) ≡ 1 → w.far.station.phase ≡ Closed
-        closed one = closed_by w.far.station.phase _ _ (let all = all_back disc_in in omega (arith, all, one)) line.far_owes
+        closed one = closed_by w.far.station.phase _ _ (omega (arith, all_back disc_in, one)) line.far_owes
 
         answers : Answers w (step_of c w e)
         answers =

@@ -1,5 +1,5 @@
 -- What an end does that is Up, over sessions, and what it sends.
-use Rattle.std.proofs.Common.{◌≡◌, ℕ, List, [], ◌∷◌, inl, inr, Bool, false, Option, Some, None, Ok, refl, sym, ap, arith}
+use Rattle.std.proofs.Common.{◌≡◌, ℕ, List, [], ◌∷◌, inl, inr, false, Option, Some, None, Ok, refl, sym, ap, arith}
 use Rattle.x25_frame.specs.{Frame.{PlainFrame, info, rr, rnr, rej}, laws.ReadingLaw.{ReadsSpelled}}
 use Rattle.x25_window.specs.laws.Window.{Frame, frames_of}
 use Rattle.x25_link.specs.{declared.phase.Phase.TheVariants.{Closed}, declared.phase.Reason.{Reason}, declared.phase.Reason.TheVariants.{Disc, FrmrSent, Reset}}
@@ -26,18 +26,18 @@ shown_numbered [] gs h = tt
 shown_numbered (f ∷ fs) [] h = absurd h
 shown_numbered (f ∷ fs) (g ∷ gs) h = (shown_number f g h.0, shown_numbered fs gs h.1)
 
-runs_numbered : (v z : Window) (fs : List PlainFrame) → Runs v z fs → AllNumbered fs
-runs_numbered v z fs rests = tt
-runs_numbered v z fs (goes_on w before step frames runs sent allowed shows) = each_append (λ (f : PlainFrame). number_in (Ok f) ≡ Some f) before frames (runs_numbered v w before runs) (shown_numbered frames (frames_of w step) shows)
+runs_numbered : {v z : Window} {fs : List PlainFrame} → Runs v z fs → AllNumbered fs
+runs_numbered rests = tt
+runs_numbered {v} (goes_on w before step frames runs sent allowed shows) = each_append (λ f. number_in (Ok f) ≡ Some f) before frames (runs_numbered runs) (shown_numbered frames (frames_of w step) shows)
 
 -- ---- what is sent where Up is left
 
-pub stays_answers : (w : Sessions) (k : ℕ) (input : Input) (s : LinkStation) (step : Step) → Stays k input s step → Answers w step
-stays_answers w k input s step h = inr (numbered_no_ua step.side.out (runs_numbered _ _ step.side.out h.sends))
+pub stays_answers : (w : Sessions) {k : ℕ} {input : Input} {s : LinkStation} {step : Step} → Stays k input s step → Answers w step
+stays_answers w {step = step} h = inr (numbered_no_ua step.side.out (runs_numbered h.sends))
 
 -- where it leaves by DISC that came, and not by SABM
 pub follows_answers : (w : Sessions) (o : Option Reason) (k : ℕ) (input : Input) (s : LinkStation) (step : Step) → (by_disc o ≡ 1 → w.far.station.phase ≡ Closed) → by_reset o ≡ 0 → Follows o k input s step → Answers w step
-follows_answers w None k input s step closed stays h = stays_answers w k input s step h
+follows_answers w None k input s step closed stays h = stays_answers w h
 follows_answers w (Some Disc) k input s step closed stays h = inl (closed refl)
 follows_answers w (Some FrmrSent) k input s step closed stays h = inr (ap (count ua_in) h.frames.2)
 follows_answers w (Some Reset) k input s step closed stays h = absurd (omega (arith, stays))
@@ -53,14 +53,14 @@ never_up : (r : Read) (v : Window) → number_in r ≡ None → (y : List ℕ) �
 never_up (Ok (info ns nr p x)) v none y h = none_is_some (info ns nr p x) (sym none)
 never_up r v none y h = h
 
-pub stays_no_packet : (k : ℕ) (input : Input) (s : LinkStation) (step : Step) → ((v : Window) (y : List ℕ) → InputMayHandUp input y v → ⊥) → Stays k input s step → step.packet ≡ None
-stays_no_packet k input s step never h = no_packet_by input step.packet _ (never _) h.hands_up
+pub stays_no_packet : {k : ℕ} {input : Input} {s : LinkStation} {step : Step} → ((v : Window) (y : List ℕ) → InputMayHandUp input y v → ⊥) → Stays k input s step → step.packet ≡ None
+stays_no_packet {input = input} {step = step} never h = no_packet_by input step.packet _ (never _) h.hands_up
 
 pub follows_no_packet : (o : Option Reason) (k : ℕ) (r : Read) (s : LinkStation) (step : Step) → number_in r ≡ None → Follows o k (brought_by r) s step → step.packet ≡ None
-follows_no_packet None k r s step none h = stays_no_packet k (brought_by r) s step (λ v y up. never_up r v none y up) h
+follows_no_packet None k r s step none h = stays_no_packet (λ v y up. never_up r v none y up) h
 follows_no_packet (Some reason) k r s step none h = h.packet
 
-module _ (c d : Settings) (joined : AreJoined c d) (reads : ReadsSpelled) where
+module _ {c d : Settings} (joined : AreJoined c d) (reads : ReadsSpelled) where
   -- no LinkUp is noted in the session alone
   quiet_up : (v : Stations) (os down : List (List ℕ)) (step : Step) → Holds ⊥ c d (one.after_step c v os down step) → step.notes.up ≡ false
   quiet_up v os down step holds = second_false v.near.came_up step.notes.up holds.1.near_has.notes.once
@@ -69,4 +69,4 @@ module _ (c d : Settings) (joined : AreJoined c d) (reads : ReadsSpelled) where
       → Leads ⊥ c d h.alone stand.machine (taken_out gone stand.machine.back) (one.after_step c h.alone os down step) → numbers (other c.role) c.longest es ≡ numbered_on (other c.role) c.longest os → AllOf (other c.role) c.longest stand.far es
       → Answers w step → Held (went_by c step gone stand) c d (after_step c w es met down step)
   live_goes_on {stand} w h near es os met down step gone leads comes from answers =
-      rw (ap (λ (b : Bool). begun_by b w.near.begun) (quiet_up h.alone os down step (leads.0, leads.1))) (live_held c d joined reads w h near es os met down step gone leads comes from answers)
+      rw (ap (λ b. begun_by b w.near.begun) (quiet_up h.alone os down step (leads.0, leads.1))) (live_held joined reads w h near es os met down step gone leads comes from answers)

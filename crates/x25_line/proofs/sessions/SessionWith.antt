@@ -6,7 +6,7 @@ use Rattle.x25_link.specs.{declared.phase.Phase.{Phase}, declared.phase.Phase.Th
 use Rattle.x25_link.specs.laws.SetUp.{TakesPart}
 use Rattle.x25_line.specs.{laws.Sessions.{Entry, Meeting, ua_in, how_many as count, replaced}, laws.Peer.{Peer, MaySay}}
 use Rattle.x25_line.specs.{laws.PeerSessions.{PeerEnd, stand_of, letters}, laws.PeerSessionClaims.{frmr_in}}
-use Rattle.x25_line.specs.laws.Ends.{Stand, In, Asking, Letter, letter, how_many, AreOf, free, asks, closes, leaves, hears, takes_ua, takes_sabm, waits_on, takes_disc, loses, damages, Ends, near_now, with_near, Does, sends, listens, moves, IsReached, near_handed, near_does}
+use Rattle.x25_line.specs.laws.Ends.{Stand, In, Asking, Letter, letter, how_many, AreOf, free, asks, closes, leaves, hears, takes_ua, takes_sabm, waits_on, takes_disc, loses, damages, Ends, near_now, with_near, Does, sends, listens, moves, EndsReached, near_handed, near_does}
 use Rattle.x25_line.specs.{laws.StationClaims.{Each, number_in}, laws.Said.{Sabm, Ua, Else, Odd as OddSaid, said, sabm_of, ua_of, disc_of}}
 use Rattle.x25_line.proofs.{Order.{by_frmr, no_fault}, StationSays.{machine_of}}
 use Rattle.x25_line.proofs.{sessions.SessionLines.{Read, none_is_some, number_kinds, many_append}, sessions.SessionHeld.{Owes, owes_less}}
@@ -23,10 +23,10 @@ number_frmr r f is = refl
 
 -- nothing there is answered by FRMR
 abbrev pub NoneOdd : Role → ℕ → List Entry → Type 0
-NoneOdd from n1 es = Each (λ (e : Entry). said (frame_of from n1 e.octets) ≡ OddSaid → ⊥) es
+NoneOdd from n1 es = Each (λ e. said (frame_of from n1 e.octets) ≡ OddSaid → ⊥) es
 
 odd_less : (c : Settings) (es fs : List Entry) → LessEntries es fs → NoneOdd (other c.role) c.longest es → NoneOdd (other c.role) c.longest fs
-odd_less c es fs l h = each_less (λ (e : Entry). said (frame_of (other c.role) c.longest e.octets) ≡ OddSaid → ⊥) (λ e o visible. visible_fine (other c.role) c.longest o visible) es fs l h
+odd_less c es fs l h = each_less (λ e. said (frame_of (other c.role) c.longest e.octets) ≡ OddSaid → ⊥) (λ e o visible. visible_fine (other c.role) c.longest o visible) l h
 
 -- of a station that isn't about to ask once more, nor Closed
 abbrev pub Where : Phase → Type 0 → Type 0
@@ -50,13 +50,13 @@ module _ {n : ℕ} {p : Phase} {es out : List Letter} where
   kept_push e no_sabm no_disc k =
       let sabms = count_push sabm_of out e in
       let discs = count_push disc_of out e in
-      record { owes = owes_less p _ _ _ _ (omega (arith, sabms, no_sabm)) (omega (arith, discs, no_disc)) k.owes; present = k.present }
+      record { owes = owes_less p _ _ (omega (arith, sabms, no_sabm)) (omega (arith, discs, no_disc)) k.owes; present = k.present }
 
   -- less to it
   kept_less : {fs : List Letter} → Less es fs → Kept n p es out → Kept n p fs out
   kept_less {fs} l k =
-      let uas = count_less ua_of refl es fs l in
-      record { owes = owes_less p _ _ _ _ (omega (arith, uas)) (omega arith) k.owes; present = where_map p _ _ (are_less n es fs l) k.present }
+      let uas = count_less ua_of refl l in
+      record { owes = owes_less p _ _ (omega (arith, uas)) (omega arith) k.owes; present = where_map p _ _ (are_less n l) k.present }
 
 takes_part : {n : ℕ} {es out : List Letter} (p : Phase) → TakesPart p → Kept n p es out → Kept n Up es out
 takes_part Down part k = record { owes = k.owes; present = k.present }
@@ -102,7 +102,7 @@ module _ (Odd : Type 0) (c : Settings) (peer : PeerEnd) where
 
   -- they are such two ends
   pub record AreEnds (es : List Letter) (met : List Meeting) (p : Phase) (b : ℕ) (all : ℕ → Peer) (out : List Letter) : Type 0 where
-    pub reached : IsReached (at es met (stand_of p) b all out)
+    pub reached : EndsReached (at es met (stand_of p) b all out)
     pub kept : Kept peer.begun p es out
 
   -- and there are octets on their lines
@@ -112,66 +112,63 @@ module _ (Odd : Type 0) (c : Settings) (peer : PeerEnd) where
 
   module _ {met : List Meeting} {p : Phase} {b : ℕ} {all : ℕ → Peer} where
     -- one more on the line from it, no FRMR
-    sent : (es out : List Entry) (n : ℕ) (bytes : List ℕ) (r : Read) → sends_read c bytes ≡ r → frmr_in r ≡ 0 → AreLapb Odd c es out → AreEnds (backs c es) met p b all (outs c out ++ letter n (said r) ∷ [])
+    sent : {es out : List Entry} (n : ℕ) (bytes : List ℕ) (r : Read) → sends_read c bytes ≡ r → frmr_in r ≡ 0 → AreLapb Odd c es out → AreEnds (backs c es) met p b all (outs c out ++ letter n (said r) ∷ [])
         → IsWith es met p b all (out ++ entry n bytes ∷ [])
-    sent es out n bytes r read no_frmr h k = record {
+    sent {out = out} n bytes r read no_frmr h k = record {
       ends = rw (letters_push c.role c.longest out n bytes r read) k;
       octets = record {
-        frmr = λ ok. (let many = many_append c.role c.longest frmr_in out (entry n bytes ∷ []) in let one = ap frmr_in read in let before = h.frmr ok in omega (arith, many, one, before, no_frmr));
+        frmr = λ ok. (let many = many_append c.role c.longest frmr_in out (entry n bytes ∷ []) in omega (arith, many, ap frmr_in read, h.frmr ok, no_frmr));
         lapb = h.lapb;
       };
     }
 
   front : (e : Entry) (es : List Entry) (r : Read) → hears_read c e.octets ≡ r → backs c (e ∷ es) ≡ letter e.session (said r) ∷ backs c es
-  front e es r read = ap (λ (x : Read). letter e.session (said x) ∷ backs c es) read
+  front e es r read = ap (λ x. letter e.session (said x) ∷ backs c es) read
 
   -- a SABM or a DISC comes, and is answered
   came : {p : Phase} {x : Letter} {es out : List Letter} (b : ℕ) → Kept peer.begun p (x ∷ es) out → Kept peer.begun p es (out ++ letter b Ua ∷ [])
   came {p} {x} {es} {out} b k = kept_push (letter b Ua) refl refl (kept_less (gone x es) k)
 
-  passed : (e : Entry) (es : List Entry) (met : List Meeting) (p : Phase) (b : ℕ) (all : ℕ → Peer) (out : List Letter) → IsReached (at (backs c (e ∷ es)) met (stand_of p) b all out)
-      → IsReached (at (backs c es) (heard_in c p b e met) (stand_of p) b all out)
+  passed : (e : Entry) (es : List Entry) (met : List Meeting) (p : Phase) (b : ℕ) (all : ℕ → Peer) (out : List Letter) → EndsReached (at (backs c (e ∷ es)) met (stand_of p) b all out)
+      → EndsReached (at (backs c es) (heard_in c p b e met) (stand_of p) b all out)
   passed e es met p b all out h =
       rw (heard_said p b e.session (hears_read c e.octets) met) (near_does _ _ h (moves _ (hears (letter e.session (said (hears_read c e.octets))) (backs c es) refl)))
 
-  asked : (p : Phase) (es out : List Letter) → MayAsk p (AreOf peer.begun es) → Kept peer.begun p es out → AreOf peer.begun es
-  asked Down es out due k = k.present
-  asked Waiting es out due k = due
-  asked p es out due k = absurd due
+  asked : (p : Phase) {es out : List Letter} → MayAsk p (AreOf peer.begun es) → Kept peer.begun p es out → AreOf peer.begun es
+  asked Down due k = k.present
+  asked Waiting due k = due
+  asked p due k = absurd due
 
-  pub station_may : MayDo c (λ es. AreOf peer.begun (backs c es)) IsWith
+  pub station_may : MayDo c (λ p es. MayAsk p (AreOf peer.begun (backs c es))) IsWith
   station_may = record {
     handed = λ es met b all out packet h. record { ends = record { reached = near_handed _ packet h.ends.reached refl; kept = h.ends.kept }; octets = h.octets };
-    tells = λ es met b all out octets f q read number may h. sent es out b octets (Ok f) read (number_frmr (Ok f) f number) h.octets
+    tells = λ es met b all out octets f q read number may h. sent b octets (Ok f) read (number_frmr (Ok f) f number) h.octets
         (record {
           reached = near_does _ _ h.ends.reached (tells_does _ f q refl number may);
           kept = kept_push (letter b (said (Ok f))) (number_kinds (Ok f) f number).0 (number_kinds (Ok f) f number).2 h.ends.kept;
         });
-    declines = λ es met p b all out octets f read h. sent es out b octets (Ok (dm f)) read refl h.octets
+    declines = λ es met p b all out octets f read h. sent b octets (Ok (dm f)) read refl h.octets
         (record { reached = near_does _ _ h.ends.reached (moves _ free); kept = kept_push (letter b Else) refl refl h.ends.kept });
     asks = λ es met p b all out octets pf read due clear h.
         (let no_sabm = clear.sabm in let no_disc = clear.disc in let no_ua = clear.ua in
         let same_sabms = sabms c.role c.longest out in let same_discs = discs c.role c.longest out in let same_uas = uas (other c.role) c.longest es in
-        let all_sabms = count_push sabm_of (outs c out) (letter b Sabm) in let all_discs = count_push disc_of (outs c out) (letter b Sabm) in
-        sent es out b octets (Ok (sabm pf)) read refl h.octets (record {
+        sent b octets (Ok (sabm pf)) read refl h.octets (record {
           reached = near_does _ _ h.ends.reached (moves _ (asks (record {
             sabm = omega (arith, no_sabm, same_sabms);
             disc = omega (arith, no_disc, same_discs);
             ua = omega (arith, no_ua, same_uas);
-            crossing = asked p (backs c es) (outs c out) due h.ends.kept;
+            crossing = asked p due h.ends.kept;
           })));
-          kept = record { owes = (omega (arith, no_sabm, no_ua, same_sabms, same_uas, all_sabms), omega (arith, no_disc, same_discs, all_discs)); present = tt };
+          kept = record { owes = (omega (arith, no_sabm, no_ua, same_sabms, same_uas, count_push sabm_of (outs c out) (letter b Sabm)), omega (arith, no_disc, same_discs, count_push disc_of (outs c out) (letter b Sabm))); present = tt };
         }));
     closes = λ es met p b all out octets pf read h.
-        sent es out b octets (Ok (disc pf)) read refl h.octets (record { reached = near_does _ _ h.ends.reached (moves _ closes); kept = record { owes = tt; present = tt } });
+        sent b octets (Ok (disc pf)) read refl h.octets (record { reached = near_does _ _ h.ends.reached (moves _ closes); kept = record { owes = tt; present = tt } });
     leaves = λ es met b all out h. record { ends = record { reached = near_does _ _ h.ends.reached (moves _ leaves); kept = kept_left h.ends.kept }; octets = h.octets };
     gives_up = λ es met b all out due clear h.
-        (let no_sabm = clear.sabm in let no_disc = clear.disc in let no_ua = clear.ua in
-        let same_sabms = sabms c.role c.longest out in let same_discs = discs c.role c.longest out in let same_uas = uas (other c.role) c.longest es in
-        record {
+        (record {
           ends = record {
             reached = near_does _ _ h.ends.reached (moves _ leaves);
-            kept = record { owes = (omega (arith, no_sabm, no_ua, same_sabms, same_uas), omega (arith, no_disc, same_discs)); present = due };
+            kept = record { owes = (omega (arith, clear.sabm, clear.ua, sabms c.role c.longest out, uas (other c.role) c.longest es), omega (arith, clear.disc, discs c.role c.longest out)); present = due };
           };
           octets = h.octets;
         });
@@ -190,24 +187,23 @@ module _ (Odd : Type 0) (c : Settings) (peer : PeerEnd) where
         (let k = h.ends.kept in
         let is = front e es (Ok (ua true)) read in
         let before = at (backs c (e ∷ es)) met Asking b all (outs c out) in
-        let clear = ua_present before (reached_all before h.ends.reached) e.session (backs c es) refl is in
+        let clear = ua_present (reached_all h.ends.reached) e.session (backs c es) refl is in
         let one : ua_in (hears_read c e.octets) ≡ 1 = ap ua_in read in
-        let sum = k.owes.0 in
         record {
           ends = record {
             reached = near_does _ _ h.ends.reached (moves _ (takes_ua e.session (backs c es) is refl));
-            kept = record { owes = (omega (arith, sum, one), k.owes.1); present = clear.0 };
+            kept = record { owes = (omega (arith, k.owes.0, one), k.owes.1); present = clear.0 };
           };
           octets = behind h.octets;
         });
-    takes_sabm = λ e es met p b all out octets pf f read answer part h. sent es out (suc b) octets (Ok (ua f)) answer refl (behind h.octets)
+    takes_sabm = λ e es met p b all out octets pf f read answer part h. sent (suc b) octets (Ok (ua f)) answer refl (behind h.octets)
         (record {
           reached = near_does _ _ h.ends.reached (moves _ (takes_sabm e.session (backs c es) (front e es (Ok (sabm pf)) read)));
           kept = takes_part p part (came (suc b) h.ends.kept);
         });
-    waits_on = λ e es met b all out octets pf f read answer h. sent es out b octets (Ok (ua f)) answer refl (behind h.octets)
+    waits_on = λ e es met b all out octets pf f read answer h. sent b octets (Ok (ua f)) answer refl (behind h.octets)
         (record { reached = near_does _ _ h.ends.reached (moves _ (waits_on e.session (backs c es) (front e es (Ok (sabm pf)) read) refl)); kept = came b h.ends.kept });
-    takes_disc = λ e es met b all out octets pf f read answer h. sent es out b octets (Ok (ua f)) answer refl (behind h.octets)
+    takes_disc = λ e es met b all out octets pf f read answer h. sent b octets (Ok (ua f)) answer refl (behind h.octets)
         (record {
           reached = near_does _ _ (near_does _ _ h.ends.reached (moves _ (takes_disc e.session (backs c es) (front e es (Ok (disc pf)) read)))) (moves _ leaves);
           kept = kept_left (came b h.ends.kept);
@@ -219,8 +215,8 @@ module _ (Odd : Type 0) (c : Settings) (peer : PeerEnd) where
       });
       octets = record {
         frmr = λ ok. (let none = no_fault (hears_read c e.octets) (machine_of c.window (all b)) (h.octets.lapb ok).0
-            (λ carried nr is. valid _ (reached_all _ h.ends.reached) refl (letter e.session (said (hears_read c e.octets))) (backs c es) carried nr refl is) in
-            let one = ap by_frmr ending in absurd (omega (arith, none, one)));
+            (λ carried nr is. valid _ (reached_all h.ends.reached) refl (letter e.session (said (hears_read c e.octets))) (backs c es) carried nr refl is) in
+            absurd (omega (arith, none, ap by_frmr ending)));
         lapb = (behind h.octets).lapb;
       };
     };

@@ -1,33 +1,33 @@
 -- With the sessions forgotten, two stations over sessions are the two stations by themselves.
-use Rattle.std.proofs.Common.{◌≡◌, ◌≤◌, ◌<◌, ℕ, zero, suc, List, [], ◌∷◌, ◌++◌, length, map, remove, Bool, true, false, if◌then◌else◌, Option, refl, sym, ap, ◌∙◌, subst, arith, append-nil, append_assoc}
+use Rattle.std.proofs.Common.{◌≡◌, ◌≤◌, ◌<◌, ℕ, zero, suc, List, [], ◌∷◌, ◌++◌, length, map, remove, Bool, true, false, refl, sym, ap, ◌∙◌, subst, arith, append-nil, append_assoc}
 use Rattle.std.specs.Prelude.{nat_le, option_to_list, ◌||◌}
 use Rattle.x25_frame.specs.Spelling.{spelling_of}
-use Rattle.x25_link.specs.{declared.error.LinkError.{LinkError}, Station.{Settings, LinkStation, is_up}, Hearing.{Step}}
-use Rattle.x25_link.specs.Link.{take_step, put_step, put_refusal, timer_step, timer_refusal, connect_step, connect_refusal, disconnect_step, disconnect_refusal, abandon_step}
-use Rattle.x25_line.specs.laws.Stations.{StationEnd, Stations, Act, Put, Deliver, T1, Connect, Disconnect, Abandon, Probe, Lose, Damage, Event, Near, Far, is_visible, start}
+use Rattle.x25_link.specs.{Station.{Settings, LinkStation}, Hearing.{Step}}
+use Rattle.x25_link.specs.Link.{take_step, put_step, put_refusal}
+use Rattle.x25_line.specs.laws.Stations.{StationEnd, Stations, Act, Put, Deliver, Lose, Damage, LinkEvent, Near, Far, is_visible, start}
 use Rattle.x25_line.specs.laws.Sessions.{Entry, SessionEnd, Meeting, Sessions, extended, begun_by, after_step, unless, delivered, replaced, acts, swapped, happens, from_set_up, run}
 use Rattle.x25_line.specs.laws.SessionClaims.{octets_of, all_of, IsEndOf, SessionsAreStations, SetUpIsTheStart}
-use Rattle.x25_line.proofs.{Choices.{unless_both, if_both}, sessions.SessionSteps.{end_after}, sessions.SessionLines.{octets_append, octets_sent}}
+use Rattle.x25_line.proofs.{Choices.{unless_both, if_both, own_both}, sessions.SessionSteps.{end_after}, sessions.SessionLines.{octets_append, octets_sent}}
 use Rattle.x25_line.proofs.sessions.SessionHeld.{extended_same, extended_other}
 use Rattle.x25_line.specs.laws.Stations as one
 
 -- ---- lists of all sessions
 
 all_below : (f : ℕ → List (List ℕ)) (n : ℕ) (more : List (List ℕ)) (k : ℕ) → k < n → all_of (extended f n more) k ≡ all_of f k
-all_below f n more zero less = extended_other f n zero more (λ (is : zero ≡ n). omega (arith, is, less))
+all_below f n more zero less = extended_other f n zero more (λ is. omega (arith, is, less))
 all_below f n more (suc k) less =
-    ap (λ (x : List (List ℕ)). x ++ extended f n more (suc k)) (all_below f n more k (omega (arith, less)))
-    ∙ ap (λ (x : List (List ℕ)). all_of f k ++ x) (extended_other f n (suc k) more (λ (is : suc k ≡ n). omega (arith, is, less)))
+    ap (λ x. x ++ extended f n more (suc k)) (all_below f n more k (omega (arith, less)))
+    ∙ ap (λ x. all_of f k ++ x) (extended_other f n (suc k) more (λ is. omega (arith, is, less)))
 
 all_extended : (f : ℕ → List (List ℕ)) (n : ℕ) (more : List (List ℕ)) → all_of (extended f n more) n ≡ all_of f n ++ more
 all_extended f zero more = extended_same f zero more
 all_extended f (suc n) more =
-    ap (λ (x : List (List ℕ)). x ++ extended f (suc n) more (suc n)) (all_below f (suc n) more n (omega arith))
-    ∙ ap (λ (x : List (List ℕ)). all_of f n ++ x) (extended_same f (suc n) more)
+    ap (λ x. x ++ extended f (suc n) more (suc n)) (all_below f (suc n) more n (omega arith))
+    ∙ ap (λ x. all_of f n ++ x) (extended_same f (suc n) more)
     ∙ sym (append_assoc (all_of f n) (f (suc n)) more)
 
 all_begun : (f : ℕ → List (List ℕ)) (n : ℕ) (b : Bool) → ((m : ℕ) → n < m → f m ≡ []) → all_of f (begun_by b n) ≡ all_of f n
-all_begun f n true later = ap (λ (x : List (List ℕ)). all_of f n ++ x) (later (suc n) (omega arith)) ∙ append-nil (all_of f n)
+all_begun f n true later = ap (λ x. all_of f n ++ x) (later (suc n) (omega arith)) ∙ append-nil (all_of f n)
 all_begun f n false later = refl
 
 begun_up : (n : ℕ) (b : Bool) → n ≤ begun_by b n
@@ -67,84 +67,67 @@ pub octets_removed : (es : List Entry) (i : ℕ) → remove (octets_of es) i ≡
 octets_removed [] zero = refl
 octets_removed [] (suc i) = refl
 octets_removed (e ∷ es) zero = refl
-octets_removed (e ∷ es) (suc i) = ap (λ (os : List (List ℕ)). e.octets ∷ os) (octets_removed es i)
+octets_removed (e ∷ es) (suc i) = ap (λ os. e.octets ∷ os) (octets_removed es i)
 
 pub octets_replaced : (es : List Entry) (i : ℕ) (octets : List ℕ) → one.replaced (octets_of es) i octets ≡ octets_of (replaced es i octets)
 octets_replaced [] i octets = refl
 octets_replaced (e ∷ es) zero octets = refl
-octets_replaced (e ∷ es) (suc i) octets = ap (λ (os : List (List ℕ)). e.octets ∷ os) (octets_replaced es i octets)
+octets_replaced (e ∷ es) (suc i) octets = ap (λ os. e.octets ∷ os) (octets_replaced es i octets)
 
-module _ (E F : SessionEnd → StationEnd → Type 0) (S : Type 0) (lasts : Lasts E) where
+module _ {E : SessionEnd → StationEnd → Type 0} (F : SessionEnd → StationEnd → Type 0) (S : Type 0) (lasts : Lasts E) where
   abbrev A : Sessions → Stations → Type 0
   A w v = Alike E F S w v
 
-  step_alike : (c : Settings) (w : Sessions) (v : Stations) → A w v → (es : List Entry) (met : List Meeting) (down : List (List ℕ)) (step : Step) → A (after_step c w es met down step) (one.after_step c v (octets_of es) down step)
-  step_alike c w v h es met down step = record {
+  step_alike : (c : Settings) {w : Sessions} {v : Stations} → A w v → (es : List Entry) (met : List Meeting) (down : List (List ℕ)) (step : Step) → A (after_step c w es met down step) (one.after_step c v (octets_of es) down step)
+  step_alike c {w} {v} h es met down step = record {
     near = lasts.steps w.near v.near h.near down step;
     far = h.far;
-    out = ap (λ (os : List (List ℕ)). os ++ map (spelling_of c.role) step.side.out) h.out
-        ∙ ap (λ (os : List (List ℕ)). octets_of w.out ++ os) (sym (octets_sent (begun_by step.notes.up w.near.begun) c.role step.side.out))
+    out = ap (λ os. os ++ map (spelling_of c.role) step.side.out) h.out
+        ∙ ap (λ os. octets_of w.out ++ os) (sym (octets_sent (begun_by step.notes.up w.near.begun) c.role step.side.out))
         ∙ sym (octets_append w.out _);
     back = refl;
-    sent = λ s. ap (λ (fs : List _). fs ++ step.side.out) (h.sent s);
+    sent = λ s. ap (λ fs. fs ++ step.side.out) (h.sent s);
   }
 
   -- a step that takes nothing off the line
-  own_alike : (c : Settings) (w : Sessions) (v : Stations) → A w v → (down : List (List ℕ)) (step : LinkStation → Step) → A (after_step c w w.back w.met down (step w.near.station)) (one.after_step c v v.back down (step v.near.station))
-  own_alike c w v h down step =
-      rw (lasts.station w.near v.near h.near) (rw h.back (step_alike c w v h w.back w.met down (step w.near.station)))
+  own_alike : (c : Settings) {w : Sessions} {v : Stations} → A w v → (down : List (List ℕ)) (step : Step) → A (after_step c w w.back w.met down step) (one.after_step c v v.back down step)
+  own_alike c {w} h down step = rw h.back (step_alike c h w.back w.met down step)
 
-  -- where it isn't refused
-  refused_alike : (c : Settings) (w : Sessions) (v : Stations) → A w v → (down : List (List ℕ)) (refusal : LinkStation → Option LinkError) (step : LinkStation → Step)
-      → A (unless (refusal w.near.station) w (after_step c w w.back w.met down (step w.near.station))) (unless (refusal v.near.station) v (one.after_step c v v.back down (step v.near.station)))
-  refused_alike c w v h down refusal step =
-      let next : Sessions = after_step c w w.back w.met down (step w.near.station) in
-      let there : Stations = one.after_step c v v.back down (step v.near.station) in
-      subst (λ (t : LinkStation). A (unless (refusal w.near.station) w next) (unless (refusal t) v there)) (sym (lasts.station w.near v.near h.near))
-      (unless_both A (refusal w.near.station) w next v there h (own_alike c w v h down step))
+  put_alike : (c : Settings) (packet : List ℕ) {w : Sessions} {v : Stations} (s t : LinkStation) → t ≡ s → A w v
+      → A (unless (put_refusal s) w (after_step c w w.back w.met (packet ∷ []) (put_step c packet s))) (unless (put_refusal t) v (one.after_step c v v.back (packet ∷ []) (put_step c packet t)))
+  put_alike c packet s t same h = rw same (unless_both A (put_refusal s) h (own_alike c h (packet ∷ []) (put_step c packet s)))
 
-  -- or where it is Up
-  up_alike : (c : Settings) (w : Sessions) (v : Stations) → A w v → (step : LinkStation → Step)
-      → A (if is_up w.near.station.phase then after_step c w w.back w.met [] (step w.near.station) else w) (if is_up v.near.station.phase then one.after_step c v v.back [] (step v.near.station) else v)
-  up_alike c w v h step =
-      let next : Sessions = after_step c w w.back w.met [] (step w.near.station) in
-      let there : Stations = one.after_step c v v.back [] (step v.near.station) in
-      subst (λ (t : LinkStation). A (if is_up w.near.station.phase then next else w) (if is_up t.phase then there else v)) (sym (lasts.station w.near v.near h.near))
-      (if_both A (is_up w.near.station.phase) w next v there h (own_alike c w v h [] step))
+  left_alike : {w : Sessions} {v : Stations} → A w v → (es : List Entry) (os : List (List ℕ)) → os ≡ octets_of es → A (record w { back = es }) (record v { back = os })
+  left_alike h es os same = record { near = h.near; far = h.far; out = h.out; back = same; sent = h.sent }
 
-  left_alike : (w : Sessions) (v : Stations) → A w v → (es : List Entry) (os : List (List ℕ)) → os ≡ octets_of es → A (record w { back = es }) (record v { back = os })
-  left_alike w v h es os same = record { near = h.near; far = h.far; out = h.out; back = same; sent = h.sent }
+  deliver_alike : (c : Settings) {w : Sessions} {v : Stations} → A w v → (es : List Entry) → A (delivered c es w) (one.delivered c (octets_of es) v)
+  deliver_alike c h [] = h
+  deliver_alike c {w} {v} h (e ∷ es) =
+      rw (lasts.station w.near v.near h.near) (step_alike c h es _ [] (take_step c e.octets w.near.station))
 
-  deliver_alike : (c : Settings) (w : Sessions) (v : Stations) → A w v → (es : List Entry) → A (delivered c es w) (one.delivered c (octets_of es) v)
-  deliver_alike c w v h [] = h
-  deliver_alike c w v h (e ∷ es) =
-      rw (lasts.station w.near v.near h.near) (step_alike c w v h es _ [] (take_step c e.octets w.near.station))
-
-  acts_alike : (c : Settings) (a : Act) (w : Sessions) (v : Stations) → A w v → A (acts c a w) (one.acts c a v)
-  acts_alike c (Put packet) w v h = if_both A (nat_le (length packet) c.longest) w _ v _ h (refused_alike c w v h (packet ∷ []) put_refusal (put_step c packet))
-  acts_alike c Deliver w v h = subst (λ (os : List (List ℕ)). A (delivered c w.back w) (one.delivered c os v)) (sym h.back) (deliver_alike c w v h w.back)
-  acts_alike c T1 w v h = refused_alike c w v h [] timer_refusal (timer_step c)
-  acts_alike c Connect w v h = refused_alike c w v h [] (λ s. connect_refusal s.phase) (connect_step c)
-  acts_alike c Disconnect w v h = refused_alike c w v h [] (λ s. disconnect_refusal s.phase) (disconnect_step c)
-  acts_alike c Abandon w v h = up_alike c w v h (abandon_step c)
-  acts_alike c Probe w v h = up_alike c w v h (timer_step c)
-  acts_alike c (Lose i) w v h = left_alike w v h (remove w.back i) (remove v.back i) (ap (λ (os : List (List ℕ)). remove os i) h.back ∙ octets_removed w.back i)
-  acts_alike c (Damage i octets) w v h =
-      if_both A (is_visible octets) w (record w { back = replaced w.back i octets }) v (record v { back = one.replaced v.back i octets }) h
-      (left_alike w v h (replaced w.back i octets) (one.replaced v.back i octets) (ap (λ (os : List (List ℕ)). one.replaced os i octets) h.back ∙ octets_replaced w.back i octets))
+  acts_alike : (c : Settings) (a : Act) {w : Sessions} {v : Stations} → A w v → A (acts c a w) (one.acts c a v)
+  acts_alike c (Put packet) {w} {v} h = if_both A (nat_le (length packet) c.longest) h (put_alike c packet w.near.station v.near.station (lasts.station w.near v.near h.near) h)
+  acts_alike c Deliver {w} {v} h = subst (λ os. A (delivered c w.back w) (one.delivered c os v)) (sym h.back) (deliver_alike c h w.back)
+  acts_alike c (Lose i) {w} {v} h = left_alike h (remove w.back i) (remove v.back i) (ap (λ os. remove os i) h.back ∙ octets_removed w.back i)
+  acts_alike c (Damage i octets) {w} {v} h =
+      if_both A (is_visible octets) h
+      (left_alike h (replaced w.back i octets) (one.replaced v.back i octets) (ap (λ os. one.replaced os i octets) h.back ∙ octets_replaced w.back i octets))
+  acts_alike c act {w} {v} h =
+      subst (λ s. A (acts c act w) (one.own_act c s v (one.after_step c v v.back []) act)) (sym (lasts.station w.near v.near h.near))
+      (own_both A c w.near.station w v (after_step c w w.back w.met []) (one.after_step c v v.back []) h (own_alike c h []) act)
 
 -- ---- runs
 
-pub turned_alike : (E F : SessionEnd → StationEnd → Type 0) (S : Type 0) (w : Sessions) (v : Stations) → Alike E F S w v → Alike F E S (swapped w) (one.swapped v)
+pub turned_alike : (E F : SessionEnd → StationEnd → Type 0) (S : Type 0) (w : Sessions) (v : Stations) → Alike E F S w v → Alike F E S (swapped w) (one.stations_swapped v)
 turned_alike E F S w v h = record { near = h.far; far = h.near; out = h.back; back = h.out; sent = h.sent }
 
 module _ (E F : SessionEnd → StationEnd → Type 0) (S : Type 0) (here : Lasts E) (there : Lasts F) where
-  pub happens_alike : (c d : Settings) (e : Event) (w : Sessions) (v : Stations) → Alike E F S w v → Alike E F S (happens c d e w) (one.happens c d e v)
-  happens_alike c d (Near act) w v h = acts_alike E F S here c act w v h
+  pub happens_alike : (c d : Settings) (e : LinkEvent) (w : Sessions) (v : Stations) → Alike E F S w v → Alike E F S (happens c d e w) (one.happens c d e v)
+  happens_alike c d (Near act) w v h = acts_alike F S here c act h
   happens_alike c d (Far act) w v h =
-      turned_alike F E S (acts d act (swapped w)) (one.acts d act (one.swapped v)) (acts_alike F E S there d act (swapped w) (one.swapped v) (turned_alike E F S w v h))
+      turned_alike F E S (acts d act (swapped w)) (one.acts d act (one.stations_swapped v)) (acts_alike E S there d act (turned_alike E F S w v h))
 
-  pub runs_alike : (c d : Settings) (es : List Event) (w : Sessions) (v : Stations) → Alike E F S w v → Alike E F S (run c d es w) (one.run c d es v)
+  pub runs_alike : (c d : Settings) (es : List LinkEvent) (w : Sessions) (v : Stations) → Alike E F S w v → Alike E F S (run c d es w) (one.run c d es v)
   runs_alike c d [] w v h = h
   runs_alike c d (e ∷ es) w v h = runs_alike c d es (happens c d e w) (one.happens c d e v) (happens_alike c d e w v h)
 
@@ -160,10 +143,10 @@ ends_last = record { station = λ e v h. h.station; steps = steps }
         let high = begun_up e.begun b in
         record {
           station = refl;
-          down = ap (λ (x : List (List ℕ)). x ++ down) (h.down ∙ sym (all_begun e.down e.begun b h.later_down)) ∙ sym (all_extended e.down n down);
-          up = ap (λ (x : List (List ℕ)). x ++ option_to_list step.packet) (h.up ∙ sym (all_begun e.up e.begun b h.later_up)) ∙ sym (all_extended e.up n (option_to_list step.packet));
-          later_down = λ m less. extended_other e.down n m down (λ (is : m ≡ n). omega (arith, is, less)) ∙ h.later_down m (omega (arith, high, less));
-          later_up = λ m less. extended_other e.up n m (option_to_list step.packet) (λ (is : m ≡ n). omega (arith, is, less)) ∙ h.later_up m (omega (arith, high, less));
+          down = ap (λ x. x ++ down) (h.down ∙ sym (all_begun e.down e.begun b h.later_down)) ∙ sym (all_extended e.down n down);
+          up = ap (λ x. x ++ option_to_list step.packet) (h.up ∙ sym (all_begun e.up e.begun b h.later_up)) ∙ sym (all_extended e.up n (option_to_list step.packet));
+          later_down = λ m less. extended_other e.down n m down (λ is. omega (arith, is, less)) ∙ h.later_down m (omega (arith, high, less));
+          later_up = λ m less. extended_other e.up n m (option_to_list step.packet) (λ is. omega (arith, is, less)) ∙ h.later_up m (omega (arith, high, less));
         }
 
 pub sessions_are_links : SessionsAreStations

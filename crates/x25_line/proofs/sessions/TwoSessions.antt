@@ -4,10 +4,10 @@ use Rattle.x25_bits.specs.declared.role.Role.{Role}
 use Rattle.x25_frame.specs.{Frame.{PlainFrame, info, rr, rnr, rej, sabm, frmr}, Reading.{frame_of}, laws.ReadingLaw.{ReadsSpelled}}
 use Rattle.x25_frame.specs.declared.error.FrameError.TheVariants.{Undefined, NoInfoAllowed, TooLong, Short}
 use Rattle.x25_link.specs.{Station.{Settings, is_up}, Hearing.{other}, Link.{is_idle}, laws.WindowLaw.{IsRunning}}
-use Rattle.x25_line.specs.{laws.InWindow.{IsPrefix}, laws.StationClaims.{AreJoined, number_in}, laws.Said.{said, Odd}}
+use Rattle.x25_line.specs.{laws.InWindow.{IsPrefix}, laws.StationClaims.{number_in}, laws.Said.{said, Odd}}
 use Rattle.x25_line.specs.laws.Sessions.{Entry, Meeting, Sessions, swapped, sabm_in, ua_in, disc_in, how_many, run}
 use Rattle.x25_line.specs.laws.SessionClaims.{Throughout, AllOf, Each, SomeMet, IsInOrder, MeetInStep, MetAreInOrder, UnmetHandNothingUp, OnlyBegunHaveLists, EachHearsLatest, EachMeetsLatest, IdleHasArrived}
-use Rattle.x25_line.specs.{laws.LawsBelow.{SessionLaws}, laws.PeerSessions.{PeerEnd, as_end, with_peer, AllAskedIn, stand_of, letters, IsReached}}
+use Rattle.x25_line.specs.{laws.LawsBelow.{SessionLaws}, laws.PeerSessions.{PeerEnd, as_end, with_peer, AllAskedIn, stand_of, letters, ReachedInSessions}}
 use Rattle.x25_line.specs.{laws.Ends.{letter, OfSabm, OfTells}, laws.PeerSessionClaims.{frmr_in}}
 use Rattle.x25_line.proofs.{sessions.SessionWith.{NoneOdd}, StationAway.{is_up_phase}, StationLines.{consed, IsOrderly}, sessions.SessionLines.{Read, numbers}}
 use Rattle.x25_line.proofs.{sessions.SessionHeld.{Owes, OnLine}}
@@ -16,9 +16,9 @@ use Rattle.x25_line.proofs.{sessions.SessionSeenRuns.{end, tags_there, Both, bot
 use Rattle.x25_line.proofs.{ends.Lines.{AllTold, Never, Of, AllTags, IsAsked, AllAsked}, ends.Sessions.{far_high}}
 
 -- what is of the session that stands is of the latest, where that is begun
-hears : (from : Role) (n1 q begun : ℕ) → begun ≤ q → (es : List Entry) → AllTold (Of q) (letters from n1 es) → AllTags begun (letters from n1 es) → AllOf from n1 begun es
-hears from n1 q begun high [] told tags = tt
-hears from n1 q begun high (e ∷ es) told tags = (one (frame_of from n1 e.octets) told.0, hears from n1 q begun high es told.1 tags.1)
+hears : (from : Role) (n1 q : ℕ) {begun : ℕ} → begun ≤ q → (es : List Entry) → AllTold (Of q) (letters from n1 es) → AllTags begun (letters from n1 es) → AllOf from n1 begun es
+hears from n1 q high [] told tags = tt
+hears from n1 q {begun} high (e ∷ es) told tags = (one (frame_of from n1 e.octets) told.0, hears from n1 q high es told.1 tags.1)
   where
     one : (r : Read) → OfTells (said r) (e.session ≡ q) → (number_in r ≡ None) ⊎ (e.session ≡ begun)
     one (Ok (info ns nr p x)) is = inr (omega (arith, is, high, tags.0))
@@ -44,12 +44,12 @@ none_told from n1 (e ∷ es) h = none_here (frame_of from n1 e.octets) (numbers 
 quiet_behind : (N O : Type 0) (from : Role) (n1 b q : ℕ) (all : List Entry) (e : Entry) (es : List Entry) → all ≡ e ∷ es → AllAsked N O b q (letters from n1 all) → AllAskedIn from n1 b all → sabm_in (frame_of from n1 e.octets) ≡ 1
     → numbers from n1 es ≡ []
 quiet_behind N O from n1 b q all e es is asked tags one =
-    go (frame_of from n1 e.octets) (subst (λ (xs : List Entry). AllAsked N O b q (letters from n1 xs)) is asked).0 (subst (AllAskedIn from n1 b) is tags).0 one
+    go (frame_of from n1 e.octets) (subst (λ xs. AllAsked N O b q (letters from n1 xs)) is asked).0 (subst (AllAskedIn from n1 b) is tags).0 one
   where
     go : (r : Read) → OfSabm (said r) (IsAsked N O b q (letter e.session (said r)) (letters from n1 es)) → (sabm_in r ≡ 0) ⊎ (e.session ≡ b) → sabm_in r ≡ 1 → numbers from n1 es ≡ []
     go (Ok (sabm p)) a t one = none_told from n1 es (elim a [
       | inl now ↦ now.2
-      | inr old ↦ (let less = old.1 in elim t [ inl none ↦ absurd (omega (arith, none)) | inr is ↦ absurd (omega (arith, is, less)) ])
+      | inr old ↦ (elim t [ inl none ↦ absurd (omega (arith, none)) | inr is ↦ absurd (omega (arith, is, old.1)) ])
     ])
     go (Ok f) a t one = absurd (never f one)
       where
@@ -66,12 +66,12 @@ orderly (Err TooLong) odd none = absurd (odd refl)
 orderly r odd none = tt
 
 module _ (reads : ReadsSpelled) (rests : SessionLaws) where
-  module _ (c d : Settings) (near_joined : AreJoined d c) (far_joined : AreJoined c d) (w : Sessions) (h : Both c d near_joined far_joined w) where
+  module _ (c d : Settings) (w : Sessions) (h : Both c d w) where
     -- the far end, as the near end's peer
     abbrev peer : PeerEnd
-    peer = end c d far_joined w.near w.far.station.phase w.far.begun h.far.all
+    peer = end h.joined w.near w.far.station.phase w.far.begun h.far.all
 
-    reached : IsReached ⊥ c (with_peer peer w)
+    reached : ReachedInSessions ⊥ c (with_peer peer w)
     reached = rw (sym (twice_turned w.met)) h.far.reached
 
     in_order : (ms : List Meeting) → Each (IsInOrder w.near (as_end peer)) ms → Each (IsInOrder w.near w.far) ms
@@ -83,28 +83,28 @@ module _ (reads : ReadsSpelled) (rests : SessionLaws) where
 
     pub unmet : UnmetHandNothingUp c d w
     unmet =
-        let k = unmet_is reads rests ⊥ c far_joined.near_high (with_peer peer w) reached in
+        let k = unmet_is reads rests h.joined.near_high reached in
         record { near = k.near; far = λ n. elim (k.far n) [ inl none ↦ inl (sym (h.far.taken n) ∙ none) | inr some ↦ inr some ] }
 
     pub begun : OnlyBegunHaveLists c d w
-    begun = record { met = (all_of reads rests ⊥ c far_joined.near_high (with_peer peer w) reached).held.meets.begun; near = h.near.later; far = h.far.later }
+    begun = record { met = (all_of reads rests h.joined.near_high reached).held.meets.begun; near = h.near.later; far = h.far.later }
 
     pub hears_latest : is_up w.near.station.phase ≡ true → AllOf (other c.role) c.longest w.far.begun w.back
     hears_latest up =
-        let ends = two reads rests ⊥ c far_joined.near_high (with_peer peer w) reached in
-        let all = all_of reads rests ⊥ c far_joined.near_high (with_peer peer w) reached in
-        hears (other c.role) c.longest all.held.q w.far.begun (far_high ends all) w.back
-        (all.held.near.live (up_in reads rests ⊥ c far_joined.near_high (with_peer peer w) reached up))
+        let ends = two reads rests h.joined.near_high reached in
+        let all = all_of reads rests h.joined.near_high reached in
+        hears (other c.role) c.longest all.held.q (far_high all) w.back
+        (all.held.near.live (up_in reads rests h.joined.near_high reached up))
         all.held.near.tags
 
     pub agree : EachMeetsLatest c d w
     agree =
-        let k = latest_is reads rests ⊥ c far_joined.near_high (with_peer peer w) reached in
+        let k = latest_is reads rests h.joined.near_high reached in
         record { near = k.near; far = λ up. k.peer (ap stand_of (is_up_phase w.far.station.phase up)) }
 
     pub idle : is_idle w.near.station ≡ true → (is_up w.far.station.phase ≡ true) ⊎ SomeMet (λ (m : Meeting). m.near ≡ w.near.begun) w.met → w.far.up w.far.begun ≡ w.near.down w.near.begun
     idle is which =
-        sym (h.far.taken w.far.begun) ∙ idle_is reads rests ⊥ c far_joined.near_high (with_peer peer w) reached is
+        sym (h.far.taken w.far.begun) ∙ idle_is reads rests h.joined.near_high reached is
         (elim which [ inl up ↦ inl (ap stand_of (is_up_phase w.far.station.phase up)) | inr some ↦ inr some ])
 
     -- an end that is Up counts soundly
@@ -113,60 +113,58 @@ module _ (reads : ReadsSpelled) (rests : SessionLaws) where
 
     near_owes : Owes w.near.station.phase (how_many sabm_in (other d.role) d.longest w.out + how_many ua_in (other c.role) c.longest w.back) (how_many disc_in (other d.role) d.longest w.out)
     near_owes =
-        let p = w.near.station.phase in
-        subst (λ (n1 : ℕ). Owes p (how_many sabm_in (other d.role) n1 w.out + how_many ua_in (other c.role) c.longest w.back) (how_many disc_in (other d.role) n1 w.out)) far_joined.longest
-        (rw far_joined.near_role (owes_is reads rests ⊥ c far_joined.near_high (with_peer peer w) reached))
+        subst (λ n1. Owes w.near.station.phase (how_many sabm_in (other d.role) n1 w.out + how_many ua_in (other c.role) c.longest w.back) (how_many disc_in (other d.role) n1 w.out)) h.joined.longest
+        (rw h.joined.near_role (owes_is reads rests h.joined.near_high reached))
 
     quiet : (e : Entry) (es : List Entry) → w.back ≡ e ∷ es → sabm_in (frame_of (other c.role) c.longest e.octets) ≡ 1 → numbers (other c.role) c.longest es ≡ []
     quiet e es is one =
-        let all = all_of reads rests ⊥ c far_joined.near_high (with_peer peer w) reached in
-        quiet_behind _ _ (other c.role) c.longest w.far.begun all.held.q w.back e es is all.held.near.asked (tags_there c d far_joined reads rests w.far.begun w.back h.far.tags) one
+        let all = all_of reads rests h.joined.near_high reached in
+        quiet_behind _ _ (other c.role) c.longest w.far.begun all.held.q w.back e es is all.held.near.asked (tags_there c d h.joined reads rests w.far.begun w.back h.far.tags) one
 
     -- no FRMR is on the line from it, and nothing on that to it is answered by FRMR
     no_frmr : how_many frmr_in c.role c.longest w.out ≡ 0
-    no_frmr = (lines reads rests ⊥ c far_joined.near_high (with_peer peer w) reached).octets.frmr (λ never. never)
+    no_frmr = (lines reads rests h.joined.near_high reached).octets.frmr (λ never. never)
 
     none_odd : NoneOdd (other c.role) c.longest w.back
-    none_odd = (lines reads rests ⊥ c far_joined.near_high (with_peer peer w) reached).octets.lapb (λ never. never)
+    none_odd = (lines reads rests h.joined.near_high reached).octets.lapb (λ never. never)
 
     pub in_step : MeetInStep c d w
-    in_step = step_is reads rests ⊥ c far_joined.near_high (with_peer peer w) reached
+    in_step = step_is reads rests h.joined.near_high reached
 
     pub orders : MetAreInOrder c d w
-    orders = in_order w.met (order_is reads rests ⊥ c far_joined.near_high (with_peer peer w) reached)
+    orders = in_order w.met (order_is reads rests h.joined.near_high reached)
 
-  module _ (c d : Settings) (near_joined : AreJoined d c) (far_joined : AreJoined c d) (w : Sessions) (h : Both c d near_joined far_joined w) where
+  module _ (c d : Settings) (w : Sessions) (h : Both c d w) where
     pub latest : EachHearsLatest c d w
-    latest = record { near = hears_latest c d near_joined far_joined w h; far = hears_latest d c far_joined near_joined (swapped w) (both_swapped c d near_joined far_joined w h) }
+    latest = record { near = hears_latest c d w h; far = hears_latest d c (swapped w) (both_swapped h) }
 
     pub arrived : IdleHasArrived c d w
     arrived = record {
-      near = idle c d near_joined far_joined w h;
-      far = λ is which. idle d c far_joined near_joined (swapped w) (both_swapped c d near_joined far_joined w h) is
+      near = idle c d w h;
+      far = λ is which. idle d c (swapped w) (both_swapped h) is
           (elim which [ inl up ↦ inl up | inr some ↦ inr (far_turned w.far.begun w.met some) ]);
     }
 
-  fine : (c d : Settings) (near_joined : AreJoined d c) (far_joined : AreJoined c d) (w : Sessions) → Both c d near_joined far_joined w → (e : Entry) (es : List Entry) → w.back ≡ e ∷ es
+  fine : (c d : Settings) (w : Sessions) → Both c d w → (e : Entry) (es : List Entry) → w.back ≡ e ∷ es
       → IsOrderly (Unit {0}) (frame_of (other c.role) c.longest e.octets)
-  fine c d near_joined far_joined w h e es is =
-      let far : how_many frmr_in d.role d.longest w.back ≡ 0 = no_frmr d c far_joined near_joined (swapped w) (both_swapped c d near_joined far_joined w h) in
-      let none : how_many frmr_in (other c.role) c.longest w.back ≡ 0 = rw far_joined.longest (rw far_joined.far_role far)
+  fine c d w h e es is =
+      let far : how_many frmr_in d.role d.longest w.back ≡ 0 = no_frmr d c (swapped w) (both_swapped h) in
+      let none : how_many frmr_in (other c.role) c.longest w.back ≡ 0 = rw h.joined.longest (rw h.joined.far_role far)
       in
-      let front = ap (how_many frmr_in (other c.role) c.longest) is in
-      let odd = subst (NoneOdd (other c.role) c.longest) is (none_odd c d near_joined far_joined w h) in
-      orderly (frame_of (other c.role) c.longest e.octets) odd.0 (omega (arith, none, front))
+      let odd = subst (NoneOdd (other c.role) c.longest) is (none_odd c d w h) in
+      orderly (frame_of (other c.role) c.longest e.octets) odd.0 (omega (arith, none, ap (how_many frmr_in (other c.role) c.longest) is))
 
   -- what the rules of both say of the line
-  pub on_line : (c d : Settings) (near_joined : AreJoined d c) (far_joined : AreJoined c d) (w : Sessions) → Both c d near_joined far_joined w → OnLine c d w
-  on_line c d near_joined far_joined w h =
-      record { near_owes = near_owes c d near_joined far_joined w h; far_owes = near_owes d c far_joined near_joined (swapped w) (both_swapped c d near_joined far_joined w h); quiet = quiet c d near_joined far_joined w h; fine = fine c d near_joined far_joined w h; near_next = h.near.later (suc w.near.begun) (omega arith); far_next = h.far.later (suc w.far.begun) (omega arith) }
+  pub on_line : {c d : Settings} {w : Sessions} → Both c d w → OnLine c d w
+  on_line {c} {d} {w} h =
+      record { near_owes = near_owes c d w h; far_owes = near_owes d c (swapped w) (both_swapped h); quiet = quiet c d w h; fine = fine c d w h; near_next = h.near.later (suc w.near.begun) (omega arith); far_next = h.far.later (suc w.far.begun) (omega arith) }
 
   -- ---- the claims
 
   -- what holds of two such stations holds after each list of events
   pub throughout_of : (Holds : Settings → Settings → Sessions → Type 0)
-      → ((c d : Settings) (near_joined : AreJoined d c) (far_joined : AreJoined c d) (w : Sessions) → Both c d near_joined far_joined w → Holds c d w) → Throughout Holds
-  throughout_of Holds holds c d joined begin is events timely = holds c d _ joined (run c d events begin) (throughout_both reads rests c d joined begin is events timely)
+      → ((c d : Settings) (w : Sessions) → Both c d w → Holds c d w) → Throughout Holds
+  throughout_of Holds holds c d joined begin is events timely = holds c d (run c d events begin) (throughout_both reads rests joined is events timely)
 
   pub idle_has_arrived : Throughout IdleHasArrived
   idle_has_arrived = throughout_of IdleHasArrived arrived

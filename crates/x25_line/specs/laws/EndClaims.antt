@@ -3,10 +3,10 @@ use Rattle.std.specs.Prelude.{◌≡◌, ◌≤◌, ◌⊎◌, ℕ, List, [], �
 use Rattle.x25_window.specs.code.Modulo.{resolved}
 use Rattle.x25_line.specs.{laws.InWindow.{IsPrefix}, laws.Said.{Carried, Tells}, laws.Sessions.{Meeting}}
 use Rattle.x25_line.specs.{laws.SessionClaims.{Each, SomeMet, InStep}, laws.Peer.{Peer}}
-use Rattle.x25_line.specs.laws.Ends.{In, Letter, Ends, near_now, IsReached}
+use Rattle.x25_line.specs.laws.Ends.{In, Letter, Ends, near_now, EndsReached}
 
 abbrev pub OfAnyTwoEnds : (Ends → Type 0) → Type 0
-OfAnyTwoEnds Holds = (w : Ends) → IsReached w → Holds w
+OfAnyTwoEnds Holds = (w : Ends) → EndsReached w → Holds w
 
 -- What was taken is a beginning of what was handed down; what is acknowledged was taken; so all was where all is.
 pub record InOrder (giver taker : Peer) : Type 0 where

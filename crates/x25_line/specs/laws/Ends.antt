@@ -33,8 +33,8 @@ pub record Two : Type 0 where
   pub back : List Letter
   pub met : List Meeting
 
-abbrev pub swapped : Two → Two
-swapped w = record { near = w.far; far = w.near; out = w.back; back = w.out; met = map turned w.met }
+abbrev pub two_swapped : Two → Two
+two_swapped w = record { near = w.far; far = w.near; out = w.back; back = w.out; met = map turned w.met }
 
 -- ---- what is on a line
 
@@ -128,7 +128,7 @@ pub record Ends : Type 0 where
   pub far_of : ℕ → Peer
 
 abbrev pub ends_swapped : Ends → Ends
-ends_swapped w = record { two = swapped w.two; near_of = w.far_of; far_of = w.near_of }
+ends_swapped w = record { two = two_swapped w.two; near_of = w.far_of; far_of = w.near_of }
 
 abbrev pub near_now : Ends → Peer
 near_now w = w.near_of w.two.near.begun
@@ -173,11 +173,12 @@ begin_at stand begun =
     }
 
 -- from nothing, or from a link just set up, event by event
-pub data IsReached : Ends → Type 0 where
-  at_start : IsReached (begin_at Out 0)
-  set_up : IsReached (begin_at In 1)
-  near_handed : (w : Ends) (packet : List ℕ) → IsReached w → w.two.near.stand ≡ In → IsReached (with_packet packet w)
-  far_handed : (w : Ends) (packet : List ℕ) → IsReached w → w.two.far.stand ≡ In
-      → IsReached (ends_swapped (with_packet packet (ends_swapped w)))
-  near_does : (w v : Ends) → IsReached w → Does w v → IsReached v
-  far_does : (w v : Ends) → IsReached w → Does (ends_swapped w) v → IsReached (ends_swapped v)
+pub data EndsReached : Ends → Type 0 where
+  at_start : EndsReached (begin_at Out 0)
+  set_up : EndsReached (begin_at In 1)
+  near_handed : (w : Ends) (packet : List ℕ) → EndsReached w → w.two.near.stand ≡ In
+      → EndsReached (with_packet packet w)
+  far_handed : (w : Ends) (packet : List ℕ) → EndsReached w → w.two.far.stand ≡ In
+      → EndsReached (ends_swapped (with_packet packet (ends_swapped w)))
+  near_does : (w v : Ends) → EndsReached w → Does w v → EndsReached v
+  far_does : (w v : Ends) → EndsReached w → Does (ends_swapped w) v → EndsReached (ends_swapped v)

@@ -2,7 +2,7 @@
 -- order, while nothing is lost.
 use Rattle.std.specs.Prelude.{◌≡◌, ◌<◌, ℕ, true, false, List, [], ◌∷◌}
 use Rattle.x25_link.specs.{Station.{Settings, LinkStation, is_up, is_busy}, Link.{timer_runs}, laws.RestLaw.{IsAtRest}}
-use Rattle.x25_line.specs.laws.Stations.{Act, Put, Deliver, T1, Event, Near, Far}
+use Rattle.x25_line.specs.laws.Stations.{Act, Put, Deliver, T1, LinkEvent, Near, Far}
 use Rattle.x25_line.specs.{laws.Sessions.{Sessions, happens, run}, laws.SessionClaims.{Each, Throughout}}
 
 -- ---- deliveries and puts
@@ -13,7 +13,7 @@ IsDeliverOrPut (Put packet) = Unit {0}
 IsDeliverOrPut act = ⊥
 
 -- the front octets come at either end, or a packet is handed down there
-abbrev pub IsDeliveryOrPut : Event → Type 0
+abbrev pub IsDeliveryOrPut : LinkEvent → Type 0
 IsDeliveryOrPut (Near act) = IsDeliverOrPut act
 IsDeliveryOrPut (Far act) = IsDeliverOrPut act
 
@@ -27,11 +27,11 @@ abbrev pub FreeAsItComes : Act → LinkStation → LinkStation → Type 0
 FreeAsItComes Deliver s t = AreFree s t
 FreeAsItComes act s t = Unit {0}
 
-abbrev pub FreeAt : Event → LinkStation → LinkStation → Type 0
+abbrev pub FreeAt : LinkEvent → LinkStation → LinkStation → Type 0
 FreeAt (Near act) s t = FreeAsItComes act s t
 FreeAt (Far act) s t = FreeAsItComes act s t
 
-abbrev pub SessionsFreeThroughout : Settings → Settings → List Event → Sessions → Type 0
+abbrev pub SessionsFreeThroughout : Settings → Settings → List LinkEvent → Sessions → Type 0
 SessionsFreeThroughout c d [] w = AreFree w.near.station w.far.station
 SessionsFreeThroughout c d (e ∷ es) w = FreeAt e w.near.station w.far.station
     × SessionsFreeThroughout c d es (happens c d e w)
@@ -59,6 +59,6 @@ pub record SessionsHaveArrived (w v : Sessions) : Type 0 where
 abbrev pub PutsHealSessions : Type 0
 PutsHealSessions = Throughout (λ (c d : Settings) (w : Sessions).
     w.out ≡ [] → w.back ≡ [] → LinkMayHeal c.retries w.near.station → LinkMayHeal d.retries w.far.station
-    → (more : List Event) → Each IsDeliveryOrPut more
+    → (more : List LinkEvent) → Each IsDeliveryOrPut more
     → (let fired = run c d (Near T1 ∷ Far T1 ∷ []) w in SessionsFreeThroughout c d more fired
     → (let v = run c d more fired in v.out ≡ [] → v.back ≡ [] → SessionsHaveArrived w v)))

@@ -7,43 +7,43 @@ use Rattle.x25_line.specs.laws.Stations.{StationEnd, Stations, Act, acts, fresh_
 use Rattle.x25_line.specs.laws.Peer.{Peer, fresh_peer, MaySend, MayHear}
 
 -- The station, the peer, and the octets on the line from the station and on the line to it, front first.
-pub record Joined : Type 0 where
+pub record JoinedOnce : Type 0 where
   pub near : StationEnd
   pub peer : Peer
   pub out : List (List ℕ)
   pub back : List (List ℕ)
 
 -- the link was just set up
-abbrev pub start : Joined
+abbrev pub start : JoinedOnce
 start = record { near = fresh_station; peer = fresh_peer; out = []; back = [] }
 
 -- the station's end of the line, as two stations have it: an act of the near end changes nothing of the far end
-abbrev pub our_end : Joined → Stations
+abbrev pub our_end : JoinedOnce → Stations
 our_end w = record { near = w.near; far = fresh_station; out = w.out; back = w.back; sent = [] }
 
-abbrev pub with_peer : Peer → Stations → Joined
+abbrev pub with_peer : Peer → Stations → JoinedOnce
 with_peer p v = record { near = v.near; peer = p; out = v.out; back = v.back }
 
 -- What may happen next. `Odd` is that of `MaySend`.
-pub data Happens (Odd : Type 0) (c : Settings) (w : Joined) : Joined → Type 0 where
+pub data HappensOnce (Odd : Type 0) (c : Settings) (w : JoinedOnce) : JoinedOnce → Type 0 where
   -- The station acts, by its definition: a packet is handed down, octets come, T1 runs out, connect, disconnect,
   -- abandon. Or octets on the line to it are lost or visibly damaged.
-  Ours : (act : Act) → Happens Odd c w (with_peer w.peer (acts c act (our_end w)))
+  Ours : (act : Act) → HappensOnce Odd c w (with_peer w.peer (acts c act (our_end w)))
   -- the peer is handed down a packet
   HandsDown : (packet : List ℕ)
-      → Happens Odd c w (record w { peer = record w.peer { given = w.peer.given ++ packet ∷ [] } })
+      → HappensOnce Odd c w (record w { peer = record w.peer { given = w.peer.given ++ packet ∷ [] } })
   -- the peer sends octets
   Sends : (octets : List ℕ) (q : Peer) → MaySend Odd w.peer (frame_of (other c.role) c.longest octets) q
-      → Happens Odd c w (record w { peer = q; back = w.back ++ octets ∷ [] })
+      → HappensOnce Odd c w (record w { peer = q; back = w.back ++ octets ∷ [] })
   -- the front octets come to the peer
   Hears : (octets : List ℕ) (rest : List (List ℕ)) (q : Peer) → w.out ≡ octets ∷ rest
-      → MayHear w.peer (frame_of c.role c.longest octets) q → Happens Odd c w (record w { peer = q; out = rest })
+      → MayHear w.peer (frame_of c.role c.longest octets) q → HappensOnce Odd c w (record w { peer = q; out = rest })
   -- the octets at this place of the line to the peer are lost, or others come in their place
-  Loses : (place : ℕ) → Happens Odd c w (record w { out = remove w.out place })
+  Loses : (place : ℕ) → HappensOnce Odd c w (record w { out = remove w.out place })
   Damages : (place : ℕ) (octets : List ℕ) → is_visible octets ≡ true
-      → Happens Odd c w (record w { out = replaced w.out place octets })
+      → HappensOnce Odd c w (record w { out = replaced w.out place octets })
 
 -- what is reached, event by event
-pub data IsReached (Odd : Type 0) (c : Settings) : Joined → Type 0 where
-  at_start : IsReached Odd c start
-  goes_on : (w v : Joined) → IsReached Odd c w → Happens Odd c w v → IsReached Odd c v
+pub data ReachedOnce (Odd : Type 0) (c : Settings) : JoinedOnce → Type 0 where
+  at_start : ReachedOnce Odd c start
+  goes_on : (w v : JoinedOnce) → ReachedOnce Odd c w → HappensOnce Odd c w v → ReachedOnce Odd c v

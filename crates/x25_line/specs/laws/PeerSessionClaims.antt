@@ -3,17 +3,18 @@ use Rattle.std.specs.Prelude.{◌≡◌, ◌≤◌, ◌⊎◌, ℕ, true, Result
 use Rattle.x25_frame.specs.{Frame.{PlainFrame, frmr}, declared.error.FrameError.{FrameError}}
 use Rattle.x25_link.specs.{Station.{Settings, is_up}, Link.{is_idle}}
 use Rattle.x25_line.specs.{laws.Sessions.{Meeting, Sessions, how_many}, laws.SessionClaims.{Each, SomeMet}}
-use Rattle.x25_line.specs.{laws.PeerSessions.{PeerSessions, IsReached, In, now, both_ends, letters}, laws.Ends.{AreOf}}
+use Rattle.x25_line.specs.laws.PeerSessions.{PeerSessions, ReachedInSessions, In, now, both_ends, letters}
+use Rattle.x25_line.specs.{laws.Ends.{AreOf}}
 
 -- whatever happens, with any peer that keeps the rules of `Peer` and of set-up
 abbrev pub WithAnyPeer : (Settings → PeerSessions → Type 0) → Type 0
 WithAnyPeer Holds =
-    (c : Settings) → 1 ≤ c.window → c.window ≤ 7 → (w : PeerSessions) → IsReached (Unit {0}) c w → Holds c w
+    (c : Settings) → 1 ≤ c.window → c.window ≤ 7 → (w : PeerSessions) → ReachedInSessions (Unit {0}) c w → Holds c w
 
 -- the same with one that sends nothing that is answered by FRMR
 abbrev pub WithAnyLapbPeer : (Settings → PeerSessions → Type 0) → Type 0
 WithAnyLapbPeer Holds =
-    (c : Settings) → 1 ≤ c.window → c.window ≤ 7 → (w : PeerSessions) → IsReached ⊥ c w → Holds c w
+    (c : Settings) → 1 ≤ c.window → c.window ≤ 7 → (w : PeerSessions) → ReachedInSessions ⊥ c w → Holds c w
 
 -- the same of both ends, as the claims on two stations say it
 abbrev pub OfBothEnds : (Settings → Settings → Sessions → Type 0) → Settings → PeerSessions → Type 0

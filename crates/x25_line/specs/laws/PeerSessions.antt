@@ -122,23 +122,23 @@ pub record PeerHappens (Odd : Type 0) (c : Settings) (w v : PeerSessions) : Type
   pub left : IsLeft w.out v.out
   pub puts : Puts Odd c w.back v.back
 
-pub data Happens (Odd : Type 0) (c : Settings) (w : PeerSessions) : PeerSessions → Type 0 where
+pub data HappensInSessions (Odd : Type 0) (c : Settings) (w : PeerSessions) : PeerSessions → Type 0 where
   -- The station acts, by its definition: a packet is handed down, octets come, T1 runs out, connect, disconnect,
   -- abandon. Or octets on the line to it are lost or visibly damaged.
-  Ours : (act : Act) → IsTimely c act w → Happens Odd c w (with_peer w.peer (acts c act (both_ends w)))
+  Ours : (act : Act) → IsTimely c act w → HappensInSessions Odd c w (with_peer w.peer (acts c act (both_ends w)))
   -- the peer is handed down a packet
   HandsDown : (packet : List ℕ) → w.peer.stand ≡ In
-      → Happens Odd c w (record w {
+      → HappensInSessions Odd c w (record w {
         peer = with_now (record (now w.peer) { given = (now w.peer).given ++ packet ∷ [] }) w.peer;
       })
-  Theirs : (v : PeerSessions) → PeerHappens Odd c w v → Happens Odd c w (record v { near = w.near })
+  Theirs : (v : PeerSessions) → PeerHappens Odd c w v → HappensInSessions Odd c w (record v { near = w.near })
 
 -- nothing was set up yet, or both ends were just set up, each in its first session
 abbrev pub begin_with : Stand → Sessions → PeerSessions
 begin_with stand v = with_peer (record { stand = stand; begun = v.far.begun; of_session = λ n. fresh_peer }) v
 
 -- what is reached, event by event
-pub data IsReached (Odd : Type 0) (c : Settings) : PeerSessions → Type 0 where
-  at_start : IsReached Odd c (begin_with Out from_nothing)
-  set_up : IsReached Odd c (begin_with In from_set_up)
-  goes_on : (w v : PeerSessions) → IsReached Odd c w → Happens Odd c w v → IsReached Odd c v
+pub data ReachedInSessions (Odd : Type 0) (c : Settings) : PeerSessions → Type 0 where
+  at_start : ReachedInSessions Odd c (begin_with Out from_nothing)
+  set_up : ReachedInSessions Odd c (begin_with In from_set_up)
+  goes_on : (w v : PeerSessions) → ReachedInSessions Odd c w → HappensInSessions Odd c w v → ReachedInSessions Odd c v

@@ -5,18 +5,18 @@ use Rattle.x25_bits.specs.declared.role.Role.{Role}
 use Rattle.x25_frame.specs.{Frame.{PlainFrame}, Reading.{frame_of}}
 use Rattle.x25_link.specs.{Station.{Settings, is_up}, Hearing.{other}, Link.{is_idle}}
 use Rattle.x25_line.specs.laws.InWindow.{IsPrefix}
-use Rattle.x25_line.specs.laws.Stations.{StationEnd, Stations, Event, start, run as run_alone}
+use Rattle.x25_line.specs.laws.Stations.{StationEnd, Stations, LinkEvent, start, run as run_alone}
 use Rattle.x25_line.specs.laws.StationClaims.{AreJoined, BothInOrder, BothHaveTheirLists, AreInWindow, NoFrmr}
 use Rattle.x25_line.specs.laws.StationClaims.{NoFrmrSent, AreWhole, AllSentAreWhole, number_in, numbered_on}
 pub use Rattle.x25_line.specs.laws.StationClaims.{Each}
-use Rattle.x25_line.specs.laws.Sessions.{Entry, SessionEnd, Meeting, Sessions, run, from_nothing, from_set_up}
+use Rattle.x25_line.specs.laws.Sessions.{Entry, SessionEnd, Meeting, Sessions, run, IsStart, from_set_up}
 use Rattle.x25_line.specs.laws.Sessions.{AreTimely, swapped}
 
 -- what holds after each list of events, from nothing and from a link just set up, where timer T1 is timely
 abbrev pub Throughout : (Settings → Settings → Sessions → Type 0) → Type 0
 Throughout Holds =
-    (c d : Settings) → AreJoined c d → (begin : Sessions) → (begin ≡ from_nothing) ⊎ (begin ≡ from_set_up)
-    → (events : List Event) → AreTimely c d events begin → Holds c d (run c d events begin)
+    (c d : Settings) → AreJoined c d → (begin : Sessions) → IsStart begin
+    → (events : List LinkEvent) → AreTimely c d events begin → Holds c d (run c d events begin)
 
 abbrev pub SomeMet : (Meeting → Type 0) → List Meeting → Type 0
 SomeMet P [] = ⊥
@@ -171,7 +171,7 @@ pub record AreStationsOf (w : Sessions) (v : Stations) : Type 0 where
 
 -- the same events of the two stations by themselves do the same
 abbrev pub SessionsAreStations : Type 0
-SessionsAreStations = (c d : Settings) (events : List Event) (w : Sessions) (v : Stations) → AreStationsOf w v
+SessionsAreStations = (c d : Settings) (events : List LinkEvent) (w : Sessions) (v : Stations) → AreStationsOf w v
     → AreStationsOf (run c d events w) (run_alone c d events v)
 
 -- a link that was just set up is the start of two stations

@@ -1,16 +1,16 @@
 -- The window machine behind the two sessions that stand, as it goes on from event to event over set-up and re-set-up. A
 -- frame is given its whole numbers as it is put on the line, and keeps them as long as it is there. ITU-T X.25 (10/96),
 -- sections 2.3.2, 2.4.4 and 2.4.5.
-use Rattle.std.specs.Prelude.{◌≡◌, ◌⊎◌, ℕ, zero, suc, Bool, true, false, if◌then◌else◌, List, [], ◌∷◌, length}
+use Rattle.std.specs.Prelude.{◌≡◌, ℕ, zero, suc, Bool, true, false, if◌then◌else◌, List, [], ◌∷◌, length}
 use Rattle.std.specs.Prelude.{drop, Option, Some, None, Result, Ok, Err}
 use Rattle.x25_bits.specs.declared.role.Role.{Role}
 use Rattle.x25_frame.specs.{Frame.{PlainFrame, sabm}, Reading.{frame_of}, declared.error.FrameError.{FrameError}}
 use Rattle.x25_link.specs.{declared.phase.Phase.{Phase}, declared.phase.Phase.TheVariants.{Waiting, Up, Closed}}
 use Rattle.x25_link.specs.{Station.{Settings, LinkStation, is_up}, Hearing.{other}}
-use Rattle.x25_line.specs.{laws.Line.{Line, line_swapped}, laws.Stations.{Act, Deliver, Event, Near, Far}}
+use Rattle.x25_line.specs.{laws.Line.{Line, line_swapped}, laws.Stations.{Act, Deliver, LinkEvent, Near, Far}}
 use Rattle.x25_line.specs.laws.StationClaims.{AreJoined, IsBehind}
 use Rattle.x25_line.specs.laws.WholeNumbers.{place_of, place_taken, machine_after, machine_at_start}
-use Rattle.x25_line.specs.laws.Sessions.{Entry, Sessions, ua_in, acts, happens, run, swapped, from_nothing, from_set_up}
+use Rattle.x25_line.specs.laws.Sessions.{Entry, Sessions, ua_in, acts, happens, run, swapped, IsStart}
 use Rattle.x25_line.specs.{laws.Sessions.{AreTimely}, laws.SessionClaims.{octets_of, Stands}}
 
 -- a session of each end, and the window machine behind the two
@@ -89,11 +89,11 @@ abbrev pub standing_acts : Settings → Settings → Act → Sessions → Standi
 standing_acts c d act w s = if sets_up c act w then anew c d w
     else same_two c (gone_at c w (place_taken act)) w (acts c act w) s
 
-abbrev pub standing_happens : Settings → Settings → Event → Sessions → Standing → Standing
+abbrev pub standing_happens : Settings → Settings → LinkEvent → Sessions → Standing → Standing
 standing_happens c d (Near act) w s = standing_acts c d act w s
 standing_happens c d (Far act) w s = turned (standing_acts d c act (swapped w) (turned s))
 
-abbrev pub standing_run : Settings → Settings → List Event → Sessions → Standing → Standing
+abbrev pub standing_run : Settings → Settings → List LinkEvent → Sessions → Standing → Standing
 standing_run c d [] w s = s
 standing_run c d (e ∷ es) w s = standing_run c d es (happens c d e w) (standing_happens c d e w s)
 
@@ -118,6 +118,6 @@ pub record EachUpStandsWith (c d : Settings) (w : Sessions) (s : Standing) : Typ
 -- the two that stand.
 abbrev pub StandingGoesAlong : Type 0
 StandingGoesAlong =
-    (c d : Settings) → AreJoined c d → (begin : Sessions) → (begin ≡ from_nothing) ⊎ (begin ≡ from_set_up)
-    → (events : List Event) → AreTimely c d events begin
+    (c d : Settings) → AreJoined c d → (begin : Sessions) → IsStart begin
+    → (events : List LinkEvent) → AreTimely c d events begin
     → EachUpStandsWith c d (run c d events begin) (standing_run c d events begin (standing_at c d begin))

@@ -1,8 +1,8 @@
 -- Two link stations and the line between them, set up and set up again at any moment. A session of an end begins as it
 -- notes LinkUp. Each act is of the near end, or of the line to it. The far end's acts are those of the two ends
 -- swapped.
-use Rattle.std.specs.Prelude.{◌≡◌, ℕ, zero, suc, ◌+◌, ◌==◌, nat_le, Bool, true, false, if◌then◌else◌, List, [], ◌∷◌}
-use Rattle.std.specs.Prelude.{◌++◌, length, map, remove, Option, Some, None, option_to_list, Result}
+use Rattle.std.specs.Prelude.{◌≡◌, ◌⊎◌, ℕ, zero, suc, ◌+◌, ◌==◌, nat_le, Bool, true, false, if◌then◌else◌, List, []}
+use Rattle.std.specs.Prelude.{◌∷◌, ◌++◌, length, map, remove, Option, Some, None, option_to_list, Result}
 use Rattle.x25_bits.specs.declared.role.Role.{Role}
 use Rattle.x25_frame.specs.{Frame.{PlainFrame}, Spelling.{spelling_of}, Reading.{frame_of}}
 use Rattle.x25_frame.specs.declared.error.FrameError.{FrameError}
@@ -10,7 +10,7 @@ use Rattle.x25_link.specs.{declared.phase.Phase.{Phase}}
 use Rattle.x25_link.specs.declared.phase.Phase.TheVariants.{Down, Up, Waiting}
 use Rattle.x25_link.specs.{Station.{Settings, LinkStation, is_up, with_nothing}, Hearing.{Step, other}}
 use Rattle.x25_link.specs.Link.{take_step, put_step, put_refusal}
-use Rattle.x25_line.specs.laws.Stations.{Act, Put, Deliver, T1, Lose, Damage, own_act, Event, Near, Far, is_visible}
+use Rattle.x25_line.specs.laws.Stations.{Act, Put, Deliver, T1, Lose, Damage, own_act, LinkEvent, Near, Far, is_visible}
 pub use Rattle.x25_line.specs.laws.Stations.{unless}
 use Rattle.x25_line.specs.{laws.StationClaims.{number_in}, laws.Said.{said, sabm_of, ua_of, disc_of}}
 
@@ -112,11 +112,11 @@ acts c act w = own_act c w.near.station w (after_step c w w.back w.met []) act
 
 -- ---- runs
 
-abbrev pub happens : Settings → Settings → Event → Sessions → Sessions
+abbrev pub happens : Settings → Settings → LinkEvent → Sessions → Sessions
 happens c d (Near act) w = acts c act w
 happens c d (Far act) w = swapped (acts d act (swapped w))
 
-abbrev pub run : Settings → Settings → List Event → Sessions → Sessions
+abbrev pub run : Settings → Settings → List LinkEvent → Sessions → Sessions
 run c d [] w = w
 run c d (e ∷ es) w = run c d es (happens c d e w)
 
@@ -134,6 +134,9 @@ from_nothing = start_with Down 0
 
 abbrev pub from_set_up : Sessions
 from_set_up = start_with Up 1
+
+abbrev pub IsStart : Sessions → Type 0
+IsStart w = (w ≡ from_nothing) ⊎ (w ≡ from_set_up)
 
 -- ---- timer T1 while UA is awaited
 
@@ -160,10 +163,10 @@ abbrev pub IsTimely : Settings → Settings → Act → Sessions → Type 0
 IsTimely c d T1 w = w.near.station.phase ≡ Waiting → asked c d w ≡ 0
 IsTimely c d act w = Unit {0}
 
-abbrev pub IsTimelyAt : Settings → Settings → Event → Sessions → Type 0
+abbrev pub IsTimelyAt : Settings → Settings → LinkEvent → Sessions → Type 0
 IsTimelyAt c d (Near act) w = IsTimely c d act w
 IsTimelyAt c d (Far act) w = IsTimely d c act (swapped w)
 
-abbrev pub AreTimely : Settings → Settings → List Event → Sessions → Type 0
+abbrev pub AreTimely : Settings → Settings → List LinkEvent → Sessions → Type 0
 AreTimely c d [] w = Unit {0}
 AreTimely c d (e ∷ es) w = IsTimelyAt c d e w × AreTimely c d es (happens c d e w)

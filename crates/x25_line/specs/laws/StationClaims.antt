@@ -1,6 +1,6 @@
 -- What holds of two link stations and the line between them after each list of events, as long as the link isn't set up
 -- anew.
-use Rattle.std.specs.Prelude.{◌≡◌, ℕ, ◌≤◌, Bool, true, false, ◌||◌, if◌then◌else◌, List, [], ◌∷◌, ◌++◌, length, take}
+use Rattle.std.specs.Prelude.{◌≡◌, ℕ, ◌≤◌, Bool, true, false, ◌||◌, if◌then◌else◌, List, [], ◌∷◌, ◌++◌, take}
 use Rattle.std.specs.{Prelude.{replicate, Option, Some, None, option_to_list, Result, Ok, Err}, List.{Contains}}
 use Rattle.x25_bits.specs.declared.role.Role.{Role}
 use Rattle.x25_frame.specs.Frame.{PlainFrame, info, rr, rnr, rej, frmr}
@@ -8,12 +8,12 @@ use Rattle.x25_frame.specs.{Spelling.{information_of, IsInRange, MayCarry, IsWit
 use Rattle.x25_frame.specs.declared.error.FrameError.{FrameError}
 use Rattle.x25_window.specs.laws.Window.{End, fresh_end}
 use Rattle.x25_link.specs.{declared.phase.Reason.{Reason}, declared.phase.Reason.TheVariants.{Retries}}
-use Rattle.x25_link.specs.{Station.{Settings, is_up, lists_of, no_packets}, Hearing.{other}}
+use Rattle.x25_link.specs.{Station.{Settings, LinkStation, is_up, lists_of, no_packets}, Hearing.{other}}
 use Rattle.x25_link.specs.{Link.{connect_refusal, is_idle}, laws.WindowMachine.{ShowAll}, laws.WindowLaw.{window_of}}
 use Rattle.x25_line.specs.laws.InWindow.{InWindow, IsPrefix}
 use Rattle.x25_line.specs.laws.Line.{Line, Move, AllowsMove, moved, line_swapped}
-use Rattle.x25_line.specs.laws.Stations.{StationEnd, Stations, Act, Put, Deliver, Connect, Event, Near, Far, happens}
-use Rattle.x25_line.specs.laws.Stations.{run, start, swapped}
+use Rattle.x25_line.specs.laws.Stations.{StationEnd, Stations, Act, Put, Deliver, Connect, LinkEvent, Near, Far}
+use Rattle.x25_line.specs.laws.Stations.{happens, run, start, stations_swapped}
 
 -- the two ends of one link: one is the DTE and one the DCE, both with the same N1 and k from 1 to 7
 pub record AreJoined (c d : Settings) : Type 0 where
@@ -33,7 +33,7 @@ pub record IsSetUpOnce (w : Stations) : Type 0 where
 
 -- what holds after each list of events, as long as the link isn't set up anew
 abbrev pub Always : (Settings → Settings → Stations → Type 0) → Type 0
-Always Holds = (c d : Settings) → AreJoined c d → (events : List Event) → IsSetUpOnce (run c d events start)
+Always Holds = (c d : Settings) → AreJoined c d → (events : List LinkEvent) → IsSetUpOnce (run c d events start)
     → Holds c d (run c d events start)
 
 abbrev pub Each : {T : Type 0} → (T → Type 0) → List T → Type 0
@@ -73,29 +73,13 @@ BothNoteTheirEnds c d w = NotesItsEnd w.near × NotesItsEnd w.far
 
 -- ---- where no end connects
 
-abbrev pub AcceptsNoConnect : Act → Stations → Type 0
-AcceptsNoConnect Connect w = connect_refusal w.near.station.phase ≡ None → ⊥
-AcceptsNoConnect act w = Unit {0}
+abbrev pub AcceptsNoConnect : Act → LinkStation → Type 0
+AcceptsNoConnect Connect s = connect_refusal s.phase ≡ None → ⊥
+AcceptsNoConnect act s = Unit {0}
 
-abbrev pub AcceptsNoConnectAt : Event → Stations → Type 0
-AcceptsNoConnectAt (Near act) w = AcceptsNoConnect act w
-AcceptsNoConnectAt (Far act) w = AcceptsNoConnect act (swapped w)
-
--- each Connect of a list is refused where it comes
-abbrev pub NoneConnects : Settings → Settings → List Event → Stations → Type 0
-NoneConnects c d [] w = Unit {0}
-NoneConnects c d (e ∷ es) w = AcceptsNoConnectAt e w × NoneConnects c d es (happens c d e w)
-
--- the link isn't set up anew, and each end leaves Up once at most and notes no LinkDown after that
-pub record IsOneLink (w : Stations) : Type 0 where
-  pub once : IsSetUpOnce w
-  pub near : length w.near.reasons ≤ 1
-  pub far : length w.far.reasons ≤ 1
-
--- what holds after each list of events of which none is an accepted Connect
-abbrev pub OneLinkUnlessConnected : Type 0
-OneLinkUnlessConnected = (c d : Settings) → AreJoined c d → (events : List Event) → NoneConnects c d events start
-    → IsOneLink (run c d events start)
+abbrev pub AcceptsNoConnectAt : LinkEvent → LinkStation → LinkStation → Type 0
+AcceptsNoConnectAt (Near act) near far = AcceptsNoConnect act near
+AcceptsNoConnectAt (Far act) near far = AcceptsNoConnect act far
 
 -- ---- the window
 
@@ -192,9 +176,9 @@ pub record HandsOne (act : Act) (w v : Stations) : Type 0 where
   pub came_up : NotesUp act w.near.came_up v.near.came_up
   pub far : v.far ≡ w.far
 
-abbrev pub HandsOneAt : Event → Stations → Stations → Type 0
+abbrev pub HandsOneAt : LinkEvent → Stations → Stations → Type 0
 HandsOneAt (Near act) w v = HandsOne act w v
-HandsOneAt (Far act) w v = HandsOne act (swapped w) (swapped v)
+HandsOneAt (Far act) w v = HandsOne act (stations_swapped w) (stations_swapped v)
 
 abbrev pub EachEventHandsOne : Type 0
-EachEventHandsOne = (c d : Settings) (event : Event) (w : Stations) → HandsOneAt event w (happens c d event w)
+EachEventHandsOne = (c d : Settings) (event : LinkEvent) (w : Stations) → HandsOneAt event w (happens c d event w)

@@ -26,8 +26,8 @@ pub record Stations : Type 0 where
   pub back : List (List ℕ)
   pub sent : List PlainFrame
 
-abbrev pub swapped : Stations → Stations
-swapped w = record { near = w.far; far = w.near; out = w.back; back = w.out; sent = w.sent }
+abbrev pub stations_swapped : Stations → Stations
+stations_swapped w = record { near = w.far; far = w.near; out = w.back; back = w.out; sent = w.sent }
 
 -- ---- acts
 
@@ -104,15 +104,15 @@ acts c act w = own_act c w.near.station w (after_step c w w.back []) act
 
 -- ---- runs
 
-pub data Event : Type 0 where
-  Near : (act : Act) → Event
-  Far : (act : Act) → Event
+pub data LinkEvent : Type 0 where
+  Near : (act : Act) → LinkEvent
+  Far : (act : Act) → LinkEvent
 
-abbrev pub happens : Settings → Settings → Event → Stations → Stations
+abbrev pub happens : Settings → Settings → LinkEvent → Stations → Stations
 happens c d (Near act) w = acts c act w
-happens c d (Far act) w = swapped (acts d act (swapped w))
+happens c d (Far act) w = stations_swapped (acts d act (stations_swapped w))
 
-abbrev pub run : Settings → Settings → List Event → Stations → Stations
+abbrev pub run : Settings → Settings → List LinkEvent → Stations → Stations
 run c d [] w = w
 run c d (e ∷ es) w = run c d es (happens c d e w)
 

@@ -7,7 +7,7 @@ use Rattle.x25_frame.specs.{Frame.{PlainFrame}, Reading.{frame_of}, declared.err
 use Rattle.x25_window.specs.code.Modulo.{resolved}
 use Rattle.x25_link.specs.{Station.{Settings}, Hearing.{other}}
 use Rattle.x25_line.specs.{laws.Stations.{Act, acts}, laws.Peer.{Peer, numbered_to, told_to, hearing, taking}}
-use Rattle.x25_line.specs.{laws.Said.{Said, Tells, said}, laws.PeerJoined.{Joined, start, our_end, with_peer}}
+use Rattle.x25_line.specs.{laws.Said.{Said, Tells, said}, laws.PeerJoined.{JoinedOnce, start, our_end, with_peer}}
 
 -- ---- what the peer sends: what is known of it then, or nothing where a rule is broken
 
@@ -65,13 +65,14 @@ notes read p = notes_said (said read) p
 -- ---- tapes of which nothing is told
 
 -- of the station, of what is known of the peer, and of the octets between the tape and the station
-pub data IsSilent (c : Settings) : Joined → Type 0 where
+pub data IsSilent (c : Settings) : JoinedOnce → Type 0 where
   Begins : IsSilent c start
   -- the station acts; or octets are lost or damaged between the tape and the station
-  Acts : (w : Joined) (act : Act) → IsSilent c w → IsSilent c (with_peer w.peer (acts c act (our_end w)))
+  Acts : (w : JoinedOnce) (act : Act) → IsSilent c w → IsSilent c (with_peer w.peer (acts c act (our_end w)))
   -- octets of the station are on the tape
-  Shows : (w : Joined) (octets : List ℕ) (rest : List (List ℕ)) → w.out ≡ octets ∷ rest → IsSilent c w
+  Shows : (w : JoinedOnce) (octets : List ℕ) (rest : List (List ℕ)) → w.out ≡ octets ∷ rest → IsSilent c w
       → IsSilent c (record w { peer = notes (frame_of c.role c.longest octets) w.peer; out = rest })
   -- octets of the peer are, and break no rule
-  Comes : (w : Joined) (octets : List ℕ) (q : Peer) → judges (frame_of (other c.role) c.longest octets) w.peer ≡ Some q
+  Comes : (w : JoinedOnce) (octets : List ℕ) (q : Peer)
+      → judges (frame_of (other c.role) c.longest octets) w.peer ≡ Some q
       → IsSilent c w → IsSilent c (record w { peer = q; back = w.back ++ octets ∷ [] })

@@ -1,7 +1,7 @@
 -- Worked rows of peers that our own station isn't like, and of the rules of a tape.
 use Rattle.std.specs.Prelude.{◌≡◌, true, false, [], ◌∷◌, None, Ok}
 use Rattle.x25_frame.specs.Frame.{PlainFrame, info, rr}
-use Rattle.x25_line.specs.{laws.Peer.{Peer}, laws.PeerJoined.{Joined, IsReached}, laws.Tape.{judges, IsSilent}}
+use Rattle.x25_line.specs.{laws.Peer.{Peer}, laws.PeerJoined.{JoinedOnce, ReachedOnce}, laws.Tape.{judges, IsSilent}}
 use Rattle.x25_line.specs.rows.StationRows.{dte}
 
 abbrev pub polling_frame : PlainFrame
@@ -10,12 +10,12 @@ polling_frame = info 0 0 true (7 ∷ [])
 -- A peer takes a packet and says nothing; then it sends one of its own in an I frame with P=1 that acknowledges none.
 abbrev pub OddPeerMoves : Type 0
 OddPeerMoves =
-    (w : Joined) × IsReached ⊥ dte w × (w.near.up ≡ (7 ∷ []) ∷ []) × (w.peer.taken ≡ (5 ∷ []) ∷ [])
+    (w : JoinedOnce) × ReachedOnce ⊥ dte w × (w.near.up ≡ (7 ∷ []) ∷ []) × (w.peer.taken ≡ (5 ∷ []) ∷ [])
     × (w.near.came_up ≡ false)
 
 -- A tape of which nothing is told: that I frame comes, and is acknowledged.
 abbrev pub SilentTapeMoves : Type 0
-SilentTapeMoves = (w : Joined) × IsSilent dte w × (w.near.up ≡ (7 ∷ []) ∷ []) × (w.peer.acked ≡ 1)
+SilentTapeMoves = (w : JoinedOnce) × IsSilent dte w × (w.near.up ≡ (7 ∷ []) ∷ []) × (w.peer.acked ≡ 1)
     × (w.near.came_up ≡ false)
 
 -- the peer sent the packet of one octet, 7, and took and acknowledged that of one octet, 5

@@ -1,6 +1,6 @@
 -- Worked rows of two link stations over sessions: from nothing, and set up again with a packet on the line.
 use Rattle.std.specs.Prelude.{◌≡◌, ℕ, List, [], ◌∷◌}
-use Rattle.x25_line.specs.laws.Stations.{Put, Deliver, T1, Connect, Abandon, Lose, Event, Near, Far}
+use Rattle.x25_line.specs.laws.Stations.{Put, Deliver, T1, Connect, Abandon, Lose, LinkEvent, Near, Far}
 use Rattle.x25_line.specs.rows.StationRows.{dte, dce}
 use Rattle.x25_line.specs.laws.Sessions.{Meeting, Sessions, run, from_nothing, from_set_up, AreTimely}
 
@@ -9,7 +9,7 @@ meeting near far = record { near = near; far = far }
 
 -- The SABM is lost, and T1 sends another. It is answered by UA, and a packet is handed up, each end in its first
 -- session.
-abbrev pub setting_up : List Event
+abbrev pub setting_up : List LinkEvent
 setting_up = Near Connect ∷ Far (Lose 0) ∷ Near T1 ∷ Far Deliver ∷ Near Deliver ∷ Near (Put (5 ∷ [])) ∷ Far Deliver ∷ []
 
 abbrev pub IsFirst : Sessions → Type 0
@@ -20,7 +20,7 @@ SetsUpFromNothing = AreTimely dte dce setting_up from_nothing × IsFirst (run dt
 
 -- The near end leaves and asks for set-up while its packet is on the line. That comes in the first session, and the
 -- acknowledgement of it while UA is awaited. The next packet is one of the second sessions.
-abbrev pub setting_up_again : List Event
+abbrev pub setting_up_again : List LinkEvent
 setting_up_again = Near
     (Put (5 ∷ [])) ∷ Near Abandon ∷ Near Connect ∷ Far Deliver ∷ Far Deliver ∷ Near Deliver ∷ Near Deliver ∷ Near
     (Put (7 ∷ [])) ∷ Far Deliver ∷ []

@@ -21,12 +21,12 @@ use Rattle.x25_line.specs.laws.Stations as line
 -- ---- lists
 
 pub extended_none : (lists : ℕ → List (List ℕ)) (session n : ℕ) → extended lists session [] n ≡ lists n
-extended_none lists session n = cond_both (n == session) (lists n ++ []) (lists n) (λ (l : List (List ℕ)). l ≡ lists n) (λ _. append-nil (lists n)) (λ _. refl)
+extended_none lists session n = cond_both (n == session) (lists n ++ []) (lists n) (λ l. l ≡ lists n) (λ _. append-nil (lists n)) (λ _. refl)
 
 -- more in the same session
 extended_again : (lists between : ℕ → List (List ℕ)) (session : ℕ) (some more : List (List ℕ)) → ((n : ℕ) → between n ≡ extended lists session some n)
     → (n : ℕ) → extended between session more n ≡ extended lists session (some ++ more) n
-extended_again lists between session some more same n = ap (λ (l : List (List ℕ)). if n == session then l ++ more else l) (same n) ∙ by (n == session)
+extended_again lists between session some more same n = ap (λ l. if n == session then l ++ more else l) (same n) ∙ by (n == session)
   where
     by : (b : Bool) → (if b then (if b then lists n ++ some else lists n) ++ more else (if b then lists n ++ some else lists n)) ≡ (if b then lists n ++ (some ++ more) else lists n)
     by true = append_assoc (lists n) some more
@@ -50,10 +50,10 @@ abbrev pub StepGoes : LinkSettings → Sessions → Sessions → LinkStep → Li
 StepGoes c v v₂ k left met = SessionGoes c v v₂ (begun_by k.notes.up v.near.begun) k.side.near k.side.out [] (option_to_list k.packet) left met
 
 -- which hands this up and notes LinkUp, or doesn't
-pub step_as : (c : LinkSettings) (v v₂ : Sessions) (k : LinkStep) (left : List Entry) (met : List Meeting) (up : Bool) (packet : Option (List ℕ)) → k.notes.up ≡ up → k.packet ≡ packet → StepGoes c v v₂ k left met
+pub step_as : {c : LinkSettings} {v v₂ : Sessions} (k : LinkStep) {left : List Entry} {met : List Meeting} (up : Bool) (packet : Option (List ℕ)) → k.notes.up ≡ up → k.packet ≡ packet → StepGoes c v v₂ k left met
     → SessionGoes c v v₂ (begun_by up v.near.begun) k.side.near k.side.out [] (option_to_list packet) left met
-step_as c v v₂ k left met up packet is same g =
-    rw (sym is) (subst (λ (p : Option (List ℕ)). SessionGoes c v v₂ (begun_by k.notes.up v.near.begun) k.side.near k.side.out [] (option_to_list p) left met) same g)
+step_as {c} {v} {v₂} k {left} {met} up packet is same g =
+    rw (sym is) (subst (λ p. SessionGoes c v v₂ (begun_by k.notes.up v.near.begun) k.side.near k.side.out [] (option_to_list p) left met) same g)
 
 -- ---- a step of its own
 
@@ -65,8 +65,8 @@ pub act_goes : (c : LinkSettings) (v : Sessions) (s : LinkStation) (act : line.A
     → acts c act v ≡ unless (refusal v.near.station) v (after_step c v v.back v.met [] (step v.near.station)) → v.near.station ≡ s → refusal s ≡ None → StepGoes c v (acts c act v) (step s) v.back v.met
 act_goes c v s act refusal step is station none =
     let done : LinkStation → Sessions = λ x. after_step c v v.back v.met [] (step x) in
-    subst (λ (x : Sessions). StepGoes c v x (step s) v.back v.met)
-    (sym (is ∙ ap (λ (x : LinkStation). unless (refusal x) v (done x)) station ∙ ap (λ (o : Option LinkError). unless o v (done s)) none)) (own_step c v v.back v.met (step s))
+    subst (λ x. StepGoes c v x (step s) v.back v.met)
+    (sym (is ∙ ap (λ x. unless (refusal x) v (done x)) station ∙ ap (λ o. unless o v (done s)) none)) (own_step c v v.back v.met (step s))
 
 -- a probe is refused where the link isn't up
 pub probe_acts : (c : LinkSettings) (v : Sessions) → acts c line.Probe v ≡ unless (probe_refusal v.near.station.phase) v (after_step c v v.back v.met [] (timer_step c v.near.station))
@@ -79,7 +79,7 @@ probe_acts c v = by v.near.station.phase
 left_up : (c : LinkSettings) (v : Sessions) (s : LinkStation) → v.near.station ≡ s → is_up s.phase ≡ true → acts c line.Abandon v ≡ after_step c v v.back v.met [] (abandon_step c s)
 left_up c v s station up =
     let left : LinkStation → Sessions = λ x. after_step c v v.back v.met [] (abandon_step c x) in
-    ap (λ (x : LinkStation). if is_up x.phase then left x else v) station ∙ ap (λ (b : Bool). if b then left s else v) up
+    ap (λ x. if is_up x.phase then left x else v) station ∙ ap (λ b. if b then left s else v) up
 
 -- it is left, and the front octets are lost
 pub abandon_goes : (c : LinkSettings) (v : Sessions) (s : LinkStation) → v.near.station ≡ s → is_up s.phase ≡ true → StepGoes c v (acts c (line.Lose 0) (acts c line.Abandon v)) (abandon_step c s) (remove v.back 0) v.met
@@ -90,28 +90,28 @@ abandon_goes c v s station up =
 pub relink_goes : RelinkIsTwoSteps → (c : LinkSettings) (v : Sessions) (s : LinkStation) → v.near.station ≡ s → is_up s.phase ≡ true → StepGoes c v (acts c line.Connect (acts c line.Abandon v)) (relink_step c s) v.back v.met
 relink_goes law c v s station up =
     let two = law c s in
-    let n : ℕ = v.near.begun in
-    let down : LinkStation = with_nothing Down s.tries in
+    let n = v.near.begun in
+    let down = with_nothing Down s.tries in
     let again : Side = (connect_step c down).side in
     let left : Side → Sessions = λ t. (let k : LinkStep = record { side = t; packet = None; notes = record { down = Some Counts; up = false } } in after_step c v v.back v.met [] k) in
-    let was : acts c line.Abandon v ≡ left (record { near = down; out = [] }) = left_up c v s station up ∙ ap left two.abandoned in
-    subst (λ (x : Sessions). StepGoes c v (acts c line.Connect x) (relink_step c s) v.back v.met) (sym was)
+    let was = left_up c v s station up ∙ ap left two.abandoned in
+    subst (λ x. StepGoes c v (acts c line.Connect x) (relink_step c s) v.back v.met) (sym was)
     (rw two.connected (record {
       station = refl;
       begun = refl;
       down = extended_again v.near.down (extended v.near.down n []) n [] [] (λ i. refl);
       up = extended_again v.near.up (extended v.near.up n []) n [] [] (λ i. refl);
       far = refl;
-      out = ap (λ (es : List Entry). es ++ sent_in n c.role again.out) (append-nil v.out);
+      out = ap (λ es. es ++ sent_in n c.role again.out) (append-nil v.out);
       back = refl;
-      sent = ap (λ (fs : List PlainFrame). fs ++ again.out) (append-nil v.sent);
+      sent = ap (λ fs. fs ++ again.out) (append-nil v.sent);
       met = refl;
     }))
 
 -- the front octets are taken
 pub deliver_goes : (c : LinkSettings) (v : Sessions) (s : LinkStation) (e : Entry) (rest : List Entry) → v.near.station ≡ s → v.back ≡ e ∷ rest → StepGoes c v (acts c line.Deliver v) (take_step c e.octets s) rest (acts c line.Deliver v).met
 deliver_goes c v s e rest station front =
-    rw (sym station) (subst (λ (es : List Entry). StepGoes c v (delivered c es v) (take_step c e.octets v.near.station) rest (delivered c es v).met) (sym front) (own_step c v rest _ (take_step c e.octets v.near.station)))
+    rw (sym station) (subst (λ es. StepGoes c v (delivered c es v) (take_step c e.octets v.near.station) rest (delivered c es v).met) (sym front) (own_step c v rest _ (take_step c e.octets v.near.station)))
 
 -- ---- octets that are handed down
 
@@ -173,9 +173,9 @@ spelled_with_back : GivenIsRead → (wide long_data : Bool) (g : PlainGiven) (pa
     → AreReadBack wide long_data (spelled_with g packets) packets
 spelled_with_back law wide long_data g [] is allowed octets h = tt
 spelled_with_back law wide long_data g (p ∷ packets) is allowed octets h =
-    let o : List ℕ = write g (packet.spelling_of p) in
+    let o = write g (packet.spelling_of p) in
     let r = law wide long_data g p allowed octets h.0 in (
-      record { octets = r.octets; short = r.short; reads = ap (λ (b : Bool). read_in b (packet.longest_user long_data) o) is ∙ r.reads },
+      record { octets = r.octets; short = r.short; reads = ap (λ b. read_in b (packet.longest_user long_data) o) is ∙ r.reads },
       spelled_back wide long_data packets h.1,
     )
 
@@ -193,24 +193,24 @@ pub record HasPut (c : Settings) (t : Side) (step : Step) : Type 0 where
   pub packets : List PlainPacket
   pub put : PutsRead c t packets handed step
 
-pub puts_spelled : (c : Settings) (t : Side) (packets : List PlainPacket) (step : Step) → PutsBehind c t packets step → AreReadable c.wide c.long_data packets → PutsRead c t packets (spelled packets) step
-puts_spelled c t packets step p readable =
+pub puts_spelled : {c : Settings} {t : Side} {packets : List PlainPacket} {step : Step} → PutsBehind c t packets step → AreReadable c.wide c.long_data packets → PutsRead c t packets (spelled packets) step
+puts_spelled {c} {t} {packets} p readable =
     let same = put_as_spelled (link_settings c) packets t in
     record {
       accepted = accepted_as_spelled (link_settings c) packets t p.accepted;
-      link = p.link ∙ ap (λ (u : Side). u.near) same;
-      out = p.out ∙ ap (λ (u : Side). u.out) same;
+      link = p.link ∙ ap (λ u. u.near) same;
+      out = p.out ∙ ap (λ u. u.out) same;
       readable = spelled_back c.wide c.long_data packets readable;
     }
 
-pub puts_spelled_with : GivenIsRead → (c : Settings) (g : PlainGiven) (t : Side) (packets : List PlainPacket) (step : Step) → c.wide ≡ true → may_give g ≡ true → GivesOctets g → PutsGiven c g t packets step → AreReadable c.wide c.long_data packets
+pub puts_spelled_with : GivenIsRead → {c : Settings} {g : PlainGiven} {t : Side} {packets : List PlainPacket} {step : Step} → c.wide ≡ true → may_give g ≡ true → GivesOctets g → PutsGiven c g t packets step → AreReadable c.wide c.long_data packets
     → PutsRead c t packets (spelled_with g packets) step
-puts_spelled_with law c g t packets step wide allowed octets p readable =
+puts_spelled_with law {c} {g} {t} {packets} wide allowed octets p readable =
     let same = given_as_spelled (link_settings c) g packets t in
     record {
       accepted = taken_as_spelled (link_settings c) g packets t p.accepted;
-      link = p.link ∙ ap (λ (u : Side). u.near) same;
-      out = p.out ∙ ap (λ (u : Side). u.out) same;
+      link = p.link ∙ ap (λ u. u.near) same;
+      out = p.out ∙ ap (λ u. u.out) same;
       readable = spelled_with_back law c.wide c.long_data g packets wide allowed octets readable;
     }
 
@@ -219,32 +219,32 @@ pub handed_up : PutTells → (c : LinkSettings) (os : List (List ℕ)) (t : Side
 handed_up tells c [] t up = up
 handed_up tells c (o ∷ os) t up = handed_up tells c os (handed_on c o t) ((tells c o t.near up).stays refl ∙ up)
 
-pub puts_up : PutTells → (c : Settings) (t : Side) (packets : List PlainPacket) (os : List (List ℕ)) (step : Step) → PutsRead c t packets os step → is_up t.near.phase ≡ true → is_up step.near.link.phase ≡ true
-puts_up tells c t packets os step p up = ap (λ (s : LinkStation). is_up s.phase) p.link ∙ handed_up tells (link_settings c) os t up
+pub puts_up : PutTells → {c : Settings} {t : Side} {packets : List PlainPacket} {os : List (List ℕ)} {step : Step} → PutsRead c t packets os step → is_up t.near.phase ≡ true → is_up step.near.link.phase ≡ true
+puts_up tells {c} {t} {os} p up = ap (λ s. is_up s.phase) p.link ∙ handed_up tells (link_settings c) os t up
 
 -- ---- one after another
 
 accepted : (c : LinkSettings) (o : List ℕ) (v : Sessions) → length o ≤ c.longest → put_refusal v.near.station ≡ None → acts c (line.Put o) v ≡ after_step c v v.back v.met (o ∷ []) (put_step c o v.near.station)
 accepted c o v short none = rw (le-leb (length o) c.longest short, none) refl
 
-put_goes : (c : LinkSettings) (v v₁ : Sessions) (session : ℕ) (t : Side) (down up : List (List ℕ)) (left : List Entry) (met : List Meeting) (o : List ℕ)
+put_goes : {c : LinkSettings} {v v₁ : Sessions} {session : ℕ} (t : Side) {down up : List (List ℕ)} {left : List Entry} {met : List Meeting} (o : List ℕ)
     → length o ≤ c.longest → put_refusal t.near ≡ None → SessionGoes c v v₁ session t.near t.out down up left met
     → SessionGoes c v (acts c (line.Put o) v₁) session (handed_on c o t).near (handed_on c o t).out (down ++ o ∷ []) up left met
-put_goes c v v₁ session t down up left met o short none g =
+put_goes {c} {v} {v₁} {session} t {down} {up} {left} {met} o short none g =
     let there : put_refusal v₁.near.station ≡ None = ap put_refusal g.station ∙ none in
-    let k : LinkStep = put_step c o v₁.near.station in
+    let k = put_step c o v₁.near.station in
     let more : List PlainFrame = (put_step c o t.near).side.out in
-    let frames : k.side.out ≡ more = ap (λ (s : LinkStation). (put_step c o s).side.out) g.station in
-    subst (λ (x : Sessions). SessionGoes c v x session (handed_on c o t).near (handed_on c o t).out (down ++ o ∷ []) up left met) (sym (accepted c o v₁ short there)) (record {
-      station = ap (λ (s : LinkStation). (put_step c o s).side.near) g.station;
+    let frames : k.side.out ≡ more = ap (λ s. (put_step c o s).side.out) g.station in
+    subst (λ x. SessionGoes c v x session (handed_on c o t).near (handed_on c o t).out (down ++ o ∷ []) up left met) (sym (accepted c o v₁ short there)) (record {
+      station = ap (λ s. (put_step c o s).side.near) g.station;
       begun = g.begun;
-      down = λ n. ap (λ (s : ℕ). extended v₁.near.down s (o ∷ []) n) g.begun ∙ extended_again v.near.down v₁.near.down session down (o ∷ []) g.down n;
+      down = λ n. ap (λ s. extended v₁.near.down s (o ∷ []) n) g.begun ∙ extended_again v.near.down v₁.near.down session down (o ∷ []) g.down n;
       up = λ n. extended_none v₁.near.up v₁.near.begun n ∙ g.up n;
       far = g.far;
-      out = ap₂ (λ (s : ℕ) (fs : List PlainFrame). v₁.out ++ sent_in s c.role fs) g.begun frames ∙ ap (λ (es : List Entry). es ++ sent_in session c.role more) g.out
-          ∙ append_assoc v.out (sent_in session c.role t.out) (sent_in session c.role more) ∙ ap (λ (es : List Entry). v.out ++ es) (sym (sent_append session c.role t.out more));
+      out = ap₂ (λ s fs. v₁.out ++ sent_in s c.role fs) g.begun frames ∙ ap (λ es. es ++ sent_in session c.role more) g.out
+          ∙ append_assoc v.out (sent_in session c.role t.out) (sent_in session c.role more) ∙ ap (λ es. v.out ++ es) (sym (sent_append session c.role t.out more));
       back = g.back;
-      sent = ap₂ (λ (l fs : List PlainFrame). l ++ fs) g.sent frames ∙ append_assoc v.sent t.out more;
+      sent = ap₂ (λ l fs. l ++ fs) g.sent frames ∙ append_assoc v.sent t.out more;
       met = g.met;
     })
 
@@ -263,9 +263,9 @@ all_puts_go c v v₁ session [] [] t down up left met g ok readable =
     rw (append-nil down) g
 all_puts_go c v v₁ session (o ∷ os) (p ∷ ps) t down up left met g ok readable =
     let lc = link_settings c in
-    let u : Side = all_handed lc os (handed_on lc o t) in
-    subst (λ (d : List (List ℕ)). SessionGoes lc v (all_act lc (puts_of os) (acts lc (line.Put o) v₁)) session u.near u.out d up left met) (append_assoc down (o ∷ []) os)
-    (all_puts_go c v (acts lc (line.Put o) v₁) session os ps (handed_on lc o t) (down ++ o ∷ []) up left met (put_goes lc v v₁ session t down up left met o readable.0.short ok.0 g) ok.1 readable.1)
+    let u = all_handed lc os (handed_on lc o t) in
+    subst (λ d. SessionGoes lc v (all_act lc (puts_of os) (acts lc (line.Put o) v₁)) session u.near u.out d up left met) (append_assoc down (o ∷ []) os)
+    (all_puts_go c v (acts lc (line.Put o) v₁) session os ps (handed_on lc o t) (down ++ o ∷ []) up left met (put_goes t o readable.0.short ok.0 g) ok.1 readable.1)
 all_puts_go c v v₁ session os ps t down up left met g ok readable = absurd readable
 
 -- behind the link's own step to a side the station's is whole
@@ -273,14 +273,14 @@ pub puts_go : (c : Settings) (v v₁ : Sessions) (session : ℕ) (packets : List
     → (let lc = link_settings c in SessionGoes lc v v₁ session t.near t.out [] up left met → PutsRead c t packets os step → SessionGoes lc v (all_act lc (puts_of os) v₁) session step.near.link step.out os up left met)
 puts_go c v v₁ session packets os t step up left met g p =
     let lc = link_settings c in
-    let x : Sessions = all_act lc (puts_of os) v₁ in
-    subst (λ (s : LinkStation). SessionGoes lc v x session s step.out os up left met) (sym p.link)
+    let x = all_act lc (puts_of os) v₁ in
+    subst (λ s. SessionGoes lc v x session s step.out os up left met) (sym p.link)
     (rw p.out (all_puts_go c v v₁ session os packets t [] up left met g p.accepted p.readable))
 
 -- what lasts as octets are handed down
-pub puts_last : (c : LinkSettings) (R : Sessions → Type 0) → ((o : List ℕ) (v : Sessions) → R v → R (acts c (line.Put o) v)) → (os : List (List ℕ)) (v : Sessions) → R v → R (all_act c (puts_of os) v)
-puts_last c R lasts [] v h = h
-puts_last c R lasts (o ∷ os) v h = puts_last c R lasts os (acts c (line.Put o) v) (lasts o v h)
+pub puts_last : (c : LinkSettings) (R : Sessions → Type 0) → ((o : List ℕ) (v : Sessions) → R v → R (acts c (line.Put o) v)) → (os : List (List ℕ)) {v : Sessions} → R v → R (all_act c (puts_of os) v)
+puts_last c R lasts [] h = h
+puts_last c R lasts (o ∷ os) {v} h = puts_last c R lasts os (lasts o v h)
 
 -- nothing was asked of the link yet
 pub stays_goes : (c : LinkSettings) (v : Sessions) (s : LinkStation) → v.near.station ≡ s → SessionGoes c v v v.near.begun s [] [] [] v.back v.met

@@ -7,7 +7,7 @@ use Rattle.x25_line.proofs.ends.Meetings.{all_map, all_some, all_no_earlier}
 
 -- these two sessions met each other, or none
 abbrev pub CanMeet : ℕ → ℕ → List Meeting → Type 0
-CanMeet n m met = Each (λ (p : Meeting). (p.near ≡ n → p.far ≡ m) × (p.far ≡ m → p.near ≡ n)) met
+CanMeet n m met = Each (λ p. (p.near ≡ n → p.far ≡ m) × (p.far ≡ m → p.near ≡ n)) met
 
 pub true_false : {A : Type 0} → true ≡ false → A
 true_false e = absurd (cc)
@@ -31,9 +31,9 @@ as_one : (m p : Meeting) → IsNoEarlier m p → AreOne m.near m.far p
 as_one m p (inl same) = (λ _. same.1, λ _. same.0)
 as_one m p (inr less) = (λ is. absurd (omega (arith, is, less.0)), λ is. absurd (omega (arith, is, less.1)))
 
-back_as_one : (m p : Meeting) → IsNoEarlier m p → AreOne p.near p.far m
-back_as_one m p (inl same) = (λ _. sym same.1, λ _. sym same.0)
-back_as_one m p (inr less) = (λ is. absurd (omega (arith, is, less.0)), λ is. absurd (omega (arith, is, less.1)))
+back_as_one : {m p : Meeting} → IsNoEarlier m p → AreOne p.near p.far m
+back_as_one (inl same) = (λ _. sym same.1, λ _. sym same.0)
+back_as_one (inr less) = (λ is. absurd (omega (arith, is, less.0)), λ is. absurd (omega (arith, is, less.1)))
 
 -- each two that met could meet
 pub met_can_meet : (met : List Meeting) → InStep met → Each (λ (p : Meeting). CanMeet p.near p.far met) met
@@ -44,7 +44,7 @@ met_can_meet (x ∷ met) h =
   where
     more : (ps : List Meeting) → Each (IsNoEarlier x) ps → Each (λ (p : Meeting). CanMeet p.near p.far met) ps → Each (λ (p : Meeting). CanMeet p.near p.far (x ∷ met)) ps
     more [] f g = tt
-    more (p ∷ ps) f g = ((back_as_one x p f.0, g.0), more ps f.1 g.1)
+    more (p ∷ ps) f g = ((back_as_one f.0, g.0), more ps f.1 g.1)
 
 -- ---- each session of the station could meet one
 
@@ -54,9 +54,9 @@ finds n [] = inr tt
 finds n (p ∷ met) = by (p.near == n) refl (finds n met)
   where
     by : (b : Bool) → (p.near == n) ≡ b → SomeMet (λ (p : Meeting). p.near ≡ n) met ⊎ Each (λ (p : Meeting). p.near ≡ n → ⊥) met
-        → SomeMet (λ (p : Meeting). p.near ≡ n) (p ∷ met) ⊎ Each (λ (p : Meeting). p.near ≡ n → ⊥) (p ∷ met)
+        → SomeMet (λ p. p.near ≡ n) (p ∷ met) ⊎ Each (λ p. p.near ≡ n → ⊥) (p ∷ met)
     by true is rest = inl (inl (eqb-true p.near n is))
-    by false is rest = elim rest [ inl some ↦ inl (inr some) | inr none ↦ inr (λ (e : p.near ≡ n). true_false (sym (eq-eqb p.near n e) ∙ is), none) ]
+    by false is rest = elim rest [ inl some ↦ inl (inr some) | inr none ↦ inr (λ e. true_false (sym (eq-eqb p.near n e) ∙ is), none) ]
 
 -- a number over all that were met
 abbrev over : List Meeting → ℕ
@@ -69,11 +69,11 @@ below_over top (p ∷ met) low = (let is : over (p ∷ met) ≡ suc (p.far + ove
 
 pub could_meet_some : (n : ℕ) (met : List Meeting) → InStep met → (m : ℕ) × CanMeet n m met
 could_meet_some n met h = elim (finds n met) [
-  | inl some ↦ all_some (λ (p : Meeting). CanMeet p.near p.far met) (λ (p : Meeting). p.near ≡ n) ((m : ℕ) × CanMeet n m met)
-      (λ (p : Meeting) can is. (p.far, subst (λ (k : ℕ). CanMeet k p.far met) is can)) met (met_can_meet met h) some
+  | inl some ↦ all_some (λ p. CanMeet p.near p.far met) (λ p. p.near ≡ n) ((m : ℕ) × CanMeet n m met)
+      (λ (p : Meeting) can is. (p.far, subst (λ k. CanMeet k p.far met) is can)) met (met_can_meet met h) some
   | inr none ↦ (
     over met,
-    all_map (λ (p : Meeting). (p.near ≡ n → ⊥) × (p.far < over met)) (AreOne n (over met)) (λ (p : Meeting) apart. (λ is. absurd (apart.0 is), λ is. absurd (omega (arith, is, apart.1)))) met
-        (all_both (λ (p : Meeting). p.near ≡ n → ⊥) (λ (p : Meeting). p.far < over met) met none (below_over (over met) met (omega arith))),
+    all_map (λ p. (p.near ≡ n → ⊥) × (p.far < over met)) (AreOne n (over met)) (λ (p : Meeting) apart. (λ is. absurd (apart.0 is), λ is. absurd (omega (arith, is, apart.1)))) met
+        (all_both (λ p. p.near ≡ n → ⊥) (λ p. p.far < over met) met none (below_over (over met) met (omega arith))),
   )
 ]

@@ -4,9 +4,9 @@ use Rattle.std.proofs.{lemmas.Bool.{eqb-true}, lemmas.List.{drop-append-le}}
 use Rattle.std.specs.Prelude.{remove}
 use Rattle.x25_packet.specs.{Packet.{PlainPacket}, Spelling.{channel_of, HasChannel}}
 use Rattle.x25_link.specs.{Station.{Settings as LinkSettings, LinkStation}}
-use Rattle.x25_line.specs.{laws.Stations.{is_visible}, laws.Sessions.{Entry, Meeting, Sessions, turned, acts, replaced}}
+use Rattle.x25_line.specs.{laws.Stations.{is_visible}, laws.Sessions.{Entry, Meeting, turned, acts, replaced}}
 use Rattle.x25_line.specs.laws.Peer.{Peer, fresh_peer}
-use Rattle.x25_line.specs.laws.PeerSessions.{PeerEnd, PeerSessions, now, with_now, begins, IsReached, goes_on, Ours, HandsDown, both_ends, with_peer}
+use Rattle.x25_line.specs.laws.PeerSessions.{PeerEnd, PeerSessions, now, with_now, begins, ReachedInSessions, goes_on, Ours, HandsDown, both_ends, with_peer}
 use Rattle.x25_line.specs.laws.Ends.{Stand, In, Letter, Two, meets, heard, Ends, near_now, fresh_where, begins as begins_by, Moves, hears, takes_ua, takes_sabm, Does, sends, listens, moves}
 use Rattle.x25_line.specs.{laws.Said.{Said, Tells}, laws.SessionClaims.{Each}}
 use Rattle.x25_handshakes.specs.{laws.Handshake.{Live}, laws.Layers.{On}}
@@ -32,30 +32,30 @@ pub record GoesTo (p q : PeerEnd) : Type 0 where
   pub taken : (m : ℕ) → length (p.of_session m).taken ≤ length (q.of_session m).taken
   pub anew : AreAnew q
 
-stays_peer : (p : PeerEnd) → AreAnew p → GoesTo p p
-stays_peer p anew = record { given = λ m. refl; taken = λ m. omega (arith); anew = anew }
+stays_peer : {p : PeerEnd} → AreAnew p → GoesTo p p
+stays_peer anew = record { given = λ m. refl; taken = λ m. omega (arith); anew = anew }
 
 now_given : (p : PeerEnd) (x : Peer) → x.given ≡ (now p).given → (m : ℕ) → ((with_now x p).of_session m).given ≡ (p.of_session m).given
-now_given p x same = in_cases (λ (m : ℕ) (y : Peer). y.given ≡ (p.of_session m).given) p.begun x p.of_session same (λ m differs. refl)
+now_given p x same = in_cases (λ m y. y.given ≡ (p.of_session m).given) p.begun x p.of_session same (λ m differs. refl)
 
 now_taken : (p : PeerEnd) (x : Peer) → length (now p).taken ≤ length x.taken → (m : ℕ) → length (p.of_session m).taken ≤ length ((with_now x p).of_session m).taken
-now_taken p x more = in_cases (λ (m : ℕ) (y : Peer). length (p.of_session m).taken ≤ length y.taken) p.begun x p.of_session more (λ m differs. omega (arith))
+now_taken p x more = in_cases (λ m y. length (p.of_session m).taken ≤ length y.taken) p.begun x p.of_session more (λ m differs. omega (arith))
 
 later_same : (p : PeerEnd) (x : Peer) (m : ℕ) → p.begun < m → (with_now x p).of_session m ≡ p.of_session m
 later_same p x m over = in_other p.begun m x p.of_session (λ is. (omega (arith, over, is)))
 
-with_now_goes : (p : PeerEnd) (x : Peer) → AreAnew p → x.given ≡ (now p).given → length (now p).taken ≤ length x.taken → GoesTo p (with_now x p)
-with_now_goes p x anew same more = record {
+with_now_goes : {p : PeerEnd} (x : Peer) → AreAnew p → x.given ≡ (now p).given → length (now p).taken ≤ length x.taken → GoesTo p (with_now x p)
+with_now_goes {p} x anew same more = record {
   given = now_given p x same;
   taken = now_taken p x more;
-  anew = λ m over. subst (λ (y : Peer). (y.given ≡ []) × (y.taken ≡ [])) (sym (later_same p x m over)) (anew m over);
+  anew = λ m over. subst (λ y. (y.given ≡ []) × (y.taken ≡ [])) (sym (later_same p x m over)) (anew m over);
 }
 
-begins_goes : (p : PeerEnd) → AreAnew p → GoesTo p (begins p)
-begins_goes p anew = record {
-  given = in_cases (λ (m : ℕ) (y : Peer). y.given ≡ (p.of_session m).given) (suc p.begun) fresh_peer p.of_session (sym next.0) (λ m differs. refl);
-  taken = in_cases (λ (m : ℕ) (y : Peer). length (p.of_session m).taken ≤ length y.taken) (suc p.begun) fresh_peer p.of_session (let none = ap length next.1 in omega (arith, none)) (λ m differs. omega (arith));
-  anew = λ m over. subst (λ (y : Peer). (y.given ≡ []) × (y.taken ≡ [])) (sym (in_other (suc p.begun) m fresh_peer p.of_session (λ is. (omega (arith, over, is))))) (anew m (omega (arith, over)));
+begins_goes : {p : PeerEnd} → AreAnew p → GoesTo p (begins p)
+begins_goes {p} anew = record {
+  given = in_cases (λ m y. y.given ≡ (p.of_session m).given) (suc p.begun) fresh_peer p.of_session (sym next.0) (λ m differs. refl);
+  taken = in_cases (λ m y. length (p.of_session m).taken ≤ length y.taken) (suc p.begun) fresh_peer p.of_session (omega (arith, ap length next.1)) (λ m differs. omega (arith));
+  anew = λ m over. subst (λ y. (y.given ≡ []) × (y.taken ≡ [])) (sym (in_other (suc p.begun) m fresh_peer p.of_session (λ is. (omega (arith, over, is))))) (anew m (omega (arith, over)));
 }
   where
     next : ((p.of_session (suc p.begun)).given ≡ []) × ((p.of_session (suc p.begun)).taken ≡ [])
@@ -65,18 +65,18 @@ begins_goes p anew = record {
 abbrev end_of : Ends → PeerEnd
 end_of w = record { stand = w.two.near.stand; begun = w.two.near.begun; of_session = w.near_of }
 
-moves_goes : (w : Ends) (v : Two) (m : Moves w.two v) → AreAnew (end_of w) → GoesTo (end_of w) (record { stand = v.near.stand; begun = v.near.begun; of_session = fresh_where (begins_by m) w.two.near.begun w.near_of })
-moves_goes w v (takes_ua s rest is asking) anew = begins_goes (end_of w) anew
-moves_goes w v (takes_sabm s rest is) anew = begins_goes (end_of w) anew
-moves_goes w v m anew = record { given = λ m. refl; taken = λ m. omega (arith); anew = anew }
+moves_goes : (w : Ends) {v : Two} (m : Moves w.two v) → AreAnew (end_of w) → GoesTo (end_of w) (record { stand = v.near.stand; begun = v.near.begun; of_session = fresh_where (begins_by m) w.two.near.begun w.near_of })
+moves_goes w (takes_ua s rest is asking) anew = begins_goes anew
+moves_goes w (takes_sabm s rest is) anew = begins_goes anew
+moves_goes w m anew = record { given = λ m. refl; taken = λ m. omega (arith); anew = anew }
 
-does_goes : (w v : Ends) → AreAnew (end_of w) → Does w v → GoesTo (end_of w) (end_of v)
-does_goes w v anew (sends carried nr x on may) =
+does_goes : {w v : Ends} → AreAnew (end_of w) → Does w v → GoesTo (end_of w) (end_of v)
+does_goes {w} anew (sends carried nr x on may) =
     (let same = said_same (near_now w) x (Tells carried nr) may in
     let long : length x.taken ≡ length (near_now w).taken = ap length same.1 in
-    with_now_goes (end_of w) x anew same.0 (omega (arith, long)))
-does_goes w v anew (listens e rest x is on may) = (let same = made_more (near_now w) x e.said may in with_now_goes (end_of w) x anew same.given same.taken)
-does_goes w v anew (moves u m) = moves_goes w u m anew
+    with_now_goes x anew same.0 (omega (arith, long)))
+does_goes {w} anew (listens e rest x is on may) = (let same = made_more e.said may in with_now_goes x anew same.given same.taken)
+does_goes {w} anew (moves u m) = moves_goes w m anew
 
 -- what held of all who met held before
 heard_less : (P : Meeting → Type 0) (s : Stand) (b : ℕ) (e : Letter) (met : List Meeting) → Each P (heard s b e met) → Each P met
@@ -87,11 +87,11 @@ heard_less P In b e met h = by e.said h
     by s h = h
 heard_less P s b e met h = h
 
-met_less : (P : Meeting → Type 0) (w v : Ends) → Does w v → Each P v.two.met → Each P w.two.met
-met_less P w v (sends carried nr x on may) h = h
-met_less P w v (listens e rest x is on may) h = heard_less P w.two.near.stand w.two.near.begun e w.two.met h
-met_less P w v (moves u (hears e rest is)) h = heard_less P w.two.near.stand w.two.near.begun e w.two.met h
-met_less P w v (moves u m) h = h
+met_less : (P : Meeting → Type 0) {w v : Ends} → Does w v → Each P v.two.met → Each P w.two.met
+met_less P (sends carried nr x on may) h = h
+met_less P {w} (listens e rest x is on may) h = heard_less P w.two.near.stand w.two.near.begun e w.two.met h
+met_less P {w} (moves u (hears e rest is)) h = heard_less P w.two.near.stand w.two.near.begun e w.two.met h
+met_less P (moves u m) h = h
 
 each_turned : (P : Meeting → Type 0) (met : List Meeting) → Each P met → Each (λ (m : Meeting). P (turned m)) (map turned met)
 each_turned P [] h = tt
@@ -108,16 +108,15 @@ read_front : (c : Settings) (given : List PlainPacket) (taken : List (List ℕ))
     → drop n given ≡ read ++ drop (length taken) given
 read_front c given [] zero [] first few reads = refl
 read_front c given [] zero (r ∷ read) first few reads = absurd reads
-read_front c given [] (suc n) read first few reads = (let none : suc n ≤ 0 = few in absurd (omega (arith, none)))
+read_front c given [] (suc n) read first few reads = (absurd (omega (arith, few)))
 read_front c [] (t ∷ taken) n read first few reads = absurd first
 read_front c (g ∷ given) (t ∷ taken) zero [] first few reads = absurd reads
 read_front c (g ∷ given) (t ∷ taken) zero (r ∷ read) first few reads =
-    let one : g ≡ r = ok_same g r (read_by c t) first.0 reads.0 in
-    let more : given ≡ read ++ drop (length taken) given = read_front c given taken 0 read first.1 (omega (arith)) reads.1 in
-    ap (λ (l : List PlainPacket). g ∷ l) more ∙ ap (λ (x : PlainPacket). x ∷ (read ++ drop (length taken) given)) one
+    let one = ok_same g r (read_by c t) first.0 reads.0 in
+    let more = read_front c given taken 0 read first.1 (omega (arith)) reads.1 in
+    ap (λ l. g ∷ l) more ∙ ap (λ x. x ∷ (read ++ drop (length taken) given)) one
 read_front c (g ∷ given) (t ∷ taken) (suc n) read first few reads =
-    let low : suc n ≤ suc (length taken) = few in
-    read_front c given taken n read first.1 (omega (arith, low)) reads
+    read_front c given taken n read first.1 (omega (arith, few)) reads
 
 -- ---- packets go down to it
 
@@ -132,25 +131,25 @@ handed_given (o ∷ all) p m = handed_given all (with_now (record (now p) { give
     by : (b : Bool) → (m == p.begun) ≡ b
         → (if b then (if b then record (now p) { given = (now p).given ++ o ∷ [] } else p.of_session m).given ++ all else (if b then record (now p) { given = (now p).given ++ o ∷ [] } else p.of_session m).given)
         ≡ (if b then (p.of_session m).given ++ o ∷ all else (p.of_session m).given)
-    by true is = append_assoc (now p).given (o ∷ []) all ∙ ap (λ (i : ℕ). (p.of_session i).given ++ o ∷ all) (sym (eqb-true m p.begun is))
+    by true is = append_assoc (now p).given (o ∷ []) all ∙ ap (λ i. (p.of_session i).given ++ o ∷ all) (sym (eqb-true m p.begun is))
     by false is = refl
 
 handed_taken : (all : List (List ℕ)) (p : PeerEnd) (m : ℕ) → ((handed_down all p).of_session m).taken ≡ (p.of_session m).taken
 handed_taken [] p m = refl
 handed_taken (o ∷ all) p m =
     let x : Peer = record (now p) { given = (now p).given ++ o ∷ [] } in
-    handed_taken all (with_now x p) m ∙ in_cases (λ (n : ℕ) (y : Peer). y.taken ≡ (p.of_session n).taken) p.begun x p.of_session refl (λ n differs. refl) m
+    handed_taken all (with_now x p) m ∙ in_cases (λ n y. y.taken ≡ (p.of_session n).taken) p.begun x p.of_session refl (λ n differs. refl) m
 
 handed_begun : (all : List (List ℕ)) (p : PeerEnd) → (handed_down all p).begun ≡ p.begun
 handed_begun [] p = refl
 handed_begun (o ∷ all) p = handed_begun all (with_now (record (now p) { given = (now p).given ++ o ∷ [] }) p)
 
-hand_down : (c : LinkSettings) (link : LinkStation) (begun : ℕ) (down up : ℕ → List (List ℕ)) (peer : PeerEnd) (out back : List Entry) (met : List Meeting) (all : List (List ℕ)) → peer.stand ≡ In
+hand_down : {c : LinkSettings} {link : LinkStation} {begun : ℕ} {down up : ℕ → List (List ℕ)} (peer : PeerEnd) {out back : List Entry} {met : List Meeting} (all : List (List ℕ)) → peer.stand ≡ In
     → LinkReached c link begun down up peer out back met → LinkReached c link begun down up (handed_down all peer) out back met
-hand_down c link begun down up peer out back met [] stand l = l
-hand_down c link begun down up peer out back met (o ∷ all) stand l =
-    let q : PeerEnd = with_now (record (now peer) { given = (now peer).given ++ o ∷ [] }) peer in
-    hand_down c link begun down up q out back met all stand
+hand_down peer [] stand l = l
+hand_down {c} {link} {begun} {down} {up} peer {out} {back} {met} (o ∷ all) stand l =
+    let q = with_now (record (now peer) { given = (now peer).given ++ o ∷ [] }) peer in
+    hand_down q all stand
     (record {
       downs = l.downs;
       ups = l.ups;
@@ -165,9 +164,9 @@ module _ (below : Below) (c : Settings) (low : 1 ≤ c.window) (high : c.window 
 
   -- ---- the line, and the peer's link
 
-  relinked : (q : PeerEnd) (out back : List Entry) (met : List Meeting) → GoesTo w.peer q → ((n m : ℕ) → CanMeet n m met → CanMeet n m w.met) → Link q out back met
+  relinked : {q : PeerEnd} {out back : List Entry} {met : List Meeting} → GoesTo w.peer q → ((n m : ℕ) → CanMeet n m met → CanMeet n m w.met) → Link q out back met
       → Stands c (record w { peer = q; out = out; back = back; met = met })
-  relinked q out back met to could l = record {
+  relinked {q} to could l = record {
     known = h.known;
     puts = h.puts;
     link = l;
@@ -175,9 +174,9 @@ module _ (below : Below) (c : Settings) (low : 1 ≤ c.window) (high : c.window 
     each = h.each;
     later = h.later;
     peers = λ m. (let is = h.peers m in
-        let some : (w.theirs m).heard ≤ length (w.peer.of_session m).taken = is.heard in
-        let more : length (w.peer.of_session m).taken ≤ length (q.of_session m).taken = to.taken m in
-        record { reads = subst (λ (g : List (List ℕ)). ReadAs c g (h.puts m)) (sym (to.given m)) is.reads; heard = omega (arith, some, more) });
+        let some = is.heard in
+        let more = to.taken m in
+        record { reads = subst (λ g. ReadAs c g (h.puts m)) (sym (to.given m)) is.reads; heard = omega (arith, some, more) });
     anew = to.anew;
     pairs = λ n m can. h.pairs n m (could n m can);
     kept = h.kept;
@@ -189,7 +188,7 @@ module _ (below : Below) (c : Settings) (low : 1 ≤ c.window) (high : c.window 
   abbrev links : PeerSessions
   links = links_with w.near.link w.begun h.link.downs h.link.ups w.peer w.out w.back w.met
 
-  link_goes : (q : PeerEnd) (out back : List Entry) (met : List Meeting) → peers.Happens (Unit {0}) (link_settings c) links (links_with w.near.link w.begun h.link.downs h.link.ups q out back met) → Link q out back met
+  link_goes : (q : PeerEnd) (out back : List Entry) (met : List Meeting) → peers.HappensInSessions (Unit {0}) (link_settings c) links (links_with w.near.link w.begun h.link.downs h.link.ups q out back met) → Link q out back met
   link_goes q out back met e = record {
     downs = h.link.downs;
     ups = h.link.ups;
@@ -199,26 +198,26 @@ module _ (below : Below) (c : Settings) (low : 1 ≤ c.window) (high : c.window 
   }
 
   pub loses : (place : ℕ) → Stands c (record w { back = remove w.back place })
-  loses place = relinked w.peer w.out (remove w.back place) w.met (stays_peer w.peer h.anew) as_it_met (link_goes w.peer w.out (remove w.back place) w.met (Ours (line.Lose place) tt))
+  loses place = relinked (stays_peer h.anew) as_it_met (link_goes w.peer w.out (remove w.back place) w.met (Ours (line.Lose place) tt))
 
   pub damages : (place : ℕ) (octets : List ℕ) → is_visible octets ≡ true → Stands c (record w { back = replaced w.back place octets })
   damages place octets visible =
-      let s : Sessions = both_ends links in
-      let is : acts (link_settings c) (line.Damage place octets) s ≡ record s { back = replaced w.back place octets } = ap (λ (b : Bool). if b then record s { back = replaced w.back place octets } else s) visible in
-      relinked w.peer w.out (replaced w.back place octets) w.met (stays_peer w.peer h.anew) as_it_met
+      let s = both_ends links in
+      let is : acts (link_settings c) (line.Damage place octets) s ≡ record s { back = replaced w.back place octets } = ap (λ b. if b then record s { back = replaced w.back place octets } else s) visible in
+      relinked (stays_peer h.anew) as_it_met
       (record {
         downs = h.link.downs;
         ups = h.link.ups;
-        reached = subst (λ (v : Sessions). IsReached (Unit {0}) (link_settings c) (with_peer w.peer v)) is (goes_on links (with_peer w.peer (acts (link_settings c) (line.Damage place octets) s)) h.link.reached (Ours (line.Damage place octets) tt));
+        reached = subst (λ v. ReachedInSessions (Unit {0}) (link_settings c) (with_peer w.peer v)) is (goes_on links (with_peer w.peer (acts (link_settings c) (line.Damage place octets) s)) h.link.reached (Ours (line.Damage place octets) tt));
         is_down = h.link.is_down;
         is_up = h.link.is_up;
       })
 
   -- of the peer's link, and of the line to it
-  pub theirs : (v : PeerSessions) → peers.PeerHappens (Unit {0}) (link_settings c) (links_of w) v → Stands c (record w { peer = v.peer; out = v.out; back = v.back; met = v.met })
-  theirs v k =
+  pub theirs : {v : PeerSessions} → peers.PeerHappens (Unit {0}) (link_settings c) (links_of w) v → Stands c (record w { peer = v.peer; out = v.out; back = v.back; met = v.met })
+  theirs {v} k =
       let m = k.does (below.asks (link_settings c) low high links h.link.reached) in
-      relinked v.peer v.out v.back v.met (does_goes _ _ h.anew m) (λ n s can. turned_back _ w.met (met_less _ _ _ m (each_turned _ v.met can)))
+      relinked (does_goes h.anew m) (λ n s can. turned_back _ w.met (met_less _ m (each_turned _ v.met can)))
       (link_goes v.peer v.out v.back v.met (peers.Theirs (links_with w.near.link w.begun h.link.downs h.link.ups v.peer v.out v.back v.met) (record { does = k.does; left = k.left; puts = k.puts })))
 
   -- ---- its packet layer
@@ -234,31 +233,31 @@ module _ (below : Below) (c : Settings) (low : 1 ≤ c.window) (high : c.window 
   layer_goes t ps all stand reads most pair = record {
     known = h.known;
     puts = in_session b (h.puts b ++ ps) h.puts;
-    link = hand_down (link_settings c) w.near.link w.begun (downs_of h.known) (ups_of h.known) w.peer w.out w.back w.met all stand h.link;
+    link = hand_down w.peer all stand h.link;
     now = h.now;
     each = h.each;
     later = h.later;
-    peers = both_cases (λ (m : ℕ) (t : Theirs) (ps : List PlainPacket). IsRead c ((handed_down all w.peer).of_session m) t ps) b t w.theirs (h.puts b ++ ps) h.puts
+    peers = both_cases (λ m t ps. IsRead c ((handed_down all w.peer).of_session m) t ps) b t w.theirs (h.puts b ++ ps) h.puts
         (record {
-          reads = subst (λ (g : List (List ℕ)). ReadAs c g (h.puts b ++ ps)) (sym (given_here b b refl)) (read_append c (now w.peer).given all (h.puts b) ps (h.peers b).reads reads);
-          heard = subst (λ (taken : List (List ℕ)). t.heard ≤ length taken) (sym (handed_taken all w.peer b)) most;
+          reads = subst (λ g. ReadAs c g (h.puts b ++ ps)) (sym (given_here b b refl)) (read_append c (now w.peer).given all (h.puts b) ps (h.peers b).reads reads);
+          heard = subst (λ taken. t.heard ≤ length taken) (sym (handed_taken all w.peer b)) most;
         })
         (λ m differs. record {
-          reads = subst (λ (g : List (List ℕ)). ReadAs c g (h.puts m)) (sym (given_there m differs)) (h.peers m).reads;
-          heard = subst (λ (taken : List (List ℕ)). (w.theirs m).heard ≤ length taken) (sym (handed_taken all w.peer m)) (h.peers m).heard;
+          reads = subst (λ g. ReadAs c g (h.puts m)) (sym (given_there m differs)) (h.peers m).reads;
+          heard = subst (λ taken. (w.theirs m).heard ≤ length taken) (sym (handed_taken all w.peer m)) (h.peers m).heard;
         });
-    anew = λ m over. (let above : b < m = subst (λ (i : ℕ). i < m) (handed_begun all w.peer) over in
+    anew = λ m over. (let above : b < m = subst (λ i. i < m) (handed_begun all w.peer) over in
         let differs : (m ≡ b → ⊥) = λ is. (omega (arith, above, is)) in
         (given_there m differs ∙ (h.anew m above).0, handed_taken all w.peer m ∙ (h.anew m above).1));
-    pairs = λ n m can. both_cases (λ (m : ℕ) (t : Theirs) (ps : List PlainPacket). CanMeet n m w.met → PairReached c (h.known n) t ps) b t w.theirs (h.puts b ++ ps) h.puts
-        (λ yes. subst (λ (x : List PlainPacket). IsReachedByOctets c.wide c.role c.long_data c.channels (record { near = (h.known n).end; peer = t.layer; out = way t (h.known n).end.given; back = x }))
+    pairs = λ n m can. both_cases (λ m t ps. CanMeet n m w.met → PairReached c (h.known n) t ps) b t w.theirs (h.puts b ++ ps) h.puts
+        (λ yes. subst (λ x. IsReachedByOctets c.wide c.role c.long_data c.channels (record { near = (h.known n).end; peer = t.layer; out = way t (h.known n).end.given; back = x }))
         (sym (drop-append-le (length (h.known n).up) (h.puts b) ps (up_few below c low high w h n b yes))) (pair n yes))
         (λ m differs yes. h.pairs n m yes) m can;
     kept = h.kept;
   }
     where
       given_here : (m n : ℕ) → n ≡ m → ((handed_down all w.peer).of_session b).given ≡ (now w.peer).given ++ all
-      given_here m n e = handed_given all w.peer b ∙ ap (λ (x : Bool). if x then (now w.peer).given ++ all else (now w.peer).given) (eq-eqb b b refl)
+      given_here m n e = handed_given all w.peer b ∙ ap (λ x. if x then (now w.peer).given ++ all else (now w.peer).given) (eq-eqb b b refl)
 
       given_there : (m : ℕ) → (m ≡ b → ⊥) → ((handed_down all w.peer).of_session m).given ≡ (w.peer.of_session m).given
       given_there m differs = handed_given all w.peer m ∙ by (m == b) refl
@@ -288,8 +287,8 @@ module _ (below : Below) (c : Settings) (low : 1 ≤ c.window) (high : c.window 
 
     in_front : way (their_now w) given ≡ front ++ p ∷ (behind ++ rest)
     in_front =
-        let came : drop (their_now w).heard given ≡ read ++ rest = read_front c given (now w.peer).taken (their_now w).heard read (taken_begins below c low high w h n b can) (h.peers b).heard reads in
-        ap (λ (l : List PlainPacket). (their_now w).passed ++ l) came ∙ sym (append_assoc (their_now w).passed read rest) ∙ ap (λ (l : List PlainPacket). l ++ rest) waits ∙ append_assoc front (p ∷ behind) rest
+        let came = read_front c given (now w.peer).taken (their_now w).heard read (taken_begins below c low high w h n b can) (h.peers b).heard reads in
+        ap (λ l. (their_now w).passed ++ l) came ∙ sym (append_assoc (their_now w).passed read rest) ∙ ap (λ l. l ++ rest) waits ∙ append_assoc front (p ∷ behind) rest
 
   pub layer_hears : (p : PlainPacket) (read behind packets : List PlainPacket) (all : List (List ℕ)) → w.peer.stand ≡ In → ReadAs c (coming w) read → (their_now w).passed ++ read ≡ p ∷ behind
       → Answers c.channels packets (layer_taking (other_role c.role) (their_layer w).epoch (their_layer w).side (bare_layer c.channels.message p)) → ReadAs c all packets
@@ -298,7 +297,7 @@ module _ (below : Below) (c : Settings) (low : 1 ≤ c.window) (high : c.window 
       let s = layer_taking (other_role c.role) (their_layer w).epoch (their_layer w).side (bare_layer c.channels.message p) in
       layer_goes (record { layer = s.next; heard = length (now w.peer).taken; passed = behind }) packets all stand read_all (omega (arith))
       (λ n can. (
-      let after : List PlainPacket = behind ++ drop (length (now w.peer).taken) (h.known n).end.given in
+      let after = behind ++ drop (length (now w.peer).taken) (h.known n).end.given in
       reached.goes_on (layers n) (layer_peer.peer_stepped (layers n) after packets s) (h.pairs n b can) (layer_peer.Hears p after packets (in_front read [] behind p reads waits n can) answered) tt))
 
   pub layer_hears_channel : (y : PeerChannels) (p : PlainPacket) (read passed behind packets : List PlainPacket) (all : List (List ℕ)) → w.peer.stand ≡ In → (their_layer w).side ≡ Live y → HasChannel p
@@ -309,8 +308,8 @@ module _ (below : Below) (c : Settings) (low : 1 ≤ c.window) (high : c.window 
       let s = ready_taking (other_role c.role) (their_layer w).epoch y (On (channel_of p) (bare c.channels.message p)) in
       layer_goes (record { layer = s.next; heard = length (now w.peer).taken; passed = passed ++ behind }) packets all stand read_all (omega (arith))
       (λ n can. (
-      let rest : List PlainPacket = drop (length (now w.peer).taken) (h.known n).end.given in
-      let after : List PlainPacket = behind ++ rest in
-      subst (λ (l : List PlainPacket). IsReachedByOctets c.wide c.role c.long_data c.channels (layer_peer.peer_stepped (layers n) l packets s)) (sym (append_assoc passed behind rest))
+      let rest = drop (length (now w.peer).taken) (h.known n).end.given in
+      let after = behind ++ rest in
+      subst (λ l. IsReachedByOctets c.wide c.role c.long_data c.channels (layer_peer.peer_stepped (layers n) l packets s)) (sym (append_assoc passed behind rest))
       (reached.goes_on (layers n) (layer_peer.peer_stepped (layers n) (passed ++ after) packets s) (h.pairs n b can)
       (layer_peer.HearsChannel y passed p after packets live has apart (in_front read passed behind p reads waits n can) answered) tt)))

@@ -53,25 +53,25 @@ pub record Below : Type 0 where
 -- ---- a session among all
 
 pub in_here : {A : Type 0} (s : ℕ) (x : A) (all : ℕ → A) → in_session s x all s ≡ x
-in_here {A} s x all = ap (λ (b : Bool). if b then x else all s) (eq-eqb s s refl)
+in_here {A} s x all = ap (λ b. if b then x else all s) (eq-eqb s s refl)
 
 pub in_other : {A : Type 0} (s n : ℕ) (x : A) (all : ℕ → A) → (n ≡ s → ⊥) → in_session s x all n ≡ all n
-in_other {A} s n x all differs = ap (λ (b : Bool). if b then x else all n) (ne_eqb n s differs)
+in_other {A} s n x all differs = ap (λ b. if b then x else all n) (ne_eqb n s differs)
 
 pub in_cases : {A : Type 0} (P : ℕ → A → Type 0) (s : ℕ) (x : A) (all : ℕ → A) → P s x → ((n : ℕ) → (n ≡ s → ⊥) → P n (all n)) → (n : ℕ) → P n (in_session s x all n)
 in_cases {A} P s x all here others n = by (n == s) refl
   where
     by : (b : Bool) → (n == s) ≡ b → P n (if b then x else all n)
-    by true is = subst (λ (k : ℕ). P k x) (sym (eqb-true n s is)) here
-    by false is = others n (λ (e : n ≡ s). true_false (sym (eq-eqb n s e) ∙ is))
+    by true is = subst (λ k. P k x) (sym (eqb-true n s is)) here
+    by false is = others n (λ e. true_false (sym (eq-eqb n s e) ∙ is))
 
 pub both_cases : {A B : Type 0} (P : ℕ → A → B → Type 0) (s : ℕ) (x : A) (all : ℕ → A) (y : B) (each : ℕ → B) → P s x y → ((n : ℕ) → (n ≡ s → ⊥) → P n (all n) (each n)) → (n : ℕ)
     → P n (in_session s x all n) (in_session s y each n)
 both_cases {A} {B} P s x all y each here others n = by (n == s) refl
   where
     by : (b : Bool) → (n == s) ≡ b → P n (if b then x else all n) (if b then y else each n)
-    by true is = subst (λ (k : ℕ). P k x y) (sym (eqb-true n s is)) here
-    by false is = others n (λ (e : n ≡ s). true_false (sym (eq-eqb n s e) ∙ is))
+    by true is = subst (λ k. P k x y) (sym (eqb-true n s is)) here
+    by false is = others n (λ e. true_false (sym (eq-eqb n s e) ∙ is))
 
 -- ---- a session of the station
 
@@ -106,7 +106,7 @@ abbrev pub way : Theirs → List PlainPacket → List PlainPacket
 way t given = t.passed ++ drop t.heard given
 
 pub way_more : (t : Theirs) (given more : List PlainPacket) → t.heard ≤ length given → way t given ++ more ≡ way t (given ++ more)
-way_more t given more few = append_assoc t.passed (drop t.heard given) more ∙ ap (λ (l : List PlainPacket). t.passed ++ l) (sym (drop-append-le t.heard given more few))
+way_more t given more few = append_assoc t.passed (drop t.heard given) more ∙ ap (λ l. t.passed ++ l) (sym (drop-append-le t.heard given more few))
 
 -- a session of the station and one of the peer, whose layer put these packets, as they are read
 abbrev pub PairReached : Settings → Known → Theirs → List PlainPacket → Type 0
@@ -144,7 +144,7 @@ pub into : (list : Known → List (List ℕ)) (known : ℕ → Known) (s : ℕ) 
 into list known s k more same n = by (n == s) refl
   where
     by : (b : Bool) → (n == s) ≡ b → (if b then list (known n) ++ more else list (known n)) ≡ list (if b then k else known n)
-    by true is = ap (λ (i : ℕ). list (known i) ++ more) (eqb-true n s is) ∙ sym same
+    by true is = ap (λ i. list (known i) ++ more) (eqb-true n s is) ∙ sym same
     by false is = refl
 
 -- ---- what the laws of the links say
@@ -162,23 +162,23 @@ module _ (below : Below) (c : LinkSettings) (low : 1 ≤ c.window) (high : c.win
     abbrev IsOne : ℕ → ℕ → Meeting → Type 0
     IsOne n m p = (p.near ≡ n → p.far ≡ m) × (p.far ≡ m → p.near ≡ n)
 
-    pub both_begin : (n m : ℕ) → CanMeet n m met → BothBegin (down n) (up n) (peer.of_session m)
-    both_begin n m can =
+    pub both_begin : {n m : ℕ} → CanMeet n m met → BothBegin (down n) (up n) (peer.of_session m)
+    both_begin {n} {m} can =
         let order = below.order c low high links l.reached in
         let unmet = below.unmet c low high links l.reached in
         let both = all_both (IsInOrder links.near (as_end peer)) (IsOne n m) met order can in
         record {
           there = elim (unmet.far m) [
-            | inl none ↦ subst (λ (t : List (List ℕ)). IsPrefix t (down n)) (sym none) (down n, refl)
-            | inr some ↦ all_some (λ (p : Meeting). IsInOrder links.near (as_end peer) p × IsOne n m p) (λ (p : Meeting). p.far ≡ m) (IsPrefix (peer.of_session m).taken (down n))
-                (λ (p : Meeting) h is. subst (λ (d : List (List ℕ)). IsPrefix (peer.of_session m).taken d) (l.is_down n)
-                (subst (λ (i : ℕ). IsPrefix (peer.of_session m).taken (l.downs i)) (h.1.1 is) (subst (λ (i : ℕ). IsPrefix (peer.of_session i).taken (l.downs p.near)) is h.0.there))) met both some
+            | inl none ↦ subst (λ t. IsPrefix t (down n)) (sym none) (down n, refl)
+            | inr some ↦ all_some (λ p. IsInOrder links.near (as_end peer) p × IsOne n m p) (λ p. p.far ≡ m) (IsPrefix (peer.of_session m).taken (down n))
+                (λ (p : Meeting) h is. subst (λ d. IsPrefix (peer.of_session m).taken d) (l.is_down n)
+                (subst (λ i. IsPrefix (peer.of_session m).taken (l.downs i)) (h.1.1 is) (subst (λ i. IsPrefix (peer.of_session i).taken (l.downs p.near)) is h.0.there))) met both some
           ];
           back = elim (unmet.near n) [
-            | inl none ↦ subst (λ (u : List (List ℕ)). IsPrefix u (peer.of_session m).given) (sym none ∙ l.is_up n) ((peer.of_session m).given, refl)
-            | inr some ↦ all_some (λ (p : Meeting). IsInOrder links.near (as_end peer) p × IsOne n m p) (λ (p : Meeting). p.near ≡ n) (IsPrefix (up n) (peer.of_session m).given)
-                (λ (p : Meeting) h is. subst (λ (u : List (List ℕ)). IsPrefix u (peer.of_session m).given) (l.is_up n)
-                (subst (λ (i : ℕ). IsPrefix (l.ups n) (peer.of_session i).given) (h.1.0 is) (subst (λ (i : ℕ). IsPrefix (l.ups i) (peer.of_session p.far).given) is h.0.back))) met both some
+            | inl none ↦ subst (λ u. IsPrefix u (peer.of_session m).given) (sym none ∙ l.is_up n) ((peer.of_session m).given, refl)
+            | inr some ↦ all_some (λ p. IsInOrder links.near (as_end peer) p × IsOne n m p) (λ p. p.near ≡ n) (IsPrefix (up n) (peer.of_session m).given)
+                (λ (p : Meeting) h is. subst (λ u. IsPrefix u (peer.of_session m).given) (l.is_up n)
+                (subst (λ i. IsPrefix (l.ups n) (peer.of_session i).given) (h.1.0 is) (subst (λ i. IsPrefix (l.ups i) (peer.of_session p.far).given) is h.0.back))) met both some
           ];
         }
 
@@ -186,22 +186,21 @@ module _ (below : Below) (c : LinkSettings) (low : 1 ≤ c.window) (high : c.win
 
 module _ (below : Below) (c : Settings) (low : 1 ≤ c.window) (high : c.window ≤ 7) (w : BesideSessions) (h : Stands c w) (n m : ℕ) (can : CanMeet n m w.met) where
   pub pair_begins : BothBegin (h.known n).down (h.known n).up (w.peer.of_session m)
-  pair_begins = both_begin below (link_settings c) low high w.near.link w.begun (downs_of h.known) (ups_of h.known) w.peer w.out w.back w.met h.link n m can
+  pair_begins = both_begin below (link_settings c) low high w.near.link w.begun (downs_of h.known) (ups_of h.known) w.peer w.out w.back w.met h.link can
 
   -- what the peer's link took is read as the first of what our layer put
   pub taken_begins : ReadFirst c (w.peer.of_session m).taken (h.known n).end.given
   taken_begins =
       first_front c (w.peer.of_session m).taken pair_begins.there.0 (h.known n).end.given
-      (subst (λ (d : List (List ℕ)). ReadFirst c d (h.known n).end.given) (sym pair_begins.there.1) (h.each n).begins)
+      (subst (λ d. ReadFirst c d (h.known n).end.given) (sym pair_begins.there.1) (h.each n).begins)
 
   pub heard_few : (w.theirs m).heard ≤ length (h.known n).end.given
   heard_few =
       let some : (w.theirs m).heard ≤ length (w.peer.of_session m).taken = (h.peers m).heard in
-      let fits : length (w.peer.of_session m).taken ≤ length (h.known n).end.given = first_length c (w.peer.of_session m).taken (h.known n).end.given taken_begins in
-      omega (arith, some, fits)
+      omega (arith, some, first_length c (w.peer.of_session m).taken (h.known n).end.given taken_begins)
 
   pub up_few : length (h.known n).up ≤ length (h.puts m)
   up_few =
       let prefix = pair_begins.back in
-      let whole : ReadFirst c (w.peer.of_session m).given (h.puts m) = read_first c (w.peer.of_session m).given (h.puts m) (h.peers m).reads in
-      first_length c (h.known n).up (h.puts m) (first_front c (h.known n).up prefix.0 (h.puts m) (subst (λ (g : List (List ℕ)). ReadFirst c g (h.puts m)) (sym prefix.1) whole))
+      let whole = read_first c (w.peer.of_session m).given (h.puts m) (h.peers m).reads in
+      first_length c (h.known n).up (h.puts m) (first_front c (h.known n).up prefix.0 (h.puts m) (subst (λ g. ReadFirst c g (h.puts m)) (sym prefix.1) whole))

@@ -1,11 +1,11 @@
 -- What the station does beside a peer over sessions, act by act.
-use Rattle.std.proofs.Common.{◌≡◌, ℕ, ◌==◌, ◌≤◌, inl, inr, List, [], ◌∷◌, ◌++◌, length, drop, Bool, true, false, ◌&&◌, if◌then◌else◌, Option, Some, None, refl, sym, ap, subst, ◌∙◌, append-nil, eq-eqb}
+use Rattle.std.proofs.Common.{◌≡◌, ℕ, ◌==◌, ◌≤◌, inl, inr, List, [], ◌∷◌, ◌++◌, length, drop, true, false, ◌&&◌, if◌then◌else◌, Option, Some, None, refl, sym, ap, subst, ◌∙◌, append-nil, eq-eqb}
 use Rattle.std.proofs.lemmas.Bool.{and_parts}
 use Rattle.std.specs.Prelude.{remove}
 use Rattle.x25_frame.specs.Reading.{frame_of}
 use Rattle.x25_packet.specs.Packet.{PlainPacket}
 use Rattle.x25_given.specs.Given.{PlainGiven, may_give}
-use Rattle.x25_link.specs.{declared.error.LinkError.{LinkError}, declared.phase.Phase.TheVariants.{Waiting}, declared.phase.Notes.{Notes}, Outgoing.{waits}}
+use Rattle.x25_link.specs.{declared.error.LinkError.{LinkError}, declared.phase.Phase.TheVariants.{Waiting}, Outgoing.{waits}}
 use Rattle.x25_link.specs.{Station.{LinkStation, is_up}, Hearing.{Step as LinkStep, other}}
 use Rattle.x25_link.specs.Link.{alone, take_step, timer_refusal, timer_step, connect_refusal, connect_step, disconnect_refusal, disconnect_step, abandon_step, probe_refusal, relink_refusal, relink_step}
 use Rattle.x25_link.specs.laws.NoteLaw.{Tells}
@@ -13,7 +13,7 @@ use Rattle.x25_line.specs.laws.StationClaims.{number_in}
 use Rattle.x25_line.specs.laws.Sessions.{Entry, Meeting, Sessions, acts, after_step, delivered, sent_in, extended, begun_by, unless}
 use Rattle.x25_line.specs.{laws.SessionClaims.{SomeMet, InStep}, laws.InWindow.{IsPrefix}, laws.PeerSessions.{PeerSessions, IsTimely, IsDue, both_ends}}
 use Rattle.x25_line.proofs.ends.Meetings.{all_some}
-use Rattle.x25_layer.specs.{Layer.{Layer}, Calls.{LayerRequest}, code.FitsLayer.{is_full}, laws.TwoLayers.{End, TwoLayers, Move, Requests, HandsUp}}
+use Rattle.x25_layer.specs.{Calls.{LayerRequest}, code.FitsLayer.{is_full}, laws.TwoLayers.{End, TwoLayers, Requests, HandsUp}}
 use Rattle.x25_layer.specs.laws.RoundLaw.{moves_all, pulls_of}
 use Rattle.x25_station.specs.Config.{Settings, link_settings, layer_settings, longest_packet}
 use Rattle.x25_station.specs.Command.{may_ask, Connects as ConnectsCommand, Disconnects as DisconnectsCommand, Probes as ProbesCommand, Relinks as RelinksCommand}
@@ -63,41 +63,41 @@ module _ (below : Below) (c : Settings) (low : 1 ≤ c.window) (high : c.window 
     may : may_ask c.wide request ≡ true
     kept : IsKept step.near
 
-  asked_stands : (request : LayerRequest) (step : Step) → RequestsOctets request → IsAsked request step → Stands c (stepped c w w.begun w.back w.met step)
-  asked_stands request step octets a =
-      let e : End = known_now.end in
-      let ms : List Move = Requests (waits w.near.link.outgoing == 256) request ∷ pulls_of a.channels in
+  asked_stands : {request : LayerRequest} {step : Step} → RequestsOctets request → IsAsked request step → Stands c (stepped c w w.begun w.back w.met step)
+  asked_stands {request} {step} octets a =
+      let e = known_now.end in
+      let ms = Requests (waits w.near.link.outgoing == 256) request ∷ pulls_of a.channels in
       let asked : AreAsked ms = (tt, pulls_asked a.channels) in
       let stay : AllStay c.wide ms = (tt, (octets, a.may), pulls_stay c.wide a.channels) in
-      let v : TwoLayers = moves_all (layer_settings c) (alone_at e) ms in
-      let ps : List PlainPacket = a.packets in
+      let v = moves_all (layer_settings c) (alone_at e) ms in
+      let ps = a.packets in
       let pair : (m : ℕ) → CanMeet b m w.met → PairReached c (record { end = v.near; down = []; up = known_now.up }) (w.theirs m) (h.puts m) =
       (λ m can. (
-      let t : Theirs = w.theirs m in
-      let r = asked_reached c.wide c.role c.long_data c.channels t.layer e (way t e.given) (drop (length known_now.up) (h.puts m)) ms asked stay (h.pairs b m can) in
+      let t = w.theirs m in
+      let r = asked_reached t.layer e (way t e.given) (drop (length known_now.up) (h.puts m)) ms asked stay (h.pairs b m can) in
       let line : way t e.given ++ v.out ≡ way t v.near.given =
-      ap (λ (l : List PlainPacket). way t e.given ++ l) a.layer.out ∙ way_more t e.given ps (heard_few below c low high w h b m can) ∙ ap (way t) (sym a.layer.given) in
-      subst (λ (o : List PlainPacket). IsReachedByOctets c.wide c.role c.long_data c.channels (record { near = v.near; peer = t.layer; out = o; back = drop (length known_now.up) (h.puts m) })) line r)) in
+      ap (λ l. way t e.given ++ l) a.layer.out ∙ way_more t e.given ps (heard_few below c low high w h b m can) ∙ ap (way t) (sym a.layer.given) in
+      subst (λ o. IsReachedByOctets c.wide c.role c.long_data c.channels (record { near = v.near; peer = t.layer; out = o; back = drop (length known_now.up) (h.puts m) })) line r)) in
       let some = could_meet_some b w.met (below.step (link_settings c) low high links h.link.reached) in
-      let readable : AreReadable c.wide c.long_data v.near.given = below.readable c.wide c.role c.long_data c.channels few _ (pair some.0 some.1) in
-      let same_up : known_now.up ++ [] ≡ known_now.up = append-nil known_now.up in
-      goes below c few w h e [] [] ps a.handed v (alone w.near.link) step [] w.back w.met (both_ends links) a.up a.up a.layer (a.put (readable_behind c.wide c.long_data e.given ps (subst (AreReadable c.wide c.long_data) a.layer.given readable)))
+      let readable = below.readable c.wide c.role c.long_data c.channels few _ (pair some.0 some.1) in
+      let same_up = append-nil known_now.up in
+      goes below c few w h e [] [] a.up a.up a.layer (a.put (readable_behind c.wide c.long_data e.given ps (subst (AreReadable c.wide c.long_data) a.layer.given readable)))
       (reach, stays_goes (link_settings c) (both_ends links) w.near.link refl)
       (λ nothing. (asked_leaves (layer_settings c) (alone_at e) ms asked).told ∙ (h.each b).alone (sym same_up ∙ nothing)) as_it_met
       (λ m can. rw same_up (pair m can)) a.kept
 
   pub asks : (request : LayerRequest) (step : Step) → RequestsOctets request → requests c w.near request ≡ Did step → Stands c (stepped c w w.begun w.back w.met step)
   asks request step octets is =
-      let s : LinkStation = w.near.link in
+      let s = w.near.link in
       let granted = did_granted c w.near request step is in
       let j = below.request c s (alone_at known_now.end) request step (h.each b).out h.kept.few (rw (h.now granted.is_up).layer is) in
-      asked_stands request step octets
+      asked_stands octets
       (record {
         channels = j.0;
         packets = j.2.packets;
         handed = spelled j.2.packets;
         layer = j.2.layer;
-        put = puts_spelled c (alone s) j.2.packets step j.2.link;
+        put = puts_spelled j.2.link;
         up = granted.is_up;
         may = granted.is_taken;
         kept = subst KeptBy is (below.ask c w.near request h.kept);
@@ -105,18 +105,18 @@ module _ (below : Below) (c : Settings) (low : 1 ≤ c.window) (high : c.window 
 
   pub asks_with : (g : PlainGiven) (request : LayerRequest) (step : Step) → GivesOctets g → RequestsOctets request → gives c w.near g request ≡ Did step → Stands c (stepped c w w.begun w.back w.met step)
   asks_with g request step of_given octets is =
-      let s : LinkStation = w.near.link in
+      let s = w.near.link in
       let granted = gave_granted c w.near g request step is in
       let wide = and_parts c.wide (may_give g && suits g request) granted.is_taken in
       let suit = and_parts (may_give g) (suits g request) wide.1 in
       let j = below.given c g s (alone_at known_now.end) request step (h.each b).out h.kept.few (rw (h.now granted.is_up).layer is) in
-      asked_stands request step octets
+      asked_stands octets
       (record {
         channels = j.0;
         packets = j.2.packets;
         handed = spelled_with g j.2.packets;
         layer = j.2.layer;
-        put = puts_spelled_with below.given_read c g (alone s) j.2.packets step wide.0 suit.0 of_given j.2.link;
+        put = puts_spelled_with below.given_read wide.0 suit.0 of_given j.2.link;
         up = granted.is_up;
         may = suits_asks c.wide g request suit.1;
         kept = subst KeptBy is (below.give c w.near g request h.kept);
@@ -132,23 +132,23 @@ module _ (below : Below) (c : Settings) (low : 1 ≤ c.window) (high : c.window 
   acted asked act refusal step silent is timely accepted none tells kept =
       let lc = link_settings c in
       let k = step w.near.link in
-      follows_on below c few w h asked silent w.back w.met k tells none (acts lc act (both_ends links)) (acts_reach lc w.peer act (both_ends links) timely reach)
+      follows_on below c few w h asked silent w.back w.met k tells none (acts lc act (both_ends links)) (acts_reach act (both_ends links) timely reach)
       (act_goes lc (both_ends links) w.near.link act refusal step is refl accepted) as_it_met
-      (subst KeptBy (ap (λ (r : Option LinkError). refused_or r (led_by asked (follows c w.near.layer k))) accepted) kept)
+      (subst KeptBy (ap (λ r. refused_or r (led_by asked (follows c w.near.layer k))) accepted) kept)
 
   pub connects : connect_refusal w.near.link.phase ≡ None → Stands c (followed c w (connect_asked ∷ []) w.back w.met (connect_step (link_settings c) w.near.link))
   connects none =
-      acted (connect_asked ∷ []) line.Connect (λ (s : LinkStation). connect_refusal s.phase) (connect_step (link_settings c)) (record { entries = refl; told = refl }) refl tt none refl
+      acted (connect_asked ∷ []) line.Connect (λ s. connect_refusal s.phase) (connect_step (link_settings c)) (record { entries = refl; told = refl }) refl tt none refl
       (below.connect_tells (link_settings c) w.near.link (connects_in_down w.near.link.phase none)) (below.command c w.near ConnectsCommand h.kept)
 
   pub disconnects : disconnect_refusal w.near.link.phase ≡ None → Stands c (followed c w (disconnect_asked ∷ []) w.back w.met (disconnect_step (link_settings c) w.near.link))
   disconnects none =
-      acted (disconnect_asked ∷ []) line.Disconnect (λ (s : LinkStation). disconnect_refusal s.phase) (disconnect_step (link_settings c)) (record { entries = refl; told = refl }) refl tt none refl
+      acted (disconnect_asked ∷ []) line.Disconnect (λ s. disconnect_refusal s.phase) (disconnect_step (link_settings c)) (record { entries = refl; told = refl }) refl tt none refl
       (below.disconnect_tells (link_settings c) w.near.link) (below.command c w.near DisconnectsCommand h.kept)
 
   pub probes : probe_refusal w.near.link.phase ≡ None → Stands c (followed c w [] w.back w.met (timer_step (link_settings c) w.near.link))
   probes none =
-      acted [] line.Probe (λ (s : LinkStation). probe_refusal s.phase) (timer_step (link_settings c)) silent (probe_acts (link_settings c) (both_ends links)) tt none (timer_silent (link_settings c) w.near.link).0
+      acted [] line.Probe (λ s. probe_refusal s.phase) (timer_step (link_settings c)) silent (probe_acts (link_settings c) (both_ends links)) tt none (timer_silent (link_settings c) w.near.link).0
       (below.timer_tells (link_settings c) w.near.link) (below.command c w.near ProbesCommand h.kept)
 
   pub fires : timer_refusal w.near.link ≡ None → (w.near.link.phase ≡ Waiting → IsDue (link_settings c) (links_of w)) → Stands c (followed c w [] w.back w.met (timer_step (link_settings c) w.near.link))
@@ -160,12 +160,12 @@ module _ (below : Below) (c : Settings) (low : 1 ≤ c.window) (high : c.window 
   pub relinks : relink_refusal w.near.link.phase ≡ None → Stands c (followed c w (relink_asked ∷ []) w.back w.met (relink_step (link_settings c) w.near.link))
   relinks none =
       let lc = link_settings c in
-      let k : LinkStep = relink_step lc w.near.link in
-      let left : Sessions = acts lc line.Abandon (both_ends links) in
+      let k = relink_step lc w.near.link in
+      let left = acts lc line.Abandon (both_ends links) in
       follows_on below c few w h (relink_asked ∷ []) (record { entries = refl; told = refl }) w.back w.met k (below.relink_tells lc w.near.link) refl
-      (acts lc line.Connect left) (acts_reach lc w.peer line.Connect left tt (acts_reach lc w.peer line.Abandon (both_ends links) tt reach))
+      (acts lc line.Connect left) (acts_reach line.Connect left tt (acts_reach line.Abandon (both_ends links) tt reach))
       (relink_goes below.relinks lc (both_ends links) w.near.link refl (relinks_in_up w.near.link.phase none)) as_it_met
-      (subst KeptBy (ap (λ (r : Option LinkError). refused_or r (led_by (relink_asked ∷ []) (follows c w.near.layer k))) none) (below.command c w.near RelinksCommand h.kept))
+      (subst KeptBy (ap (λ r. refused_or r (led_by (relink_asked ∷ []) (follows c w.near.layer k))) none) (below.command c w.near RelinksCommand h.kept))
 
   -- ---- octets come
 
@@ -174,13 +174,13 @@ module _ (below : Below) (c : Settings) (low : 1 ≤ c.window) (high : c.window 
     pub abandons_it : abandons c w.near ≡ true → Stands c (followed c w [] rest w.met (abandon_step (link_settings c) w.near.link))
     abandons_it full =
         let lc = link_settings c in
-        let k : LinkStep = abandon_step lc w.near.link in
-        let left : Sessions = acts lc line.Abandon (both_ends links) in
+        let k = abandon_step lc w.near.link in
+        let left = acts lc line.Abandon (both_ends links) in
         let kept : IsKept (follows c w.near.layer k).near =
-        subst (λ (x : Bool). IsKept (follows c w.near.layer (if x then k else take_step lc e.octets w.near.link)).near) full (below.takes c w.near e.octets h.kept) in
+        subst (λ x. IsKept (follows c w.near.layer (if x then k else take_step lc e.octets w.near.link)).near) full (below.takes c w.near e.octets h.kept) in
         follows_on below c few w h [] silent rest w.met k (below.abandon_tells lc w.near.link) refl
-        (acts lc (line.Lose 0) left) (acts_reach lc w.peer (line.Lose 0) left tt (acts_reach lc w.peer line.Abandon (both_ends links) tt reach))
-        (rw (sym (ap (λ (es : List Entry). remove es 0) front)) (abandon_goes lc (both_ends links) w.near.link refl (and_parts (is_up w.near.link.phase) (is_full (layer_settings c) w.near.layer) full).0))
+        (acts lc (line.Lose 0) left) (acts_reach (line.Lose 0) left tt (acts_reach line.Abandon (both_ends links) tt reach))
+        (rw (sym (ap (λ es. remove es 0) front)) (abandon_goes lc (both_ends links) w.near.link refl (and_parts (is_up w.near.link.phase) (is_full (layer_settings c) w.near.layer) full).0))
         as_it_met kept
 
     -- the link takes them
@@ -194,25 +194,25 @@ module _ (below : Below) (c : Settings) (low : 1 ≤ c.window) (high : c.window 
     after = acts (link_settings c) line.Deliver (both_ends links)
 
     reach_after : Reach (link_settings c) w.peer after
-    reach_after = acts_reach (link_settings c) w.peer line.Deliver (both_ends links) tt reach
+    reach_after = acts_reach line.Deliver (both_ends links) tt reach
 
     taken : StepGoes (link_settings c) (both_ends links) after k rest met
-    taken = rw (sym (ap (λ (es : List Entry). (delivered (link_settings c) es (both_ends links)).met) front)) (deliver_goes (link_settings c) (both_ends links) w.near.link e rest refl front)
+    taken = rw (sym (ap (λ es. (delivered (link_settings c) es (both_ends links)).met) front)) (deliver_goes (link_settings c) (both_ends links) w.near.link e rest refl front)
 
     could : (n m : ℕ) → CanMeet n m met → CanMeet n m w.met
     could n m can = could_meet n m (is_up w.near.link.phase) (number_in (frame_of (other c.role) longest_packet e.octets)) (record { near = b; far = e.session }) w.met can
 
     module _ (not_full : abandons c w.near ≡ false) where
       same : receives c w.near e.octets ≡ follows c w.near.layer k
-      same = ap (λ (x : Bool). follows c w.near.layer (if x then abandon_step (link_settings c) w.near.link else k)) not_full
+      same = ap (λ x. follows c w.near.layer (if x then abandon_step (link_settings c) w.near.link else k)) not_full
 
       kept : IsKept (follows c w.near.layer k).near
-      kept = subst (λ (s : Step). IsKept s.near) same (below.takes c w.near e.octets h.kept)
+      kept = subst (λ s. IsKept s.near) same (below.takes c w.near e.octets h.kept)
 
       -- a packet is handed up
       module _ (o : List ℕ) (some : k.packet ≡ Some o) where
         noted : k.notes.up ≡ false
-        noted = ap (λ (n : Notes). n.up) ((below.take_hands_up (link_settings c) e.octets w.near.link).quiet o some)
+        noted = ap (λ n. n.up) ((below.take_hands_up (link_settings c) e.octets w.near.link).quiet o some)
 
         was_up : is_up w.near.link.phase ≡ true
         was_up = ap is_up ((below.take_hands_up (link_settings c) e.octets w.near.link).up o some)
@@ -221,17 +221,17 @@ module _ (below : Below) (c : Settings) (low : 1 ≤ c.window) (high : c.window 
         still_up = (below.take_tells (link_settings c) e.octets w.near.link).stays ((below.take_hands_up (link_settings c) e.octets w.near.link).quiet o some) ∙ was_up
 
         goes_up : SessionGoes (link_settings c) (both_ends links) after b k.side.near k.side.out [] (o ∷ []) rest met
-        goes_up = step_as (link_settings c) (both_ends links) after k rest met false (Some o) noted some taken
+        goes_up = step_as k false (Some o) noted some taken
 
         link : LinkReached (link_settings c) k.side.near b (downs_of h.known) (extended (ups_of h.known) b (o ∷ [])) w.peer (w.out ++ sent_in b c.role k.side.out) rest met
-        link = goes_reached (link_settings c) w.peer links (downs_of h.known) (ups_of h.known) (downs_of h.known) (extended (ups_of h.known) b (o ∷ [])) after b k.side.near k.side.out [] (o ∷ []) rest met
+        link = goes_reached links (downs_of h.known) (ups_of h.known) (downs_of h.known) (extended (ups_of h.known) b (o ∷ []))
             reach_after goes_up h.link.is_down h.link.is_up (λ n. extended_none (downs_of h.known) b n) (λ n. refl)
 
         abbrev up : List (List ℕ)
         up = known_now.up ++ o ∷ []
 
         up_here : extended (ups_of h.known) b (o ∷ []) b ≡ up
-        up_here = ap (λ (x : Bool). if x then known_now.up ++ o ∷ [] else known_now.up) (eq-eqb b b refl)
+        up_here = ap (λ x. if x then known_now.up ++ o ∷ [] else known_now.up) (eq-eqb b b refl)
 
         in_step : InStep met
         in_step = below.step (link_settings c) low high (links_with k.side.near b link.downs link.ups w.peer (w.out ++ sent_in b c.role k.side.out) rest met) link.reached
@@ -248,24 +248,24 @@ module _ (below : Below) (c : Settings) (low : 1 ≤ c.window) (high : c.window 
             never (x ∷ xs) e = cc
 
         partner : (m : ℕ) × CanMeet b m met
-        partner = all_some (λ (p : Meeting). CanMeet p.near p.far met) (λ (p : Meeting). p.near ≡ b) ((m : ℕ) × CanMeet b m met)
-            (λ (p : Meeting) can is. (p.far, subst (λ (i : ℕ). CanMeet i p.far met) is can)) met (met_can_meet met in_step) has_met
+        partner = all_some (λ p. CanMeet p.near p.far met) (λ p. p.near ≡ b) ((m : ℕ) × CanMeet b m met)
+            (λ (p : Meeting) can is. (p.far, subst (λ i. CanMeet i p.far met) is can)) met (met_can_meet met in_step) has_met
 
         abbrev there : ℕ
         there = partner.0
 
         alone_there : (m : ℕ) → CanMeet b m met → there ≡ m
         alone_there m can =
-            all_some (λ (p : Meeting). ((p.near ≡ b → p.far ≡ there) × (p.far ≡ there → p.near ≡ b)) × ((p.near ≡ b → p.far ≡ m) × (p.far ≡ m → p.near ≡ b))) (λ (p : Meeting). p.near ≡ b) (there ≡ m)
+            all_some (λ p. ((p.near ≡ b → p.far ≡ there) × (p.far ≡ there → p.near ≡ b)) × ((p.near ≡ b → p.far ≡ m) × (p.far ≡ m → p.near ≡ b))) (λ p. p.near ≡ b) (there ≡ m)
             (λ (p : Meeting) both is. sym (both.0.0 is) ∙ both.1.0 is) met
-            (all_both (λ (p : Meeting). (p.near ≡ b → p.far ≡ there) × (p.far ≡ there → p.near ≡ b)) (λ (p : Meeting). (p.near ≡ b → p.far ≡ m) × (p.far ≡ m → p.near ≡ b)) met partner.1 can) has_met
+            (all_both (λ p. (p.near ≡ b → p.far ≡ there) × (p.far ≡ there → p.near ≡ b)) (λ p. (p.near ≡ b → p.far ≡ m) × (p.far ≡ m → p.near ≡ b)) met partner.1 can) has_met
 
         -- what came is the next of what the peer's layer put there
         next : Next c o (drop (length known_now.up) (h.puts there)) (drop (length up) (h.puts there))
         next =
-            let both = both_begin below (link_settings c) low high k.side.near b (downs_of h.known) (extended (ups_of h.known) b (o ∷ [])) w.peer (w.out ++ sent_in b c.role k.side.out) rest met link b there partner.1 in
-            let prefix : IsPrefix up (w.peer.of_session there).given = subst (λ (u : List (List ℕ)). IsPrefix u (w.peer.of_session there).given) up_here both.back in
-            next_read c known_now.up o prefix.0 (h.puts there)
+            let both = both_begin below (link_settings c) low high k.side.near b (downs_of h.known) (extended (ups_of h.known) b (o ∷ [])) w.peer (w.out ++ sent_in b c.role k.side.out) rest met link partner.1 in
+            let prefix : IsPrefix up (w.peer.of_session there).given = subst (λ u. IsPrefix u (w.peer.of_session there).given) up_here both.back in
+            next_read known_now.up o prefix.0 (h.puts there)
             (rw prefix.1 (h.peers there).reads)
 
         abbrev theirs : Theirs
@@ -283,22 +283,22 @@ module _ (below : Below) (c : Settings) (low : 1 ≤ c.window) (high : c.window 
         pub handed : Stands c (stepped c w b rest met (follows c w.near.layer k))
         handed =
             let at : ours.layer ≡ w.near.layer = (h.now was_up).layer in
-            let free : abandons c (station_with w.near.link ours.layer) ≡ false = subst (λ (l : Layer). abandons c (station_with w.near.link l) ≡ false) (sym at) not_full in
+            let free : abandons c (station_with w.near.link ours.layer) ≡ false = subst (λ l. abandons c (station_with w.near.link l) ≡ false) (sym at) not_full in
             let j₀ = below.receive c w.near.link two e.octets o next.packet behind (h.each b).out next.front free some next.reads in
-            let ms : List Move = HandsUp ∷ pulls_of j₀.0 in
-            let v : TwoLayers = moves_all (layer_settings c) two ms in
+            let ms = HandsUp ∷ pulls_of j₀.0 in
+            let v = moves_all (layer_settings c) two ms in
             let j : IsJoined c two v k.side behind (follows c w.near.layer k) =
-            subst (λ (s : Step). IsJoined c two v k.side behind s) (ap (λ (l : Layer). receives c (station_with w.near.link l) e.octets) at ∙ same) j₀.2 in
-            let ps : List PlainPacket = j.packets in
-            let moved = moves_reached c.wide c.role c.long_data c.channels theirs.layer two ms (tt, tt, pulls_stay c.wide j₀.0) (h.pairs b there (could b there partner.1)) in
+            subst (λ s. IsJoined c two v k.side behind s) (ap (λ l. receives c (station_with w.near.link l) e.octets) at ∙ same) j₀.2 in
+            let ps = j.packets in
+            let moved = moves_reached theirs.layer two ms (tt, tt, pulls_stay c.wide j₀.0) (h.pairs b there (could b there partner.1)) in
             let line : v.out ≡ way theirs v.near.given =
             j.layer.out ∙ way_more theirs ours.given ps (heard_few below c low high w h b there (could b there partner.1)) ∙ ap (way theirs) (sym j.layer.given) in
             let pair : PairReached c (record { end = v.near; down = []; up = up }) theirs (h.puts there) =
-            subst (λ (x : List PlainPacket). IsReachedByOctets c.wide c.role c.long_data c.channels (record { near = v.near; peer = theirs.layer; out = way theirs v.near.given; back = x })) j.back
+            subst (λ x. IsReachedByOctets c.wide c.role c.long_data c.channels (record { near = v.near; peer = theirs.layer; out = way theirs v.near.given; back = x })) j.back
             (rw (sym line) moved) in
-            let readable : AreReadable c.wide c.long_data ps = readable_behind c.wide c.long_data ours.given ps (subst (AreReadable c.wide c.long_data) j.layer.given (below.readable c.wide c.role c.long_data c.channels few _ pair)) in
-            goes below c few w h ours (way theirs ours.given) (drop (length known_now.up) (h.puts there)) ps (spelled ps) v k.side (follows c w.near.layer k) (o ∷ []) rest met after was_up still_up j.layer
-            (puts_spelled c k.side ps (follows c w.near.layer k) j.link readable) (reach_after, goes_up) (λ nothing. absurd (never known_now.up nothing)) could
+            let readable = readable_behind c.wide c.long_data ours.given ps (subst (AreReadable c.wide c.long_data) j.layer.given (below.readable c.wide c.role c.long_data c.channels few _ pair)) in
+            goes below c few w h ours (way theirs ours.given) (drop (length known_now.up) (h.puts there)) was_up still_up j.layer
+            (puts_spelled j.link readable) (reach_after, goes_up) (λ nothing. absurd (never known_now.up nothing)) could
             (λ m can. rw (sym (alone_there m can)) pair) kept
           where
             never : (xs : List (List ℕ)) → xs ++ o ∷ [] ≡ [] → ⊥
@@ -306,7 +306,7 @@ module _ (below : Below) (c : Settings) (low : 1 ≤ c.window) (high : c.window 
             never (x ∷ xs) e = cc
 
         pub handed_up : Stands c (followed c w [] rest met k)
-        handed_up = subst (λ (u : Bool). Stands c (stepped c w (begun_by u b) rest met (follows c w.near.layer k))) (sym noted) handed
+        handed_up = subst (λ u. Stands c (stepped c w (begun_by u b) rest met (follows c w.near.layer k))) (sym noted) handed
 
       pub comes : Stands c (followed c w [] rest met k)
       comes = by k.packet refl

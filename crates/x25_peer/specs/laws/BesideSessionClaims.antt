@@ -8,12 +8,12 @@ use Rattle.x25_layer.specs.{laws.Transcript.{name_of}, laws.Quiet.{AreNoFaults}}
 use Rattle.x25_layer.specs.laws.PeerClaims.{peer_call, peer_stretch, peer_name, of_call, StretchIsInOrder}
 use Rattle.x25_layer.specs.laws.PeerClaims.{CallIsInOrder, OpenHaveArrived}
 use Rattle.x25_station.specs.{Config.{Settings}, Entry.{layer_entries, layer_notices}}
-use Rattle.x25_peer.specs.laws.BesideSessions.{Own, BesideSessions, their_now, their_layer, IsReached}
+use Rattle.x25_peer.specs.laws.BesideSessions.{Own, BesideSessions, their_now, their_layer, ReachedBeside}
 
 -- k is 1 to 7, and there are at most 4,095 channels
 abbrev pub WithAnyPeer : (BesideSessions → Type 0) → Type 0
 WithAnyPeer Holds =
-    (c : Settings) → 1 ≤ c.window → c.window ≤ 7 → c.channels.count ≤ 4095 → (w : BesideSessions) → IsReached c w
+    (c : Settings) → 1 ≤ c.window → c.window ≤ 7 → c.channels.count ≤ 4095 → (w : BesideSessions) → ReachedBeside c w
     → Holds w
 
 -- sessions meet one to one, and in order at both ends

@@ -154,42 +154,43 @@ layer_heard w layer passed all =
 
 -- ---- What may happen next, with these settings of the station.
 
-pub data Happens (c : Settings) (w : BesideSessions) : BesideSessions → Type 0 where
+pub data HappensBeside (c : Settings) (w : BesideSessions) : BesideSessions → Type 0 where
   -- The station acts, by the definition that it meets call by call: a call of the user, pulls among them, without or
   -- with something given beside its packet; that the link be set up, disconnected, polled, or set up anew; timer T1
   -- runs out, while UA is awaited where it is due; the front octets come, and where a count of the layer is full the
   -- link is left and they are lost.
   Asks : (request : LayerRequest) (step : Step) → RequestsOctets request → requests c w.near request ≡ Did step
-      → Happens c w (stepped c w w.begun w.back w.met step)
+      → HappensBeside c w (stepped c w w.begun w.back w.met step)
   AsksWith : (given : PlainGiven) (request : LayerRequest) (step : Step) → GivesOctets given → RequestsOctets request
-      → gives c w.near given request ≡ Did step → Happens c w (stepped c w w.begun w.back w.met step)
+      → gives c w.near given request ≡ Did step → HappensBeside c w (stepped c w w.begun w.back w.met step)
   Connects : connect_refusal w.near.link.phase ≡ None
-      → Happens c w (followed c w (connect_asked ∷ []) w.back w.met (connect_step (link_settings c) w.near.link))
+      → HappensBeside c w (followed c w (connect_asked ∷ []) w.back w.met (connect_step (link_settings c) w.near.link))
   Disconnects : disconnect_refusal w.near.link.phase ≡ None
-      → Happens c w (followed c w (disconnect_asked ∷ []) w.back w.met (disconnect_step (link_settings c) w.near.link))
-  Probes : probe_refusal w.near.link.phase ≡ None → Happens c w
+      → HappensBeside c w (followed c w (disconnect_asked
+      ∷ []) w.back w.met (disconnect_step (link_settings c) w.near.link))
+  Probes : probe_refusal w.near.link.phase ≡ None → HappensBeside c w
       (followed c w [] w.back w.met (timer_step (link_settings c) w.near.link))
   Relinks : relink_refusal w.near.link.phase ≡ None
-      → Happens c w (followed c w (relink_asked ∷ []) w.back w.met (relink_step (link_settings c) w.near.link))
+      → HappensBeside c w (followed c w (relink_asked ∷ []) w.back w.met (relink_step (link_settings c) w.near.link))
   Fires : timer_refusal w.near.link ≡ None → (w.near.link.phase ≡ Waiting → IsDue (link_settings c) (links_of w))
-      → Happens c w (followed c w [] w.back w.met (timer_step (link_settings c) w.near.link))
+      → HappensBeside c w (followed c w [] w.back w.met (timer_step (link_settings c) w.near.link))
   Receives : (e : Entry) (rest : List Entry) → w.back ≡ e ∷ rest → abandons c w.near ≡ false
-      → Happens c w (followed c w [] rest (heard_here c w e) (take_step (link_settings c) e.octets w.near.link))
+      → HappensBeside c w (followed c w [] rest (heard_here c w e) (take_step (link_settings c) e.octets w.near.link))
   Abandons : (e : Entry) (rest : List Entry) → w.back ≡ e ∷ rest → abandons c w.near ≡ true
-      → Happens c w (followed c w [] rest w.met (abandon_step (link_settings c) w.near.link))
+      → HappensBeside c w (followed c w [] rest w.met (abandon_step (link_settings c) w.near.link))
   -- the octets at this place of the line to it are lost, or others come in their place
-  Loses : (place : ℕ) → Happens c w (record w { back = remove w.back place })
+  Loses : (place : ℕ) → HappensBeside c w (record w { back = remove w.back place })
   Damages : (place : ℕ) (octets : List ℕ) → is_visible octets ≡ true
-      → Happens c w (record w { back = replaced w.back place octets })
+      → HappensBeside c w (record w { back = replaced w.back place octets })
   -- of the peer's link, and of the line to it
   Links : (v : PeerSessions) → PeerHappens (Unit {0}) (link_settings c) (links_of w) v
-      → Happens c w (record w { peer = v.peer; out = v.out; back = v.back; met = v.met })
+      → HappensBeside c w (record w { peer = v.peer; out = v.out; back = v.back; met = v.met })
   -- in a session, its packet layer puts a packet, whose octets go down to its link
   LayerDoes : (deed : LayerDeed) (p : PlainPacket) (octets : List ℕ) → w.peer.stand ≡ In
       → MayDoLayer (their_layer w).side deed
       → bare_layer c.channels.message p ≡ layer_packet_of (their_layer w).side deed
       → IsConfigured c.channels p → read_by c octets ≡ Ok p
-      → Happens c w (layer_went w
+      → HappensBeside c w (layer_went w
       (record (their_now w) { layer = does_layer (their_layer w).epoch (their_layer w).side deed }) (octets ∷ []))
   -- of the packets that its link took in this session, as they are read, it takes the next, and puts what answers it
   LayerHears : (p : PlainPacket) (read behind packets : List PlainPacket) (all : List (List ℕ)) → w.peer.stand ≡ In
@@ -197,7 +198,7 @@ pub data Happens (c : Settings) (w : BesideSessions) : BesideSessions → Type 0
       → Answers c.channels packets
       (layer_taking (other_role c.role) (their_layer w).epoch (their_layer w).side (bare_layer c.channels.message p))
       → ReadAs c all packets
-      → Happens c w (layer_heard w
+      → HappensBeside c w (layer_heard w
       (layer_taking (other_role c.role) (their_layer w).epoch (their_layer w).side
       (bare_layer c.channels.message p)).next behind all)
   -- or the first of a channel before those of other channels that stand in front of it
@@ -208,12 +209,12 @@ pub data Happens (c : Settings) (w : BesideSessions) : BesideSessions → Type 0
       → Answers c.channels packets
       (ready_taking (other_role c.role) (their_layer w).epoch y (On (channel_of p) (bare c.channels.message p)))
       → ReadAs c all packets
-      → Happens c w (layer_heard w
+      → HappensBeside c w (layer_heard w
       (ready_taking (other_role c.role) (their_layer w).epoch y (On (channel_of p) (bare c.channels.message p))).next
       (passed ++ behind)
       all)
 
 -- what is reached, event by event
-pub data IsReached (c : Settings) : BesideSessions → Type 0 where
-  at_start : IsReached c (start c)
-  goes_on : (w v : BesideSessions) → IsReached c w → Happens c w v → IsReached c v
+pub data ReachedBeside (c : Settings) : BesideSessions → Type 0 where
+  at_start : ReachedBeside c (start c)
+  goes_on : (w v : BesideSessions) → ReachedBeside c w → HappensBeside c w v → ReachedBeside c v

@@ -4,23 +4,7 @@ use Rattle.x25_bits.specs.{FrameCheck.{fcs_of, number_of, low_bits, add, divisor
 use Rattle.x25_frame.specs.Reading.{frame_of}
 use Rattle.x25_link.specs.Station.{pumped}
 use Rattle.x25_packet.specs.{Digits.{packed, halves_of}, Facilities.{facilities_of}, Classes.{are_facilities, own_in}, Grammar.{read_of}}
-use Rattle.x25_world.specs.rows.WorldRows.{SetsUp, MessageArrives, LostArrives, DamagedArrives, MoreArrives, GivenArrives, ConfirmedArrives, DisconnectEndsBoth, ConnectSetsUp, ConnectGoesAgain, SecondMeetsFirst, SecondMeet, TimerWaits, IsRefused}
-
-pub sets_up : SetsUp
-unfolding pumped frame_of read_of is_sealed fcs_of number_of low_bits add divisor divided
-sets_up = refl
-
-pub message_arrives : MessageArrives
-unfolding pumped frame_of packed halves_of own_in facilities_of read_of is_sealed fcs_of number_of low_bits add divisor divided
-message_arrives = (refl, refl, refl, refl)
-
-pub lost_arrives : LostArrives
-unfolding pumped frame_of packed halves_of own_in facilities_of read_of is_sealed fcs_of number_of low_bits add divisor divided
-lost_arrives = (refl, refl, refl, refl)
-
-pub damaged_arrives : DamagedArrives
-unfolding pumped frame_of packed halves_of own_in facilities_of read_of is_sealed fcs_of number_of low_bits add divisor divided
-damaged_arrives = (refl, refl, refl, refl)
+use Rattle.x25_world.specs.rows.WorldRows.{MoreArrives, GivenArrives, ConfirmedArrives, ConnectGoesAgain, SecondMeetsFirst, SecondMeet}
 
 pub more_arrives : MoreArrives
 unfolding pumped frame_of packed halves_of own_in facilities_of read_of is_sealed fcs_of number_of low_bits add divisor divided
@@ -43,15 +27,7 @@ given_arrives = (refl, refl, refl, refl)
 
 pub confirmed_arrives : ConfirmedArrives
 unfolding are_facilities own_in pumped frame_of packed halves_of facilities_of read_of is_sealed fcs_of number_of low_bits add divisor divided
-confirmed_arrives = (refl, refl, refl, refl)
-
-pub disconnect_ends_both : DisconnectEndsBoth
-unfolding pumped frame_of packed halves_of own_in facilities_of read_of is_sealed fcs_of number_of low_bits add divisor divided
-disconnect_ends_both = refl
-
-pub connect_sets_up : ConnectSetsUp
-unfolding pumped frame_of read_of is_sealed fcs_of number_of low_bits add divisor divided
-connect_sets_up = (refl, refl)
+confirmed_arrives = (refl, refl, refl)
 
 pub connect_goes_again : ConnectGoesAgain
 unfolding pumped frame_of read_of is_sealed fcs_of number_of low_bits add divisor divided
@@ -63,11 +39,3 @@ second_meets_first = (refl, refl, refl, refl, refl)
 pub second_meet : SecondMeet
 unfolding pumped frame_of read_of is_sealed fcs_of number_of low_bits add divisor divided
 second_meet = (refl, refl, refl, refl, refl)
-
-pub timer_waits : TimerWaits
-unfolding pumped frame_of read_of is_sealed fcs_of number_of low_bits add divisor divided
-timer_waits = (refl, refl, refl)
-
-pub is_refused : IsRefused
-unfolding pumped frame_of packed halves_of own_in facilities_of read_of is_sealed fcs_of number_of low_bits add divisor divided
-is_refused = (refl, refl, refl, refl, refl)

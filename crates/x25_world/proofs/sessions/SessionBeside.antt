@@ -74,23 +74,23 @@ brought cfg (octets ∷ rest) = brought_by cfg octets ++ brought cfg rest
 
 pub brought_append : (cfg : Cfg) (xs ys : List (List ℕ)) → brought cfg (xs ++ ys) ≡ brought cfg xs ++ brought cfg ys
 brought_append cfg [] ys = refl
-brought_append cfg (x ∷ xs) ys = ap (λ (l : List Came). brought_by cfg x ++ l) (brought_append cfg xs ys) ∙ sym (append_assoc (brought_by cfg x) (brought cfg xs) (brought cfg ys))
+brought_append cfg (x ∷ xs) ys = ap (λ l. brought_by cfg x ++ l) (brought_append cfg xs ys) ∙ sym (append_assoc (brought_by cfg x) (brought cfg xs) (brought cfg ys))
 
 pub came_append : (xs ys : List StationEntry) → came_in (xs ++ ys) ≡ came_in xs ++ came_in ys
 came_append [] ys = refl
-came_append (x ∷ xs) ys = ap (λ (l : List Came). came_of x ++ l) (came_append xs ys) ∙ sym (append_assoc (came_of x) (came_in xs) (came_in ys))
+came_append (x ∷ xs) ys = ap (λ l. came_of x ++ l) (came_append xs ys) ∙ sym (append_assoc (came_of x) (came_in xs) (came_in ys))
 
 abbrev pub AreTold : List Came → List Came → Type 0
-AreTold xs ys = AreSomeOf (λ (x y : Came). x ≡ y) xs ys
+AreTold xs ys = AreSomeOf (λ x y. x ≡ y) xs ys
 
 -- as more is told, and more octets are handed up
 pub told_more : (cfg : Cfg) (before es all : List StationEntry) (up came up₂ : List (List ℕ)) → AreTold (came_in before) (brought cfg up) → AreTold (came_in es) (brought cfg came) → all ≡ before ++ es → up₂ ≡ up ++ came
     → AreTold (came_in all) (brought cfg up₂)
 told_more cfg before es all up came up₂ old new is more =
-    rw is (subst (λ (os : List (List ℕ)). AreTold (came_in (before ++ es)) (brought cfg os)) (sym more)
-    (subst (λ (xs : List Came). AreTold xs (brought cfg (up ++ came))) (sym (came_append before es))
-    (subst (λ (ys : List Came). AreTold (came_in before ++ came_in es) ys) (sym (brought_append cfg up came))
-    (some_append (λ (x y : Came). x ≡ y) (came_in before) (came_in es) (brought cfg up) (brought cfg came) old new))))
+    rw is (subst (λ os. AreTold (came_in (before ++ es)) (brought cfg os)) (sym more)
+    (subst (λ xs. AreTold xs (brought cfg (up ++ came))) (sym (came_append before es))
+    (subst (λ ys. AreTold (came_in before ++ came_in es) ys) (sym (brought_append cfg up came))
+    (some_append (λ x y. x ≡ y) (came_in before) (came_in es) (brought cfg up) (brought cfg came) old new))))
 
 -- ---- what an end was handed down more, of what its user gave
 
@@ -102,19 +102,19 @@ pub record MoreIs (cfg : Cfg) (old new : List (List ℕ)) (gave : List Gave) : T
 pub none_more : (cfg : Cfg) (old new : List (List ℕ)) (gave : List Gave) → new ≡ old → MoreIs cfg old new gave
 none_more cfg old new gave same = record { more = []; is = same ∙ sym (append-nil old); given = tt }
 
-pub more_again : (cfg : Cfg) (old new newer : List (List ℕ)) (xs ys : List Gave) → MoreIs cfg old new xs → MoreIs cfg new newer ys → MoreIs cfg old newer (xs ++ ys)
-more_again cfg old new newer xs ys f g = record {
+pub more_again : {cfg : Cfg} {old new newer : List (List ℕ)} {xs ys : List Gave} → MoreIs cfg old new xs → MoreIs cfg new newer ys → MoreIs cfg old newer (xs ++ ys)
+more_again {cfg} {old} {xs} {ys} f g = record {
   more = f.more ++ g.more;
-  is = g.is ∙ ap (λ (l : List (List ℕ)). l ++ g.more) f.is ∙ append_assoc old f.more g.more;
+  is = g.is ∙ ap (λ l. l ++ g.more) f.is ∙ append_assoc old f.more g.more;
   given = rw (brought_append cfg f.more g.more) (some_append IsGiven (brought cfg f.more) (brought cfg g.more) xs ys f.given g.given);
 }
 
 -- ---- packets without anything given bring nothing
 
 -- with more user data of a CALL at most
-wider : (most : ℕ) → most ≤ 128 → (v : PlainPacket) → IsInRange most v → IsInRange 128 v
-wider most low (call h called calling field user) range = (let few = range.4 in (range.0, range.1, range.2, range.3, omega (arith, few, low)))
-wider most low v range = range
+wider : {most : ℕ} → most ≤ 128 → (v : PlainPacket) → IsInRange most v → IsInRange 128 v
+wider low (call h called calling field user) range = ((range.0, range.1, range.2, range.3, omega (arith, range.4, low)))
+wider low v range = range
 
 user_short : (long_data : Bool) → longest_user long_data ≤ 128
 user_short true = omega arith
@@ -135,13 +135,13 @@ data_brings h marks m ps pr user w (Ok field) is = by w.kind is
 
 module _ (laws : Laws) (cfg : Cfg) where
   in_range : (p : PlainPacket) → IsReadable cfg.wide cfg.long_data p → IsInRange 128 p
-  in_range p r = wider (longest_user cfg.long_data) (user_short cfg.long_data) p r.in_range
+  in_range p r = wider (user_short cfg.long_data) p r.in_range
 
   read_plain : (p : PlainPacket) → IsWithoutD p → IsReadable cfg.wide cfg.long_data p → packet_of 128 (spelling_of p) ≡ Ok p
   read_plain p without r = (laws.grammar 128 p (spelling_of p) r.octets).1 (record { in_range = in_range p r; without_d = without; spelling = refl })
 
   plain_beside : (p : PlainPacket) → IsWithoutD p → IsReadable cfg.wide cfg.long_data p → beside_in true (spelling_of p) ≡ nothing
-  plain_beside p without r = ap (λ (read : Result PlainPacket PacketError). unless_written read (beside_or_none (form_in 128 (spelling_of p)))) (read_plain p without r)
+  plain_beside p without r = ap (λ read. unless_written read (beside_or_none (form_in 128 (spelling_of p)))) (read_plain p without r)
 
   data_beside : (h : ℕ) (marks : Marks) (m : Bool) (ps pr : ℕ) (user : List ℕ) → IsReadable cfg.wide cfg.long_data (user_data h marks m ps pr user) → beside_in true (spelling_of (user_data h marks m ps pr user)) ≡ nothing
   data_beside h marks m ps pr user r = by (packet_of 128 o) (form_in 128 o) (laws.taken 128 p (omega arith) r.octets (in_range p r))
@@ -170,7 +170,7 @@ module _ (laws : Laws) (cfg : Cfg) where
 
   pub spelled_bring : (packets : List PlainPacket) → AreReadable cfg.wide cfg.long_data packets → brought cfg (spelled packets) ≡ []
   spelled_bring [] h = refl
-  spelled_bring (p ∷ packets) h = ap₂ (λ (xs ys : List Came). xs ++ ys) (plain_brings p h.0) (spelled_bring packets h.1)
+  spelled_bring (p ∷ packets) h = ap₂ (λ xs ys. xs ++ ys) (plain_brings p h.0) (spelled_bring packets h.1)
 
 -- ---- the packet of a command with which something is given
 
@@ -196,15 +196,15 @@ module _ (laws : Laws) (cfg : Cfg) (g : PlainGiven) (channel : Option ℕ) (wide
   some_fields : (p : PlainPacket) (facilities user : List ℕ) → ((h : ℕ) → h ≡ channel_of p → IsGiven (record { channel = h; facilities = facilities; user = user }) (record { channel = channel; given = g }))
       → AreSomeOf IsGiven (brought_as (Ok p) (of_fields (Some (record { facilities = facilities; user = user })))) gave
   some_fields p facilities user is =
-      cond_both (nat_lt 0 (length facilities + length user)) (fields facilities user) nothing (λ (b : PlainBeside). AreSomeOf IsGiven (brought_as (Ok p) b) gave) (λ _. inl (is (channel_of p) refl, tt)) (λ _. tt)
+      cond_both (nat_lt 0 (length facilities + length user)) (fields facilities user) nothing (λ b. AreSomeOf IsGiven (brought_as (Ok p) b) gave) (λ _. inl (is (channel_of p) refl, tt)) (λ _. tt)
 
   told_brings : (p : PlainPacket) → MayGoOn g channel p → IsInRange 128 p → AreSomeOf IsGiven (brought_as (Ok p) (told g p)) gave
   told_brings (call h called calling field user) may range =
-      some_fields (call h called calling field user) (field ++ g.facilities) [] (λ k same. record { channel = may.0 ∙ ap (λ (n : ℕ). Some n) (sym same); own = field; of_own = range.3; facilities = refl; user = sym may.1 })
+      some_fields (call h called calling field user) (field ++ g.facilities) [] (λ k same. record { channel = may.0 ∙ ap (λ n. Some n) (sym same); own = field; of_own = range.3; facilities = refl; user = sym may.1 })
   told_brings (accept h field) may range =
-      some_fields (accept h field) (field ++ g.facilities) g.user (λ k same. record { channel = may ∙ ap (λ (n : ℕ). Some n) (sym same); own = field; of_own = range.1; facilities = refl; user = refl })
+      some_fields (accept h field) (field ++ g.facilities) g.user (λ k same. record { channel = may ∙ ap (λ n. Some n) (sym same); own = field; of_own = range.1; facilities = refl; user = refl })
   told_brings (clear h cause diagnostic) may range =
-      some_fields (clear h cause diagnostic) g.facilities g.user (λ k same. record { channel = may ∙ ap (λ (n : ℕ). Some n) (sym same); own = []; of_own = no_field; facilities = refl; user = refl })
+      some_fields (clear h cause diagnostic) g.facilities g.user (λ k same. record { channel = may ∙ ap (λ n. Some n) (sym same); own = []; of_own = no_field; facilities = refl; user = refl })
   told_brings p may range = tt
 
   form_brings : (p : PlainPacket) → IsWithoutD p → MayGoOn g channel p → IsReadable cfg.wide cfg.long_data p → AreSomeOf IsGiven (brought_by cfg (write g (spelling_of p))) gave
@@ -217,7 +217,7 @@ module _ (laws : Laws) (cfg : Cfg) (g : PlainGiven) (channel : Option ℕ) (wide
       is_written = laws.given_written g p (in_range laws cfg p r) r.octets
 
       reads : read_by cfg o ≡ Ok p
-      reads = ap (λ (b : Bool). read_in b (longest_user cfg.long_data) o) wide ∙ (laws.given_read cfg.wide cfg.long_data g p allowed octets r).reads
+      reads = ap (λ b. read_in b (longest_user cfg.long_data) o) wide ∙ (laws.given_read cfg.wide cfg.long_data g p allowed octets r).reads
 
       of_written : AreOctets (written g p)
       of_written = subst AreOctets is_written (laws.given_read cfg.wide cfg.long_data g p allowed octets r).octets
@@ -229,23 +229,23 @@ module _ (laws : Laws) (cfg : Cfg) (g : PlainGiven) (channel : Option ℕ) (wide
       brings beside is h = rw (ap₂ brought_as reads is) h
 
       by : (read : Result PlainPacket PacketError) → packet_of 128 o ≡ read → AreSomeOf IsGiven (brought_by cfg o) gave
-      by (Ok u) is = brings nothing (ap (λ (b : Bool). beside_in b o) wide ∙ ap (λ (read : Result PlainPacket PacketError). unless_written read (beside_or_none (form_in 128 o))) is) tt
+      by (Ok u) is = brings nothing (ap (λ b. beside_in b o) wide ∙ ap (λ read. unless_written read (beside_or_none (form_in 128 o))) is) tt
       by (Err e) is = brings (told g p)
-          (ap (λ (b : Bool). beside_in b o) wide ∙ ap (λ (os : List ℕ). beside_in true os) is_written
-          ∙ laws.given_told g p allowed (in_range laws cfg p r) of_written (λ same. err_ok e (sym is ∙ ap (λ (os : List ℕ). packet_of 128 os) (is_written ∙ same) ∙ read_plain laws cfg p without r)))
+          (ap (λ b. beside_in b o) wide ∙ ap (λ os. beside_in true os) is_written
+          ∙ laws.given_told g p allowed (in_range laws cfg p r) of_written (λ same. err_ok e (sym is ∙ ap (λ os. packet_of 128 os) (is_written ∙ same) ∙ read_plain laws cfg p without r)))
           (told_brings p may (in_range laws cfg p r))
 
   with_brings : (p : PlainPacket) → MayGoOn g channel p → IsReadable cfg.wide cfg.long_data p → AreSomeOf IsGiven (brought_by cfg (write g (spelling_of p))) gave
   with_brings (user_data h marks m ps pr user) may r =
       let p = user_data h marks m ps pr user in
-      subst (λ (l : List Came). AreSomeOf IsGiven l gave)
+      subst (λ l. AreSomeOf IsGiven l gave)
       (sym (ap (brought_by cfg) (laws.given_written g p (in_range laws cfg p r) r.octets) ∙ plain_brings laws cfg p r)) tt
   with_brings p may r = form_brings p tt may r
 
   pub spelled_with_bring : (packets : List PlainPacket) → FirstMayGo g channel packets → AreReadable cfg.wide cfg.long_data packets → AreSomeOf IsGiven (brought cfg (spelled_with g packets)) gave
   spelled_with_bring [] may h = tt
   spelled_with_bring (p ∷ packets) may h =
-      rw (spelled_bring laws cfg packets h.1) (subst (λ (l : List Came). AreSomeOf IsGiven l gave) (sym (append-nil (brought_by cfg (write g (spelling_of p))))) (with_brings p may h.0))
+      rw (spelled_bring laws cfg packets h.1) (subst (λ l. AreSomeOf IsGiven l gave) (sym (append-nil (brought_by cfg (write g (spelling_of p))))) (with_brings p may h.0))
 
 -- ---- the layer puts the packet of such a command first
 
@@ -309,7 +309,7 @@ module _ (c : LayerSettings) (g : PlainGiven) (restarts : ℕ) (circuits : ℕ �
 
 none_long : (xs : List ℕ) → (length xs == 0) ≡ true → xs ≡ []
 none_long [] e = refl
-none_long (x ∷ xs) e = let is : length (x ∷ xs) ≡ 0 = eqb-true (length (x ∷ xs)) 0 e in absurd (omega (arith, is))
+none_long (x ∷ xs) e = let is = eqb-true (length (x ∷ xs)) 0 e in absurd (omega (arith, is))
 
 puts_own : (c : LayerSettings) (g : PlainGiven) (l : Layer) (full : Bool) (request : LayerRequest) → suits g request ≡ true → PutsOwn g (channel_for c l request) (layer_outcome c full l request)
 puts_own c g l full request is = by l.restarting
@@ -343,7 +343,7 @@ pulls_put c w (h ∷ channels) =
     let one = first w.near.is_out (is_channel c.channels h) in
     let others = pulls_put c (layer.moves c w (layer.Pulls h)) channels in (
       one.0 ++ others.0,
-      others.1 ∙ ap (λ (l : List PlainPacket). l ++ others.0) one.1 ∙ append_assoc w.near.given one.0 others.0,
+      others.1 ∙ ap (λ l. l ++ others.0) one.1 ∙ append_assoc w.near.given one.0 others.0,
     )
   where
     none : (rest : List PlainPacket) × (w.near.given ≡ w.near.given ++ rest)
@@ -368,14 +368,14 @@ own_goes_first c g e full request channels packets out suit next own accepted gi
     asked = layer.moves c (alone e []) (layer.Requests full request)
 
     asked_given : asked.near.given ≡ e.given ++ option_to_list own
-    asked_given = ap (λ (gone : Bool). (moves_in c (alone e []) gone (layer.Requests full request)).near.given) out ∙ ap (λ (o : LayerOutcome). (requested c (alone e []) request o).near.given) accepted
+    asked_given = ap (λ gone. (moves_in c (alone e []) gone (layer.Requests full request)).near.given) out ∙ ap (λ o. (requested c (alone e []) request o).near.given) accepted
 
     rest : (rest : List PlainPacket) × ((moves_all c asked (pulls_of channels)).near.given ≡ asked.near.given ++ rest)
     rest = pulls_put c asked channels
 
     put : packets ≡ option_to_list own ++ rest.0
     put = append_cancel_left e.given packets (option_to_list own ++ rest.0)
-        (sym given ∙ rest.1 ∙ ap (λ (l : List PlainPacket). l ++ rest.0) asked_given ∙ append_assoc e.given (option_to_list own) rest.0)
+        (sym given ∙ rest.1 ∙ ap (λ l. l ++ rest.0) asked_given ∙ append_assoc e.given (option_to_list own) rest.0)
 
     by : (o : Option PlainPacket) → OwnMayGo g (channel_for c e.layer request) o → packets ≡ option_to_list o ++ rest.0 → FirstMayGo g (channel_for c e.layer request) packets
     by None may is = absurd may

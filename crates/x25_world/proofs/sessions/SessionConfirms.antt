@@ -23,18 +23,18 @@ use Rattle.x25_layer.specs.laws.TwoLayers as layer
 
 asked_append : (xs ys : List Piece) → asked_in (xs ++ ys) ≡ asked_in xs + asked_in ys
 asked_append [] ys = omega arith
-asked_append (x ∷ xs) ys = let rest = asked_append xs ys in omega (arith, rest)
+asked_append (x ∷ xs) ys = omega (arith, asked_append xs ys)
 
 asked_take : (a b : ℕ) (xs : List Piece) → a ≤ b → asked_in (take a xs) ≤ asked_in (take b xs)
 asked_take zero b xs le = omega arith
 asked_take (suc a) zero xs le = absurd (omega (arith, le))
 asked_take (suc a) (suc b) [] le = omega arith
-asked_take (suc a) (suc b) (x ∷ xs) le = let rest = asked_take a b xs (omega (arith, le)) in omega (arith, rest)
+asked_take (suc a) (suc b) (x ∷ xs) le = omega (arith, asked_take a b xs (omega (arith, le)))
 
 asked_longer : (a : ℕ) (xs ys : List Piece) → asked_in (take a xs) ≤ asked_in (take a (xs ++ ys))
 asked_longer zero xs ys = omega arith
 asked_longer (suc a) [] ys = omega arith
-asked_longer (suc a) (x ∷ xs) ys = let rest = asked_longer a xs ys in omega (arith, rest)
+asked_longer (suc a) (x ∷ xs) ys = omega (arith, asked_longer a xs ys)
 
 asked_of_take : (a : ℕ) (xs : List Piece) → asked_in (take a xs) + asked_in (drop a xs) ≡ asked_in xs
 asked_of_take a xs = sym (asked_append (take a xs) (drop a xs)) ∙ ap asked_in (take-append-drop a xs)
@@ -42,12 +42,12 @@ asked_of_take a xs = sym (asked_append (take a xs) (drop a xs)) ∙ ap asked_in 
 -- messages are carried with their marks
 asked_carried : (j : Partial) (ps : List Piece) → asked_among (carried_from j ps) ≡ asked_in ps
 asked_carried j [] = refl
-asked_carried j (More q user ∷ ps) = let rest = asked_carried (joined j (More q user)) ps in omega (arith, rest)
-asked_carried j (Last q user ∷ ps) = let rest = asked_carried (joined j (Last q user)) ps in omega (arith, rest)
+asked_carried j (More q user ∷ ps) = omega (arith, asked_carried (joined j (More q user)) ps)
+asked_carried j (Last q user ∷ ps) = omega (arith, asked_carried (joined j (Last q user)) ps)
 
 among_append : (xs ys : List Message) → asked_among (xs ++ ys) ≡ asked_among xs + asked_among ys
 among_append [] ys = omega arith
-among_append (x ∷ xs) ys = let rest = among_append xs ys in omega (arith, rest)
+among_append (x ∷ xs) ys = omega (arith, among_append xs ys)
 
 -- of a circuit, as many as are acknowledged
 abbrev acknowledged : Circuit → ℕ
@@ -56,20 +56,17 @@ acknowledged x = asked_in (take x.talk.acked x.talk.sent)
 -- by a packet that acknowledges more, so many more
 more_acknowledged : (x y : Circuit) (n : ℕ) → Hears x y → y.talk.acked ≤ length y.talk.sent → n ≤ acknowledged x → n + (unconfirmed x - unconfirmed y) ≤ acknowledged y
 more_acknowledged x y n h low few =
-    let s : List Piece = x.talk.sent in
-    let r : List Piece = x.talk.rest in
-    let a : ℕ = x.talk.acked in
-    let b : ℕ = y.talk.acked in
+    let s = x.talk.sent in
+    let r = x.talk.rest in
+    let a = x.talk.acked in
+    let b = y.talk.acked in
     let up = h.acked in
-    let high : b ≤ length s = subst (λ (l : List Piece). b ≤ length l) h.sent low in
+    let high : b ≤ length s = subst (λ l. b ≤ length l) h.sent low in
     let here : unconfirmed x ≡ asked_in (drop a s) + asked_in r = ap asked_in (drop-append-le a s r (omega (arith, up, high))) ∙ asked_append (drop a s) r in
     let there : unconfirmed y ≡ asked_in (drop b s) + asked_in r =
-    ap (λ (l : List Piece). asked_in (drop b (l ++ y.talk.rest))) h.sent ∙ ap (λ (l : List Piece). asked_in (drop b (s ++ l))) h.rest ∙ ap asked_in (drop-append-le b s r high) ∙ asked_append (drop b s) r in
-    let all : asked_in (take a s) + asked_in (drop a s) ≡ asked_in s = asked_of_take a s in
-    let all_there : asked_in (take b s) + asked_in (drop b s) ≡ asked_in s = asked_of_take b s in
-    let grows : asked_in (take a s) ≤ asked_in (take b s) = asked_take a b s up in
-    let now : acknowledged y ≡ asked_in (take b s) = ap (λ (l : List Piece). asked_in (take b l)) h.sent in
-    omega (arith, here, there, all, all_there, grows, now, few)
+    ap (λ l. asked_in (drop b (l ++ y.talk.rest))) h.sent ∙ ap (λ l. asked_in (drop b (s ++ l))) h.rest ∙ ap asked_in (drop-append-le b s r high) ∙ asked_append (drop b s) r in
+    let now : acknowledged y ≡ asked_in (take b s) = ap (λ l. asked_in (take b l)) h.sent in
+    omega (arith, here, there, asked_of_take a s, asked_of_take b s, asked_take a b s up, now, few)
 
 -- ---- transcripts that grow
 
@@ -78,14 +75,14 @@ under_append k name [] ys = ((messages_in (under k name ys)).down, refl)
 under_append k name (x ∷ xs) ys =
     let more = under_append k name xs ys in
     let one : Handed = if both (k == x.channel) (same_name name x.name) then says x.said else nothing_handed in
-    (more.0, ap (λ (l : List Message). one.down ++ l) more.1 ∙ sym (append_assoc one.down (messages_in (under k name xs)).down more.0))
+    (more.0, ap (λ l. one.down ++ l) more.1 ∙ sym (append_assoc one.down (messages_in (under k name xs)).down more.0))
 
 up_append : (k : ℕ) (name : Name) (xs ys : List Entry) → (rest : List Message) × ((messages_in (under k name (xs ++ ys))).up ≡ (messages_in (under k name xs)).up ++ rest)
 up_append k name [] ys = ((messages_in (under k name ys)).up, refl)
 up_append k name (x ∷ xs) ys =
     let more = up_append k name xs ys in
     let one : Handed = if both (k == x.channel) (same_name name x.name) then says x.said else nothing_handed in
-    (more.0, ap (λ (l : List Message). one.up ++ l) more.1 ∙ sym (append_assoc one.up (messages_in (under k name xs)).up more.0))
+    (more.0, ap (λ l. one.up ++ l) more.1 ∙ sym (append_assoc one.up (messages_in (under k name xs)).up more.0))
 
 abbrev pub down_of : ℕ → Name → layer.End → ℕ
 down_of k name e = asked_among (messages_in (under k name e.entries)).down
@@ -98,7 +95,7 @@ down_grows c k name e what =
     let more = end_enters c e what in
     let here = under_append k name e.entries more.0 in
     let is : down_of k name (own_moves c e what) ≡ down_of k name e + asked_among here.0 =
-    ap (λ (es : List Entry). asked_among (messages_in (under k name es)).down) more.1 ∙ ap asked_among here.1 ∙ among_append (messages_in (under k name e.entries)).down here.0 in
+    ap (λ es. asked_among (messages_in (under k name es)).down) more.1 ∙ ap asked_among here.1 ∙ among_append (messages_in (under k name e.entries)).down here.0 in
     omega (arith, is)
 
 up_grows : (c : LayerSettings) (k : ℕ) (name : Name) (e : layer.End) (what : OwnMove) → up_of k name e ≤ up_of k name (own_moves c e what)
@@ -106,7 +103,7 @@ up_grows c k name e what =
     let more = end_enters c e what in
     let here = up_append k name e.entries more.0 in
     let is : up_of k name (own_moves c e what) ≡ up_of k name e + asked_among here.0 =
-    ap (λ (es : List Entry). asked_among (messages_in (under k name es)).up) more.1 ∙ ap asked_among here.1 ∙ among_append (messages_in (under k name e.entries)).up here.0 in
+    ap (λ es. asked_among (messages_in (under k name es)).up) more.1 ∙ ap asked_among here.1 ∙ among_append (messages_in (under k name e.entries)).up here.0 in
     omega (arith, is)
 
 -- ---- names
@@ -115,7 +112,7 @@ abbrev name_from : ℕ → ℕ → ℕ → Name
 name_from restarts clears resets = record { restarts = restarts; clears = clears; resets = resets }
 
 name_eq : (a b c d e f : ℕ) → a ≡ d → b ≡ e → c ≡ f → name_from a b c ≡ name_from d e f
-name_eq a b c d e f p q r = ap (λ (n : ℕ). name_from n b c) p ∙ ap (λ (n : ℕ). name_from d n c) q ∙ ap (λ (n : ℕ). name_from d e n) r
+name_eq a b c d e f p q r = ap (λ n. name_from n b c) p ∙ ap (λ n. name_from d n c) q ∙ ap (λ n. name_from d e n) r
 
 both_are : (a b : Bool) → both a b ≡ true → (a ≡ true) × (b ≡ true)
 both_are true b h = (refl, h)
@@ -143,7 +140,7 @@ not_on c l next k begins on =
     let others = and_parts (is_open_at c next k) (same_name (name_of l k) (name_of next k)) opened.1 in
     elim begins.new [
       | inl closed ↦ true_false (sym (open_there (is_channel c.channels k) (is_open (l.circuits k)) opened.0) ∙ closed)
-      | inr more ↦ (let e : suc (l.circuits k).resets ≡ (l.circuits k).resets = sym (ap (λ (n : Name). n.resets) (same_name_is (name_of l k) (name_of next k) others.1) ∙ more) in omega (arith, e))
+      | inr more ↦ (let e : suc (l.circuits k).resets ≡ (l.circuits k).resets = sym (ap (λ n. n.resets) (same_name_is (name_of l k) (name_of next k) others.1) ∙ more) in omega (arith, e))
     ]
 
 -- ---- what is kept of an end, where it was told of so many, and the other
@@ -157,23 +154,22 @@ abbrev KnownAt : ℕ → layer.End → layer.End → Type 0
 KnownAt k e f = is_open (e.layer.circuits k) ≡ true → AcknowledgedAreUp k (name_of e.layer k) (e.layer.circuits k).talk e f
 
 -- those that are acknowledged
-acked_down : (k : ℕ) (e f : layer.End) → AcknowledgedAreUp k (name_of e.layer k) (e.layer.circuits k).talk e f → acknowledged (e.layer.circuits k) ≤ down_of k (name_of e.layer k) e
-acked_down k e f h =
+acked_down : {k : ℕ} {e f : layer.End} → AcknowledgedAreUp k (name_of e.layer k) (e.layer.circuits k).talk e f → acknowledged (e.layer.circuits k) ≤ down_of k (name_of e.layer k) e
+acked_down {k} {e} h =
     let t : Talk = (e.layer.circuits k).talk in
     let is : down_of k (name_of e.layer k) e ≡ asked_in t.sent + asked_in t.rest = ap asked_among h.down ∙ asked_carried no_part (t.sent ++ t.rest) ∙ asked_append t.sent t.rest in
-    let all : asked_in (take t.acked t.sent) + asked_in (drop t.acked t.sent) ≡ asked_in t.sent = asked_of_take t.acked t.sent in
-    omega (arith, is, all)
+    omega (arith, is, asked_of_take t.acked t.sent)
 
-acked_up : (k : ℕ) (e f : layer.End) → AcknowledgedAreUp k (name_of e.layer k) (e.layer.circuits k).talk e f → acknowledged (e.layer.circuits k) ≤ up_of k (name_of e.layer k) f
-acked_up k e f h =
+acked_up : {k : ℕ} {e f : layer.End} → AcknowledgedAreUp k (name_of e.layer k) (e.layer.circuits k).talk e f → acknowledged (e.layer.circuits k) ≤ up_of k (name_of e.layer k) f
+acked_up {k} {e} {f} h =
     let t : Talk = (e.layer.circuits k).talk in
     let is : up_of k (name_of e.layer k) f ≡ acknowledged (e.layer.circuits k) + asked_among h.first.0 =
-    ap asked_among (sym h.first.1) ∙ among_append (carried (take t.acked t.sent)) h.first.0 ∙ ap (λ (n : ℕ). n + asked_among h.first.0) (asked_carried no_part (take t.acked t.sent)) in
+    ap asked_among (sym h.first.1) ∙ among_append (carried (take t.acked t.sent)) h.first.0 ∙ ap (λ n. n + asked_among h.first.0) (asked_carried no_part (take t.acked t.sent)) in
     omega (arith, is)
 
 -- nothing was handed down in a stretch that begins
-none_down : (k : ℕ) (e f : layer.End) → AcknowledgedAreUp k (name_of e.layer k) (e.layer.circuits k).talk e f → (e.layer.circuits k).talk ≡ silent → down_of k (name_of e.layer k) e ≡ 0
-none_down k e f h is = ap asked_among (h.down ∙ ap (λ (t : Talk). carried (t.sent ++ t.rest)) is)
+none_down : {k : ℕ} {e f : layer.End} → AcknowledgedAreUp k (name_of e.layer k) (e.layer.circuits k).talk e f → (e.layer.circuits k).talk ≡ silent → down_of k (name_of e.layer k) e ≡ 0
+none_down h is = ap asked_among (h.down ∙ ap (λ t. carried (t.sent ++ t.rest)) is)
 
 module _ (c : LayerSettings) (k : ℕ) (name : Name) (n : ℕ) (e f : layer.End) (h : Bounded k name n e f) where
   -- ---- a packet
@@ -198,10 +194,8 @@ module _ (c : LayerSettings) (k : ℕ) (name : Name) (n : ℕ) (e f : layer.End)
       -- in a stretch that begins none was told of
       begins_none : Begins x y → is_open y ≡ true → name_of heard_end.layer k ≡ name → n ≤ 0
       begins_none begins is named =
-          let few = h.down in
-          let none : down_of k name heard_end ≡ 0 = subst (λ (m : Name). down_of k m heard_end ≡ 0) named (none_down k heard_end f (known is) begins.silent) in
-          let more = grows in
-          omega (arith, few, none, more)
+          let none : down_of k name heard_end ≡ 0 = subst (λ m. down_of k m heard_end ≡ 0) named (none_down (known is) begins.silent) in
+          omega (arith, h.down, none, grows)
 
       count_none : Begins x y → count ≡ 0
       count_none begins = by (same_name name (name_of heard_end.layer k)) (goes_on c e.layer heard_end.layer k) refl
@@ -221,12 +215,10 @@ module _ (c : LayerSettings) (k : ℕ) (name : Name) (n : ℕ) (e f : layer.End)
 
       now_acked : is_open y ≡ true → name_of heard_end.layer k ≡ name → n + count ≤ acknowledged y
       now_acked is named = elim ((end_heard c e p k).circuit is) [
-        | inl begins ↦ (let zero = begins_none begins is named in let none = count_none begins in omega (arith, zero, none))
+        | inl begins ↦ (omega (arith, begins_none begins is named, count_none begins))
         | inr hears ↦ (
-            let before : n ≤ acknowledged x = h.opened hears.same.opened (same_stretch e.layer heard_end.layer k ((end_heard c e p k).restarts is) hears.same ∙ named) in
-            let all = more_acknowledged x y n hears (known is).sent before in
-            let low = count_low in
-            omega (arith, all, low))
+            let before = h.opened hears.same.opened (same_stretch e.layer heard_end.layer k ((end_heard c e p k).restarts is) hears.same ∙ named) in
+            omega (arith, more_acknowledged x y n hears (known is).sent before, count_low))
       ]
 
       -- none more, or the stretch is open
@@ -246,18 +238,16 @@ module _ (c : LayerSettings) (k : ℕ) (name : Name) (n : ℕ) (e f : layer.End)
       heard = record {
         opened = now_acked;
         down = elim none_or_open [
-          | inl none ↦ (let few = h.down in let more = grows in omega (arith, none, few, more))
+          | inl none ↦ (omega (arith, none, h.down, grows))
           | inr on ↦ (
-              let most = now_acked on.0 on.1 in
-              let low : acknowledged y ≤ down_of k name heard_end = subst (λ (m : Name). acknowledged y ≤ down_of k m heard_end) on.1 (acked_down k heard_end f (known on.0)) in
-              omega (arith, most, low))
+              let low : acknowledged y ≤ down_of k name heard_end = subst (λ m. acknowledged y ≤ down_of k m heard_end) on.1 (acked_down (known on.0)) in
+              omega (arith, now_acked on.0 on.1, low))
         ];
         up = elim none_or_open [
-          | inl none ↦ (let few = h.up in omega (arith, none, few))
+          | inl none ↦ (omega (arith, none, h.up))
           | inr on ↦ (
-              let most = now_acked on.0 on.1 in
-              let low : acknowledged y ≤ up_of k name f = subst (λ (m : Name). acknowledged y ≤ up_of k m f) on.1 (acked_up k heard_end f (known on.0)) in
-              omega (arith, most, low))
+              let low : acknowledged y ≤ up_of k name f = subst (λ m. acknowledged y ≤ up_of k m f) on.1 (acked_up (known on.0)) in
+              omega (arith, now_acked on.0 on.1, low))
         ];
       }
 
@@ -270,20 +260,17 @@ module _ (c : LayerSettings) (k : ℕ) (name : Name) (n : ℕ) (e f : layer.End)
     called_acked : is_open (next.layer.circuits k) ≡ true → name_of next.layer k ≡ name → n ≤ acknowledged (next.layer.circuits k)
     called_acked is named = elim ((end_called c e what k none).circuit is) [
       | inl begins ↦ (
-          let few = h.down in
-          let zero : down_of k name next ≡ 0 = subst (λ (m : Name). down_of k m next ≡ 0) named (none_down k next f (known is) begins.silent) in
-          let more = down_grows c k name e what in
-          omega (arith, few, zero, more))
+          let zero : down_of k name next ≡ 0 = subst (λ m. down_of k m next ≡ 0) named (none_down (known is) begins.silent) in
+          omega (arith, h.down, zero, down_grows c k name e what))
       | inr goes ↦ (
-          let before : n ≤ acknowledged (e.layer.circuits k) = h.opened goes.same.opened (same_stretch e.layer next.layer k ((end_called c e what k none).restarts is) goes.same ∙ named) in
-          let longer = asked_longer (e.layer.circuits k).talk.acked (e.layer.circuits k).talk.sent goes.more in
+          let before = h.opened goes.same.opened (same_stretch e.layer next.layer k ((end_called c e what k none).restarts is) goes.same ∙ named) in
           let now : acknowledged (next.layer.circuits k) ≡ asked_in (take (e.layer.circuits k).talk.acked ((e.layer.circuits k).talk.sent ++ goes.more)) =
-          ap (λ (a : ℕ). asked_in (take a (next.layer.circuits k).talk.sent)) goes.acked ∙ ap (λ (l : List Piece). asked_in (take (e.layer.circuits k).talk.acked l)) goes.sent in
-          omega (arith, before, longer, now))
+          ap (λ a. asked_in (take a (next.layer.circuits k).talk.sent)) goes.acked ∙ ap (λ l. asked_in (take (e.layer.circuits k).talk.acked l)) goes.sent in
+          omega (arith, before, asked_longer (e.layer.circuits k).talk.acked (e.layer.circuits k).talk.sent goes.more, now))
     ]
 
     called : Bounded k name n next f
-    called = record { opened = called_acked; down = (let few = h.down in let more = down_grows c k name e what in omega (arith, few, more)); up = h.up }
+    called = record { opened = called_acked; down = (omega (arith, h.down, down_grows c k name e what)); up = h.up }
 
   -- its own move
   own_bounded : (what : OwnMove) → KnownAt k (own_moves c e what) f → Bounded k name (n + counted_by c k name e what) (own_moves c e what) f
@@ -292,7 +279,7 @@ module _ (c : LayerSettings) (k : ℕ) (name : Name) (n : ℕ) (e f : layer.End)
 
   -- a move of the other
   other_bounded : (d : LayerSettings) (what : OwnMove) → Bounded k name n e (own_moves d f what)
-  other_bounded d what = record { opened = h.opened; down = h.down; up = (let few = h.up in let more = up_grows d k name f what in omega (arith, few, more)) }
+  other_bounded d what = record { opened = h.opened; down = h.down; up = (omega (arith, h.up, up_grows d k name f what)) }
 
 -- ---- runs
 
@@ -339,7 +326,7 @@ module _ (long_data : Bool) (channels : Ranges) (behind : EventsRunOn) (law : Al
       by : (end : Role) (b : Bool) → (let d : ApartEvent = record { first = b; what = e.what } in KnownIn end (happened ends d) → BoundedIn end n ends → BoundedIn end (n + added end ends d) (happened ends d))
       by Dte true known h = own_bounded (settings Dte) k name n ends.near ends.far h e.what known
       by Dce false known h = own_bounded (settings Dce) k name n ends.far ends.near h e.what known
-      by Dte false known h = subst (λ (m : ℕ). Bounded k name m ends.near (own_moves (settings Dce) ends.far e.what)) no_more (other_bounded (settings Dte) k name n ends.near ends.far h (settings Dce) e.what)
+      by Dte false known h = subst (λ m. Bounded k name m ends.near (own_moves (settings Dce) ends.far e.what)) no_more (other_bounded (settings Dte) k name n ends.near ends.far h (settings Dce) e.what)
       by Dce true known h = rw (sym no_more) (other_bounded (settings Dce) k name n ends.far ends.near h (settings Dte) e.what)
 
   counts : (end : Role) (ends : Ends) (e : ApartEvent) (rest : List ApartEvent)
@@ -356,21 +343,20 @@ module _ (long_data : Bool) (channels : Ranges) (behind : EventsRunOn) (law : Al
   abbrev Confirms : Role → ℕ → List ApartEvent → Ends → Type 0
   Confirms end n rest ends = n + counted_in (settings end) k name (moves_of end rest) (here_in end ends) ≤ up_of k name (here_in (other end) (apart_run long_data channels rest ends))
 
-  run_confirms : (end : Role) (done rest : List ApartEvent) (n : ℕ) → AreInOrder long_data channels done start → AreInOrder long_data channels rest (then_run done) → BoundedIn end n (then_run done) → Confirms end n rest (then_run done)
-  run_confirms Dte done [] n order next h = (let few = h.up in omega (arith, few))
-  run_confirms Dce done [] n order next h = (let few = h.up in omega (arith, few))
-  run_confirms end done (e ∷ rest) n order next h =
+  run_confirms : (end : Role) (done rest : List ApartEvent) {n : ℕ} → AreInOrder long_data channels done start → AreInOrder long_data channels rest (then_run done) → BoundedIn end n (then_run done) → Confirms end n rest (then_run done)
+  run_confirms Dte done [] order next h = (omega (arith, h.up))
+  run_confirms Dce done [] order next h = (omega (arith, h.up))
+  run_confirms end done (e ∷ rest) {n} order next h =
       let more = one_more done e order next.0 in
       let known : KnownIn end (happened (then_run done) e) = subst (KnownIn end) more.1 (known_in end (done ++ e ∷ []) more.0) in
-      let m : ℕ = n + added end (then_run done) e in
+      let m = n + added end (then_run done) e in
       let others : Confirms end m rest (happened (then_run done) e) =
-      subst (λ (ends : Ends). AreInOrder long_data channels rest ends → BoundedIn end m ends → Confirms end m rest ends) more.1 (run_confirms end (done ++ e ∷ []) rest m more.0) next.1 (after_event end (then_run done) e n known h) in
-      let sum = counts end (then_run done) e rest in
-      omega (arith, others, sum)
+      subst (λ ends. AreInOrder long_data channels rest ends → BoundedIn end m ends → Confirms end m rest ends) more.1 (run_confirms end (done ++ e ∷ []) rest more.0) next.1 (after_event end (then_run done) e n known h) in
+      omega (arith, others, counts end (then_run done) e rest)
 
   -- before anything happened
   nothing_yet : (e f : layer.End) → Bounded k name 0 e f
   nothing_yet e f = record { opened = λ is named. omega arith; down = omega arith; up = omega arith }
 
   pub confirms : (end : Role) (events : List ApartEvent) → AreInOrder long_data channels events start → counted_in (settings end) k name (moves_of end events) (here_in end start) ≤ up_of k name (here_in (other end) (then_run events))
-  confirms end events order = let all = run_confirms end [] events 0 tt order (nothing_yet (here_in end start) (here_in (other end) start)) in omega (arith, all)
+  confirms end events order = let all = run_confirms end [] events tt order (nothing_yet (here_in end start) (here_in (other end) start)) in omega (arith, all)

@@ -23,7 +23,7 @@ counted_in c k name (what ∷ rest) e = counted_by c k name e what + counted_in 
 
 pub counted_append : (c : LayerSettings) (k : ℕ) (name : Name) (xs ys : List OwnMove) (e : layer.End) → counted_in c k name (xs ++ ys) e ≡ counted_in c k name xs e + counted_in c k name ys (own_run c xs e)
 counted_append c k name [] ys e = omega arith
-counted_append c k name (x ∷ xs) ys e = let rest = counted_append c k name xs ys (own_moves c e x) in omega (arith, rest)
+counted_append c k name (x ∷ xs) ys e = omega (arith, counted_append c k name xs ys (own_moves c e x))
 
 none_by : (c : LayerSettings) (k : ℕ) (name : Name) (e : layer.End) (what : OwnMove) → TakesNone what → counted_by c k name e what ≡ 0
 none_by c k name e (Takes p) none = absurd none
@@ -31,11 +31,11 @@ none_by c k name e what none = refl
 
 pub none_counted : (c : LayerSettings) (k : ℕ) (name : Name) (moves : List OwnMove) (e : layer.End) → TakeNothing moves → counted_in c k name moves e ≡ 0
 none_counted c k name [] e none = refl
-none_counted c k name (what ∷ moves) e none = let one = none_by c k name e what none.0 in let rest = none_counted c k name moves (own_moves c e what) none.1 in omega (arith, one, rest)
+none_counted c k name (what ∷ moves) e none = omega (arith, none_by c k name e what none.0, none_counted c k name moves (own_moves c e what) none.1)
 
 pub confirmed_append : (k : ℕ) (name : Name) (xs ys : List StationEntry) → confirmed_in k name (xs ++ ys) ≡ confirmed_in k name xs + confirmed_in k name ys
 confirmed_append k name [] ys = omega arith
-confirmed_append k name (x ∷ xs) ys = let rest = confirmed_append k name xs ys in omega (arith, rest)
+confirmed_append k name (x ∷ xs) ys = omega (arith, confirmed_append k name xs ys)
 
 -- ---- the entries of a session tell of no more than its moves confirm
 
@@ -53,19 +53,15 @@ counted_same cfg end n trace trace₂ es same counted k name =
 
 pub counted_rests : (cfg : Cfg) (end : Role) (n : ℕ) (trace : List Done) (before more all : List StationEntry) → IsCounted cfg end n trace before → all ≡ before ++ more → CountNone more → IsCounted cfg end n trace all
 counted_rests cfg end n trace before more all counted is none k name =
-    let low = counted k name in
-    let zero = none k name in
     let sum : confirmed_in k name all ≡ confirmed_in k name before + confirmed_in k name more = ap (confirmed_in k name) is ∙ confirmed_append k name before more in
-    omega (arith, low, zero, sum)
+    omega (arith, counted k name, none k name, sum)
 
 pub counted_goes : (cfg : Cfg) (end : Role) (n : ℕ) (trace : List Done) (moves : List OwnMove) (before more all : List StationEntry) → IsCounted cfg end n trace before → all ≡ before ++ more
     → ((k : ℕ) (name : Name) → confirmed_in k name more ≤ counted_in (layer_of cfg end) k name moves (own cfg end n trace)) → IsCounted cfg end n (trace ++ moved end n moves) all
 counted_goes cfg end n trace moves before more all counted is counts k name =
-    let c : LayerSettings = layer_of cfg end in
-    let start : layer.End = started (goes_up c) in
-    let low = counted k name in
-    let most = counts k name in
+    let c = layer_of cfg end in
+    let start = started (goes_up c) in
     let sum : confirmed_in k name all ≡ confirmed_in k name before + confirmed_in k name more = ap (confirmed_in k name) is ∙ confirmed_append k name before more in
     let together : counted_in c k name (own_in end n (trace ++ moved end n moves)) start ≡ counted_in c k name (own_in end n trace) start + counted_in c k name moves (own cfg end n trace) =
-    ap (λ (l : List OwnMove). counted_in c k name l start) (own_more end n trace moves) ∙ counted_append c k name (own_in end n trace) moves start in
-    omega (arith, low, most, sum, together)
+    ap (λ l. counted_in c k name l start) (own_more end n trace moves) ∙ counted_append c k name (own_in end n trace) moves start in
+    omega (arith, counted k name, counts k name, sum, together)

@@ -1,12 +1,12 @@
 -- What entries that an end's step adds say of its sessions, and of whom they meet.
-use Rattle.std.proofs.Common.{◌≡◌, ℕ, zero, suc, ◌+◌, ◌≤◌, ◌==◌, List, [], ◌∷◌, ◌++◌, inl, Bool, true, false, if◌then◌else◌, Option, Some, None, Result, Ok, refl, sym, ap, ap₂, ◌∙◌, subst, append_assoc, append-nil, arith}
+use Rattle.std.proofs.Common.{◌≡◌, ℕ, zero, suc, ◌+◌, ◌≤◌, ◌==◌, List, [], ◌∷◌, ◌++◌, inl, Bool, true, false, if◌then◌else◌, Option, Some, None, Ok, refl, sym, ap, ap₂, ◌∙◌, subst, append_assoc, append-nil, arith}
 use Rattle.std.proofs.lemmas.Bool.{eqb-true, cond_both}
 use Rattle.x25_handshakes.specs.laws.Names.{Name, both, same_name}
 use Rattle.x25_bits.specs.{declared.role.Role.{Role}, declared.role.Role.TheVariants.{Dte, Dce}}
-use Rattle.x25_link.specs.{declared.phase.Notes.{Notes}, Hearing.{other, Step as LinkStep}, laws.NoteLaw.{IsQuiet}}
-use Rattle.x25_packet.specs.{Packet.{PlainPacket, restart, restart_conf}, Spelling.{channel_of}, declared.error.PacketError.{PacketError}}
+use Rattle.x25_link.specs.{Hearing.{other, Step as LinkStep}, laws.NoteLaw.{IsQuiet}}
+use Rattle.x25_packet.specs.{Packet.{PlainPacket, restart, restart_conf}, Spelling.{channel_of}}
 use Rattle.x25_circuit.specs.{Hearing.{Answer, answers}, Notice.{PlainNotice}}
-use Rattle.x25_layer.specs.Layer.{LayerSettings, Layer, LayerAnswer, LayerNotice, on_channel, restarted, restart_done, layer_fault, is_channel, notices_on, answers_on, drops, answers_in, layer_answers}
+use Rattle.x25_layer.specs.Layer.{LayerSettings, Layer, LayerNotice, on_channel, restarted, restart_done, layer_fault, is_channel, notices_on, answers_on, drops, answers_in, layer_answers}
 use Rattle.x25_layer.specs.{Receiving.{answer_to}, Calls.{LayerRequest, Asks, Dials, Restarts, PullsAll, LayerOutcome, Accepted, Declined}}
 use Rattle.x25_layer.specs.{laws.Transcript.{Entry, Said, Asked, Told, name_of}, laws.TwoLayers.{entries_asked}, laws.ApartLaw.{BeginsRestarted}}
 use Rattle.x25_station.specs.{Confirming.{named_by, confirmed}, Beside.{PlainBeside, nothing, fields, diagnosed, beside_in}, declared.config.Cfg.{Cfg}}
@@ -29,7 +29,7 @@ pub session_append : (n : ℕ) (p : Progress) (xs ys : List StationEntry) → se
 session_append n p [] ys = refl
 session_append n p (x ∷ xs) ys =
     let q = after_entry p x in
-    ap (λ (l : List StationEntry). entry_if (is_in n q) x ++ l) (session_append n q xs ys) ∙ sym (append_assoc (entry_if (is_in n q) x) (session_from n q xs) (session_from n (after_entries q xs) ys))
+    ap (λ l. entry_if (is_in n q) x ++ l) (session_append n q xs ys) ∙ sym (append_assoc (entry_if (is_in n q) x) (session_from n q xs) (session_from n (after_entries q xs) ys))
 
 first_assoc : (a b c : Option ℕ) → first_of a (first_of b c) ≡ first_of (first_of a b) c
 first_assoc None b c = refl
@@ -43,9 +43,9 @@ met_append end n here there (x ∷ xs) ys =
     let others = entry_of_end (other end) x.at x.entry in
     let h = after_entries here own in
     let t = after_entries there others in
-    ap (λ (o : Option ℕ). first_of (met_by n here there own) o) (met_append end n h t xs ys)
+    ap (λ o. first_of (met_by n here there own) o) (met_append end n h t xs ys)
     ∙ first_assoc (met_by n here there own) (meets_from end n h t xs) (meets_from end n (after_entries h (entries_at end xs)) (after_entries t (entries_at (other end) xs)) ys)
-    ∙ ap₂ (λ (p q : Progress). first_of (first_of (met_by n here there own) (meets_from end n h t xs)) (meets_from end n p q ys)) (sym (after_append here own (entries_at end xs)))
+    ∙ ap₂ (λ p q. first_of (first_of (met_by n here there own) (meets_from end n h t xs)) (meets_from end n p q ys)) (sym (after_append here own (entries_at end xs)))
     (sym (after_append there others (entries_at (other end) xs)))
 
 first_none : (a : Option ℕ) → first_of a None ≡ a
@@ -59,8 +59,8 @@ one_met n here there e = first_none (met_at n here there e)
 
 met_entered : (end : Role) (n : ℕ) (here there : Progress) (entries : List StationEntry) → meets_from end n here there (entered end entries) ≡ met_by n here there entries
 met_entered end n here there [] = refl
-met_entered Dte n here there (e ∷ entries) = ap₂ (λ (a b : Option ℕ). first_of a b) (one_met n here there e) (met_entered Dte n (after_entry here e) there entries)
-met_entered Dce n here there (e ∷ entries) = ap₂ (λ (a b : Option ℕ). first_of a b) (one_met n here there e) (met_entered Dce n (after_entry here e) there entries)
+met_entered Dte n here there (e ∷ entries) = ap₂ (λ a b. first_of a b) (one_met n here there e) (met_entered Dte n (after_entry here e) there entries)
+met_entered Dce n here there (e ∷ entries) = ap₂ (λ a b. first_of a b) (one_met n here there e) (met_entered Dce n (after_entry here e) there entries)
 
 none_entered : (end : Role) (n : ℕ) (here there : Progress) (entries : List StationEntry) → meets_from (other end) n here there (entered end entries) ≡ None
 none_entered end n here there [] = refl
@@ -72,13 +72,13 @@ pub meets_more : (end : Role) (n : ℕ) (transcript : List AtEnd) (entries : Lis
     ≡ first_of (meets end n transcript) (met_by n (after_entries none_begun (entries_at end transcript)) (after_entries none_begun (entries_at (other end) transcript)) entries)
 meets_more end n transcript entries =
     met_append end n none_begun none_begun transcript (entered end entries)
-    ∙ ap (λ (o : Option ℕ). first_of (meets end n transcript) o) (met_entered end n (after_entries none_begun (entries_at end transcript)) (after_entries none_begun (entries_at (other end) transcript)) entries)
+    ∙ ap (λ o. first_of (meets end n transcript) o) (met_entered end n (after_entries none_begun (entries_at end transcript)) (after_entries none_begun (entries_at (other end) transcript)) entries)
 
 -- entries of the other end
 pub meets_other : (end : Role) (n : ℕ) (transcript : List AtEnd) (entries : List StationEntry) → meets (other end) n (transcript ++ entered end entries) ≡ meets (other end) n transcript
 meets_other end n transcript entries =
     met_append (other end) n none_begun none_begun transcript (entered end entries)
-    ∙ ap (λ (o : Option ℕ). first_of (meets (other end) n transcript) o)
+    ∙ ap (λ o. first_of (meets (other end) n transcript) o)
     (none_entered end n (after_entries none_begun (entries_at (other end) transcript)) (after_entries none_begun (entries_at (other (other end)) transcript)) entries)
     ∙ first_none (meets (other end) n transcript)
 
@@ -119,18 +119,18 @@ plain_after p e h = refl
 
 pub plain_progress : (p : Progress) (entries : List StationEntry) → ArePlain entries → after_entries p entries ≡ p
 plain_progress p [] h = refl
-plain_progress p (e ∷ entries) h = ap (λ (q : Progress). after_entries q entries) (plain_after p e h.0) ∙ plain_progress p entries h.1
+plain_progress p (e ∷ entries) h = ap (λ q. after_entries q entries) (plain_after p e h.0) ∙ plain_progress p entries h.1
 
 -- they are of the session that stands
 pub plain_here : (n : ℕ) (p : Progress) (entries : List StationEntry) → ArePlain entries → is_in n p ≡ true → session_from n p entries ≡ entries
 plain_here n p [] h here = refl
 plain_here n p (e ∷ entries) h here =
-    ap (λ (q : Progress). entry_if (is_in n q) e ++ session_from n q entries) (plain_after p e h.0) ∙ ap₂ (λ (b : Bool) (l : List StationEntry). entry_if b e ++ l) here (plain_here n p entries h.1 here)
+    ap (λ q. entry_if (is_in n q) e ++ session_from n q entries) (plain_after p e h.0) ∙ ap₂ (λ b l. entry_if b e ++ l) here (plain_here n p entries h.1 here)
 
 pub plain_elsewhere : (n : ℕ) (p : Progress) (entries : List StationEntry) → ArePlain entries → is_in n p ≡ false → session_from n p entries ≡ []
 plain_elsewhere n p [] h out = refl
 plain_elsewhere n p (e ∷ entries) h out =
-    ap (λ (q : Progress). entry_if (is_in n q) e ++ session_from n q entries) (plain_after p e h.0) ∙ ap₂ (λ (b : Bool) (l : List StationEntry). entry_if b e ++ l) out (plain_elsewhere n p entries h.1 out)
+    ap (λ q. entry_if (is_in n q) e ++ session_from n q entries) (plain_after p e h.0) ∙ ap₂ (λ b l. entry_if b e ++ l) out (plain_elsewhere n p entries h.1 out)
 
 -- where the first notice is a restart by the other end, its latest session is met
 pub restart_met : (n : ℕ) (here there : Progress) (entries : List StationEntry) → ArePlain entries → is_in n here ≡ true → BeginsRestarted (layer_notices entries) → met_by n here there entries ≡ Some there.begun
@@ -143,7 +143,7 @@ restart_met n here there (of_channel e ∷ entries) plain is begins = restart_me
 restart_met n here there (link_up ∷ entries) plain is begins = absurd plain.0
 restart_met n here there (link_down reason ∷ entries) plain is begins = absurd plain.0
 restart_met n here there (was_restarted cause diagnostic ∷ entries) plain is begins =
-    ap (λ (b : Bool). first_of (if b then Some there.begun else None) (met_by n here there entries)) is
+    ap (λ b. first_of (if b then Some there.begun else None) (met_by n here there entries)) is
 restart_met n here there (restart_confirmed ∷ entries) plain is begins = absurd begins
 restart_met n here there (at_fault diagnostic ∷ entries) plain is begins = absurd begins
 restart_met n here there (other ∷ entries) plain is begins = restart_met n here there entries plain.1 is begins
@@ -152,7 +152,7 @@ restart_met n here there (other ∷ entries) plain is begins = restart_met n her
 pub elsewhere_met : (n : ℕ) (here there : Progress) (entries : List StationEntry) → ArePlain entries → is_in n here ≡ false → met_by n here there entries ≡ None
 elsewhere_met n here there [] plain out = refl
 elsewhere_met n here there (e ∷ entries) plain out =
-    ap₂ (λ (a b : Option ℕ). first_of a b) (at_one e plain.0) (ap (λ (p : Progress). met_by n p there entries) (plain_after here e plain.0) ∙ elsewhere_met n here there entries plain.1 out)
+    ap₂ (λ a b. first_of a b) (at_one e plain.0) (ap (λ p. met_by n p there entries) (plain_after here e plain.0) ∙ elsewhere_met n here there entries plain.1 out)
   where
     at_one : (e : StationEntry) → IsPlain e → met_at n here there e ≡ None
     at_one (of_channel e) h = refl
@@ -162,7 +162,7 @@ elsewhere_met n here there (e ∷ entries) plain out =
     at_one relink_asked h = refl
     at_one link_up h = refl
     at_one (link_down reason) h = refl
-    at_one (was_restarted cause diagnostic) h = ap (λ (b : Bool). if b then Some there.begun else None) out
+    at_one (was_restarted cause diagnostic) h = ap (λ b. if b then Some there.begun else None) out
     at_one restart_confirmed h = refl
     at_one (at_fault diagnostic) h = refl
     at_one (came_beside channel facilities user) h = refl
@@ -210,7 +210,7 @@ pub mute_in : (n : ℕ) (p : Progress) (entries : List StationEntry) → AreMute
 mute_in n p [] h = tt
 mute_in n p (e ∷ entries) h =
     let rest = mute_in n (after_entry p e) entries h.1 in
-    cond_both (is_in n (after_entry p e)) (e ∷ []) [] (λ (es : List StationEntry). AreMute (es ++ session_from n (after_entry p e) entries)) (λ _. (h.0, rest)) (λ _. rest)
+    cond_both (is_in n (after_entry p e)) (e ∷ []) [] (λ es. AreMute (es ++ session_from n (after_entry p e) entries)) (λ _. (h.0, rest)) (λ _. rest)
 
 -- ---- those of a step that notes nothing are such
 
@@ -238,7 +238,7 @@ pub outcome_beside : (c : LayerSettings) (l : Layer) (request : LayerRequest) (o
 outcome_beside = outcome_all (λ es. came_in es ≡ []) refl (λ e es rest. rest) (λ cause diagnostic. refl)
 
 pub outcome_counts : (c : LayerSettings) (l : Layer) (request : LayerRequest) (o : LayerOutcome) → CountNone (entries_of_outcome c l request o)
-outcome_counts = outcome_all CountNone (λ k name. refl) (λ e es none k name. (let rest = none k name in omega (arith, rest))) (λ cause diagnostic k name. refl)
+outcome_counts = outcome_all CountNone (λ k name. refl) (λ e es none k name. (omega (arith, none k name))) (λ cause diagnostic k name. refl)
 
 beside_plain : (b : PlainBeside) (o : Option ℕ) → ArePlain (entries_beside b o)
 beside_plain nothing o = tt
@@ -259,8 +259,8 @@ told_plain l (other ∷ notices) es plain = (tt, told_plain l notices es plain)
 pub heard_plain : (c : Settings) (l : Layer) (k : LinkStep) (octets : List ℕ) → k.packet ≡ Some octets → IsQuiet k → ArePlain (follows c l k).entries
 heard_plain c l k octets some quiet =
     subst ArePlain
-    (sym (ap (λ (o : Option (List ℕ)). entries_noted k.notes ++ entries_heard (layer_settings c) c.wide l o k.notes.down k.notes.up) some
-    ∙ ap (λ (n : Notes). entries_noted n ++ entries_heard (layer_settings c) c.wide l (Some octets) n.down n.up) quiet))
+    (sym (ap (λ o. entries_noted k.notes ++ entries_heard (layer_settings c) c.wide l o k.notes.down k.notes.up) some
+    ∙ ap (λ n. entries_noted n ++ entries_heard (layer_settings c) c.wide l (Some octets) n.down n.up) quiet))
     (let a = layer_answer (layer_settings c) c.wide l octets in
     told_plain a.next a.notices _ (behind_plain a.next (named_by octets) (confirmed_by (layer_settings c) c.wide l a.next (named_by octets)) _ (beside_plain (beside_in c.wide octets) (bringing a.notices))))
 
@@ -268,8 +268,8 @@ heard_plain c l k octets some quiet =
 
 told_counts : (l : Layer) (notices : List LayerNotice) (es : List StationEntry) (k : ℕ) (name : Name) → confirmed_in k name (station_told l notices ++ es) ≡ confirmed_in k name es
 told_counts l [] es k name = refl
-told_counts l (on_channel h notice ∷ notices) es k name = let rest = told_counts l notices es k name in omega (arith, rest)
-told_counts l (other ∷ notices) es k name = let rest = told_counts l notices es k name in omega (arith, rest)
+told_counts l (on_channel h notice ∷ notices) es k name = omega (arith, told_counts l notices es k name)
+told_counts l (other ∷ notices) es k name = omega (arith, told_counts l notices es k name)
 
 beside_counts : (b : PlainBeside) (o : Option ℕ) → CountNone (entries_beside b o)
 beside_counts nothing o = λ k name. refl
@@ -280,7 +280,7 @@ beside_counts (diagnosed diagnostic) o = λ k name. refl
 -- what a packet confirms on its channel
 behind_counts : (c : LayerSettings) (wide : Bool) (l next : Layer) (named : ℕ) (es : List StationEntry) (k : ℕ) (name : Name) → CountNone es
     → confirmed_in k name (entries_behind next named (confirmed_by c wide l next named) es) ≤ counted_at c k name l next
-behind_counts c false l next named es k name none = let zero = none k name in omega (arith, zero)
+behind_counts c false l next named es k name none = omega (arith, none k name)
 behind_counts c true l next named es k name none = by (confirmed c l next named) refl
   where
     here : (b : Bool) (m : ℕ) → confirmed c l next named ≡ suc m → (if both true b then suc m else 0) + 0 ≤ (if b then confirmed c l next named else 0)
@@ -289,11 +289,11 @@ behind_counts c true l next named es k name none = by (confirmed c l next named)
 
     at : (b : Bool) (m : ℕ) → confirmed c l next named ≡ suc m → (k == named) ≡ b → (if both b (same_name name (name_of next named)) then suc m else 0) + 0 ≤ counted_at c k name l next
     at true m e is =
-        subst (λ (j : ℕ). (if both true (same_name name (name_of next named)) then suc m else 0) + 0 ≤ counted_at c j name l next) (sym (eqb-true k named is)) (here (same_name name (name_of next named)) m e)
+        subst (λ j. (if both true (same_name name (name_of next named)) then suc m else 0) + 0 ≤ counted_at c j name l next) (sym (eqb-true k named is)) (here (same_name name (name_of next named)) m e)
     at false m e is = omega arith
 
     by : (n : ℕ) → confirmed c l next named ≡ n → confirmed_in k name (entries_behind next named n es) ≤ counted_at c k name l next
-    by zero e = let none_told = none k name in omega (arith, none_told)
+    by zero e = omega (arith, none k name)
     by (suc m) e = at (k == named) m e refl
 
 pub heard_confirms : (cfg : Cfg) (end : Role) (l : Layer) (k : LinkStep) (octets : List ℕ) (p : PlainPacket) → k.packet ≡ Some octets → IsQuiet k → read_by cfg octets ≡ Ok p → (h : ℕ) (name : Name)
@@ -301,15 +301,15 @@ pub heard_confirms : (cfg : Cfg) (end : Role) (l : Layer) (k : LinkStep) (octets
 heard_confirms cfg end l k octets p some quiet reads h name =
     let c = settings_from end cfg in
     let a = layer_answer (layer_settings c) c.wide l octets in
-    let es : List StationEntry = entries_beside (beside_in c.wide octets) (bringing a.notices) in
-    let behind : List StationEntry = entries_behind a.next (named_by octets) (confirmed_by (layer_settings c) c.wide l a.next (named_by octets)) es in
+    let es = entries_beside (beside_in c.wide octets) (bringing a.notices) in
+    let behind = entries_behind a.next (named_by octets) (confirmed_by (layer_settings c) c.wide l a.next (named_by octets)) es in
     let entries : (follows c l k).entries ≡ entries_of_packet (layer_settings c) c.wide l octets =
-    ap (λ (o : Option (List ℕ)). entries_noted k.notes ++ entries_heard (layer_settings c) c.wide l o k.notes.down k.notes.up) some
-    ∙ ap (λ (n : Notes). entries_noted n ++ entries_heard (layer_settings c) c.wide l (Some octets) n.down n.up) quiet in
-    let answered : a ≡ layer_answers (layer_settings c) l p = ap (λ (r : Result PlainPacket PacketError). answer_to (layer_settings c) l octets r) reads in
+    ap (λ o. entries_noted k.notes ++ entries_heard (layer_settings c) c.wide l o k.notes.down k.notes.up) some
+    ∙ ap (λ n. entries_noted n ++ entries_heard (layer_settings c) c.wide l (Some octets) n.down n.up) quiet in
+    let answered : a ≡ layer_answers (layer_settings c) l p = ap (λ r. answer_to (layer_settings c) l octets r) reads in
     let is : confirmed_in h name (follows c l k).entries ≡ confirmed_in h name behind = ap (confirmed_in h name) entries ∙ told_counts a.next a.notices behind h name in
     let low : confirmed_in h name behind ≤ counted_at (layer_settings c) h name l (layer_answers (layer_settings c) l p).next =
-    subst (λ (x : LayerAnswer). confirmed_in h name behind ≤ counted_at (layer_settings c) h name l x.next) answered
+    subst (λ x. confirmed_in h name behind ≤ counted_at (layer_settings c) h name l x.next) answered
     (behind_counts (layer_settings c) c.wide l a.next (named_by octets) es h name (beside_counts (beside_in c.wide octets) (bringing a.notices))) in
     omega (arith, is, low)
 
@@ -323,7 +323,7 @@ told_beside l (other ∷ notices) es = told_beside l notices es
 -- a notice is of the channel of its packet
 bringing_on : (h k : ℕ) (notices : List PlainNotice) → bringing (notices_on k notices) ≡ Some h → k ≡ h
 bringing_on h k [] e = absurd (cc)
-bringing_on h k (notice ∷ notices) e = cond_both (may_bring notice) (Some k) (bringing (notices_on k notices)) (λ (o : Option ℕ). o ≡ Some h → k ≡ h) (λ _ first. cc) (λ _. bringing_on h k notices) e
+bringing_on h k (notice ∷ notices) e = cond_both (may_bring notice) (Some k) (bringing (notices_on k notices)) (λ o. o ≡ Some h → k ≡ h) (λ _ first. cc) (λ _. bringing_on h k notices) e
 
 answer_on : (c : LayerSettings) (l : Layer) (p : PlainPacket) (h : ℕ) → bringing (layer_answers c l p).notices ≡ Some h → channel_of p ≡ h
 answer_on c l p h = by l.restarting p
@@ -344,7 +344,7 @@ answer_on c l p h = by l.restarting p
     by false p e = if_channel (is_channel c.channels (channel_of p)) (channel_of p) (answers c.circuit (l.circuits (channel_of p)) p) e
 
 brings_told : (p : PlainPacket) (b : PlainBeside) (o : Option ℕ) → ((h : ℕ) → o ≡ Some h → channel_of p ≡ h) → AreTold (came_in (entries_beside b o)) (brought_as (Ok p) b)
-brings_told p (fields facilities user) (Some h) is = inl (ap (λ (k : ℕ). record { channel = k; facilities = facilities; user = user }) (sym (is h refl)), tt)
+brings_told p (fields facilities user) (Some h) is = inl (ap (λ k. record { channel = k; facilities = facilities; user = user }) (sym (is h refl)), tt)
 brings_told p b o_2 is = tt
 
 -- in the place of it may be told what the packet confirms
@@ -359,13 +359,13 @@ heard_beside cfg end l k octets p some quiet reads =
     let c = settings_from end cfg in
     let a = layer_answer (layer_settings c) c.wide l octets in
     let entries : (follows c l k).entries ≡ entries_of_packet (layer_settings c) c.wide l octets =
-    ap (λ (o : Option (List ℕ)). entries_noted k.notes ++ entries_heard (layer_settings c) c.wide l o k.notes.down k.notes.up) some
-    ∙ ap (λ (n : Notes). entries_noted n ++ entries_heard (layer_settings c) c.wide l (Some octets) n.down n.up) quiet in
-    let answered : a ≡ layer_answers (layer_settings c) l p = ap (λ (r : Result PlainPacket PacketError). answer_to (layer_settings c) l octets r) reads in
+    ap (λ o. entries_noted k.notes ++ entries_heard (layer_settings c) c.wide l o k.notes.down k.notes.up) some
+    ∙ ap (λ n. entries_noted n ++ entries_heard (layer_settings c) c.wide l (Some octets) n.down n.up) quiet in
+    let answered : a ≡ layer_answers (layer_settings c) l p = ap (λ r. answer_to (layer_settings c) l octets r) reads in
     let all : brought cfg (octets ∷ []) ≡ brought_as (Ok p) (beside_in c.wide octets) =
-    append-nil (brought_by cfg octets) ∙ ap (λ (r : Result PlainPacket PacketError). brought_as r (beside_in c.wide octets)) reads in
-    let count : ℕ = confirmed_by (layer_settings c) c.wide l a.next (named_by octets) in
-    let es : List StationEntry = entries_beside (beside_in c.wide octets) (bringing a.notices) in
-    subst (λ (xs : List Came). AreTold (came_in (follows c l k).entries) xs) (sym all)
+    append-nil (brought_by cfg octets) ∙ ap (λ r. brought_as r (beside_in c.wide octets)) reads in
+    let count = confirmed_by (layer_settings c) c.wide l a.next (named_by octets) in
+    let es = entries_beside (beside_in c.wide octets) (bringing a.notices) in
+    subst (λ xs. AreTold (came_in (follows c l k).entries) xs) (sym all)
     (rw (ap came_in entries ∙ told_beside a.next a.notices (entries_behind a.next (named_by octets) count es)) (behind_told a.next (named_by octets) count es (brought_as (Ok p) (beside_in c.wide octets))
-    (brings_told p (beside_in c.wide octets) (bringing a.notices) (λ h e. answer_on (layer_settings c) l p h (ap (λ (x : LayerAnswer). bringing x.notices) (sym answered) ∙ e)))))
+    (brings_told p (beside_in c.wide octets) (bringing a.notices) (λ h e. answer_on (layer_settings c) l p h (ap (λ x. bringing x.notices) (sym answered) ∙ e)))))

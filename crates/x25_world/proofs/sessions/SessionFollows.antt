@@ -1,13 +1,13 @@
 -- A step of the link that hands nothing up: nothing is noted; or LinkDown; or LinkUp, by which a session begins.
 use Rattle.std.proofs.Common.{◌≡◌, ℕ, suc, List, [], ◌∷◌, ◌++◌, Bool, true, false, Option, Some, None, refl, sym, ap, ap₂, ◌∙◌, subst, arith}
 use Rattle.x25_bits.specs.declared.role.Role.{Role}
-use Rattle.x25_packet.specs.Packet.{PlainPacket, restart}
-use Rattle.x25_link.specs.{declared.phase.Reason.{Reason}, declared.phase.Notes.{Notes}, Station.{LinkStation, is_up}, Hearing.{Step as LinkStep, quiet}}
+use Rattle.x25_packet.specs.Packet.{restart}
+use Rattle.x25_link.specs.{declared.phase.Reason.{Reason}, Station.{is_up}, Hearing.{Step as LinkStep, quiet}}
 use Rattle.x25_link.specs.laws.NoteLaw.{IsQuiet, Tells}
 use Rattle.x25_line.specs.{laws.Sessions.{Meeting, Sessions, begun_by}, laws.SessionClaims.{octets_of, OnlyBegunHaveLists}}
 use Rattle.x25_layer.specs.{Layer.{LayerSettings, Layer, rested, restart_cause, goes_up}, laws.Rounds.{LinkView}, laws.TwoLayers.{started}}
-use Rattle.x25_layer.specs.laws.Apart.{OwnMove, own_run}
-use Rattle.x25_station.specs.{declared.config.Cfg.{Cfg}, Config.{settings_from, link_settings, layer_settings}}
+use Rattle.x25_layer.specs.laws.Apart.{own_run}
+use Rattle.x25_station.specs.{declared.config.Cfg.{Cfg}, Config.{Settings, settings_from, link_settings, layer_settings}}
 use Rattle.x25_station.specs.Entry.{StationEntry, connect_asked, disconnect_asked, relink_asked, link_up, link_down, entries_noted}
 use Rattle.x25_station.specs.{Station.{all_put, view_of}, Step.{Step, layer_at, follows, led_by}, laws.KeepLaw.{IsKept}, laws.JoinLaw.{station_with}}
 use Rattle.x25_station.specs.laws.ReadLaw.{AreReadable}
@@ -40,35 +40,35 @@ lead_of relink = relink_asked ∷ []
 -- ---- entries that aren't the layer's
 
 -- where one of them alone is of a session, which is that of r
-asked_silent : (p r : Progress) (still : Bool) (e : StationEntry) (es : List StationEntry) → after_entries p es ≡ record { begun = r.begun; stands = still } → ((n : ℕ) → session_from n p es ≡ entry_if (is_in n r) e ++ [])
+asked_silent : (p r : Progress) (still : Bool) (e : StationEntry) {es : List StationEntry} → after_entries p es ≡ record { begun = r.begun; stands = still } → ((n : ℕ) → session_from n p es ≡ entry_if (is_in n r) e ++ [])
     → AreMute es → IsSilent p (record { begun = r.begun; stands = still }) es
-asked_silent p r still e es progress is mute = record { progress = progress; mute = mute; later = λ n differs. is n ∙ ap (λ (b : Bool). entry_if b e ++ []) (not_in n r differs) }
+asked_silent p r still e progress is mute = record { progress = progress; mute = mute; later = λ n differs. is n ∙ ap (λ b. entry_if b e ++ []) (not_in n r differs) }
 
 -- where nothing is noted
 quiet_silent : (lead : Lead) (p : Progress) (still : Bool) → p.stands ≡ still → IsSilent p (record { begun = p.begun; stands = still }) (lead_of lead ++ [])
-quiet_silent no_command p still same = record { progress = ap (λ (b : Bool). record { begun = p.begun; stands = b }) same; mute = tt; later = λ n differs. refl }
-quiet_silent connect p still same = asked_silent p p still connect_asked (connect_asked ∷ []) (ap (λ (b : Bool). record { begun = p.begun; stands = b }) same) (λ n. refl) (tt, tt)
-quiet_silent disconnect p still same = asked_silent p p still disconnect_asked (disconnect_asked ∷ []) (ap (λ (b : Bool). record { begun = p.begun; stands = b }) same) (λ n. refl) (tt, tt)
-quiet_silent relink p still same = asked_silent p p still relink_asked (relink_asked ∷ []) (ap (λ (b : Bool). record { begun = p.begun; stands = b }) same) (λ n. refl) (tt, tt)
+quiet_silent no_command p still same = record { progress = ap (λ b. record { begun = p.begun; stands = b }) same; mute = tt; later = λ n differs. refl }
+quiet_silent connect p still same = asked_silent p p still connect_asked (ap (λ b. record { begun = p.begun; stands = b }) same) (λ n. refl) (tt, tt)
+quiet_silent disconnect p still same = asked_silent p p still disconnect_asked (ap (λ b. record { begun = p.begun; stands = b }) same) (λ n. refl) (tt, tt)
+quiet_silent relink p still same = asked_silent p p still relink_asked (ap (λ b. record { begun = p.begun; stands = b }) same) (λ n. refl) (tt, tt)
 
 -- LinkDown alone
 down_silent : (lead : Lead) (p : Progress) (reason : Reason) → IsSilent p (record { begun = p.begun; stands = false }) (lead_of lead ++ link_down reason ∷ [])
 down_silent no_command p reason = record { progress = refl; mute = (tt, tt); later = λ n differs. refl }
-down_silent connect p reason = asked_silent p p false connect_asked (connect_asked ∷ link_down reason ∷ []) refl (λ n. refl) (tt, (tt, tt))
-down_silent disconnect p reason = asked_silent p p false disconnect_asked (disconnect_asked ∷ link_down reason ∷ []) refl (λ n. refl) (tt, (tt, tt))
-down_silent relink p reason = asked_silent p p false relink_asked (relink_asked ∷ link_down reason ∷ []) refl (λ n. refl) (tt, (tt, tt))
+down_silent connect p reason = asked_silent p p false connect_asked refl (λ n. refl) (tt, (tt, tt))
+down_silent disconnect p reason = asked_silent p p false disconnect_asked refl (λ n. refl) (tt, (tt, tt))
+down_silent relink p reason = asked_silent p p false relink_asked refl (λ n. refl) (tt, (tt, tt))
 
 -- LinkUp, after LinkDown or alone
 up_begins : (p : Progress) (down : Option Reason) → IsSilent p (record { begun = suc p.begun; stands = true }) (entries_noted (record { down = down; up = true }))
-up_begins p None = asked_silent p (record { begun = suc p.begun; stands = true }) true link_up (link_up ∷ []) refl (λ n. refl) (tt, tt)
-up_begins p (Some reason) = asked_silent p (record { begun = suc p.begun; stands = true }) true link_up (link_down reason ∷ link_up ∷ []) refl (λ n. refl) (tt, (tt, tt))
+up_begins p None = asked_silent p (record { begun = suc p.begun; stands = true }) true link_up refl (λ n. refl) (tt, tt)
+up_begins p (Some reason) = asked_silent p (record { begun = suc p.begun; stands = true }) true link_up refl (λ n. refl) (tt, (tt, tt))
 
 -- ---- what is put
 
 -- nothing where the link hands nothing up and notes no LinkUp
 pub silent : (view : LinkView) (c : LayerSettings) (wide : Bool) (l : Layer) (packet : Option (List ℕ)) (down : Option Reason) (up : Bool) → packet ≡ None → up ≡ false → (layer_at view c wide l packet down up).put ≡ []
 silent view c wide l packet down up none not_up =
-    rw none (subst (λ (b : Bool). (layer_at view c wide l None down b).put ≡ []) (sym not_up) (by down))
+    rw none (subst (λ b. (layer_at view c wide l None down b).put ≡ []) (sym not_up) (by down))
   where
     by : (o : Option Reason) → (layer_at view c wide l None o false).put ≡ []
     by None = refl
@@ -81,7 +81,7 @@ silent_puts cfg end l k none not_up =
     record {
       handed = [];
       packets = [];
-      put = record { accepted = tt; link = ap (λ (ps : List PlainPacket). (all_put (link_settings c) ps k.side).near) nothing; out = ap (λ (ps : List PlainPacket). (all_put (link_settings c) ps k.side).out) nothing; readable = tt };
+      put = record { accepted = tt; link = ap (λ ps. (all_put (link_settings c) ps k.side).near) nothing; out = ap (λ ps. (all_put (link_settings c) ps k.side).out) nothing; readable = tt };
     }
 
 -- RESTART where a session begins
@@ -89,78 +89,85 @@ silent_puts cfg end l k none not_up =
 module _ {since : Beginning} (laws : SessionLaws) (cfg : Cfg) (fine : IsConfigured cfg) (end : Role) (w : World) (h : SessionsJoined since cfg end w) where
   -- the layer's end in a session that isn't begun
   not_begun : own cfg end (suc h.links.near.begun) h.trace ≡ started (goes_up (layer_of cfg end))
-  not_begun = ap (λ (l : List OwnMove). own_run (layer_of cfg end) l (started (goes_up (layer_of cfg end)))) (h.near.later (suc h.links.near.begun) (omega arith)).moves
+  not_begun = ap (λ l. own_run (layer_of cfg end) l (started (goes_up (layer_of cfg end)))) (h.near.later (suc h.links.near.begun) (omega arith)).moves
 
   restart_readable : AreReadable cfg.wide cfg.long_data (restart (restart_cause end) 0 ∷ [])
   restart_readable =
       let n = suc h.links.near.begun in
       let m = suc h.links.far.begun in
-      subst (λ (e : layer.End). AreReadable cfg.wide cfg.long_data e.given) not_begun
+      subst (λ e. AreReadable cfg.wide cfg.long_data e.given) not_begun
       (own_readable laws cfg fine end n m h.trace
       (nothing_in_order cfg end h.trace n m (subst TakeNothing (sym (h.near.later n (omega arith)).moves) tt) (subst TakeNothing (sym (h.far.later m (omega arith)).moves) tt)) h.octets)
 
-  pub up_puts : (k : LinkStep) → Tells w.near.link k → k.notes.up ≡ true → HasPut (settings_from end cfg) k.side (follows (settings_from end cfg) w.near.layer k)
-  up_puts k tells up =
-      let packets : List PlainPacket = restart (restart_cause end) 0 ∷ [] in
+  pub up_puts : {k : LinkStep} → Tells w.near.link k → k.notes.up ≡ true → HasPut (settings_from end cfg) k.side (follows (settings_from end cfg) w.near.layer k)
+  up_puts {k} tells up =
+      let packets = restart (restart_cause end) 0 ∷ [] in
       record {
         handed = spelled packets;
         packets = packets;
-        put = puts_spelled (settings_from end cfg) k.side packets (follows (settings_from end cfg) w.near.layer k) (laws.stations.up (settings_from end cfg) w.near.layer k up (tells.fresh_up up)).link restart_readable;
+        put = puts_spelled (laws.stations.up (settings_from end cfg) w.near.layer k up (tells.fresh_up up)).link restart_readable;
       }
 
 -- ---- the link's step, at `v`, and the layer's
 
 module _ {since : Beginning} (laws : SessionLaws) (cfg : Cfg) (fine : IsConfigured cfg) (end : Role) (w : World) (h : SessionsJoined since cfg end w) (lead : Lead) (left : List links.Entry) (k : LinkStep) (v : Sessions) (met : List Meeting)
     (reach : SessionsReach since cfg end v) (pairs : PairsAreInOrder cfg end h.trace met) (more : (n m : ℕ) → HasMet n m h.links.met → HasMet n m met) (tells : Tells w.near.link k) (g : StepGoes (link_of cfg end) h.links v k left met) where
+  abbrev ours : Settings
+  ours = settings_from end cfg
+
+  -- by a step of the end, with nothing that its user gave
+  abbrev To : World → Type 0
+  To u = Goes since cfg end h.links gave_none u
+
   abbrev whole_step : Step
-  whole_step = led_by (lead_of lead) (follows (settings_from end cfg) w.near.layer k)
+  whole_step = led_by (lead_of lead) (follows ours w.near.layer k)
 
   goes_at : (up : Bool) → k.notes.up ≡ up → k.packet ≡ None → SessionGoes (link_of cfg end) h.links v (begun_by up h.links.near.begun) k.side.near k.side.out [] [] left met
-  goes_at up is none = step_as (link_of cfg end) h.links v k left met up None is none g
+  goes_at up is none = step_as k up None is none g
 
   abbrev standing : Progress
   standing = record { begun = h.links.near.begun; stands = is_up w.near.link.phase }
 
-  quiet_step : k.packet ≡ None → IsKept whole_step.near → IsQuiet k → Goes since cfg end h.links gave_none (after_step (settings_from end cfg) w (octets_of left) whole_step)
+  quiet_step : k.packet ≡ None → IsKept whole_step.near → IsQuiet k → To (after_step ours w (octets_of left) whole_step)
   quiet_step none kept quiet =
-      let is = laws.stations.quiet (settings_from end cfg) w.near.layer k none quiet in
+      let is = laws.stations.quiet ours w.near.layer k none quiet in
       let step : Step = record { near = station_with k.side.near w.near.layer; out = k.side.out; entries = lead_of lead ++ [] } in
-      let same : step ≡ whole_step = ap (λ (s : Step). led_by (lead_of lead) s) (sym is) in
-      subst (λ (s : Step). Goes since cfg end h.links gave_none (after_step (settings_from end cfg) w (octets_of left) s)) same
-      (rests cfg end w h step left v met (goes_at false (ap (λ (n : Notes). n.up) quiet) none) (quiet_silent lead standing (is_up k.side.near.phase) (sym (tells.stays quiet))) (λ still. (sym (tells.stays quiet) ∙ still, refl))
-      (subst (λ (s : Step). IsKept s.near) (sym same) kept) reach pairs more)
+      let same : step ≡ whole_step = ap (λ s. led_by (lead_of lead) s) (sym is) in
+      subst (λ s. To (after_step ours w (octets_of left) s)) same
+      (rests cfg end w h step left v met (goes_at false (ap (λ n. n.up) quiet) none) (quiet_silent lead standing (is_up k.side.near.phase) (sym (tells.stays quiet))) (λ still. (sym (tells.stays quiet) ∙ still, refl))
+      (subst (λ s. IsKept s.near) (sym same) kept) reach pairs more)
 
   down_step : k.packet ≡ None → IsKept whole_step.near → (reason : Reason) → k.notes ≡ record { down = Some reason; up = false }
-      → Goes since cfg end h.links gave_none (after_step (settings_from end cfg) w (octets_of left) whole_step)
+      → To (after_step ours w (octets_of left) whole_step)
   down_step none kept reason noted =
-      let is = laws.stations.down (settings_from end cfg) w.near.layer k reason noted in
+      let is = laws.stations.down ours w.near.layer k reason noted in
       let step : Step = record { near = station_with k.side.near (rested w.near.layer); out = k.side.out; entries = lead_of lead ++ link_down reason ∷ [] } in
-      let same : step ≡ whole_step = ap (λ (s : Step). led_by (lead_of lead) s) (sym is) in
-      let off : is_up k.side.near.phase ≡ false = tells.left reason (ap (λ (n : Notes). n.down) noted) (ap (λ (n : Notes). n.up) noted) in
-      subst (λ (s : Step). Goes since cfg end h.links gave_none (after_step (settings_from end cfg) w (octets_of left) s)) same
-      (rests cfg end w h step left v met (goes_at false (ap (λ (n : Notes). n.up) noted) none) (rw off (down_silent lead standing reason)) (λ still. true_false (sym still ∙ off))
-      (subst (λ (s : Step). IsKept s.near) (sym same) kept) reach pairs more)
+      let same : step ≡ whole_step = ap (λ s. led_by (lead_of lead) s) (sym is) in
+      let off = tells.left reason (ap (λ n. n.down) noted) (ap (λ n. n.up) noted) in
+      subst (λ s. To (after_step ours w (octets_of left) s)) same
+      (rests cfg end w h step left v met (goes_at false (ap (λ n. n.up) noted) none) (rw off (down_silent lead standing reason)) (λ still. true_false (sym still ∙ off))
+      (subst (λ s. IsKept s.near) (sym same) kept) reach pairs more)
 
-  pub follows_silent : k.notes.up ≡ false → k.packet ≡ None → IsKept whole_step.near → Goes since cfg end h.links gave_none (after_step (settings_from end cfg) w (octets_of left) whole_step)
+  pub follows_silent : k.notes.up ≡ false → k.packet ≡ None → IsKept whole_step.near → To (after_step ours w (octets_of left) whole_step)
   follows_silent not_up none kept = by k.notes.down refl
     where
-      by : (o : Option Reason) → k.notes.down ≡ o → Goes since cfg end h.links gave_none (after_step (settings_from end cfg) w (octets_of left) whole_step)
-      by None is = quiet_step none kept (ap₂ (λ (d : Option Reason) (u : Bool). record { down = d; up = u }) is not_up)
-      by (Some reason) is = down_step none kept reason (ap₂ (λ (d : Option Reason) (u : Bool). record { down = d; up = u }) is not_up)
+      by : (o : Option Reason) → k.notes.down ≡ o → To (after_step ours w (octets_of left) whole_step)
+      by None is = quiet_step none kept (ap₂ (λ d u. record { down = d; up = u }) is not_up)
+      by (Some reason) is = down_step none kept reason (ap₂ (λ d u. record { down = d; up = u }) is not_up)
 
-  pub follows_up : ((octets : List ℕ) → MayAsk since end (line.Put octets)) → k.notes.up ≡ true → k.packet ≡ None → IsKept (follows (settings_from end cfg) w.near.layer k).near
-      → Goes since cfg end h.links gave_none (after_step (settings_from end cfg) w (octets_of left) (follows (settings_from end cfg) w.near.layer k))
+  pub follows_up : ((octets : List ℕ) → MayAsk since end (line.Put octets)) → k.notes.up ≡ true → k.packet ≡ None → IsKept (follows ours w.near.layer k).near
+      → To (after_step ours w (octets_of left) (follows ours w.near.layer k))
   follows_up asks up none kept =
       let c = settings_from end cfg in
-      let step : Step = follows c w.near.layer k in
+      let step = follows c w.near.layer k in
       let u = laws.stations.up c w.near.layer k up (tells.fresh_up up) in
-      let packets : List PlainPacket = restart (restart_cause end) 0 ∷ [] in
+      let packets = restart (restart_cause end) 0 ∷ [] in
       let handed = spelled packets in
-      let p = puts_spelled c k.side packets step u.link (restart_readable laws cfg fine end w h) in
+      let p = puts_spelled u.link (restart_readable laws cfg fine end w h) in
       let r = puts_go c h.links v (suc h.links.near.begun) packets handed k.side step [] left met (goes_at true up none) p in
-      let still : is_up step.near.link.phase ≡ true = puts_up laws.stations.put_tells c k.side packets handed step p (ap (λ (s : LinkStation). is_up s.phase) (tells.fresh_up up)) in
+      let still = puts_up laws.stations.put_tells p (ap (λ s. is_up s.phase) (tells.fresh_up up)) in
       let begins : IsSilent standing (record { begun = suc h.links.near.begun; stands = true }) step.entries =
-      subst (λ (es : List StationEntry). IsSilent standing (record { begun = suc h.links.near.begun; stands = true }) es) (sym (u.entries ∙ ap (λ (b : Bool). entries_noted (record { down = k.notes.down; up = b })) up)) (up_begins standing k.notes.down) in
-      let known = known_sessions OnlyBegunHaveLists laws.begun cfg fine end h.links h.reach in
+      subst (λ es. IsSilent standing (record { begun = suc h.links.near.begun; stands = true }) es) (sym (u.entries ∙ ap (λ b. entries_noted (record { down = k.notes.down; up = b })) up)) (up_begins standing k.notes.down) in
+      let known = known_sessions OnlyBegunHaveLists laws.begun fine h.reach in
       begins_session cfg end w h step left (all_act (link_of cfg end) (puts_of handed) v) met handed (back_read cfg handed packets p.readable) (back_octets cfg handed packets p.readable)
-      (spelled_bring laws.stations cfg packets (restart_readable laws cfg fine end w h)) r begins known.near still u.layer kept (puts_reach cfg end handed v asks reach) pairs more
+      (spelled_bring laws.stations cfg packets (restart_readable laws cfg fine end w h)) r begins known.near still u.layer kept (puts_reach laws.unasked cfg fine end handed v asks reach) pairs more

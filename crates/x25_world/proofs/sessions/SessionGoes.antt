@@ -1,5 +1,5 @@
 -- A step of the near end, joined of a step of its link and moves of its layer: in the session that stands, at rest, or as a session begins.
-use Rattle.std.proofs.Common.{◌≡◌, ℕ, suc, ◌==◌, ◌≤◌, ◌<◌, ◌⊎◌, inl, inr, List, [], ◌∷◌, ◌++◌, map, Bool, true, false, ◌&&◌, if◌then◌else◌, Option, Some, None, refl, sym, ap, ap₂, ◌∙◌, subst, append-nil, arith}
+use Rattle.std.proofs.Common.{◌≡◌, ℕ, suc, ◌==◌, ◌≤◌, ◌<◌, ◌⊎◌, inl, inr, List, [], ◌∷◌, ◌++◌, map, true, false, ◌&&◌, if◌then◌else◌, Option, Some, None, refl, sym, ap, ap₂, ◌∙◌, subst, append-nil, arith}
 use Rattle.std.proofs.lemmas.Bool.{ne_eqb, cases_eq, and_right}
 use Rattle.x25_bits.specs.{declared.role.Role.{Role}, declared.role.Role.TheVariants.{Dte, Dce}}
 use Rattle.x25_frame.specs.{Spelling.{spelling_of}}
@@ -27,10 +27,10 @@ use Rattle.x25_layer.specs.laws.TwoLayers as layer
 -- ---- lists
 
 pub here_extended : (lists : ℕ → List (List ℕ)) (n : ℕ) (more : List (List ℕ)) → extended lists n more n ≡ lists n ++ more
-here_extended lists n more = ap (λ (b : Bool). if b then lists n ++ more else lists n) (same_number n)
+here_extended lists n more = ap (λ b. if b then lists n ++ more else lists n) (same_number n)
 
 elsewhere_extended : (lists : ℕ → List (List ℕ)) (n m : ℕ) (more : List (List ℕ)) → (n ≡ m → ⊥) → extended lists m more n ≡ lists n
-elsewhere_extended lists n m more differs = ap (λ (b : Bool). if b then lists n ++ more else lists n) (ne_eqb n m differs)
+elsewhere_extended lists n m more differs = ap (λ b. if b then lists n ++ more else lists n) (ne_eqb n m differs)
 
 -- one number or another
 pub same_or_not : {A : Type 0} (n m : ℕ) → (n ≡ m → A) → ((n ≡ m → ⊥) → A) → A
@@ -72,8 +72,8 @@ session_goes : (cfg : Cfg) (e f : layer.End) (l : Layer) (put lifted : List Plai
 session_goes cfg e f l put lifted handed came es before all down up down₂ up₂ o h puts took tells is more_down more_up = record {
   down = grown cfg down down₂ handed e.given f.given put h.down more_down puts o.given;
   up = grown cfg up up₂ came e.taken f.taken lifted h.up more_up took o.taken;
-  entries = o.entries ∙ ap (λ (l : List Entry). l ++ layer_entries es) h.entries ∙ sym (layer_append before es) ∙ ap layer_entries (sym is);
-  told = o.told ∙ ap (λ (l : List LayerNotice). l ++ layer_notices es) h.told ∙ sym (notices_append before es) ∙ ap layer_notices (sym is);
+  entries = o.entries ∙ ap (λ l. l ++ layer_entries es) h.entries ∙ sym (layer_append before es) ∙ ap layer_entries (sym is);
+  told = o.told ∙ ap (λ l. l ++ layer_notices es) h.told ∙ sym (notices_append before es) ∙ ap layer_notices (sym is);
   beside = told_more cfg before es all up came up₂ h.beside tells is more_up;
 }
 
@@ -81,11 +81,11 @@ session_goes cfg e f l put lifted handed came es before all down up down₂ up�
 session_rests : (cfg : Cfg) (e f : layer.End) (before all more : List StationEntry) (down up down₂ up₂ : List (List ℕ)) → f ≡ e → IsSession cfg e down up before → all ≡ before ++ more → TellNothing more
     → down₂ ≡ down → up₂ ≡ up → IsSession cfg f down₂ up₂ all
 session_rests cfg e f before all more down up down₂ up₂ same h is none same_down same_up = record {
-  down = ap (all_read cfg) same_down ∙ h.down ∙ ap (λ (x : layer.End). as_read x.given) (sym same);
-  up = ap (all_read cfg) same_up ∙ h.up ∙ ap (λ (x : layer.End). as_read x.taken) (sym same);
-  entries = ap (λ (x : layer.End). x.entries) same ∙ h.entries ∙ sym (append-nil (layer_entries before)) ∙ ap (λ (l : List Entry). layer_entries before ++ l) (sym none.entered)
+  down = ap (all_read cfg) same_down ∙ h.down ∙ ap (λ x. as_read x.given) (sym same);
+  up = ap (all_read cfg) same_up ∙ h.up ∙ ap (λ x. as_read x.taken) (sym same);
+  entries = ap (λ x. x.entries) same ∙ h.entries ∙ sym (append-nil (layer_entries before)) ∙ ap (λ l. layer_entries before ++ l) (sym none.entered)
       ∙ sym (layer_append before more) ∙ ap layer_entries (sym is);
-  told = ap (λ (x : layer.End). x.told) same ∙ h.told ∙ sym (append-nil (layer_notices before)) ∙ ap (λ (l : List LayerNotice). layer_notices before ++ l) (sym none.told)
+  told = ap (λ x. x.told) same ∙ h.told ∙ sym (append-nil (layer_notices before)) ∙ ap (λ l. layer_notices before ++ l) (sym none.told)
       ∙ sym (notices_append before more) ∙ ap layer_notices (sym is);
   beside = told_more cfg before more all up [] up₂ h.beside (rw none.beside tt) is (same_up ∙ sym (append-nil up));
 }
@@ -97,8 +97,8 @@ none_behind (x ∷ xs) ys e = absurd (cc)
 -- ---- the other end
 
 -- its own moves are the same
-end_stays : (cfg : Cfg) (end : Role) (s : Station) (k : SessionEnd) (t t₂ : List Done) (es : List StationEntry) → ((n : ℕ) → own_in end n t₂ ≡ own_in end n t) → IsEnd cfg end s k t es → IsEnd cfg end s k t₂ es
-end_stays cfg end s k t t₂ es same h = record {
+end_stays : {cfg : Cfg} {end : Role} {s : Station} {k : SessionEnd} {t : List Done} (t₂ : List Done) {es : List StationEntry} → ((n : ℕ) → own_in end n t₂ ≡ own_in end n t) → IsEnd cfg end s k t es → IsEnd cfg end s k t₂ es
+end_stays {cfg} {end} {k} {t} t₂ {es} same h = record {
   link = h.link;
   kept = h.kept;
   progress = h.progress;
@@ -115,18 +115,18 @@ end_stays cfg end s k t t₂ es same h = record {
 }
   where
     own_stays : (n : ℕ) → own cfg end n t₂ ≡ own cfg end n t
-    own_stays n = ap (λ (l : List OwnMove). own_run (layer_of cfg end) l (started (goes_up (layer_of cfg end)))) (same n)
+    own_stays n = ap (λ l. own_run (layer_of cfg end) l (started (goes_up (layer_of cfg end)))) (same n)
 
 -- ---- who is met
 
-hears_more : (Met Met₂ : ℕ → ℕ → Type 0) (n : ℕ) (up up₂ : List (List ℕ)) (old found all : Option ℕ) → ((m : ℕ) → Met n m → Met₂ n m) → all ≡ first_of old found
+hears_more : (Met Met₂ : ℕ → ℕ → Type 0) {n : ℕ} {up : List (List ℕ)} (up₂ : List (List ℕ)) {old : Option ℕ} (found all : Option ℕ) → ((m : ℕ) → Met n m → Met₂ n m) → all ≡ first_of old found
     → (up ≡ [] → ((up₂ ≡ []) × (found ≡ None)) ⊎ Meets Met₂ n found) → Hears Met n up old → Hears Met₂ n up₂ all
-hears_more Met Met₂ n up up₂ old found all more is now h = elim h [
+hears_more Met Met₂ up₂ found all more is now h = elim h [
   | inl none ↦ elim (now none.0) [
-    | inl still ↦ inl (still.0, is ∙ ap (λ (o : Option ℕ). first_of o found) none.1 ∙ still.1)
-    | inr some ↦ inr (record { session = some.session; told = is ∙ ap (λ (o : Option ℕ). first_of o found) none.1 ∙ some.told; has_met = some.has_met; begun = some.begun })
+    | inl still ↦ inl (still.0, is ∙ ap (λ o. first_of o found) none.1 ∙ still.1)
+    | inr some ↦ inr (record { session = some.session; told = is ∙ ap (λ o. first_of o found) none.1 ∙ some.told; has_met = some.has_met; begun = some.begun })
   ]
-  | inr some ↦ inr (record { session = some.session; told = is ∙ ap (λ (o : Option ℕ). first_of o found) some.told; has_met = more some.session some.has_met; begun = some.begun })
+  | inr some ↦ inr (record { session = some.session; told = is ∙ ap (λ o. first_of o found) some.told; has_met = more some.session some.has_met; begun = some.begun })
 ]
 
 -- the session that stands is restarted by the other end's latest one
@@ -152,15 +152,15 @@ module _ {since : Beginning} (cfg : Cfg) (end : Role) (w : World) (h : SessionsJ
   session_more : (n : ℕ) → session_from n none_begun (told_before ++ step.entries) ≡ session_from n none_begun told_before ++ session_from n standing step.entries
   session_more n =
       session_append n none_begun told_before step.entries
-      ∙ ap (λ (p : Progress). session_from n none_begun told_before ++ session_from n p step.entries) h.near.progress
+      ∙ ap (λ p. session_from n none_begun told_before ++ session_from n p step.entries) h.near.progress
 
   all_more : HaveAll (session_from 1 none_begun told_before) told_before → HaveAll (session_from 1 standing step.entries) step.entries
       → HaveAll (session_from 1 none_begun (told_before ++ step.entries)) (told_before ++ step.entries)
   all_more before more = record {
     entries = ap layer_entries (session_more 1) ∙ layer_append (session_from 1 none_begun told_before) (session_from 1 standing step.entries)
-        ∙ ap₂ (λ (a b : List Entry). a ++ b) before.entries more.entries ∙ sym (layer_append told_before step.entries);
+        ∙ ap₂ (λ a b. a ++ b) before.entries more.entries ∙ sym (layer_append told_before step.entries);
     told = ap layer_notices (session_more 1) ∙ notices_append (session_from 1 none_begun told_before) (session_from 1 standing step.entries)
-        ∙ ap₂ (λ (a b : List LayerNotice). a ++ b) before.told more.told ∙ sym (notices_append told_before step.entries);
+        ∙ ap₂ (λ a b. a ++ b) before.told more.told ∙ sym (notices_append told_before step.entries);
   }
 
   -- entries of the link alone tell nothing in any session
@@ -172,43 +172,43 @@ module _ {since : Beginning} (cfg : Cfg) (end : Role) (w : World) (h : SessionsJ
     silent_all = (let all = mute_tell step.entries mute in record { entries = (silent_in 1).entered ∙ sym all.entered; told = (silent_in 1).told ∙ sym all.told })
 
     silent_faults : AreNoFaults (layer_notices (told_before ++ step.entries))
-    silent_faults = subst AreNoFaults (sym (notices_append told_before step.entries ∙ ap (λ (ns : List LayerNotice). layer_notices told_before ++ ns) (mute_tell step.entries mute).told ∙ append-nil (layer_notices told_before))) h.near.no_fault
+    silent_faults = subst AreNoFaults (sym (notices_append told_before step.entries ∙ ap (λ ns. layer_notices told_before ++ ns) (mute_tell step.entries mute).told ∙ append-nil (layer_notices told_before))) h.near.no_fault
 
     silent_counts : (n : ℕ) → IsCounted cfg end n h.trace (session_from n none_begun (told_before ++ step.entries))
     silent_counts n = counted_rests cfg end n h.trace (session_from n none_begun told_before) (session_from n standing step.entries) (session_from n none_begun (told_before ++ step.entries)) (h.near.confirmed n) (session_more n) (silent_in n).confirmed
 
   progress_more : after_entries none_begun (told_before ++ step.entries) ≡ after_entries standing step.entries
-  progress_more = after_append none_begun told_before step.entries ∙ ap (λ (p : Progress). after_entries p step.entries) h.near.progress
+  progress_more = after_append none_begun told_before step.entries ∙ ap (λ p. after_entries p step.entries) h.near.progress
 
   abbrev found : ℕ → Option ℕ
   found n = met_by n standing (after_entries none_begun told_there) step.entries
 
   meets_now : (n : ℕ) → meets end n (w.transcript ++ entered end step.entries) ≡ first_of (meets end n w.transcript) (found n)
   meets_now n = meets_more end n w.transcript step.entries
-      ∙ ap (λ (p : Progress). first_of (meets end n w.transcript) (met_by n p (after_entries none_begun told_there) step.entries)) h.near.progress
+      ∙ ap (λ p. first_of (meets end n w.transcript) (met_by n p (after_entries none_begun told_there) step.entries)) h.near.progress
 
   -- the sessions of both ends, where the near end's part is known
   joined_of : (moves : List OwnMove) (at : ℕ) → SessionsReach since cfg end v → v.far ≡ h.links.far → v.out ≡ h.links.out ++ sent_in at end step.out → v.back ≡ left
       → v.sent ≡ h.links.sent ++ step.out → v.met ≡ met → IsEnd cfg end step.near v.near (h.trace ++ moved end at moves) (told_before ++ step.entries) → BringOctets cfg.wide (moved end at moves)
       → PairsAreInOrder cfg end (h.trace ++ moved end at moves) met → ((n m : ℕ) → HasMet n m h.links.met → HasMet n m met)
-      → ((n : ℕ) → Hears (λ (n m : ℕ). HasMet n m met) n (v.near.up n) (meets end n (w.transcript ++ entered end step.entries)))
+      → ((n : ℕ) → Hears (λ n m. HasMet n m met) n (v.near.up n) (meets end n (w.transcript ++ entered end step.entries)))
       → SessionsJoined since cfg end (after_step (settings_from end cfg) w (octets_of left) step)
   joined_of moves at reach far out same_left sent same_met near octets pairs more hears = record {
     links = v;
     trace = h.trace ++ moved end at moves;
     reach = reach;
     near = rw (entries_more end w.transcript step.entries) near;
-    far = rw (entries_other end w.transcript step.entries) (subst (λ (k : SessionEnd). IsEnd cfg (other end) w.far k (h.trace ++ moved end at moves) told_there) (sym far)
-        (end_stays cfg (other end) w.far h.links.far h.trace (h.trace ++ moved end at moves) told_there (λ n. own_other end n at h.trace moves) h.far));
-    out = ap octets_of out ∙ octets_put h.links.out at end step.out ∙ ap (λ (os : List (List ℕ)). os ++ map (spelling_of end) step.out) h.out;
+    far = rw (entries_other end w.transcript step.entries) (subst (λ k. IsEnd cfg (other end) w.far k (h.trace ++ moved end at moves) told_there) (sym far)
+        (end_stays (h.trace ++ moved end at moves) (λ n. own_other end n at h.trace moves) h.far));
+    out = ap octets_of out ∙ octets_put h.links.out at end step.out ∙ ap (λ os. os ++ map (spelling_of end) step.out) h.out;
     back = ap octets_of same_left;
     tap = rw sent (on_tap end w.tap h.links.sent step.out h.tap);
     octets = octets_append cfg.wide h.trace (moved end at moves) h.octets octets;
     pairs = subst (PairsAreInOrder cfg end (h.trace ++ moved end at moves)) (sym same_met) pairs;
     near_hears = λ n. rw same_met (hears n);
-    far_hears = λ n. rw same_met (hears_more (λ (n m : ℕ). HasMet m n h.links.met) (λ (n m : ℕ). HasMet m n met) n (h.links.far.up n) (v.far.up n) (meets (other end) n w.transcript) None
+    far_hears = λ n. rw same_met (hears_more (λ n m. HasMet m n h.links.met) (λ n m. HasMet m n met) (v.far.up n) None
         (meets (other end) n (w.transcript ++ entered end step.entries)) (λ m has. more m n has) (meets_other end n w.transcript step.entries ∙ sym (with_none (meets (other end) n w.transcript)))
-        (λ none. inl (ap (λ (k : SessionEnd). k.up n) far ∙ none, refl)) (h.far_hears n));
+        (λ none. inl (ap (λ k. k.up n) far ∙ none, refl)) (h.far_hears n));
   }
     where
       with_none : (o : Option ℕ) → first_of o None ≡ o
@@ -225,13 +225,13 @@ module _ {since : Beginning} (cfg : Cfg) (end : Role) (w : World) (h : SessionsJ
 
     octets_then : AllAreOctets handed → (n : ℕ) → AllAreOctets (v.near.down n)
     octets_then in_octets n = same_or_not n b
-        (λ (is : n ≡ b). rw is (subst AllAreOctets (sym down_here) (all_octets_append (h.links.near.down b) handed (h.near.octets b) in_octets)))
-        (λ (differs : n ≡ b → ⊥). subst AllAreOctets (sym (down_apart n differs)) (h.near.octets n))
+        (λ is. rw is (subst AllAreOctets (sym down_here) (all_octets_append (h.links.near.down b) handed (h.near.octets b) in_octets)))
+        (λ differs. subst AllAreOctets (sym (down_apart n differs)) (h.near.octets n))
 
     more_then : (gave : ℕ → List Gave) → AreSomeOf IsGiven (brought cfg handed) (gave b) → (n : ℕ) → MoreIs cfg (h.links.near.down n) (v.near.down n) (gave n)
     more_then gave gives n = same_or_not n b
-        (λ (is : n ≡ b). rw is (record { more = handed; is = down_here; given = gives }))
-        (λ (differs : n ≡ b → ⊥). none_more cfg (h.links.near.down n) (v.near.down n) (gave n) (down_apart n differs))
+        (λ is. rw is (record { more = handed; is = down_here; given = gives }))
+        (λ differs. none_more cfg (h.links.near.down n) (v.near.down n) (gave n) (down_apart n differs))
 
   -- ---- in the session that stands
 
@@ -245,10 +245,10 @@ module _ {since : Beginning} (cfg : Cfg) (end : Role) (w : World) (h : SessionsJ
     trace_on = h.trace ++ moved end session moves
 
     stands_here : is_in session standing ≡ true
-    stands_here = ap (λ (b : Bool). b && (session == session)) up ∙ same_number session
+    stands_here = ap (λ b. b && (session == session)) up ∙ same_number session
 
     own_elsewhere : (n : ℕ) → (n ≡ session → ⊥) → own cfg end n trace_on ≡ own cfg end n h.trace
-    own_elsewhere n differs = ap (λ (l : List OwnMove). own_run (layer_of cfg end) l (started (goes_up (layer_of cfg end)))) (own_same end n session h.trace moves differs)
+    own_elsewhere n differs = ap (λ l. own_run (layer_of cfg end) l (started (goes_up (layer_of cfg end)))) (own_same end n session h.trace moves differs)
 
     up_here : v.near.up session ≡ h.links.near.up session ++ came
     up_here = g.up session ∙ here_extended h.links.near.up session came
@@ -268,24 +268,24 @@ module _ {since : Beginning} (cfg : Cfg) (end : Role) (w : World) (h : SessionsJ
         (session_from session none_begun (told_before ++ step.entries)) (h.links.near.down session) (h.links.near.up session) (v.near.down session) (v.near.up session)
         (rw (own_goes cfg end session h.trace moves) o)
         (h.near.sessions session (h.near.first up) (omega arith)) puts took tells
-        (session_more session ∙ ap (λ (l : List StationEntry). session_from session none_begun told_before ++ l) (plain_here session standing step.entries plain stands_here))
+        (session_more session ∙ ap (λ l. session_from session none_begun told_before ++ l) (plain_here session standing step.entries plain stands_here))
         (down_here session handed g.down) up_here
 
     session_elsewhere : (n : ℕ) → 1 ≤ n → n ≤ session → (n ≡ session → ⊥) → IsSessionOn n
     session_elsewhere n low high differs =
         session_rests cfg (own cfg end n h.trace) (own cfg end n trace_on) (session_from n none_begun told_before) (session_from n none_begun (told_before ++ step.entries)) []
         (h.links.near.down n) (h.links.near.up n) (v.near.down n) (v.near.up n) (own_elsewhere n differs) (h.near.sessions n low high)
-        (session_more n ∙ ap (λ (l : List StationEntry). session_from n none_begun told_before ++ l) (plain_elsewhere n standing step.entries plain (not_in n standing differs)))
+        (session_more n ∙ ap (λ l. session_from n none_begun told_before ++ l) (plain_elsewhere n standing step.entries plain (not_in n standing differs)))
         (mute_tell [] tt) (down_elsewhere n differs) (up_elsewhere n differs)
 
     -- what is told as confirmed the moves confirm
     counted_on : (n : ℕ) → IsCounted cfg end n trace_on (session_from n none_begun (told_before ++ step.entries))
     counted_on n = same_or_not n session
-        (λ (is : n ≡ session). rw is (counted_goes cfg end session h.trace moves (session_from session none_begun told_before) step.entries (session_from session none_begun (told_before ++ step.entries)) (h.near.confirmed session)
-        (session_more session ∙ ap (λ (l : List StationEntry). session_from session none_begun told_before ++ l) (plain_here session standing step.entries plain stands_here)) counts))
-        (λ (differs : n ≡ session → ⊥). counted_same cfg end n h.trace trace_on (session_from n none_begun (told_before ++ step.entries)) (own_same end n session h.trace moves differs)
+        (λ is. rw is (counted_goes cfg end session h.trace moves (session_from session none_begun told_before) step.entries (session_from session none_begun (told_before ++ step.entries)) (h.near.confirmed session)
+        (session_more session ∙ ap (λ l. session_from session none_begun told_before ++ l) (plain_here session standing step.entries plain stands_here)) counts))
+        (λ differs. counted_same cfg end n h.trace trace_on (session_from n none_begun (told_before ++ step.entries)) (own_same end n session h.trace moves differs)
         (counted_rests cfg end n h.trace (session_from n none_begun told_before) [] (session_from n none_begun (told_before ++ step.entries)) (h.near.confirmed n)
-        (session_more n ∙ ap (λ (l : List StationEntry). session_from n none_begun told_before ++ l) (plain_elsewhere n standing step.entries plain (not_in n standing differs))) (λ k name. refl)))
+        (session_more n ∙ ap (λ l. session_from n none_begun told_before ++ l) (plain_elsewhere n standing step.entries plain (not_in n standing differs))) (λ k name. refl)))
 
     nothing_taken : (lifted ≡ [] → TakeNothing moves) → (n : ℕ) → v.near.up n ≡ [] → TakeNothing (own_in end n trace_on)
     nothing_taken alone n none = same_or_not n session here elsewhere
@@ -307,35 +307,34 @@ module _ {since : Beginning} (cfg : Cfg) (end : Role) (w : World) (h : SessionsJ
     near_goes_on alone no_fault = record {
       link = g.station;
       kept = kept;
-      progress = progress_more ∙ plain_progress standing step.entries plain ∙ ap₂ (λ (n : ℕ) (b : Bool). record { begun = n; stands = b }) (sym g.begun) (up ∙ sym still);
+      progress = progress_more ∙ plain_progress standing step.entries plain ∙ ap₂ (λ n b. record { begun = n; stands = b }) (sym g.begun) (up ∙ sym still);
       first = λ _. rw g.begun (h.near.first up);
       before = (
         down_elsewhere 0 none ∙ h.near.before.0,
         up_elsewhere 0 none ∙ h.near.before.1,
       );
-      sessions = λ n low high. (let most = subst (λ (m : ℕ). n ≤ m) g.begun high in
-          same_or_not n session (λ (is : n ≡ session). subst IsSessionOn (sym is) session_here) (λ (differs : n ≡ session → ⊥). session_elsewhere n low most differs));
+      sessions = λ n low high. (let most = subst (λ m. n ≤ m) g.begun high in
+          same_or_not n session (λ is. subst IsSessionOn (sym is) session_here) (λ differs. session_elsewhere n low most differs));
       octets = octets_then session handed g.down in_octets;
       confirmed = counted_on;
-      later = λ n more. (let above = subst (λ (m : ℕ). m < n) g.begun more in
-          let differs : n ≡ session → ⊥ = λ (is : n ≡ session). omega (arith, above, is) in
+      later = λ n more. (let above = subst (λ m. m < n) g.begun more in
+          let differs : n ≡ session → ⊥ = λ is. omega (arith, above, is) in
           let nothing = h.near.later n above in
           record {
             moves = own_same end n session h.trace moves differs ∙ nothing.moves;
-            entries = session_more n ∙ ap₂ (λ (a b : List StationEntry). a ++ b) nothing.entries (plain_elsewhere n standing step.entries plain (not_in n standing differs));
+            entries = session_more n ∙ ap₂ (λ a b. a ++ b) nothing.entries (plain_elsewhere n standing step.entries plain (not_in n standing differs));
           });
-      now = λ _. rw g.begun (subst (λ (e : layer.End). IsLayer e step.near) (sym (own_goes cfg end session h.trace moves)) (record { layer = o.layer; out = o.out }));
+      now = λ _. rw g.begun (subst (λ e. IsLayer e step.near) (sym (own_goes cfg end session h.trace moves)) (record { layer = o.layer; out = o.out }));
       alone = nothing_taken alone;
       no_fault = subst AreNoFaults (sym (notices_append told_before step.entries)) (no_faults_append (layer_notices told_before) (layer_notices step.entries) h.near.no_fault no_fault);
-      first_has_all = λ low. (let most = subst (λ (n : ℕ). n ≤ 1) g.begun low in
-          let low = h.near.first up in
-          let one : session ≡ 1 = omega (arith, low, most) in
+      first_has_all = λ low. (let most = subst (λ n. n ≤ 1) g.begun low in
+          let one : session ≡ 1 = omega (arith, h.near.first up, most) in
           let all = plain_here 1 standing step.entries plain (rw (sym one) stands_here) in
           all_more (h.near.first_has_all most) (record { entries = ap layer_entries all; told = ap layer_notices all }));
     }
       where
         none : 0 ≡ session → ⊥
-        none is = (let low = h.near.first up in omega (arith, low, is))
+        none is = (omega (arith, h.near.first up, is))
 
     abbrev HasMetOn : ℕ → ℕ → Type 0
     HasMetOn n m = HasMet n m met
@@ -355,17 +354,17 @@ module _ {since : Beginning} (cfg : Cfg) (end : Role) (w : World) (h : SessionsJ
     }
       where
         far_begun : (after_entries none_begun told_there).begun ≡ h.links.far.begun
-        far_begun = ap (λ (p : Progress). p.begun) h.far.progress
+        far_begun = ap (λ p. p.begun) h.far.progress
 
         here : h.links.near.up session ≡ [] → ((v.near.up session ≡ []) × (found session ≡ None)) ⊎ Meets HasMetOn session (found session)
         here none = elim (news (none_read (own cfg end session h.trace).taken (sym (h.near.sessions session (h.near.first up) (omega arith)).up ∙ ap (all_read cfg) none))) [
           | inl still ↦ inl (
-            up_here ∙ ap₂ (λ (xs ys : List (List ℕ)). xs ++ ys) none (nothing_read cfg came (took ∙ ap as_read still.0)),
+            up_here ∙ ap₂ (λ xs ys. xs ++ ys) none (nothing_read cfg came (took ∙ ap as_read still.0)),
             none_met session standing (after_entries none_begun told_there) step.entries still.1,
           )
           | inr new ↦ inr (record {
             session = h.links.far.begun;
-            told = restart_met session standing (after_entries none_begun told_there) step.entries plain stands_here new.restarts ∙ ap (λ (m : ℕ). Some m) far_begun;
+            told = restart_met session standing (after_entries none_begun told_there) step.entries plain stands_here new.restarts ∙ ap (λ m. Some m) far_begun;
             has_met = new.has_met;
             begun = (h.near.first up, new.begun);
           })
@@ -377,12 +376,12 @@ module _ {since : Beginning} (cfg : Cfg) (end : Role) (w : World) (h : SessionsJ
 
         now : (n : ℕ) → h.links.near.up n ≡ [] → ((v.near.up n ≡ []) × (found n ≡ None)) ⊎ Meets HasMetOn n (found n)
         now n = same_or_not n session
-            (λ (is : n ≡ session). rw is here)
-            (λ (differs : n ≡ session → ⊥). elsewhere n differs)
+            (λ is. rw is here)
+            (λ differs. elsewhere n differs)
 
         hears : (n : ℕ) → Hears HasMetOn n (v.near.up n) (all_of n)
         hears n =
-            hears_more (λ (n m : ℕ). HasMet n m h.links.met) HasMetOn n (h.links.near.up n) (v.near.up n) (meets end n w.transcript) (found n) (all_of n) (λ m has. more n m has) (meets_now n) (now n)
+            hears_more (λ n m. HasMet n m h.links.met) HasMetOn (v.near.up n) (found n) (all_of n) (λ m has. more n m has) (meets_now n) (now n)
             (h.near_hears n)
 
   -- ---- where nothing is asked of the layer
@@ -406,21 +405,21 @@ module _ {since : Beginning} (cfg : Cfg) (end : Role) (w : World) (h : SessionsJ
       near_quietly = record {
         link = g.station;
         kept = kept;
-        progress = progress_more ∙ silent.progress ∙ ap (λ (n : ℕ). record { begun = n; stands = is_up step.near.link.phase }) (sym g.begun);
+        progress = progress_more ∙ silent.progress ∙ ap (λ n. record { begun = n; stands = is_up step.near.link.phase }) (sym g.begun);
         first = λ still. rw g.begun (stands still).0;
         before = (before ∙ h.near.before.0, up_same 0 ∙ h.near.before.1);
-        sessions = λ n low high. (let most = subst (λ (m : ℕ). n ≤ m) g.begun high in
-            same_or_not n b (λ (is : n ≡ b). subst IsSessionThen (sym is) (here (rw (sym is) low)))
-            (λ (differs : n ≡ b → ⊥). session_stays n low (omega (arith, most, differs, one_more)) (down_apart b handed g.down n differs)));
+        sessions = λ n low high. (let most = subst (λ m. n ≤ m) g.begun high in
+            same_or_not n b (λ is. subst IsSessionThen (sym is) (here (rw (sym is) low)))
+            (λ differs. session_stays n low (omega (arith, most, differs, one_more)) (down_apart b handed g.down n differs)));
         octets = octets_then b handed g.down in_octets;
         confirmed = silent_counts silent.mute;
-        later = λ n more. (let above = subst (λ (m : ℕ). m < n) g.begun more in
+        later = λ n more. (let above = subst (λ m. m < n) g.begun more in
             let nothing = h.near.later n (omega (arith, above, latest)) in
-            record { moves = nothing.moves; entries = session_more n ∙ ap₂ (λ (xs ys : List StationEntry). xs ++ ys) nothing.entries (silent.later n (λ (is : n ≡ b). omega (arith, above, is))) });
+            record { moves = nothing.moves; entries = session_more n ∙ ap₂ (λ xs ys. xs ++ ys) nothing.entries (silent.later n (λ is. omega (arith, above, is))) });
         now = λ still. rw g.begun (stands still).1;
         alone = λ n none. h.near.alone n (sym (up_same n) ∙ none);
         no_fault = silent_faults silent.mute;
-        first_has_all = λ low. (let most = subst (λ (n : ℕ). n ≤ 1) g.begun low in all_more (h.near.first_has_all (omega (arith, most, latest))) (silent_all silent.mute));
+        first_has_all = λ low. (let most = subst (λ n. n ≤ 1) g.begun low in all_more (h.near.first_has_all (omega (arith, most, latest))) (silent_all silent.mute));
       }
 
       quietly : SessionsReach since cfg end v → PairsAreInOrder cfg end h.trace met → ((n m : ℕ) → HasMet n m h.links.met → HasMet n m met) → brought cfg handed ≡ []
@@ -429,7 +428,7 @@ module _ {since : Beginning} (cfg : Cfg) (end : Role) (w : World) (h : SessionsJ
       quietly reach pairs more bring_none = record {
         joined = joined_of [] b reach g.far g.out g.back g.sent g.met (rw (append-nil h.trace) near_quietly) tt
             (rw (append-nil h.trace) pairs) more
-            (λ n. hears_more (λ (n m : ℕ). HasMet n m h.links.met) (λ (n m : ℕ). HasMet n m met) n (h.links.near.up n) (v.near.up n) (meets end n w.transcript) (found n)
+            (λ n. hears_more (λ n m. HasMet n m h.links.met) (λ n m. HasMet n m met) (v.near.up n) (found n)
             (meets end n (w.transcript ++ entered end step.entries)) (λ m has. more n m has) (meets_now n)
             (λ none. inl (up_same n ∙ none, none_met n standing (after_entries none_begun told_there) step.entries (mute_tell step.entries silent.mute).told)) (h.near_hears n));
         down = more_then b handed g.down gave_none (rw bring_none tt);
@@ -454,16 +453,16 @@ module _ {since : Beginning} (cfg : Cfg) (end : Role) (w : World) (h : SessionsJ
     the_next = suc session
 
     own_afresh : own cfg end the_next h.trace ≡ started (goes_up (layer_of cfg end))
-    own_afresh = ap (λ (l : List OwnMove). own_run (layer_of cfg end) l (started (goes_up (layer_of cfg end)))) (h.near.later the_next (omega arith)).moves
+    own_afresh = ap (λ l. own_run (layer_of cfg end) l (started (goes_up (layer_of cfg end)))) (h.near.later the_next (omega arith)).moves
 
     next_session : IsSession cfg (own cfg end the_next h.trace) (v.near.down the_next) (v.near.up the_next) (session_from the_next none_begun (told_before ++ step.entries))
     next_session =
         let nothing = fresh the_next (omega arith) in
-        let up : v.near.up the_next ≡ [] = g.up the_next ∙ extended_none h.links.near.up the_next the_next ∙ nothing.1 in
+        let up = g.up the_next ∙ extended_none h.links.near.up the_next the_next ∙ nothing.1 in
         let all : session_from the_next none_begun (told_before ++ step.entries) ≡ session_from the_next standing step.entries =
-        session_more the_next ∙ ap (λ (l : List StationEntry). l ++ session_from the_next standing step.entries) (h.near.later the_next (omega arith)).entries in
-        subst (λ (e : layer.End). IsSession cfg e (v.near.down the_next) (v.near.up the_next) (session_from the_next none_begun (told_before ++ step.entries))) (sym own_afresh) (record {
-          down = ap (all_read cfg) (down_here the_next handed g.down ∙ ap (λ (l : List (List ℕ)). l ++ handed) nothing.0) ∙ puts ∙ by_role end;
+        session_more the_next ∙ ap (λ l. l ++ session_from the_next standing step.entries) (h.near.later the_next (omega arith)).entries in
+        subst (λ e. IsSession cfg e (v.near.down the_next) (v.near.up the_next) (session_from the_next none_begun (told_before ++ step.entries))) (sym own_afresh) (record {
+          down = ap (all_read cfg) (down_here the_next handed g.down ∙ ap (λ l. l ++ handed) nothing.0) ∙ puts ∙ by_role end;
           up = ap (all_read cfg) up;
           entries = sym (ap layer_entries all ∙ (silent_in begins.mute the_next).entered);
           told = sym (ap layer_notices all ∙ (silent_in begins.mute the_next).told);
@@ -477,5 +476,5 @@ module _ {since : Beginning} (cfg : Cfg) (end : Role) (w : World) (h : SessionsJ
     pub begins_session : SessionsReach since cfg end v → PairsAreInOrder cfg end h.trace met → ((n m : ℕ) → HasMet n m h.links.met → HasMet n m met) → Goes since cfg end h.links gave_none (after_step (settings_from end cfg) w (octets_of left) step)
     begins_session reach pairs more =
         quietly the_next handed g (rw still begins) in_octets (omega arith) (omega arith)
-        (down_apart the_next handed g.down 0 (λ (is : 0 ≡ the_next). omega (arith, is))) (λ low. next_session)
-        (λ up. (omega arith, subst (λ (e : layer.End). IsLayer e step.near) (sym own_afresh) (record { layer = sym layer_begins; out = refl }))) kept reach pairs more bring_none
+        (down_apart the_next handed g.down 0 (λ is. omega (arith, is))) (λ low. next_session)
+        (λ up. (omega arith, subst (λ e. IsLayer e step.near) (sym own_afresh) (record { layer = sym layer_begins; out = refl }))) kept reach pairs more bring_none

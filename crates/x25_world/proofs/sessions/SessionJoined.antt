@@ -4,9 +4,9 @@ use Rattle.std.proofs.Common.{◌≡◌, ℕ, ◌≤◌, ◌<◌, ◌⊎◌, inl
 use Rattle.x25_bits.specs.{declared.role.Role.{Role}, declared.role.Role.TheVariants.{Dte, Dce}}
 use Rattle.x25_link.specs.{Station.{is_up}, Hearing.{other}}
 use Rattle.x25_line.specs.{laws.Sessions.{SessionEnd, Meeting, Sessions, turned}, laws.SessionClaims.{Each, SomeMet, octets_of}}
-use Rattle.x25_layer.specs.{laws.Quiet.{AreNoFaults}, laws.Apart.{ApartEvent, apart_start, AreInOrder}}
+use Rattle.x25_layer.specs.{laws.Quiet.{AreNoFaults}, laws.Apart.{apart_start, AreInOrder}}
 use Rattle.x25_station.specs.{declared.config.Cfg.{Cfg}, Entry.{StationEntry, layer_entries, layer_notices}, Station.{Station}, laws.KeepLaw.{IsKept}}
-use Rattle.x25_world.specs.{World.{World, swapped}, laws.Claims.{entries_at}, laws.Sessions.{none_begun, after_entries, session_from, meets}}
+use Rattle.x25_world.specs.{World.{World, mirrored}, laws.Claims.{entries_at}, laws.Sessions.{none_begun, after_entries, session_from, meets}}
 use Rattle.x25_world.specs.laws.BesideClaims.{Gave, came_in}
 use Rattle.x25_world.proofs.Growing.{all_read, as_read, AllAreOctets, AreOnTap}
 use Rattle.x25_world.proofs.{sessions.SessionTrace.{Done, own_in, own, pair_at, pair_turned, TakeNothing, BringOctets}, sessions.SessionCounts.{IsCounted}}
@@ -63,7 +63,7 @@ pub record IsEnd (cfg : Cfg) (end : Role) (s : Station) (k : SessionEnd) (trace 
 
 -- the two sessions meet
 abbrev pub HasMet : ℕ → ℕ → List Meeting → Type 0
-HasMet n m met = SomeMet (λ (p : Meeting). (p.near ≡ n) × (p.far ≡ m)) met
+HasMet n m met = SomeMet (λ p. (p.near ≡ n) × (p.far ≡ m)) met
 
 -- the session met this one, by its transcript and by the links
 pub record Meets (Met : ℕ → ℕ → Type 0) (n : ℕ) (met : Option ℕ) : Type 0 where
@@ -81,7 +81,7 @@ abbrev pub PairIsInOrder : Cfg → Role → List Done → ℕ → ℕ → Type 0
 PairIsInOrder cfg end trace n m = AreInOrder cfg.long_data cfg.channels (pair_at end n m trace) (apart_start cfg.long_data cfg.channels)
 
 abbrev pub PairsAreInOrder : Cfg → Role → List Done → List Meeting → Type 0
-PairsAreInOrder cfg end trace met = Each (λ (p : Meeting). PairIsInOrder cfg end trace p.near p.far) met
+PairsAreInOrder cfg end trace met = Each (λ p. PairIsInOrder cfg end trace p.near p.far) met
 
 pub record SessionsJoined (since : Beginning) (cfg : Cfg) (end : Role) (w : World) : Type 0 where
   pub links : Sessions
@@ -130,8 +130,8 @@ abbrev pub gave_none : ℕ → List Gave
 gave_none n = []
 
 -- nothing happened
-pub stays : {since : Beginning} (cfg : Cfg) (end : Role) (w : World) (h : SessionsJoined since cfg end w) (gave : ℕ → List Gave) → Goes since cfg end h.links gave w
-stays cfg end w h gave = record { joined = h; down = λ n. none_more cfg (h.links.near.down n) (h.links.near.down n) (gave n) refl; far = refl }
+pub stays : {since : Beginning} {cfg : Cfg} {end : Role} {w : World} (h : SessionsJoined since cfg end w) (gave : ℕ → List Gave) → Goes since cfg end h.links gave w
+stays {cfg} h gave = record { joined = h; down = λ n. none_more cfg (h.links.near.down n) (h.links.near.down n) (gave n) refl; far = refl }
 
 -- ---- as the other end sees it
 
@@ -142,34 +142,34 @@ met_turned n m (p ∷ met) h = elim h [ inl here ↦ inl (here.1, here.0) | inr 
 pub pairs_turned : (cfg : Cfg) (end : Role) (trace : List Done) (met : List Meeting) → PairsAreInOrder cfg end trace met → PairsAreInOrder cfg (other end) trace (map turned met)
 pairs_turned cfg end trace [] h = tt
 pairs_turned cfg end trace (p ∷ met) h = (
-  subst (λ (es : List ApartEvent). AreInOrder cfg.long_data cfg.channels es (apart_start cfg.long_data cfg.channels)) (sym (pair_turned end p.near p.far trace)) h.0,
+  subst (λ es. AreInOrder cfg.long_data cfg.channels es (apart_start cfg.long_data cfg.channels)) (sym (pair_turned end p.near p.far trace)) h.0,
   pairs_turned cfg end trace met h.1,
 )
 
-pub hears_as : (Met Met₂ : ℕ → ℕ → Type 0) (n : ℕ) (up : List (List ℕ)) (met : Option ℕ) → ((m : ℕ) → Met n m → Met₂ n m) → Hears Met n up met → Hears Met₂ n up met
-hears_as Met Met₂ n up met turn h = elim h [ inl none ↦ inl none | inr some ↦ inr (record { session = some.session; told = some.told; has_met = turn some.session some.has_met; begun = some.begun }) ]
+pub hears_as : (Met Met₂ : ℕ → ℕ → Type 0) {n : ℕ} {up : List (List ℕ)} {met : Option ℕ} → ((m : ℕ) → Met n m → Met₂ n m) → Hears Met n up met → Hears Met₂ n up met
+hears_as Met Met₂ turn h = elim h [ inl none ↦ inl none | inr some ↦ inr (record { session = some.session; told = some.told; has_met = turn some.session some.has_met; begun = some.begun }) ]
 
 pub twice : (end : Role) (P : Role → Type 0) → P end → P (other (other end))
 twice Dte P h = h
 twice Dce P h = h
 
-unfoldable pub sessions_swapped : {since : Beginning} (cfg : Cfg) (end : Role) (w : World) → SessionsJoined since cfg end w → SessionsJoined since cfg (other end) (swapped w)
-sessions_swapped cfg end w h = record {
+unfoldable pub sessions_swapped : {since : Beginning} {cfg : Cfg} {end : Role} {w : World} → SessionsJoined since cfg end w → SessionsJoined since cfg (other end) (mirrored w)
+sessions_swapped {cfg} {end} {w} h = record {
   links = links.swapped h.links;
   trace = h.trace;
   reach = reach_swapped cfg end h.links h.reach;
   near = h.far;
-  far = twice end (λ (e : Role). IsEnd cfg e w.near h.links.near h.trace (entries_at e w.transcript)) h.near;
+  far = twice end (λ e. IsEnd cfg e w.near h.links.near h.trace (entries_at e w.transcript)) h.near;
   out = h.back;
   back = h.out;
   tap = h.tap;
   octets = h.octets;
   pairs = pairs_turned cfg end h.trace h.links.met h.pairs;
-  near_hears = λ n. hears_as _ _ n (h.links.far.up n) (meets (other end) n w.transcript) (λ m. met_turned m n h.links.met) (h.far_hears n);
-  far_hears = λ n. twice end (λ (e : Role). Hears (λ (n m : ℕ). HasMet m n (map turned h.links.met)) n (h.links.near.up n) (meets e n w.transcript))
-      (hears_as _ _ n (h.links.near.up n) (meets end n w.transcript) (λ m. met_turned n m h.links.met) (h.near_hears n));
+  near_hears = λ n. hears_as _ _ (λ m. met_turned m n h.links.met) (h.far_hears n);
+  far_hears = λ n. twice end (λ e. Hears (λ n m. HasMet m n (map turned h.links.met)) n (h.links.near.up n) (meets e n w.transcript))
+      (hears_as _ _ (λ m. met_turned n m h.links.met) (h.near_hears n));
 }
 
-pub links_swapped : {since : Beginning} (cfg : Cfg) (end : Role) (w : World) (h : SessionsJoined since cfg end w) → (sessions_swapped cfg end w h).links ≡ links.swapped h.links
+pub links_swapped : {since : Beginning} {cfg : Cfg} {end : Role} {w : World} (h : SessionsJoined since cfg end w) → (sessions_swapped h).links ≡ links.swapped h.links
 unfolding sessions_swapped
-links_swapped cfg end w h = refl
+links_swapped h = refl

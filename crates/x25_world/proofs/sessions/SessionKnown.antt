@@ -5,7 +5,7 @@ use Rattle.x25_link.specs.Hearing.{other}
 use Rattle.x25_line.specs.{laws.Sessions.{Meeting}, laws.SessionClaims.{SomeMet}}
 use Rattle.x25_packet.specs.Packet.{PlainPacket}
 use Rattle.x25_layer.specs.laws.Law.{IsQuietEnd}
-use Rattle.x25_layer.specs.laws.Apart.{OwnMove, own_run, Ends, ApartEvent, apart_run, apart_start, AreInOrder, as_world, all_over_links}
+use Rattle.x25_layer.specs.laws.Apart.{own_run, Ends, ApartEvent, apart_run, apart_start, AreInOrder, as_world, all_over_links}
 use Rattle.x25_layer.specs.laws.ApartLaw.{IsToldFirst}
 use Rattle.x25_station.specs.{declared.config.Cfg.{Cfg}, laws.ReadLaw.{AreReadable, BringOctets}}
 use Rattle.x25_line.proofs.ends.Meetings.{all_some}
@@ -18,15 +18,15 @@ use Rattle.x25_world.proofs.sessions.SessionTrace as traced
 
 -- ---- meetings
 
-pub some_map : (P Q : Meeting → Type 0) → ((m : Meeting) → P m → Q m) → (ms : List Meeting) → SomeMet P ms → SomeMet Q ms
-some_map P Q f [] h = absurd h
-some_map P Q f (m ∷ ms) h = elim h [ inl here ↦ inl (f m here) | inr there ↦ inr (some_map P Q f ms there) ]
+pub some_map : {P : Meeting → Type 0} (Q : Meeting → Type 0) → ((m : Meeting) → P m → Q m) → (ms : List Meeting) → SomeMet P ms → SomeMet Q ms
+some_map Q f [] h = absurd h
+some_map {P} Q f (m ∷ ms) h = elim h [ inl here ↦ inl (f m here) | inr there ↦ inr (some_map Q f ms there) ]
 
 -- two that met are in order
 pub met_in_order : (cfg : Cfg) (end : Role) (trace : List Done) (met : List Meeting) (n m : ℕ) → PairsAreInOrder cfg end trace met → HasMet n m met → PairIsInOrder cfg end trace n m
 met_in_order cfg end trace met n m pairs h =
-    all_some (λ (p : Meeting). PairIsInOrder cfg end trace p.near p.far) (λ (p : Meeting). (p.near ≡ n) × (p.far ≡ m)) (PairIsInOrder cfg end trace n m)
-    (λ (p : Meeting) order is. rw (sym is.0) (subst (λ (b : ℕ). PairIsInOrder cfg end trace p.near b) is.1 order)) met pairs h
+    all_some (λ p. PairIsInOrder cfg end trace p.near p.far) (λ p. (p.near ≡ n) × (p.far ≡ m)) (PairIsInOrder cfg end trace n m)
+    (λ (p : Meeting) order is. rw (sym is.0) (subst (λ b. PairIsInOrder cfg end trace p.near b) is.1 order)) met pairs h
 
 -- ---- two sessions, each end by itself
 
@@ -41,10 +41,10 @@ module _ (laws : SessionLaws) (cfg : Cfg) where
   pub here_is : (end : Role) (n m : ℕ) (trace : List Done) → here_in end (pair_ends cfg end n m trace) ≡ own cfg end n trace
   here_is Dte n m trace =
       let start = apart_start cfg.long_data cfg.channels in
-      (laws.own cfg.long_data cfg.channels (pair_at Dte n m trace) start).near ∙ ap (λ (l : List OwnMove). own_run (layer_of cfg Dte) l start.near) (moves_of_pair (numbers n m) Dte trace)
+      (laws.own cfg.long_data cfg.channels (pair_at Dte n m trace) start).near ∙ ap (λ l. own_run (layer_of cfg Dte) l start.near) (moves_of_pair (numbers n m) Dte trace)
   here_is Dce n m trace =
       let start = apart_start cfg.long_data cfg.channels in
-      (laws.own cfg.long_data cfg.channels (pair_at Dce n m trace) start).far ∙ ap (λ (l : List OwnMove). own_run (layer_of cfg Dce) l start.far) (moves_of_pair (numbers m n) Dce trace)
+      (laws.own cfg.long_data cfg.channels (pair_at Dce n m trace) start).far ∙ ap (λ l. own_run (layer_of cfg Dce) l start.far) (moves_of_pair (numbers m n) Dce trace)
 
   pub there_is : (end : Role) (n m : ℕ) (trace : List Done) → here_in (other end) (pair_ends cfg end n m trace) ≡ own cfg (other end) m trace
   there_is Dte n m trace = here_is Dce m n trace
@@ -58,7 +58,7 @@ module _ (laws : SessionLaws) (cfg : Cfg) where
       → (let v = apart_run cfg.long_data cfg.channels events (apart_start cfg.long_data cfg.channels) in Holds Dte v.near v.far × Holds Dce v.far v.near))
       → (end : Role) (n m : ℕ) (trace : List Done) → PairIsInOrder cfg end trace n m → Holds end (own cfg end n trace) (own cfg (other end) m trace)
   of_either Holds always end n m trace order =
-      subst (λ (e : layer.End). Holds end e (own cfg (other end) m trace)) (here_is end n m trace)
+      subst (λ e. Holds end e (own cfg (other end) m trace)) (here_is end n m trace)
       (rw (sym (there_is end n m trace)) (by end n m order))
     where
       by : (end : Role) (n m : ℕ) → PairIsInOrder cfg end trace n m → Holds end (here_in end (pair_ends cfg end n m trace)) (here_in (other end) (pair_ends cfg end n m trace))
@@ -87,12 +87,12 @@ module _ (laws : SessionLaws) (cfg : Cfg) where
   pair_octets number [] h = tt
   pair_octets number (t ∷ trace) h =
       let rest = pair_octets number trace h.1 in
-      cond_both (number t.at == t.session) (event_of t.at t.what ∷ []) [] (λ (es : List ApartEvent). BringOctets cfg.wide (all_over_links (es ++ pair_in number trace))) (λ _. (h.0, rest)) (λ _. rest)
+      cond_both (number t.at == t.session) (event_of t.at t.what ∷ []) [] (λ es. BringOctets cfg.wide (all_over_links (es ++ pair_in number trace))) (λ _. (h.0, rest)) (λ _. rest)
 
   both_readable : IsConfigured cfg → (n m : ℕ) (trace : List Done) → PairIsInOrder cfg Dte trace n m → traced.BringOctets cfg.wide trace
       → AreReadable cfg.wide cfg.long_data (pair_ends cfg Dte n m trace).near.given × AreReadable cfg.wide cfg.long_data (pair_ends cfg Dte n m trace).far.given
   both_readable fine n m trace order octets =
-      subst (λ (x : layer.TwoLayers). AreReadable cfg.wide cfg.long_data x.near.given × AreReadable cfg.wide cfg.long_data x.far.given) (sym (laws.over_links cfg.long_data cfg.channels (pair_at Dte n m trace) order))
+      subst (λ x. AreReadable cfg.wide cfg.long_data x.near.given × AreReadable cfg.wide cfg.long_data x.far.given) (sym (laws.over_links cfg.long_data cfg.channels (pair_at Dte n m trace) order))
       (laws.stations.readable cfg.wide cfg.long_data cfg.channels fine.channels (all_over_links (pair_at Dte n m trace)) (pair_octets (numbers n m) trace octets))
 
   readable_here : IsConfigured cfg → (end : Role) (n m : ℕ) (trace : List Done) → PairIsInOrder cfg end trace n m → traced.BringOctets cfg.wide trace → AreReadable cfg.wide cfg.long_data (here_in end (pair_ends cfg end n m trace)).given

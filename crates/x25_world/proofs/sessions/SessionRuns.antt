@@ -1,18 +1,18 @@
 -- Each event keeps the runs of two links and of the layers in each session, so each list of events does: from nothing, and from set-up.
-use Rattle.std.proofs.Common.{◌≡◌, ℕ, ◌≤◌, inl, inr, List, [], ◌∷◌, ◌++◌, ◌==◌, Option, None, refl, sym, ap, ◌∙◌, subst, arith}
+use Rattle.std.proofs.Common.{◌≡◌, ℕ, inl, inr, List, [], ◌∷◌, ◌++◌, ◌==◌, None, refl, sym, ap, ◌∙◌, subst, arith}
 use Rattle.x25_bits.specs.{declared.role.Role.{Role}, declared.role.Role.TheVariants.{Dte, Dce}}
-use Rattle.x25_line.specs.laws.Sessions.{SessionEnd, Sessions, from_nothing}
+use Rattle.x25_link.specs.Station.{is_up}
+use Rattle.x25_line.specs.{laws.Sessions.{Sessions, from_nothing}, laws.SessionEvents.{NoneBeginUnasked}}
 use Rattle.x25_station.specs.{declared.config.Cfg.{Cfg}, Config.{settings_from, config_refusal}, Entry.{link_up}}
 use Rattle.x25_station.specs.{Command.{Requests, RequestsWith, Connects, Disconnects, Probes, Relinks, said_by}, Station.{new_station}}
 use Rattle.x25_station.specs.laws.KeepLaw.{ConnectKeeps}
-use Rattle.x25_world.specs.declared.error.WorldError.{WorldError}
-use Rattle.x25_world.specs.World.{AtEnd, World, swapped, WorldOutcome, Happened, Declined, swapped_back, Act, Commands, Receives, Fires, Loses, Damages, acts, Event, happens, refusal_of, after, run, start, connected, established}
+use Rattle.x25_world.specs.World.{AtEnd, World, mirrored, WorldOutcome, Happened, Declined, swapped_back, Act, Commands, Receives, Fires, Loses, Damages, acts, Event, happens, refusal_of, after, run, start, connected, established}
 use Rattle.x25_world.specs.laws.Claims.{ActsInOctets, AreInOctets, IsBeginning, IsUpAtMostOnce, UntilSecondUp, IsNoConnect, NoneConnects}
 use Rattle.x25_world.specs.laws.Sessions.{Progress, progress_at, last_session}
 use Rattle.x25_world.specs.{laws.SessionClaims.{Throughout, ThroughoutAlong}, laws.BesideClaims.{Gave, gave_where, gave_by, gave_at, gave_in}}
 use Rattle.x25_world.specs.laws.LawsBelow.{SessionLaws}
-use Rattle.x25_world.proofs.{Known.{IsConfigured, is_configured}, Established.{kept_new, both_put, two_links, just_set_up}, WorldLemmas.{refusal-swapped}, OneLink.{AreAlike}}
-use Rattle.x25_world.proofs.{sessions.SessionReaches.{Beginning, both_down, set_up, at_event, IsAt}, sessions.SessionTrace.{layer_of}}
+use Rattle.x25_world.proofs.{Known.{IsConfigured, is_configured}, Established.{kept_new, just_set_up}, WorldLemmas.{refusal-swapped}}
+use Rattle.x25_world.proofs.{sessions.SessionReaches.{Beginning, both_down, set_up, at_event, IsAt, known_sessions}, sessions.SessionTrace.{layer_of}}
 use Rattle.x25_world.proofs.sessions.SessionBeside.{MoreIs, none_more, more_again, said_channel}
 use Rattle.x25_world.proofs.sessions.SessionJoined.{IsEnd, SessionsJoined, retold, Goes, gave_none, sessions_swapped}
 use Rattle.x25_world.proofs.sessions.acts.SessionTimers.{lost_joined, damaged_joined, fired_joined, connects_joined, connects_alone_joined, disconnects_joined, probes_joined, relinks_joined}
@@ -20,7 +20,7 @@ use Rattle.x25_world.proofs.{sessions.acts.SessionRequests.{requests_joined, giv
 use Rattle.x25_line.specs.laws.Sessions as links
 
 -- what happens at the far end is what happens at the near end of the two ends swapped
-pub back_after : (w : World) (o : WorldOutcome) → after w (swapped_back o) ≡ swapped (after (swapped w) o)
+pub back_after : (w : World) (o : WorldOutcome) → after w (swapped_back o) ≡ mirrored (after (mirrored w) o)
 back_after w (Happened next) = refl
 back_after w (Declined e) = refl
 
@@ -38,8 +38,8 @@ set_up_at_none : IsAtNone set_up
 set_up_at_none before e is = cc
 
 one_up : (end : Role) (transcript : List AtEnd) → transcript ≡ record { at = Dce; entry = link_up } ∷ record { at = Dte; entry = link_up } ∷ [] → (progress_at end transcript).begun ≡ 1
-one_up Dte transcript is = ap (λ (t : List AtEnd). (progress_at Dte t).begun) is
-one_up Dce transcript is = ap (λ (t : List AtEnd). (progress_at Dce t).begun) is
+one_up Dte transcript is = ap (λ t. (progress_at Dte t).begun) is
+one_up Dce transcript is = ap (λ t. (progress_at Dce t).begun) is
 
 -- ---- acts and events
 
@@ -54,46 +54,46 @@ begun_in p = p.begun
 
 -- a run behind another
 behind : {since : Beginning} {cfg : Cfg} {w : World} (v u : Sessions) (dte dte_more dce dce_more : ℕ → List Gave) → ((n : ℕ) → MoreIs cfg (v.near.down n) (u.near.down n) (dte n)) → ((n : ℕ) → MoreIs cfg (v.far.down n) (u.far.down n) (dce n))
-    → RunGoes since cfg u dte_more dce_more w → RunGoes since cfg v (λ (n : ℕ). dte n ++ dte_more n) (λ (n : ℕ). dce n ++ dce_more n) w
-behind {cfg = cfg} v u dte dte_more dce dce_more near far r = record {
+    → RunGoes since cfg u dte_more dce_more w → RunGoes since cfg v (λ n. dte n ++ dte_more n) (λ n. dce n ++ dce_more n) w
+behind {cfg} v u dte dte_more dce dce_more near far r = record {
   joined = r.joined;
-  near = λ n. more_again cfg (v.near.down n) (u.near.down n) (r.joined.links.near.down n) (dte n) (dte_more n) (near n) (r.near n);
-  far = λ n. more_again cfg (v.far.down n) (u.far.down n) (r.joined.links.far.down n) (dce n) (dce_more n) (far n) (r.far n);
+  near = λ n. more_again (near n) (r.near n);
+  far = λ n. more_again (far n) (r.far n);
 }
 
 module _ (laws : SessionLaws) (cfg : Cfg) (fine : IsConfigured cfg) where
   acts_joined : {since : Beginning} (end : Role) (w : World) (h : SessionsJoined since cfg end w) (act : Act) → IsAt since end act → ActsInOctets act
       → (let o = acts (settings_from end cfg) w act in (since ≡ set_up → IsNoConnect act (refusal_of o))
-      → Goes since cfg end h.links (λ (n : ℕ). gave_by (layer_of cfg end) w.near.layer (n == h.links.near.begun) act (refusal_of o)) (after w o))
+      → Goes since cfg end h.links (λ n. gave_by (layer_of cfg end) w.near.layer (n == h.links.near.begun) act (refusal_of o)) (after w o))
   acts_joined end w h (Commands (Requests request)) is_at octets none = requests_joined laws cfg fine end w h request (said_by cfg.say_sizes w.near.layer request) is_at (said_octets cfg.say_sizes w.near.layer request octets)
   acts_joined {since} end w h (Commands (RequestsWith given request)) is_at octets none =
       let said = said_by cfg.say_sizes w.near.layer request in
       let o = acts (settings_from end cfg) w (Commands (RequestsWith given request)) in
-      subst (λ (k : Option ℕ). Goes since cfg end h.links (λ (n : ℕ). gave_where (n == h.links.near.begun) (refusal_of o) (record { channel = k; given = given })) (after w o)) (said_channel (layer_of cfg end) w.near.layer cfg.say_sizes request)
+      subst (λ k. Goes since cfg end h.links (λ n. gave_where (n == h.links.near.begun) (refusal_of o) (record { channel = k; given = given })) (after w o)) (said_channel (layer_of cfg end) w.near.layer cfg.say_sizes request)
       (gives_joined laws cfg fine end w h given request said is_at octets.0 (said_octets cfg.say_sizes w.near.layer request octets.1))
-  acts_joined end w h (Commands Connects) is_at octets none = connects_joined laws cfg fine end w h is_at none
-  acts_joined end w h (Commands Disconnects) is_at octets none = disconnects_joined laws cfg fine end w h is_at
-  acts_joined end w h (Commands Probes) is_at octets none = probes_joined laws cfg fine end w h is_at
-  acts_joined end w h (Commands Relinks) is_at octets none = relinks_joined laws cfg fine end w h is_at none
+  acts_joined end w h (Commands Connects) is_at octets none = connects_joined laws fine h is_at none
+  acts_joined end w h (Commands Disconnects) is_at octets none = disconnects_joined laws fine h is_at
+  acts_joined end w h (Commands Probes) is_at octets none = probes_joined laws fine h is_at
+  acts_joined end w h (Commands Relinks) is_at octets none = relinks_joined laws fine h is_at none
   acts_joined end w h Receives is_at octets none = receives_joined laws cfg fine end w h is_at
-  acts_joined end w h Fires is_at octets none = fired_joined laws cfg fine end w h is_at
-  acts_joined end w h (Loses place) is_at octets none = lost_joined cfg end w h place is_at
-  acts_joined end w h (Damages place octets) is_at fits none = damaged_joined cfg end w h place octets is_at
+  acts_joined end w h Fires is_at octets none = fired_joined laws fine h is_at
+  acts_joined end w h (Loses place) is_at octets none = lost_joined laws cfg fine end w h place is_at
+  acts_joined end w h (Damages place octets) is_at fits none = damaged_joined laws cfg fine end w h place octets is_at
 
   -- a step of the far end
-  far_goes : (since : Beginning) (w : World) (h : SessionsJoined since cfg Dte w) (act : Act) (o : WorldOutcome)
-      → Goes since cfg Dce (links.swapped h.links) (λ (n : ℕ). gave_by (layer_of cfg Dce) w.far.layer (n == h.links.far.begun) act (refusal_of o)) (after (swapped w) o)
-      → RunGoes since cfg h.links (λ (n : ℕ). []) (λ (n : ℕ). gave_by (layer_of cfg Dce) w.far.layer (n == last_session Dce w) act (refusal_of (swapped_back o))) (swapped (after (swapped w) o))
+  far_goes : {since : Beginning} {w : World} (h : SessionsJoined since cfg Dte w) (act : Act) (o : WorldOutcome)
+      → Goes since cfg Dce (links.swapped h.links) (λ n. gave_by (layer_of cfg Dce) w.far.layer (n == h.links.far.begun) act (refusal_of o)) (after (mirrored w) o)
+      → RunGoes since cfg h.links (λ n. []) (λ n. gave_by (layer_of cfg Dce) w.far.layer (n == last_session Dce w) act (refusal_of (swapped_back o))) (mirrored (after (mirrored w) o))
   unfolding sessions_swapped
-  far_goes since w h act o s = record {
-    joined = sessions_swapped cfg Dce (after (swapped w) o) s.joined;
-    near = λ n. none_more cfg (h.links.near.down n) (s.joined.links.far.down n) [] (ap (λ (k : SessionEnd). k.down n) s.far);
-    far = λ n. rw (ap begun_in h.far.progress) (subst (λ (r : Option WorldError). MoreIs cfg (h.links.far.down n) (s.joined.links.near.down n) (gave_by (layer_of cfg Dce) w.far.layer (n == h.links.far.begun) act r)) (sym (refusal-swapped o)) (s.down n));
+  far_goes {w} h act o s = record {
+    joined = sessions_swapped s.joined;
+    near = λ n. none_more cfg (h.links.near.down n) (s.joined.links.far.down n) [] (ap (λ k. k.down n) s.far);
+    far = λ n. rw (ap begun_in h.far.progress) (subst (λ r. MoreIs cfg (h.links.far.down n) (s.joined.links.near.down n) (gave_by (layer_of cfg Dce) w.far.layer (n == h.links.far.begun) act r)) (sym (refusal-swapped o)) (s.down n));
   }
 
   pub event_joined : {since : Beginning} (at : Role) (act : Act) (w : World) → IsAt since at act → ActsInOctets act
       → (let e : Event = record { at = at; act = act } in let o = happens cfg w e in (since ≡ set_up → IsNoConnect act (refusal_of o))
-      → (h : SessionsJoined since cfg Dte w) → RunGoes since cfg h.links (λ (n : ℕ). gave_at cfg Dte n w e) (λ (n : ℕ). gave_at cfg Dce n w e) (after w o))
+      → (h : SessionsJoined since cfg Dte w) → RunGoes since cfg h.links (λ n. gave_at cfg Dte n w e) (λ n. gave_at cfg Dce n w e) (after w o))
   unfolding sessions_swapped
   event_joined Dte act w is_at octets none h =
       let o = acts (settings_from Dte cfg) w act in
@@ -101,26 +101,26 @@ module _ (laws : SessionLaws) (cfg : Cfg) (fine : IsConfigured cfg) where
       record {
         joined = s.joined;
         near = λ n. rw (ap begun_in h.near.progress) (s.down n);
-        far = λ n. none_more cfg (h.links.far.down n) (s.joined.links.far.down n) [] (ap (λ (k : SessionEnd). k.down n) s.far);
+        far = λ n. none_more cfg (h.links.far.down n) (s.joined.links.far.down n) [] (ap (λ k. k.down n) s.far);
       }
   event_joined {since} Dce act w is_at octets none h =
       let e : Event = record { at = Dce; act = act } in
-      let o = acts (settings_from Dce cfg) (swapped w) act in
-      subst (λ (x : World). RunGoes since cfg h.links (λ (n : ℕ). gave_at cfg Dte n w e) (λ (n : ℕ). gave_at cfg Dce n w e) x) (sym (back_after w o))
-      (far_goes since w h act o (acts_joined Dce (swapped w) (sessions_swapped cfg Dte w h) act is_at octets (λ free. subst (IsNoConnect act) (refusal-swapped o) (none free))))
+      let o = acts (settings_from Dce cfg) (mirrored w) act in
+      subst (λ x. RunGoes since cfg h.links (λ n. gave_at cfg Dte n w e) (λ n. gave_at cfg Dce n w e) x) (sym (back_after w o))
+      (far_goes h act o (acts_joined Dce (mirrored w) (sessions_swapped h) act is_at octets (λ free. subst (IsNoConnect act) (refusal-swapped o) (none free))))
 
-  run_joined : {since : Beginning} (events : List Event) (w : World) → IsAtNone since → AreInOctets events → (since ≡ set_up → NoneConnects cfg events w) → (h : SessionsJoined since cfg Dte w)
-      → RunGoes since cfg h.links (λ (n : ℕ). gave_in cfg Dte n events w) (λ (n : ℕ). gave_in cfg Dce n events w) (run cfg events w)
-  run_joined [] w never octets none h = record {
+  run_joined : {since : Beginning} (events : List Event) {w : World} → IsAtNone since → AreInOctets events → (since ≡ set_up → NoneConnects cfg events w) → (h : SessionsJoined since cfg Dte w)
+      → RunGoes since cfg h.links (λ n. gave_in cfg Dte n events w) (λ n. gave_in cfg Dce n events w) (run cfg events w)
+  run_joined [] never octets none h = record {
     joined = h;
     near = λ n. none_more cfg (h.links.near.down n) (h.links.near.down n) [] refl;
     far = λ n. none_more cfg (h.links.far.down n) (h.links.far.down n) [] refl;
   }
-  run_joined (e ∷ events) w never octets none h =
+  run_joined (e ∷ events) {w} never octets none h =
       let next = after w (happens cfg w e) in
       let one = event_joined e.at e.act w (λ before x is. absurd (never before x is)) octets.0 (λ free. (none free).0) h in
-      behind h.links one.joined.links (λ (n : ℕ). gave_at cfg Dte n w e) (λ (n : ℕ). gave_in cfg Dte n events next) (λ (n : ℕ). gave_at cfg Dce n w e) (λ (n : ℕ). gave_in cfg Dce n events next) one.near one.far
-      (run_joined events next never octets.1 (λ free. (none free).1) one.joined)
+      behind h.links one.joined.links (λ n. gave_at cfg Dte n w e) (λ n. gave_in cfg Dte n events next) (λ n. gave_at cfg Dce n w e) (λ n. gave_in cfg Dce n events next) one.near one.far
+      (run_joined events never octets.1 (λ free. (none free).1) one.joined)
 
   -- ---- how a run begins
 
@@ -146,7 +146,7 @@ module _ (laws : SessionLaws) (cfg : Cfg) (fine : IsConfigured cfg) where
   start_joined = record {
     links = from_nothing;
     trace = [];
-    reach = record { events = []; timely = tt; run = refl; one_link = λ is. not_set_up is; grown = λ before e is. absurd (down_at_none before e is) };
+    reach = record { events = []; timely = tt; run = refl; first = λ is. not_set_up is; grown = λ before e is. absurd (down_at_none before e is) };
     near = end_at_start Dte;
     far = end_at_start Dce;
     out = refl;
@@ -169,51 +169,39 @@ module _ (laws : SessionLaws) (cfg : Cfg) (fine : IsConfigured cfg) where
   connected_goes : ConnectKeeps → BeginsSo (connected cfg)
   unfolding start_joined
   connected_goes keeps =
-      let s = connects_alone_joined laws cfg fine Dte start start_joined (λ before e is. absurd (down_at_none before e is)) (λ off. not_set_up off) keeps in
-      record { joined = s.joined; near = s.down; far = λ n. none_more cfg [] (s.joined.links.far.down n) [] (ap (λ (k : SessionEnd). k.down n) s.far) }
+      let s = connects_alone_joined laws fine start_joined (λ before e is. absurd (down_at_none before e is)) (λ off. not_set_up off) keeps in
+      record { joined = s.joined; near = s.down; far = λ n. none_more cfg [] (s.joined.links.far.down n) [] (ap (λ k. k.down n) s.far) }
 
   established_goes : ConnectKeeps → BeginsSo (established cfg)
   established_goes keeps =
       let c = connected_goes keeps in
       behind from_nothing c.joined.links gave_none gave_none gave_none gave_none c.near c.far
-      (run_joined (record { at = Dce; act = Receives } ∷ record { at = Dte; act = Receives } ∷ []) (connected cfg) down_at_none (tt, (tt, tt)) (λ off. not_set_up off) c.joined)
+      (run_joined (record { at = Dce; act = Receives } ∷ record { at = Dte; act = Receives } ∷ []) down_at_none (tt, (tt, tt)) (λ off. not_set_up off) c.joined)
 
   pub established_joined : ConnectKeeps → SessionsJoined both_down cfg Dte (established cfg)
   established_joined keeps = (established_goes keeps).joined
 
-  -- two stations begin alike
-  pub set_up_alike : (keeps : ConnectKeeps) → AreAlike (established_joined keeps).links (two_links cfg)
-  set_up_alike keeps =
-      let h = established_joined keeps in
-      let up = just_set_up laws.stations cfg in
-      let first : (end : Role) → last_session end (established cfg) ≡ 1 = λ end. one_up end (established cfg).transcript up.told in
-      record {
-        near = record { station = up.near ∙ sym h.near.link; anew = inl (refl, sym (ap (λ (p : Progress). p.begun) h.near.progress) ∙ first Dte) };
-        far = record { station = up.far ∙ sym h.far.link; anew = inl (refl, sym (ap (λ (p : Progress). p.begun) h.far.progress) ∙ first Dce) };
-        out = up.out ∙ sym h.out;
-        back = up.back ∙ sym h.back;
-        sent = λ never. absurd never;
-      }
-
-  -- two stations run from a link just set up too
+  -- each end is in its first session
   set_up_joined : ConnectKeeps → SessionsJoined set_up cfg Dte (established cfg)
   set_up_joined keeps =
       let h = established_joined keeps in
+      let up = just_set_up laws.stations cfg in
+      let one : (end : Role) → last_session end (established cfg) ≡ 1 = λ end. one_up end (established cfg).transcript up.told in
       retold cfg Dte (established cfg) h (record {
         events = h.reach.events;
         timely = h.reach.timely;
         run = h.reach.run;
-        one_link = λ is. record {
-          stations = two_links cfg;
-          reach = record { events = both_put; unasked = (tt, (tt, tt)); run = refl };
-          alike = set_up_alike keeps;
+        first = λ is. record {
+          unasked = (known_sessions NoneBeginUnasked laws.unasked fine h.reach).up (ap (λ s. is_up s.phase) h.near.link ∙ up.near) (ap (λ s. is_up s.phase) h.far.link ∙ up.far);
+          near = sym (ap (λ p. p.begun) h.near.progress) ∙ one Dte;
+          far = sym (ap (λ p. p.begun) h.far.progress) ∙ one Dce;
         };
         grown = λ before e is. absurd (set_up_at_none before e is);
       })
 
 -- at any beginning
-begin_goes : (laws : SessionLaws) → ConnectKeeps → (cfg : Cfg) (fine : IsConfigured cfg) (begin : World) → IsBeginning cfg begin → RunGoes both_down cfg from_nothing gave_none gave_none begin
-begin_goes laws keeps cfg fine begin is = elim is [
+begin_goes : (laws : SessionLaws) → ConnectKeeps → {cfg : Cfg} (fine : IsConfigured cfg) {begin : World} → IsBeginning cfg begin → RunGoes both_down cfg from_nothing gave_none gave_none begin
+begin_goes laws keeps {cfg} fine is = elim is [
   | inl same ↦ subst (BeginsSo laws cfg fine) (sym same) (start_goes laws cfg fine)
   | inr rest ↦ elim rest [
     | inl same ↦ subst (BeginsSo laws cfg fine) (sym same) (connected_goes laws cfg fine keeps)
@@ -221,16 +209,16 @@ begin_goes laws keeps cfg fine begin is = elim is [
   ]
 ]
 
-pub begin_joined : (laws : SessionLaws) → ConnectKeeps → (cfg : Cfg) → IsConfigured cfg → (begin : World) → IsBeginning cfg begin → SessionsJoined both_down cfg Dte begin
-begin_joined laws keeps cfg fine begin is = (begin_goes laws keeps cfg fine begin is).joined
+pub begin_joined : (laws : SessionLaws) → ConnectKeeps → {cfg : Cfg} → IsConfigured cfg → {begin : World} → IsBeginning cfg begin → SessionsJoined both_down cfg Dte begin
+begin_joined laws keeps {cfg} fine {begin} is = (begin_goes laws keeps fine is).joined
 
 -- at each world of a run from there
 pub throughout_goes : (laws : SessionLaws) → ConnectKeeps
-    → ThroughoutAlong (λ (cfg : Cfg) (begin : World) (events : List Event) (w : World). RunGoes both_down cfg from_nothing (λ (n : ℕ). gave_in cfg Dte n events begin) (λ (n : ℕ). gave_in cfg Dce n events begin) w)
+    → ThroughoutAlong (λ cfg begin events w. RunGoes both_down cfg from_nothing (λ n. gave_in cfg Dte n events begin) (λ n. gave_in cfg Dce n events begin) w)
 throughout_goes laws keeps cfg fine begin is events octets =
-    let b = begin_goes laws keeps cfg (is_configured cfg fine) begin is in
-    behind from_nothing b.joined.links gave_none (λ (n : ℕ). gave_in cfg Dte n events begin) gave_none (λ (n : ℕ). gave_in cfg Dce n events begin) b.near b.far
-    (run_joined laws cfg (is_configured cfg fine) events begin down_at_none octets (λ off. not_set_up off) b.joined)
+    let b = begin_goes laws keeps (is_configured cfg fine) is in
+    behind from_nothing b.joined.links gave_none (λ n. gave_in cfg Dte n events begin) gave_none (λ n. gave_in cfg Dce n events begin) b.near b.far
+    (run_joined laws cfg (is_configured cfg fine) events down_at_none octets (λ off. not_set_up off) b.joined)
 
 pub throughout_joined : (laws : SessionLaws) → ConnectKeeps → Throughout (λ (cfg : Cfg) (w : World). SessionsJoined both_down cfg Dte w)
 throughout_joined laws keeps cfg fine begin is events octets = (throughout_goes laws keeps cfg fine begin is events octets).joined
@@ -241,10 +229,10 @@ throughout laws keeps Holds holds cfg fine begin is events octets = holds cfg (i
 
 pub until_second : (laws : SessionLaws) → ConnectKeeps → (Holds : Cfg → World → Type 0) → ((cfg : Cfg) → IsConfigured cfg → (w : World) → SessionsJoined both_down cfg Dte w → IsUpAtMostOnce cfg w → Holds cfg w)
     → UntilSecondUp Holds
-until_second laws keeps Holds holds cfg fine begin is events octets once = throughout laws keeps (λ (c : Cfg) (w : World). IsUpAtMostOnce c w → Holds c w) holds cfg fine begin is events octets once
+until_second laws keeps Holds holds cfg fine begin is events octets once = throughout laws keeps (λ c w. IsUpAtMostOnce c w → Holds c w) holds cfg fine begin is events octets once
 
 -- at each world of a run from a link just set up, after which no `connect` is accepted
 pub set_up_throughout : (laws : SessionLaws) → ConnectKeeps → (cfg : Cfg) → config_refusal cfg ≡ None → (events : List Event) → AreInOctets events
     → NoneConnects cfg events (established cfg) → SessionsJoined set_up cfg Dte (run cfg events (established cfg))
 set_up_throughout laws keeps cfg fine events octets none =
-    (run_joined laws cfg (is_configured cfg fine) events (established cfg) set_up_at_none octets (λ is. none) (set_up_joined laws cfg (is_configured cfg fine) keeps)).joined
+    (run_joined laws cfg (is_configured cfg fine) events set_up_at_none octets (λ is. none) (set_up_joined laws cfg (is_configured cfg fine) keeps)).joined

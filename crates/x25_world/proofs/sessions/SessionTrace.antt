@@ -45,18 +45,18 @@ own cfg end n trace = own_run (layer_of cfg end) (own_in end n trace) (started (
 pub own_append : (end : Role) (n : ℕ) (xs ys : List Done) → own_in end n (xs ++ ys) ≡ own_in end n xs ++ own_in end n ys
 own_append end n [] ys = refl
 own_append end n (x ∷ xs) ys =
-    ap (λ (l : List OwnMove). own_one end n x.at x.session x.what ++ l) (own_append end n xs ys) ∙ sym (append_assoc (own_one end n x.at x.session x.what) (own_in end n xs) (own_in end n ys))
+    ap (λ l. own_one end n x.at x.session x.what ++ l) (own_append end n xs ys) ∙ sym (append_assoc (own_one end n x.at x.session x.what) (own_in end n xs) (own_in end n ys))
 
 pub same_number : (n : ℕ) → (n == n) ≡ true
 same_number n = eq-eqb n n refl
 
 one_here : (end : Role) (n : ℕ) (what : OwnMove) → own_one end n end n what ≡ what ∷ []
-one_here Dte n what = ap (λ (b : Bool). if b then what ∷ [] else []) (same_number n)
-one_here Dce n what = ap (λ (b : Bool). if b then what ∷ [] else []) (same_number n)
+one_here Dte n what = ap (λ b. if b then what ∷ [] else []) (same_number n)
+one_here Dce n what = ap (λ b. if b then what ∷ [] else []) (same_number n)
 
 one_elsewhere : (end : Role) (n m : ℕ) (what : OwnMove) → (n ≡ m → ⊥) → own_one end n end m what ≡ []
-one_elsewhere Dte n m what differs = ap (λ (b : Bool). if b then what ∷ [] else []) (ne_eqb n m differs)
-one_elsewhere Dce n m what differs = ap (λ (b : Bool). if b then what ∷ [] else []) (ne_eqb n m differs)
+one_elsewhere Dte n m what differs = ap (λ b. if b then what ∷ [] else []) (ne_eqb n m differs)
+one_elsewhere Dce n m what differs = ap (λ b. if b then what ∷ [] else []) (ne_eqb n m differs)
 
 one_there : (end : Role) (n m : ℕ) (what : OwnMove) → own_one (other end) n end m what ≡ []
 one_there Dte n m what = refl
@@ -64,28 +64,28 @@ one_there Dce n m what = refl
 
 own_moved : (end : Role) (n : ℕ) (moves : List OwnMove) → own_in end n (moved end n moves) ≡ moves
 own_moved end n [] = refl
-own_moved end n (what ∷ moves) = ap₂ (λ (l r : List OwnMove). l ++ r) (one_here end n what) (own_moved end n moves)
+own_moved end n (what ∷ moves) = ap₂ (λ l r. l ++ r) (one_here end n what) (own_moved end n moves)
 
 own_elsewhere : (end : Role) (n m : ℕ) (moves : List OwnMove) → (n ≡ m → ⊥) → own_in end n (moved end m moves) ≡ []
 own_elsewhere end n m [] differs = refl
-own_elsewhere end n m (what ∷ moves) differs = ap₂ (λ (l r : List OwnMove). l ++ r) (one_elsewhere end n m what differs) (own_elsewhere end n m moves differs)
+own_elsewhere end n m (what ∷ moves) differs = ap₂ (λ l r. l ++ r) (one_elsewhere end n m what differs) (own_elsewhere end n m moves differs)
 
 own_there : (end : Role) (n m : ℕ) (moves : List OwnMove) → own_in (other end) n (moved end m moves) ≡ []
 own_there end n m [] = refl
-own_there end n m (what ∷ moves) = ap₂ (λ (l r : List OwnMove). l ++ r) (one_there end n m what) (own_there end n m moves)
+own_there end n m (what ∷ moves) = ap₂ (λ l r. l ++ r) (one_there end n m what) (own_there end n m moves)
 
 -- more moves of an end in a session
 
 pub own_more : (end : Role) (n : ℕ) (trace : List Done) (moves : List OwnMove) → own_in end n (trace ++ moved end n moves) ≡ own_in end n trace ++ moves
-own_more end n trace moves = own_append end n trace (moved end n moves) ∙ ap (λ (l : List OwnMove). own_in end n trace ++ l) (own_moved end n moves)
+own_more end n trace moves = own_append end n trace (moved end n moves) ∙ ap (λ l. own_in end n trace ++ l) (own_moved end n moves)
 
 pub own_same : (end : Role) (n m : ℕ) (trace : List Done) (moves : List OwnMove) → (n ≡ m → ⊥) → own_in end n (trace ++ moved end m moves) ≡ own_in end n trace
 own_same end n m trace moves differs =
-    own_append end n trace (moved end m moves) ∙ ap (λ (l : List OwnMove). own_in end n trace ++ l) (own_elsewhere end n m moves differs) ∙ append-nil (own_in end n trace)
+    own_append end n trace (moved end m moves) ∙ ap (λ l. own_in end n trace ++ l) (own_elsewhere end n m moves differs) ∙ append-nil (own_in end n trace)
 
 pub own_other : (end : Role) (n m : ℕ) (trace : List Done) (moves : List OwnMove) → own_in (other end) n (trace ++ moved end m moves) ≡ own_in (other end) n trace
 own_other end n m trace moves =
-    own_append (other end) n trace (moved end m moves) ∙ ap (λ (l : List OwnMove). own_in (other end) n trace ++ l) (own_there end n m moves) ∙ append-nil (own_in (other end) n trace)
+    own_append (other end) n trace (moved end m moves) ∙ ap (λ l. own_in (other end) n trace ++ l) (own_there end n m moves) ∙ append-nil (own_in (other end) n trace)
 
 run_append : (c : LayerSettings) (xs ys : List OwnMove) (e : layer.End) → own_run c (xs ++ ys) e ≡ own_run c ys (own_run c xs e)
 run_append c [] ys e = refl
@@ -93,7 +93,7 @@ run_append c (x ∷ xs) ys e = run_append c xs ys (own_moves c e x)
 
 pub own_goes : (cfg : Cfg) (end : Role) (n : ℕ) (trace : List Done) (moves : List OwnMove) → own cfg end n (trace ++ moved end n moves) ≡ own_run (layer_of cfg end) moves (own cfg end n trace)
 own_goes cfg end n trace moves =
-    ap (λ (l : List OwnMove). own_run (layer_of cfg end) l (started (goes_up (layer_of cfg end)))) (own_more end n trace moves)
+    ap (λ l. own_run (layer_of cfg end) l (started (goes_up (layer_of cfg end)))) (own_more end n trace moves)
     ∙ run_append (layer_of cfg end) (own_in end n trace) moves (started (goes_up (layer_of cfg end)))
 
 -- ---- of a session of each end
@@ -133,22 +133,22 @@ pair_turned Dce n m trace = refl
 module _ (number : Role → ℕ) (end : Role) where
   pair_append : (xs ys : List Done) → pair_in number (xs ++ ys) ≡ pair_in number xs ++ pair_in number ys
   pair_append [] ys = refl
-  pair_append (x ∷ xs) ys = ap (λ (l : List ApartEvent). pair_one number x.at x.session x.what ++ l) (pair_append xs ys) ∙ sym (append_assoc (pair_one number x.at x.session x.what) (pair_in number xs) (pair_in number ys))
+  pair_append (x ∷ xs) ys = ap (λ l. pair_one number x.at x.session x.what ++ l) (pair_append xs ys) ∙ sym (append_assoc (pair_one number x.at x.session x.what) (pair_in number xs) (pair_in number ys))
 
   pair_moved : (session : ℕ) (moves : List OwnMove) → (number end == session) ≡ true → pair_in number (moved end session moves) ≡ events_of end moves
   pair_moved session [] is = refl
-  pair_moved session (what ∷ moves) is = ap₂ (λ (b : Bool) (l : List ApartEvent). (if b then event_of end what ∷ [] else []) ++ l) is (pair_moved session moves is)
+  pair_moved session (what ∷ moves) is = ap₂ (λ b l. (if b then event_of end what ∷ [] else []) ++ l) is (pair_moved session moves is)
 
   pair_elsewhere : (session : ℕ) (moves : List OwnMove) → (number end == session) ≡ false → pair_in number (moved end session moves) ≡ []
   pair_elsewhere session [] differs = refl
-  pair_elsewhere session (what ∷ moves) differs = ap₂ (λ (b : Bool) (l : List ApartEvent). (if b then event_of end what ∷ [] else []) ++ l) differs (pair_elsewhere session moves differs)
+  pair_elsewhere session (what ∷ moves) differs = ap₂ (λ b l. (if b then event_of end what ∷ [] else []) ++ l) differs (pair_elsewhere session moves differs)
 
   in_more : (trace : List Done) (moves : List OwnMove) → pair_in number (trace ++ moved end (number end) moves) ≡ pair_in number trace ++ events_of end moves
-  in_more trace moves = pair_append trace (moved end (number end) moves) ∙ ap (λ (l : List ApartEvent). pair_in number trace ++ l) (pair_moved (number end) moves (same_number (number end)))
+  in_more trace moves = pair_append trace (moved end (number end) moves) ∙ ap (λ l. pair_in number trace ++ l) (pair_moved (number end) moves (same_number (number end)))
 
   in_same : (session : ℕ) (trace : List Done) (moves : List OwnMove) → (number end ≡ session → ⊥) → pair_in number (trace ++ moved end session moves) ≡ pair_in number trace
   in_same session trace moves differs =
-      pair_append trace (moved end session moves) ∙ ap (λ (l : List ApartEvent). pair_in number trace ++ l) (pair_elsewhere session moves (ne_eqb (number end) session differs)) ∙ append-nil (pair_in number trace)
+      pair_append trace (moved end session moves) ∙ ap (λ l. pair_in number trace ++ l) (pair_elsewhere session moves (ne_eqb (number end) session differs)) ∙ append-nil (pair_in number trace)
 
 pub pair_more : (end : Role) (n m : ℕ) (trace : List Done) (moves : List OwnMove) → pair_at end n m (trace ++ moved end n moves) ≡ pair_at end n m trace ++ events_of end moves
 pair_more Dte n m trace moves = in_more (numbers n m) Dte trace moves
@@ -184,7 +184,7 @@ pub moves_of_pair : (number : Role → ℕ) (end : Role) (trace : List Done) →
 moves_of_pair number Dte [] = refl
 moves_of_pair number Dce [] = refl
 moves_of_pair number end (t ∷ trace) =
-    first_of_pair number end t.at t.session t.what (pair_in number trace) ∙ ap (λ (l : List OwnMove). own_one end (number end) t.at t.session t.what ++ l) (moves_of_pair number end trace)
+    first_of_pair number end t.at t.session t.what (pair_in number trace) ∙ ap (λ l. own_one end (number end) t.at t.session t.what ++ l) (moves_of_pair number end trace)
 
 -- ---- moves that take nothing
 
@@ -259,12 +259,12 @@ pull_near c w h = by w.near.is_out (is_channel c.channels h)
 
 pub near_pulls : (c : LayerSettings) (w : layer.TwoLayers) (channels : List ℕ) → (moves_all c w (pulls_of channels)).near ≡ own_run c (own_pulls channels) w.near
 near_pulls c w [] = refl
-near_pulls c w (h ∷ channels) = near_pulls c (layer.moves c w (layer.Pulls h)) channels ∙ ap (λ (e : layer.End). own_run c (own_pulls channels) e) (pull_near c w h)
+near_pulls c w (h ∷ channels) = near_pulls c (layer.moves c w (layer.Pulls h)) channels ∙ ap (λ e. own_run c (own_pulls channels) e) (pull_near c w h)
 
 -- ---- what is taken
 
 pub take_takes : (c : LayerSettings) (e : layer.End) (packet : PlainPacket) (channels : List ℕ) → e.is_out ≡ false → (own_run c (Takes packet ∷ own_pulls channels) e).taken ≡ e.taken ++ packet ∷ []
 take_takes c e packet channels out =
-    let x : layer.TwoLayers = alone (own_moves c e (Takes packet)) [] in
-    ap (λ (f : layer.End). f.taken) (sym (near_pulls c x channels)) ∙ (asked_leaves c x (pulls_of channels) (pulls_asked channels)).taken
-    ∙ ap (λ (gone : Bool). (moves_in c (alone e (packet ∷ [])) gone layer.HandsUp).near.taken) out
+    let x = alone (own_moves c e (Takes packet)) [] in
+    ap (λ f. f.taken) (sym (near_pulls c x channels)) ∙ (asked_leaves c x (pulls_of channels) (pulls_asked channels)).taken
+    ∙ ap (λ gone. (moves_in c (alone e (packet ∷ [])) gone layer.HandsUp).near.taken) out

@@ -40,24 +40,24 @@ record Next (cfg : Cfg) (w : World) (v : Sessions) (e : Event) : Type 0 where
   timely : AreTimely (link_of cfg Dte) (link_of cfg Dce) (all_at e.at asked) v
   run : links.run (link_of cfg Dte) (link_of cfg Dce) (all_at e.at asked) v ≡ joined.links
 
-module _ (laws : SessionLaws) (cfg : Cfg) (fine : IsConfigured cfg) where
+module _ (laws : SessionLaws) {cfg : Cfg} (fine : IsConfigured cfg) where
   next : (w : World) (h : SessionsJoined both_down cfg Dte w) (e : Event) → ActsInOctets e.act → Next cfg w h.links e
   next w h e octets =
-      let within : SessionsJoined (at_event h.links e) cfg Dte w = retold cfg Dte w h (record {
+      let within = retold cfg Dte w h (record {
         events = h.reach.events;
         timely = h.reach.timely;
         run = h.reach.run;
-        one_link = λ is. event_is_none h.links e is;
-        grown = λ before x is. record { asked = []; may = tt; timely = tt; run = sym (ap (λ (b : Beginning). links_in b h.links) is) };
+        first = λ is. event_is_none h.links e is;
+        grown = λ before x is. record { asked = []; may = tt; timely = tt; run = sym (ap (λ b. links_in b h.links) is) };
       }) in
-      let j = (event_joined laws cfg fine e.at e.act w (λ before x is. sym (ap (λ (b : Beginning). event_in b e) is)) octets (λ free. event_is_none h.links e free) within).joined in
+      let j = (event_joined laws cfg fine e.at e.act w (λ before x is. sym (ap (λ b. event_in b e) is)) octets (λ free. event_is_none h.links e free) within).joined in
       let g = j.reach.grown h.links e refl in
       record {
         joined = retold cfg Dte (after w (happens cfg w e)) j (record {
           events = j.reach.events;
           timely = j.reach.timely;
           run = j.reach.run;
-          one_link = λ is. not_set_up is;
+          first = λ is. not_set_up is;
           grown = λ before x is. absurd (down_at_none before x is);
         });
         asked = g.asked;
@@ -93,34 +93,34 @@ many_in kind from n1 (octets ∷ line) = kind (frame_of from n1 octets) + many_i
 
 many_is : (kind : Result PlainFrame FrameError → ℕ) (from : Role) (n1 : ℕ) (es : List links.Entry) → how_many kind from n1 es ≡ many_in kind from n1 (octets_of es)
 many_is kind from n1 [] = refl
-many_is kind from n1 (e ∷ es) = ap (λ (n : ℕ). kind (frame_of from n1 e.octets) + n) (many_is kind from n1 es)
+many_is kind from n1 (e ∷ es) = ap (λ n. kind (frame_of from n1 e.octets) + n) (many_is kind from n1 es)
 
 many_same : (kind : Result PlainFrame FrameError → ℕ) (from : Role) (n1 : ℕ) (es fs : List links.Entry) → octets_of fs ≡ octets_of es → how_many kind from n1 fs ≡ how_many kind from n1 es
 many_same kind from n1 es fs is = many_is kind from n1 fs ∙ ap (many_in kind from n1) is ∙ sym (many_is kind from n1 es)
 
-asked_same : (c d : LinkSettings) (v x : Sessions) (s : line.Stations) → AreOf v s → AreOf x s → asked c d x ≡ asked c d v
-asked_same c d v x s f g =
-    ap₂ (λ (n m : ℕ). n + m) (many_same sabm_in (other d.role) d.longest v.out x.out (sym g.out ∙ f.out)) (many_same ua_in (other c.role) c.longest v.back x.back (sym g.back ∙ f.back))
+asked_same : (c d : LinkSettings) {v x : Sessions} {s : line.Stations} → AreOf v s → AreOf x s → asked c d x ≡ asked c d v
+asked_same c d {v} {x} f g =
+    ap₂ (λ n m. n + m) (many_same sabm_in (other d.role) d.longest v.out x.out (sym g.out ∙ f.out)) (many_same ua_in (other c.role) c.longest v.back x.back (sym g.back ∙ f.back))
 
-timely_same : (c d : LinkSettings) (act : line.Act) (v x : Sessions) (s : line.Stations) → AreOf v s → AreOf x s → IsTimely c d act v → IsTimely c d act x
-timely_same c d line.T1 v x s f g timely = λ waiting. asked_same c d v x s f g ∙ timely (ap (λ (t : LinkStation). t.phase) (sym f.near ∙ g.near) ∙ waiting)
-timely_same c d act v x s f g timely = tt
+timely_same : (c d : LinkSettings) (act : line.Act) {v x : Sessions} {s : line.Stations} → AreOf v s → AreOf x s → IsTimely c d act v → IsTimely c d act x
+timely_same c d line.T1 {v} {x} {s} f g timely = λ waiting. asked_same c d f g ∙ timely (ap (λ t. t.phase) (sym f.near ∙ g.near) ∙ waiting)
+timely_same c d act f g timely = tt
 
-timely_at_same : (c d : LinkSettings) (e : line.Event) (v x : Sessions) (s : line.Stations) → AreOf v s → AreOf x s → IsTimelyAt c d e v → IsTimelyAt c d e x
-timely_at_same c d (line.Near act) v x s f g timely = timely_same c d act v x s f g timely
+timely_at_same : (c d : LinkSettings) (e : line.LinkEvent) (v x : Sessions) (s : line.Stations) → AreOf v s → AreOf x s → IsTimelyAt c d e v → IsTimelyAt c d e x
+timely_at_same c d (line.Near act) v x s f g timely = timely_same c d act f g timely
 timely_at_same c d (line.Far act) v x s f g timely =
-    timely_same d c act (links.swapped v) (links.swapped x) (line.swapped s) (turned_alike IsOf IsOf ⊥ v s f) (turned_alike IsOf IsOf ⊥ x s g) timely
+    timely_same d c act (turned_alike IsOf IsOf ⊥ v s f) (turned_alike IsOf IsOf ⊥ x s g) timely
 
-all_timely_same : (c d : LinkSettings) (es : List line.Event) (v x : Sessions) (s : line.Stations) → AreOf v s → AreOf x s → AreTimely c d es v → AreTimely c d es x
-all_timely_same c d [] v x s f g timely = tt
-all_timely_same c d (e ∷ es) v x s f g timely = (
+all_timely_same : (c d : LinkSettings) (es : List line.LinkEvent) {v x : Sessions} {s : line.Stations} → AreOf v s → AreOf x s → AreTimely c d es v → AreTimely c d es x
+all_timely_same c d [] f g timely = tt
+all_timely_same c d (e ∷ es) {v} {x} {s} f g timely = (
   timely_at_same c d e v x s f g timely.0,
-  all_timely_same c d es (links.happens c d e v) (links.happens c d e x) (line.happens c d e s) (happens_alike IsOf IsOf ⊥ of_lasts of_lasts c d e v s f) (happens_alike IsOf IsOf ⊥ of_lasts of_lasts c d e x s g) timely.1,
+  all_timely_same c d es (happens_alike IsOf IsOf ⊥ of_lasts of_lasts c d e v s f) (happens_alike IsOf IsOf ⊥ of_lasts of_lasts c d e x s g) timely.1,
 )
 
 -- ---- a run, and more behind it
 
-standing_append : (P : Standing → Type 0) (c d : LinkSettings) (xs ys : List line.Event) (v : Sessions) (s : Standing) → P (standing_run c d ys (links.run c d xs v) (standing_run c d xs v s)) → P (standing_run c d (xs ++ ys) v s)
+standing_append : (P : Standing → Type 0) (c d : LinkSettings) (xs ys : List line.LinkEvent) (v : Sessions) (s : Standing) → P (standing_run c d ys (links.run c d xs v) (standing_run c d xs v s)) → P (standing_run c d (xs ++ ys) v s)
 standing_append P c d [] ys v s h = h
 standing_append P c d (x ∷ xs) ys v s h = standing_append P c d xs ys (links.happens c d x v) (standing_happens c d x v s) h
 
@@ -144,13 +144,13 @@ module _ (laws : SessionLaws) (law : StandingGoesAlong) (cfg : Cfg) (fine : IsCo
   abbrev first : Standing
   first = standing_at c d from_nothing
 
-  stood : (events : List line.Event) (v : Sessions) (s : Standing) → AreTimely c d events from_nothing → links.run c d events from_nothing ≡ v → standing_run c d events from_nothing first ≡ s → EachUpStandsWith c d v s
+  stood : (events : List line.LinkEvent) (v : Sessions) (s : Standing) → AreTimely c d events from_nothing → links.run c d events from_nothing ≡ v → standing_run c d events from_nothing first ≡ s → EachUpStandsWith c d v s
   stood events v s timely runs stands =
-      rw (sym stands) (subst (λ (x : Sessions). EachUpStandsWith c d x (standing_run c d events from_nothing first)) runs (law c d (joined_at cfg Dte fine) from_nothing (inl refl) events timely))
+      rw (sym stands) (subst (λ x. EachUpStandsWith c d x (standing_run c d events from_nothing first)) runs (law c d (joined_at Dte fine) from_nothing (inl refl) events timely))
 
   -- some two links are behind each world of a run
-  pub some_stand : (w : World) (h : SessionsJoined both_down cfg Dte w) → StandsInWindow cfg w h.links (standing_run c d h.reach.events from_nothing first)
-  some_stand w h = (
+  pub some_stand : {w : World} (h : SessionsJoined both_down cfg Dte w) → StandsInWindow cfg w h.links (standing_run c d h.reach.events from_nothing first)
+  some_stand h = (
     record { events = h.reach.events; timely = h.reach.timely; run = h.reach.run; standing = refl; near = h.near.link; far = h.far.link; out = h.out; back = h.back },
     stood h.reach.events h.links (standing_run c d h.reach.events from_nothing first) h.reach.timely h.reach.run refl,
   )
@@ -160,18 +160,18 @@ module _ (laws : SessionLaws) (law : StandingGoesAlong) (cfg : Cfg) (fine : IsCo
       → StandsInWindow cfg (after w (happens cfg w e)) (links.run c d (all_at e.at n.asked) v) (standing_run c d (all_at e.at n.asked) v s)
   stand_next w h e n v s st =
       let r = st.0 in
-      let es : List line.Event = all_at e.at n.asked in
-      let seen : line.Stations = seen_in w in
+      let es = all_at e.at n.asked in
+      let seen = seen_in w in
       let before : AreOf h.links seen = record { near = sym h.near.link; far = sym h.far.link; out = sym h.out; back = sym h.back; sent = λ never. absurd never } in
       let also : AreOf v seen = record { near = sym r.near; far = sym r.far; out = sym r.out; back = sym r.back; sent = λ never. absurd never } in
-      let behind : AreOf n.joined.links (line.run c d es seen) = subst (λ (x : Sessions). AreOf x (line.run c d es seen)) n.run (runs_alike IsOf IsOf ⊥ of_lasts of_lasts c d es h.links seen before) in
-      let now : AreOf (links.run c d es v) (line.run c d es seen) = runs_alike IsOf IsOf ⊥ of_lasts of_lasts c d es v seen also in
+      let behind : AreOf n.joined.links (line.run c d es seen) = subst (λ x. AreOf x (line.run c d es seen)) n.run (runs_alike IsOf IsOf ⊥ of_lasts of_lasts c d es h.links seen before) in
+      let now = runs_alike IsOf IsOf ⊥ of_lasts of_lasts c d es v seen also in
       let timely : AreTimely c d (r.events ++ es) from_nothing =
-      timely_append c d r.events es from_nothing r.timely (rw r.run (all_timely_same c d es h.links v seen before also n.timely)) in
-      let runs : links.run c d (r.events ++ es) from_nothing ≡ links.run c d es v = links_append c d r.events es from_nothing ∙ ap (links.run c d es) r.run in
+      timely_append c d r.events es from_nothing r.timely (rw r.run (all_timely_same c d es before also n.timely)) in
+      let runs = links_append c d r.events es from_nothing ∙ ap (links.run c d es) r.run in
       let stands : standing_run c d (r.events ++ es) from_nothing first ≡ standing_run c d es v s =
-      standing_append (λ (z : Standing). z ≡ standing_run c d es v s) c d r.events es from_nothing first
-      (ap₂ (λ (x : Sessions) (z : Standing). standing_run c d es x z) r.run r.standing) in (
+      standing_append (λ z. z ≡ standing_run c d es v s) c d r.events es from_nothing first
+      (ap₂ (λ x z. standing_run c d es x z) r.run r.standing) in (
         record {
           events = r.events ++ es;
           timely = timely;
@@ -189,26 +189,26 @@ module _ (laws : SessionLaws) (law : StandingGoesAlong) (cfg : Cfg) (fine : IsCo
       → SessionsGoAlong cfg here events w v s
   along here [] w h octets is v s st = rw (sym is) st
   along here (e ∷ events) w h octets is v s st =
-      let n = next laws cfg fine w h e octets.0 in (
+      let n = next laws fine w h e octets.0 in (
         st,
         n.asked,
         n.may,
         along here events (after w (happens cfg w e)) n.joined octets.1 is (links.run c d (all_at e.at n.asked) v) (standing_run c d (all_at e.at n.asked) v s) (stand_next w h e n v s st),
       )
 
-any_goes_on : (laws : SessionLaws) → ConnectKeeps → StandingGoesAlong → (cfg : Cfg) → config_refusal cfg ≡ None → (begin : World) → IsBeginning cfg begin → (past more : List Event) → AreInOctets (past ++ more)
-    → (v : Sessions) (s : Standing) → StandsInWindow cfg (run cfg past begin) v s → SessionsGoAlong cfg (run cfg (past ++ more) begin) more (run cfg past begin) v s
-any_goes_on laws keeps law cfg fine begin is past more octets v s st =
+any_goes_on : (laws : SessionLaws) → ConnectKeeps → StandingGoesAlong → {cfg : Cfg} → config_refusal cfg ≡ None → {begin : World} → IsBeginning cfg begin → (past more : List Event) → AreInOctets (past ++ more)
+    → {v : Sessions} {s : Standing} → StandsInWindow cfg (run cfg past begin) v s → SessionsGoAlong cfg (run cfg (past ++ more) begin) more (run cfg past begin) v s
+any_goes_on laws keeps law {cfg} fine {begin} is past more octets {v} {s} st =
     along laws law cfg (is_configured cfg fine) (run cfg (past ++ more) begin) more (run cfg past begin) (throughout_joined laws keeps cfg fine begin is past (octets_before past more octets))
     (octets_behind past more octets) (sym (run_append cfg past more begin)) v s st
 
 pub sessions_stay : (laws : SessionLaws) → ConnectKeeps → StandingGoesAlong → ThroughoutAlong SessionsStayInWindow
 sessions_stay laws keeps law cfg fine begin is events octets =
-    let h = begin_joined laws keeps cfg (is_configured cfg fine) begin is in
-    let first : Standing = standing_at (link_of cfg Dte) (link_of cfg Dce) from_nothing in
+    let h = begin_joined laws keeps (is_configured cfg fine) is in
+    let first = standing_at (link_of cfg Dte) (link_of cfg Dce) from_nothing in
     record {
-      begins = (h.links, standing_run (link_of cfg Dte) (link_of cfg Dce) h.reach.events from_nothing first, some_stand laws law cfg (is_configured cfg fine) begin h);
+      begins = (h.links, standing_run (link_of cfg Dte) (link_of cfg Dce) h.reach.events from_nothing first, some_stand laws law cfg (is_configured cfg fine) h);
       goes_on = λ past more all v s st.
-          subst (λ (es : List Event). SessionsGoAlong cfg (run cfg es begin) more (run cfg past begin) v s) all
-          (any_goes_on laws keeps law cfg fine begin is past more (subst AreInOctets (sym all) octets) v s st);
+          subst (λ es. SessionsGoAlong cfg (run cfg es begin) more (run cfg past begin) v s) all
+          (any_goes_on laws keeps law fine is past more (subst AreInOctets (sym all) octets) st);
     }

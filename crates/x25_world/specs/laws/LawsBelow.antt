@@ -6,7 +6,7 @@ use Rattle.x25_link.specs.laws.NoteLaw.{AbandonTells, RelinkTells}
 use Rattle.x25_link.specs.laws.SetUp.{TakeWaits, TakeSetsUp, RelinkIsTwoSteps}
 use Rattle.x25_line.specs.laws.SessionClaims.{MetAreInOrder, UnmetHandNothingUp, OnlyBegunHaveLists, EachMeetsLatest}
 use Rattle.x25_line.specs.laws.SessionClaims.{IdleHasArrived, NoSessionSendsFrmr, AllSessionsSendWhole}
-use Rattle.x25_line.specs.laws.SessionEvents.{EachEventHandsInSession, EachEventMeetsLatest}
+use Rattle.x25_line.specs.laws.SessionEvents.{EachEventHandsInSession, EachEventMeetsLatest, NoneBeginUnasked}
 use Rattle.x25_line.specs.laws.SessionNumbers.{StandingGoesAlong}
 use Rattle.x25_layer.specs.declared.ranges.Ranges.{Ranges}
 use Rattle.x25_layer.specs.laws.Law.{KeepsOrder, IsQuietWorld, IsLawfulWorld, ArrivesAll}
@@ -63,6 +63,7 @@ pub record SessionLaws : Type 0 where
   pub agree : line.Throughout EachMeetsLatest
   pub meets : line.Throughout EachEventMeetsLatest
   pub idle : line.Throughout IdleHasArrived
+  pub unasked : line.Throughout NoneBeginUnasked
   pub no_frmr : line.Throughout NoSessionSendsFrmr
   pub whole : line.Throughout AllSessionsSendWhole
   pub machine : StandingGoesAlong

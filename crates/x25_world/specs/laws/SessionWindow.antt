@@ -34,11 +34,11 @@ Asks (Damages place octets) (line.Damage same others) = (same ≡ place) × (oth
 Asks act asked = ⊥
 
 -- each at the end of the event
-abbrev pub at_end : Role → line.Act → line.Event
+abbrev pub at_end : Role → line.Act → line.LinkEvent
 at_end Dte act = line.Near act
 at_end Dce act = line.Far act
 
-abbrev pub all_at : Role → List line.Act → List line.Event
+abbrev pub all_at : Role → List line.Act → List line.LinkEvent
 all_at end [] = []
 all_at end (act ∷ acts) = at_end end act ∷ all_at end acts
 
@@ -47,7 +47,7 @@ all_at end (act ∷ acts) = at_end end act ∷ all_at end acts
 -- A run of two links from both down, with the links and lines of this world, and the sessions that stand by it, with
 -- their window machine.
 pub record IsRunOfSessions (cfg : Cfg) (w : World) (v : Sessions) (s : Standing) : Type 0 where
-  pub events : List line.Event
+  pub events : List line.LinkEvent
   pub timely : AreTimely (link_of cfg Dte) (link_of cfg Dce) events from_nothing
   pub run : links.run (link_of cfg Dte) (link_of cfg Dce) events from_nothing ≡ v
   pub standing : standing_run (link_of cfg Dte) (link_of cfg Dce) events from_nothing

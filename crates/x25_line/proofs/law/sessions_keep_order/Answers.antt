@@ -1,4 +1,5 @@
 use Rattle.x25_line.proofs.sessions.TwoSessions.{throughout_of, in_step, orders, unmet, begun, latest, agree, idle_has_arrived}
+use Rattle.x25_line.proofs.sessions.SessionUnasked.{none_begin_unasked}
 use Rattle.x25_line.proofs.{sessions.SessionRuns.{each_stands, standing_goes_along, never_frmr, send_whole}, sessions.SessionEvents.{each_event_meets_latest}}
 use Rattle.x25_line.proofs.law.sessions_keep_order.Goals as goal
 
@@ -17,6 +18,7 @@ returns c =
       agree = throughout_of below.reads laws _ (agree below.reads laws);
       meets = each_event_meets_latest below.reads laws below.hands_up;
       idle = idle_has_arrived below.reads laws;
+      unasked = none_begin_unasked below.reads laws;
       no_frmr = never_frmr below.reads laws;
       whole = send_whole below.reads laws;
     }

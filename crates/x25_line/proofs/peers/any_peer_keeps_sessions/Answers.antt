@@ -6,11 +6,11 @@ returns c =
     let reads = c.laws_below.ensures.reads in
     let rests = c.laws_below.ensures.healing.sessions in
     record {
-      step = λ s low high w r. step_is reads rests (Unit {0}) s high w r;
-      order = λ s low high w r. order_is reads rests (Unit {0}) s high w r;
-      unmet = λ s low high w r. unmet_is reads rests (Unit {0}) s high w r;
-      agree = λ s low high w r. latest_is reads rests (Unit {0}) s high w r;
-      idle = λ s low high w r. idle_is reads rests (Unit {0}) s high w r;
-      no_frmr = λ s low high w r. (lines reads rests ⊥ s high w r).octets.frmr (λ never. never);
-      asks = λ s low high w r. asked_letters s.role s.longest w.near.begun w.out (h reads rests (Unit {0}) s high w r).tags;
+      step = λ s low high w r. step_is reads rests high r;
+      order = λ s low high w r. order_is reads rests high r;
+      unmet = λ s low high w r. unmet_is reads rests high r;
+      agree = λ s low high w r. latest_is reads rests high r;
+      idle = λ s low high w r. idle_is reads rests high r;
+      no_frmr = λ s low high w r. (lines reads rests high r).octets.frmr (λ never. never);
+      asks = λ s low high w r. asked_letters s.role s.longest w.near.begun w.out (h reads rests high r).tags;
     }

@@ -5,18 +5,18 @@ pub returns-in-Lose-clause-acted : goal.returns-in-Lose-clause-acted
 returns-in-Lose-clause-acted c = λ cfg w side.
     let called = c.lose.ensures in
     rw (c.in-Lose.is, c.reuse.ensures.empty.entries) (record {
-      happened = line_changes cfg c.args.at _ _ _ w c.lose.result _ side (called.happened w side.back) called.only;
+      happened = line_changes _ c.lose.result _ side (called.happened w side.back) called.only;
       refused = loses_or_not c.lose.result _ (called.refused w side.back);
-      stays = line_stays cfg c.args.at _ _ _ w c.lose.result side called.unchanged;
+      stays = line_stays _ c.lose.result side called.unchanged;
     })
 
 pub returns-in-Damage-clause-acted : goal.returns-in-Damage-clause-acted
 returns-in-Damage-clause-acted c = λ cfg w side.
     let called = c.damage.ensures in
     rw (c.in-Damage.is, c.reuse-in-Damage.ensures.empty.entries) (record {
-      happened = line_changes cfg c.args.at _ _ _ w c.damage.result _ side (called.happened w side.back) called.only;
+      happened = line_changes _ c.damage.result _ side (called.happened w side.back) called.only;
       refused = damages_or_not c.damage.result _ (called.refused w side.back);
-      stays = line_stays cfg c.args.at _ _ _ w c.damage.result side called.unchanged;
+      stays = line_stays _ c.damage.result side called.unchanged;
     })
 
 pub returns-in-Command-clause-acted : goal.returns-in-Command-clause-acted

@@ -8,25 +8,25 @@ returns-in-Err-clause-acted c = λ cfg w side.
     rw c.refuse.ensures.error (record {
       happened = tt;
       refused = inr c.in-Err.ensures.refused;
-      stays = rw c.reserve_frames.ensures.line (side_stays cfg c.args.at _ _ c.args.line.now w c.reserve_frames.new.line side side.near);
+      stays = rw c.reserve_frames.ensures.line (side_stays c.args.at c.reserve_frames.new.line side side.near);
     })
 
 pub returns-in_default-get-clause-acted : goal.returns-in_default-get-clause-acted
 returns-in_default-get-clause-acted c = λ cfg w side.
-    let shared = rw (sym c.reserve_frames.ensures.line) at (shared_of cfg c.args.at _ c.args.line.now w c.reserve_frames.new.line side) in
-    let none : None ≡ slice_get w.back 0 = c.in_default-get.ensures ∙ ap (λ l. slice_get l 0) shared.back in
+    let shared = rw (sym c.reserve_frames.ensures.line) at (shared_of c.args.at c.reserve_frames.new.line side) in
+    let none = c.in_default-get.ensures ∙ ap (λ l. slice_get l 0) shared.back in
     rw c.refuse-in_default-get.ensures.error (record {
       happened = tt;
       refused = inl (none_arrives (settings_from c.args.at cfg) w w.back none);
-      stays = rw c.reserve_frames.ensures.line (side_stays cfg c.args.at _ _ c.args.line.now w c.reserve_frames.new.line side side.near);
+      stays = rw c.reserve_frames.ensures.line (side_stays c.args.at c.reserve_frames.new.line side side.near);
     })
 
 pub returns-clause-acted : goal.returns-clause-acted
 returns-clause-acted c = λ cfg w side.
     let fits = side.near in
-    let shared = rw (sym c.reserve_frames.ensures.line) at (shared_of cfg c.args.at _ c.args.line.now w c.reserve_frames.new.line side) in
+    let shared = rw (sym c.reserve_frames.ensures.line) at (shared_of c.args.at c.reserve_frames.new.line side) in
     let called = c.receive.ensures.does in
-    let front : Some c.in-Some.octets.now ≡ slice_get w.back 0 = c.in-Some.ensures ∙ ap (λ l. slice_get l 0) shared.back in
+    let front = c.in-Some.ensures ∙ ap (λ l. slice_get l 0) shared.back in
     record {
       happened = rw (c.put.ensures.line, c.remove.ensures)
           (has_arrived cfg c.args.at c.receive.new.self c.reserve_frames.new.line w w.back c.in-Some.octets.now

@@ -18,18 +18,18 @@ returns-in-Err-clause-acted c = λ cfg w side.
     rw c.refuse-in-Err.ensures.error (record {
       happened = tt;
       refused = inr c.in-Err.ensures.refused;
-      stays = rw c.reserve_frames.ensures.line (side_stays cfg c.args.at _ _ c.args.line.now w c.reserve_frames.new.line side side.near);
+      stays = rw c.reserve_frames.ensures.line (side_stays c.args.at c.reserve_frames.new.line side side.near);
     })
 
 pub returns-in-Ok-clause-acted : goal.returns-in-Ok-clause-acted
 returns-in-Ok-clause-acted c = λ cfg w side.
     let fires = lets_fire (settings_from c.args.at cfg) w (sym (c.awaits_frames.ensures cfg w side) ∙ c.if-awaits_frames.false) in
     let fits = side.near in
-    let shared = rw (sym c.reserve_frames.ensures.line) at (shared_of cfg c.args.at _ c.args.line.now w c.reserve_frames.new.line side) in
+    let shared = rw (sym c.reserve_frames.ensures.line) at (shared_of c.args.at c.reserve_frames.new.line side) in
     let called = c.in-Ok.ensures.does in
     record {
       happened = rw (fires, c.put.ensures.line)
-          (has_happened cfg c.args.at c.t1.new.self _ w _ c.t1.new.out shared
+          (has_happened cfg c.t1.new.self _ c.t1.new.out shared
           (called.state _ _ fits) (called.frames _ _ fits) (called.entries _ _ fits) (called.refused _ _ fits));
       refused = tt;
       stays = tt;
@@ -43,7 +43,7 @@ returns-in-Err-t1-clause-acted c = λ cfg w side.
     record {
       happened = tt;
       refused = rw (fires, c.of_station.ensures) (is_refusal cfg c.args.at w _ c.in-Err-t1.error (called.refused _ _ fits));
-      stays = rw c.reserve_frames.ensures.line (side_stays cfg c.args.at _ _ c.args.line.now w c.reserve_frames.new.line side (called.stays _ _ fits));
+      stays = rw c.reserve_frames.ensures.line (side_stays c.args.at c.reserve_frames.new.line side (called.stays _ _ fits));
     }
 
 pub returns-in-Ok-clause-places : goal.returns-in-Ok-clause-places

@@ -52,6 +52,7 @@ returns c =
       agree = sessions.agree;
       meets = sessions.meets;
       idle = sessions.idle;
+      unasked = sessions.unasked;
       no_frmr = sessions.no_frmr;
       whole = sessions.whole;
       machine = sessions.machine;

@@ -1,15 +1,15 @@
 -- Octets come, over set-up and re-set-up: the link takes them, and the layer the packet that the link hands up, which is the next of those that
 -- the other end gave in its latest session.
-use Rattle.std.proofs.{Common.{◌≡◌, ℕ, zero, suc, ◌≤◌, ◌<◌, inl, inr, List, [], ◌∷◌, ◌++◌, remove, Bool, true, false, if◌then◌else◌, Option, Some, None, Result, Ok, refl, sym, ap, ◌∙◌, subst, append_assoc, arith}, lemmas.Bool.{and_parts}}
+use Rattle.std.proofs.{Common.{◌≡◌, ℕ, zero, suc, ◌≤◌, ◌<◌, inl, inr, List, [], ◌∷◌, ◌++◌, remove, Bool, true, false, if◌then◌else◌, Option, Some, None, Ok, refl, sym, ap, ◌∙◌, subst, append_assoc, arith}, lemmas.Bool.{and_parts}}
 use Rattle.std.proofs.lemmas.List.{append_cancel_left, map-append}
 use Rattle.x25_bits.specs.{declared.role.Role.{Role}, declared.role.Role.TheVariants.{Dte, Dce}}
-use Rattle.x25_packet.specs.{Packet.{PlainPacket}, declared.error.PacketError.{PacketError}}
+use Rattle.x25_packet.specs.Packet.{PlainPacket}
 use Rattle.x25_handshakes.specs.{laws.Histories.{IsPrefix}, laws.Names.{Name}}
 use Rattle.x25_link.specs.Link.{take_step, abandon_step}
 use Rattle.x25_line.specs.laws.Sessions.{SessionEnd, Meeting, Sessions}
 use Rattle.x25_line.specs.laws.SessionClaims.{Each, SomeMet, IsNoEarlier, InStep, MetAreInOrder, UnmetHandNothingUp, octets_of}
 use Rattle.x25_line.specs.laws.SessionEvents.{EachEventMeetsLatest, MeetsOne}
-use Rattle.x25_layer.specs.{Layer.{LayerSettings, Layer, LayerNotice, layer_answers}, code.FitsLayer.{is_full}, laws.TwoLayers.{HandsUp, moves_in}}
+use Rattle.x25_layer.specs.{Layer.{LayerNotice, layer_answers}, code.FitsLayer.{is_full}, laws.TwoLayers.{HandsUp, moves_in}}
 use Rattle.x25_layer.specs.{laws.RoundLaw.{moves_all, pulls_of}, laws.Apart.{OwnMove, Takes, Ends, own_run, AreInOrder}}
 use Rattle.x25_layer.specs.laws.ApartLaw.{BeginsRestarted, IsToldFirst}
 use Rattle.x25_station.specs.{declared.config.Cfg.{Cfg}, Config.{Settings, settings_from, layer_settings}, Entry.{layer_notices}}
@@ -29,7 +29,7 @@ use Rattle.x25_world.proofs.sessions.SessionFollows.{no_command, up_puts, silent
 use Rattle.x25_world.proofs.sessions.acts.SessionRequests.{pair_goes, pair_stays, puts_readable, joins}
 use Rattle.x25_line.proofs.ends.Meetings.{all_no_earlier}
 use Rattle.x25_peer.proofs.sessions.LinkSteps.{SessionGoes, StepGoes, step_as, deliver_goes, abandon_goes, spelled, PutsRead, HasPut, puts_spelled}
-use Rattle.x25_link.specs.{Station.{is_up}, Hearing.{other, Step as LinkStep}, laws.NoteLaw.{IsQuiet}, declared.phase.Notes.{Notes}}
+use Rattle.x25_link.specs.{Station.{Settings as LinkSettings, is_up}, Hearing.{other, Step as LinkStep}, laws.NoteLaw.{IsQuiet}}
 use Rattle.x25_line.specs.laws.Stations as line
 use Rattle.x25_line.specs.laws.Sessions as links
 use Rattle.x25_line.specs.laws.SessionClaims as met
@@ -51,10 +51,10 @@ front_of cfg octets rest (p ∷ flight) is = record { packet = p; others = fligh
 
 -- where one of the two met before, they met each other
 met_again : (number : Meeting → ℕ) (m : Meeting) → ((p : Meeting) → (p.near < m.near) × (p.far < m.far) → number p < number m) → (ms : List Meeting) → Each (IsNoEarlier m) ms
-    → SomeMet (λ (p : Meeting). number p ≡ number m) ms → HasMet m.near m.far ms
+    → SomeMet (λ p. number p ≡ number m) ms → HasMet m.near m.far ms
 met_again number m lower [] all some = absurd some
 met_again number m lower (p ∷ ms) all some = elim some [
-  | inl here ↦ elim all.0 [ inl same ↦ inl (same.0, same.1) | inr less ↦ absurd (let lt = lower p less in omega (arith, here, lt)) ]
+  | inl here ↦ elim all.0 [ inl same ↦ inl (same.0, same.1) | inr less ↦ absurd (omega (arith, here, lower p less)) ]
   | inr there ↦ inr (met_again number m lower ms all.1 there)
 ]
 
@@ -67,6 +67,16 @@ next_at cfg Dte ends packet channels begins = (λ out. begins, nothing_goes cfg.
 next_at cfg Dce ends packet channels begins = (λ out. begins, nothing_goes cfg.long_data cfg.channels Dce (own_pulls channels) _ (pulls_take_nothing channels))
 
 module _ {since : Beginning} (laws : SessionLaws) (cfg : Cfg) (fine : IsConfigured cfg) (end : Role) (w : World) (h : SessionsJoined since cfg end w) (is_at : IsAt since end Receives) where
+  abbrev ours : Settings
+  ours = settings_from end cfg
+
+  abbrev lc : LinkSettings
+  lc = link_of cfg end
+
+  -- by a step of the end, with nothing that its user gave
+  abbrev To : World → Type 0
+  To u = Goes since cfg end h.links gave_none u
+
   abbrev here : ℕ
   here = h.links.near.begun
 
@@ -79,23 +89,23 @@ module _ {since : Beginning} (laws : SessionLaws) (cfg : Cfg) (fine : IsConfigur
   -- the latest sessions of both are in order, as they meet
   pair_now : InStep (now_met ∷ h.links.met) → PairIsInOrder cfg end h.trace here there
   pair_now step =
-      let unmet = known_sessions UnmetHandNothingUp laws.unmet cfg fine end h.links h.reach in
+      let unmet = known_sessions UnmetHandNothingUp laws.unmet fine h.reach in
       let earlier = all_no_earlier now_met h.links.met step in
       elim (unmet.near here) [
         | inl empty ↦ elim (unmet.far there) [
           | inl empty_there ↦ nothing_in_order cfg end h.trace here there (h.near.alone here empty) (h.far.alone there empty_there)
-          | inr some ↦ met_in_order cfg end h.trace h.links.met here there h.pairs (met_again (λ (p : Meeting). p.far) now_met (λ p less. less.1) h.links.met earlier some)
+          | inr some ↦ met_in_order cfg end h.trace h.links.met here there h.pairs (met_again (λ p. p.far) now_met (λ p less. less.1) h.links.met earlier some)
         ]
-        | inr some ↦ met_in_order cfg end h.trace h.links.met here there h.pairs (met_again (λ (p : Meeting). p.near) now_met (λ p less. less.0) h.links.met earlier some)
+        | inr some ↦ met_in_order cfg end h.trace h.links.met here there h.pairs (met_again (λ p. p.near) now_met (λ p less. less.0) h.links.met earlier some)
       ]
 
   record HaveMet (v : Sessions) : Type 0 where
     pub pairs : PairsAreInOrder cfg end h.trace v.met
     pub more : (n m : ℕ) → HasMet n m h.links.met → HasMet n m v.met
 
-  have_met : (v : Sessions) (e f : SessionEnd) → SessionsReach since cfg end v → MeetsOne line.Deliver now_met e f h.links.met v.met → HaveMet v
-  have_met v e f reach one = elim one [
-    | inl now ↦ (let step = subst InStep now.met (known_sessions met.MeetInStep laws.step cfg fine end v reach) in
+  have_met : {v : Sessions} {e f : SessionEnd} → SessionsReach since cfg end v → MeetsOne line.Deliver now_met e f h.links.met v.met → HaveMet v
+  have_met {v} reach one = elim one [
+    | inl now ↦ (let step = subst InStep now.met (known_sessions met.MeetInStep laws.step fine reach) in
         record {
           pairs = subst (PairsAreInOrder cfg end h.trace) (sym now.met) (pair_now step, h.pairs);
           more = λ n m has. rw now.met (inr has);
@@ -114,46 +124,46 @@ module _ {since : Beginning} (laws : SessionLaws) (cfg : Cfg) (fine : IsConfigur
 
     -- the link is left, and the octets are lost
     abbrev gone : Sessions
-    gone = links.acts (link_of cfg end) (line.Lose 0) (links.acts (link_of cfg end) line.Abandon h.links)
+    gone = links.acts lc (line.Lose 0) (links.acts lc line.Abandon h.links)
 
-    abandoned : abandons (settings_from end cfg) w.near ≡ true → IsKept (follows (settings_from end cfg) w.near.layer (abandon_step (link_of cfg end) w.near.link)).near
-        → Goes since cfg end h.links gave_none (after_step (settings_from end cfg) w back (follows (settings_from end cfg) w.near.layer (abandon_step (link_of cfg end) w.near.link)))
+    abandoned : abandons ours w.near ≡ true → IsKept (follows ours w.near.layer (abandon_step lc w.near.link)).near
+        → To (after_step ours w back (follows ours w.near.layer (abandon_step lc w.near.link)))
     abandoned full kept =
         let c = link_of cfg end in
-        let up : is_up w.near.link.phase ≡ true = (and_parts (is_up w.near.link.phase) (is_full (layer_settings (settings_from end cfg)) w.near.layer) full).0 in
+        let up : is_up w.near.link.phase ≡ true = (and_parts (is_up w.near.link.phase) (is_full (layer_settings ours) w.near.layer) full).0 in
         let k = abandon_step c w.near.link in
-        subst (λ (os : List (List ℕ)). Goes since cfg end h.links gave_none (after_step (settings_from end cfg) w os (follows (settings_from end cfg) w.near.layer k))) (ap (λ (es : List links.Entry). octets_of (remove es 0)) came.is ∙ came.left)
+        subst (λ os. To (after_step ours w os (follows ours w.near.layer k))) (ap (λ es. octets_of (remove es 0)) came.is ∙ came.left)
         (follows_silent laws cfg fine end w h no_command (remove h.links.back 0) k gone h.links.met
-        (sessions_act cfg end (line.Lose 0) (links.acts c line.Abandon h.links) tt (λ off s same. tt) (may_ask end Receives (line.Lose 0) is_at refl)
-        (sessions_act cfg end line.Abandon h.links tt (λ off s same. tt) (may_ask end Receives line.Abandon is_at tt) h.reach))
+        (sessions_act laws.unasked fine tt (λ off. tt) (may_ask (line.Lose 0) is_at refl)
+        (sessions_act laws.unasked fine tt (λ off. tt) (may_ask line.Abandon is_at tt) h.reach))
         h.pairs (λ n m has. has) (laws.stations.abandon_tells c w.near.link) (abandon_goes c h.links w.near.link h.near.link up) refl refl kept)
 
     -- ---- where the link takes the octets
 
     abbrev taken : LinkStep
-    taken = take_step (link_of cfg end) octets w.near.link
+    taken = take_step lc octets w.near.link
 
     abbrev after_taken : Sessions
-    after_taken = links.acts (link_of cfg end) line.Deliver h.links
+    after_taken = links.acts lc line.Deliver h.links
 
     reach_taken : SessionsReach since cfg end after_taken
-    reach_taken = sessions_act cfg end line.Deliver h.links tt (λ off s same. tt) (may_ask end Receives line.Deliver is_at tt) h.reach
+    reach_taken = sessions_act laws.unasked fine tt (λ off. tt) (may_ask line.Deliver is_at tt) h.reach
 
-    goes_taken : StepGoes (link_of cfg end) h.links after_taken taken came.others after_taken.met
-    goes_taken = subst (λ (os : List ℕ). StepGoes (link_of cfg end) h.links after_taken (take_step (link_of cfg end) os w.near.link) came.others after_taken.met) came.octets
-        (deliver_goes (link_of cfg end) h.links w.near.link came.entry came.others h.near.link came.is)
+    goes_taken : StepGoes lc h.links after_taken taken came.others after_taken.met
+    goes_taken = subst (λ os. StepGoes lc h.links after_taken (take_step lc os w.near.link) came.others after_taken.met) came.octets
+        (deliver_goes lc h.links w.near.link came.entry came.others h.near.link came.is)
 
     meets_one : MeetsOne line.Deliver now_met h.links.near after_taken.near h.links.met after_taken.met
-    meets_one = known_sessions EachEventMeetsLatest laws.meets cfg fine end h.links h.reach (line.Near line.Deliver)
+    meets_one = known_sessions EachEventMeetsLatest laws.meets fine h.reach (line.Near line.Deliver)
 
     met_taken : HaveMet after_taken
-    met_taken = have_met after_taken h.links.near after_taken.near reach_taken meets_one
+    met_taken = have_met reach_taken meets_one
 
     -- ---- a packet is handed up
 
     module _ (not_up : taken.notes.up ≡ false) (packet_octets : List ℕ) (some : taken.packet ≡ Some packet_octets) where
-      goes_up_one : SessionGoes (link_of cfg end) h.links after_taken here taken.side.near taken.side.out [] (packet_octets ∷ []) came.others after_taken.met
-      goes_up_one = step_as (link_of cfg end) h.links after_taken taken came.others after_taken.met false (Some packet_octets) not_up some goes_taken
+      goes_up_one : SessionGoes lc h.links after_taken here taken.side.near taken.side.out [] (packet_octets ∷ []) came.others after_taken.met
+      goes_up_one = step_as taken false (Some packet_octets) not_up some goes_taken
 
       up_more : after_taken.near.up here ≡ h.links.near.up here ++ packet_octets ∷ []
       up_more = goes_up_one.up here ∙ here_extended h.links.near.up here (packet_octets ∷ [])
@@ -172,7 +182,7 @@ module _ {since : Beginning} (laws : SessionLaws) (cfg : Cfg) (fine : IsConfigur
           never e = cc
 
       met_in_step : InStep (now_met ∷ h.links.met)
-      met_in_step = subst InStep met_now (known_sessions met.MeetInStep laws.step cfg fine end after_taken reach_taken)
+      met_in_step = subst InStep met_now (known_sessions met.MeetInStep laws.step fine reach_taken)
 
       paired : PairIsInOrder cfg end h.trace here there
       paired = pair_now met_in_step
@@ -180,9 +190,9 @@ module _ {since : Beginning} (laws : SessionLaws) (cfg : Cfg) (fine : IsConfigur
       -- what was handed up is a beginning of what the other was handed down
       begins_down : (rest : List (List ℕ)) × (h.links.near.up here ++ (packet_octets ∷ rest) ≡ h.links.far.down there)
       begins_down =
-          let order = (subst (Each (met.IsInOrder after_taken.near after_taken.far)) met_now (known_sessions MetAreInOrder laws.order cfg fine end after_taken reach_taken)).0.back in (
+          let order = (subst (Each (met.IsInOrder after_taken.near after_taken.far)) met_now (known_sessions MetAreInOrder laws.order fine reach_taken)).0.back in (
             order.0,
-            sym (append_assoc (h.links.near.up here) (packet_octets ∷ []) order.0) ∙ ap (λ (l : List (List ℕ)). l ++ order.0) (sym up_more) ∙ order.1 ∙ ap (λ (e : SessionEnd). e.down there) goes_up_one.far,
+            sym (append_assoc (h.links.near.up here) (packet_octets ∷ []) order.0) ∙ ap (λ l. l ++ order.0) (sym up_more) ∙ order.1 ∙ ap (λ e. e.down there) goes_up_one.far,
           )
 
       -- so it began a session
@@ -198,7 +208,7 @@ module _ {since : Beginning} (laws : SessionLaws) (cfg : Cfg) (fine : IsConfigur
           by (suc n) is = omega (arith, is)
 
       up : is_up w.near.link.phase ≡ true
-      up = ap is_up ((laws.stations.take_hands_up (link_of cfg end) octets w.near.link).up packet_octets some)
+      up = ap is_up ((laws.stations.take_hands_up lc octets w.near.link).up packet_octets some)
 
       abbrev own_here : layer.End
       own_here = own cfg end here h.trace
@@ -220,7 +230,7 @@ module _ {since : Beginning} (laws : SessionLaws) (cfg : Cfg) (fine : IsConfigur
           let coming = packet_octets ∷ begins_down.0 in
           let given : all_read cfg was ++ all_read cfg coming ≡ all_read cfg was ++ as_read flight =
           sym (map-append (read_by cfg) was coming) ∙ ap (all_read cfg) begins_down.1 ∙ far ∙ ap as_read given_is ∙ map-append is_read own_here.taken flight
-          ∙ ap (λ (l : List (Result PlainPacket PacketError)). l ++ as_read flight) (sym near) in
+          ∙ ap (λ l. l ++ as_read flight) (sym near) in
           front_of cfg packet_octets begins_down.0 flight (append_cancel_left (all_read cfg was) (all_read cfg coming) (as_read flight) given)
 
       -- the layer takes the packet in front
@@ -232,20 +242,20 @@ module _ {since : Beginning} (laws : SessionLaws) (cfg : Cfg) (fine : IsConfigur
         trace_on = h.trace ++ moved end here moves
 
         begins_own : IsPrefix (own_here.taken ++ in_front.packet ∷ []) own_there.given
-        begins_own = (in_front.others, append_assoc own_here.taken (in_front.packet ∷ []) in_front.others ∙ ap (λ (l : List PlainPacket). own_here.taken ++ l) (sym in_front.is) ∙ sym given_is)
+        begins_own = (in_front.others, append_assoc own_here.taken (in_front.packet ∷ []) in_front.others ∙ ap (λ l. own_here.taken ++ l) (sym in_front.is) ∙ sym given_is)
 
         pair_on : PairIsInOrder cfg end trace_on here there
         pair_on =
             pair_goes laws cfg end h.trace here moves there paired
             (next_at cfg end (pair_ends cfg end here there h.trace) in_front.packet channels
-            (rw (here_is laws cfg end here there h.trace) (subst (λ (e : layer.End). IsPrefix (own_here.taken ++ in_front.packet ∷ []) e.given) (sym (there_is laws cfg end here there h.trace)) begins_own)))
+            (rw (here_is laws cfg end here there h.trace) (subst (λ e. IsPrefix (own_here.taken ++ in_front.packet ∷ []) e.given) (sym (there_is laws cfg end here there h.trace)) begins_own)))
 
         others_on : (ms : List Meeting) → Each (IsNoEarlier now_met) ms → PairsAreInOrder cfg end h.trace ms → PairsAreInOrder cfg end trace_on ms
         others_on [] earlier pairs = tt
         others_on (p ∷ ms) earlier pairs = (
           elim earlier.0 [
-            | inl same ↦ rw same.0 (subst (λ (m : ℕ). PairIsInOrder cfg end trace_on here m) (sym same.1) pair_on)
-            | inr less ↦ pair_stays laws cfg end h.trace here moves p.near p.far (λ (e : p.near ≡ here). (let lt = less.0 in omega (arith, lt, e))) pairs.0
+            | inl same ↦ rw same.0 (subst (λ m. PairIsInOrder cfg end trace_on here m) (sym same.1) pair_on)
+            | inr less ↦ pair_stays laws cfg end h.trace here moves p.near p.far (λ e. (omega (arith, less.0, e))) pairs.0
           ],
           others_on ms earlier.1 pairs.1,
         )
@@ -256,12 +266,12 @@ module _ {since : Beginning} (laws : SessionLaws) (cfg : Cfg) (fine : IsConfigur
         -- the first packet is told as a restart by the other end
         restarts : (told : List LayerNotice) → (own cfg end here trace_on).taken ≡ own_here.taken ++ in_front.packet ∷ [] → (own cfg end here trace_on).told ≡ own_here.told ++ told → own_here.taken ≡ [] → BeginsRestarted told
         restarts told taken_on told_on none =
-            let before : own_here.told ≡ [] = subst (λ (ps : List PlainPacket). IsToldFirst ps own_here.told) none (own_first laws cfg end here there h.trace paired) in
-            subst (λ (ns : List LayerNotice). IsToldFirst (in_front.packet ∷ []) ns) (told_on ∙ ap (λ (ns : List LayerNotice). ns ++ told) before)
-            (subst (λ (ps : List PlainPacket). IsToldFirst ps (own cfg end here trace_on).told) (taken_on ∙ ap (λ (ps : List PlainPacket). ps ++ in_front.packet ∷ []) none) (own_first laws cfg end here there trace_on pair_on))
+            let before : own_here.told ≡ [] = subst (λ ps. IsToldFirst ps own_here.told) none (own_first laws cfg end here there h.trace paired) in
+            subst (λ ns. IsToldFirst (in_front.packet ∷ []) ns) (told_on ∙ ap (λ ns. ns ++ told) before)
+            (subst (λ ps. IsToldFirst ps (own cfg end here trace_on).told) (taken_on ∙ ap (λ ps. ps ++ in_front.packet ∷ []) none) (own_first laws cfg end here there trace_on pair_on))
 
       abbrev step : Step
-      step = follows (settings_from end cfg) w.near.layer taken
+      step = follows ours w.near.layer taken
 
       abbrev begin : layer.TwoLayers
       begin = apart.alone own_here (in_front.packet ∷ [])
@@ -273,100 +283,99 @@ module _ {since : Beginning} (laws : SessionLaws) (cfg : Cfg) (fine : IsConfigur
       near_on channels = near_pulls (layer_of cfg end) (layer.moves (layer_of cfg end) begin HandsUp) channels
 
       -- the layer takes it, and pulls at these channels
-      joined_on : abandons (settings_from end cfg) w.near ≡ false → (channels : List ℕ) × IsJoined (settings_from end cfg) begin (world_on channels) taken.side [] step
+      joined_on : abandons ours w.near ≡ false → (channels : List ℕ) × IsJoined ours begin (world_on channels) taken.side [] step
       joined_on none =
-          let c : Settings = settings_from end cfg in
+          let c = settings_from end cfg in
           let now = h.near.now up in
           let j = laws.stations.receive c w.near.link begin octets packet_octets in_front.packet [] now.out refl
-          (ap (λ (l : Layer). abandons c (station_with w.near.link l)) now.layer ∙ none) some in_front.reads in
+          (ap (λ l. abandons c (station_with w.near.link l)) now.layer ∙ none) some in_front.reads in
           let is : receives c (station_with w.near.link own_here.layer) octets ≡ step =
-          ap (λ (l : Layer). receives c (station_with w.near.link l) octets) now.layer
-          ∙ ap (λ (b : Bool). follows c w.near.layer (if b then abandon_step (link_of cfg end) w.near.link else taken)) none in
-          (j.0, subst (λ (s : Step). IsJoined c begin (world_on j.0) taken.side [] s) is j.2)
+          ap (λ l. receives c (station_with w.near.link l) octets) now.layer
+          ∙ ap (λ b. follows c w.near.layer (if b then abandon_step lc w.near.link else taken)) none in
+          (j.0, subst (λ s. IsJoined c begin (world_on j.0) taken.side [] s) is j.2)
 
-      joined_readable : (none : abandons (settings_from end cfg) w.near ≡ false) → AreReadable cfg.wide cfg.long_data (joined_on none).1.packets
+      joined_readable : (none : abandons ours w.near ≡ false) → AreReadable cfg.wide cfg.long_data (joined_on none).1.packets
       joined_readable none =
           let j = joined_on none in
-          puts_readable laws cfg fine end w h (moves j.0) j.1.packets (ap (λ (e : layer.End). e.given) (sym (near_on j.0)) ∙ j.1.layer.given) (tt, pulls_bring_octets cfg.wide end here j.0) (there, pair_on j.0)
+          puts_readable laws cfg fine end w h (moves j.0) j.1.packets (ap (λ e. e.given) (sym (near_on j.0)) ∙ j.1.layer.given) (tt, pulls_bring_octets cfg.wide end here j.0) (there, pair_on j.0)
 
-      packets_put : (none : abandons (settings_from end cfg) w.near ≡ false) → PutsRead (settings_from end cfg) taken.side (joined_on none).1.packets (spelled (joined_on none).1.packets) step
-      packets_put none = (let j = joined_on none in puts_spelled (settings_from end cfg) taken.side j.1.packets step j.1.link (joined_readable none))
+      packets_put : (none : abandons ours w.near ≡ false) → PutsRead ours taken.side (joined_on none).1.packets (spelled (joined_on none).1.packets) step
+      packets_put none = (let j = joined_on none in puts_spelled j.1.link (joined_readable none))
 
-      handed_puts : abandons (settings_from end cfg) w.near ≡ false → HasPut (settings_from end cfg) taken.side step
+      handed_puts : abandons ours w.near ≡ false → HasPut ours taken.side step
       handed_puts none = (let j = joined_on none in record { handed = spelled j.1.packets; packets = j.1.packets; put = packets_put none })
 
       -- what it confirms is told
       counts_taken : (channels : List ℕ) → IsQuiet taken → (k : ℕ) (name : Name) → confirmed_in k name step.entries ≤ counted_in (layer_of cfg end) k name (moves channels) own_here
       counts_taken channels quiet k name =
-          let c : LayerSettings = layer_of cfg end in
-          let p : PlainPacket = in_front.packet in
+          let c = layer_of cfg end in
+          let p = in_front.packet in
           let now = h.near.now up in
-          let told = heard_confirms cfg end w.near.layer taken packet_octets p some quiet in_front.reads k name in
           let is : counted_by c k name own_here (Takes p) ≡ counted_at c k name w.near.layer (layer_answers c w.near.layer p).next =
-          ap (λ (gone : Bool). counted_at c k name own_here.layer (moves_in c (apart.alone own_here (p ∷ [])) gone HandsUp).near.layer) now.out
-          ∙ ap (λ (l : Layer). counted_at c k name l (layer_answers c l p).next) now.layer in
-          omega (arith, told, is)
+          ap (λ gone. counted_at c k name own_here.layer (moves_in c (apart.alone own_here (p ∷ [])) gone HandsUp).near.layer) now.out
+          ∙ ap (λ l. counted_at c k name l (layer_answers c l p).next) now.layer in
+          omega (arith, heard_confirms cfg end w.near.layer taken packet_octets p some quiet in_front.reads k name, is)
 
-      handed : abandons (settings_from end cfg) w.near ≡ false → IsKept step.near → Goes since cfg end h.links gave_none (after_step (settings_from end cfg) w (octets_of came.others) step)
+      handed : abandons ours w.near ≡ false → IsKept step.near → To (after_step ours w (octets_of came.others) step)
       unfolding joined_on
       handed none kept =
-          let hands = laws.stations.take_hands_up (link_of cfg end) octets w.near.link in
-          let quiet : IsQuiet taken = hands.quiet packet_octets some in
-          let up_after : is_up taken.side.near.phase ≡ true = (laws.stations.take_tells (link_of cfg end) octets w.near.link).stays quiet ∙ up in
+          let hands = laws.stations.take_hands_up lc octets w.near.link in
+          let quiet = hands.quiet packet_octets some in
+          let up_after : is_up taken.side.near.phase ≡ true = (laws.stations.take_tells lc octets w.near.link).stays quiet ∙ up in
           let f = in_front in
           let j = joined_on none in
           let near = near_on j.0 in
           let takes = take_takes (layer_of cfg end) own_here f.packet j.0 (h.near.now up).out in
           let all = own_goes cfg end here h.trace (moves j.0) in
           joins laws cfg fine end w h step after_taken taken.side (world_on j.0) (moves j.0) j.1.packets (f.packet ∷ []) (f.packet ∷ []) (spelled j.1.packets) (packet_octets ∷ [])
-          (ap (λ (r : Result PlainPacket PacketError). r ∷ []) f.reads) came.others goes_up_one up up_after (packets_put none) j.1.layer near takes (heard_plain (settings_from end cfg) w.near.layer taken packet_octets some quiet) kept (tt, pulls_bring_octets cfg.wide end here j.0) (there, pair_on j.0)
+          (ap (λ r. r ∷ []) f.reads) came.others goes_up_one up up_after (packets_put none) j.1.layer near takes (heard_plain ours w.near.layer taken packet_octets some quiet) kept (tt, pulls_bring_octets cfg.wide end here j.0) (there, pair_on j.0)
           (heard_beside cfg end w.near.layer taken packet_octets f.packet some quiet f.reads) gave_none
           (rw (spelled_bring laws.stations cfg j.1.packets (joined_readable none)) tt) (counts_taken j.0 quiet)
-          (λ o. may_ask end Receives (line.Put o) is_at tt) reach_taken (λ nothing. absurd (cc)) (pairs_on j.0) met_taken.more
+          (λ o. may_ask (line.Put o) is_at tt) reach_taken (λ nothing. absurd (cc)) (pairs_on j.0) met_taken.more
           (λ first. inr (record {
             has_met = rw met_now (inl (refl, refl));
-            restarts = restarts j.0 (layer_notices step.entries) (ap (λ (e : layer.End). e.taken) all ∙ takes) (ap (λ (e : layer.End). e.told) all ∙ ap (λ (e : layer.End). e.told) (sym near) ∙ j.1.layer.told) first;
+            restarts = restarts j.0 (layer_notices step.entries) (ap (λ e. e.taken) all ∙ takes) (ap (λ e. e.told) all ∙ ap (λ e. e.told) (sym near) ∙ j.1.layer.told) first;
             begun = there_begun;
           }))
 
     -- ---- what the layer puts
 
-    pub taken_puts : abandons (settings_from end cfg) w.near ≡ false → HasPut (settings_from end cfg) taken.side (follows (settings_from end cfg) w.near.layer taken)
+    pub taken_puts : abandons ours w.near ≡ false → HasPut ours taken.side (follows ours w.near.layer taken)
     taken_puts none = by taken.notes.up taken.packet refl refl
       where
-        by : (up : Bool) (o : Option (List ℕ)) → taken.notes.up ≡ up → taken.packet ≡ o → HasPut (settings_from end cfg) taken.side (follows (settings_from end cfg) w.near.layer taken)
-        by true o up is = up_puts laws cfg fine end w h taken (laws.stations.take_tells (link_of cfg end) octets w.near.link) up
+        by : (up : Bool) (o : Option (List ℕ)) → taken.notes.up ≡ up → taken.packet ≡ o → HasPut ours taken.side (follows ours w.near.layer taken)
+        by true o up is = up_puts laws cfg fine end w h (laws.stations.take_tells lc octets w.near.link) up
         by false None up is = silent_puts cfg end w.near.layer taken is up
         by false (Some packet_octets) up is = handed_puts up packet_octets is none
 
     -- ---- all that may come
 
-    takes_joined : abandons (settings_from end cfg) w.near ≡ false → IsKept (follows (settings_from end cfg) w.near.layer taken).near
-        → Goes since cfg end h.links gave_none (after_step (settings_from end cfg) w (octets_of came.others) (follows (settings_from end cfg) w.near.layer taken))
+    takes_joined : abandons ours w.near ≡ false → IsKept (follows ours w.near.layer taken).near
+        → To (after_step ours w (octets_of came.others) (follows ours w.near.layer taken))
     takes_joined none kept = by taken.notes.up taken.packet refl refl
       where
-        by : (up : Bool) (o : Option (List ℕ)) → taken.notes.up ≡ up → taken.packet ≡ o → Goes since cfg end h.links gave_none (after_step (settings_from end cfg) w (octets_of came.others) (follows (settings_from end cfg) w.near.layer taken))
+        by : (up : Bool) (o : Option (List ℕ)) → taken.notes.up ≡ up → taken.packet ≡ o → To (after_step ours w (octets_of came.others) (follows ours w.near.layer taken))
         by true None up is =
-            follows_up laws cfg fine end w h no_command came.others taken after_taken after_taken.met reach_taken met_taken.pairs met_taken.more (laws.stations.take_tells (link_of cfg end) octets w.near.link) goes_taken (λ o. may_ask end Receives (line.Put o) is_at tt) up is kept
+            follows_up laws cfg fine end w h no_command came.others taken after_taken after_taken.met reach_taken met_taken.pairs met_taken.more (laws.stations.take_tells lc octets w.near.link) goes_taken (λ o. may_ask (line.Put o) is_at tt) up is kept
         by true (Some packet_octets) up is =
-            true_false (sym up ∙ ap (λ (n : Notes). n.up) ((laws.stations.take_hands_up (link_of cfg end) octets w.near.link).quiet packet_octets is))
+            true_false (sym up ∙ ap (λ n. n.up) ((laws.stations.take_hands_up lc octets w.near.link).quiet packet_octets is))
         by false None up is =
-            follows_silent laws cfg fine end w h no_command came.others taken after_taken after_taken.met reach_taken met_taken.pairs met_taken.more (laws.stations.take_tells (link_of cfg end) octets w.near.link) goes_taken up is kept
+            follows_silent laws cfg fine end w h no_command came.others taken after_taken after_taken.met reach_taken met_taken.pairs met_taken.more (laws.stations.take_tells lc octets w.near.link) goes_taken up is kept
         by false (Some packet_octets) up is = handed up packet_octets is none kept
 
-    came_joined : Goes since cfg end h.links gave_none (after_step (settings_from end cfg) w back (receives (settings_from end cfg) w.near octets))
-    came_joined = by (abandons (settings_from end cfg) w.near) refl (laws.stations.receive_keeps (settings_from end cfg) w.near octets h.near.kept)
+    came_joined : To (after_step ours w back (receives ours w.near octets))
+    came_joined = by (abandons ours w.near) refl (laws.stations.receive_keeps ours w.near octets h.near.kept)
       where
         step : Bool → Step
-        step b = follows (settings_from end cfg) w.near.layer (if b then abandon_step (link_of cfg end) w.near.link else taken)
+        step b = follows ours w.near.layer (if b then abandon_step lc w.near.link else taken)
 
-        by : (b : Bool) → abandons (settings_from end cfg) w.near ≡ b → IsKept (step b).near → Goes since cfg end h.links gave_none (after_step (settings_from end cfg) w back (step b))
+        by : (b : Bool) → abandons ours w.near ≡ b → IsKept (step b).near → To (after_step ours w back (step b))
         by true is kept = abandoned is kept
         by false is kept = rw (sym came.left) (takes_joined is kept)
 
-  pub receives_joined : Goes since cfg end h.links gave_none (after w (delivered (settings_from end cfg) w w.back))
+  pub receives_joined : To (after w (delivered ours w w.back))
   receives_joined = by w.back refl
     where
-      by : (l : List (List ℕ)) → w.back ≡ l → Goes since cfg end h.links gave_none (after w (delivered (settings_from end cfg) w l))
-      by [] is = stays cfg end w h gave_none
+      by : (l : List (List ℕ)) → w.back ≡ l → To (after w (delivered ours w l))
+      by [] is = stays h gave_none
       by (octets ∷ back) is = came_joined octets back is

@@ -63,14 +63,17 @@ module _ (laws : SessionLaws) (cfg : Cfg) (end : Role) (trace : List Done) (sess
   -- where nothing is taken all are
   pub pair_goes_quietly : TakeNothing moves → (n m : ℕ) → PairIsInOrder cfg end trace n m → PairIsInOrder cfg end trace_on n m
   pair_goes_quietly nothing n m order = same_or_not n session
-      (λ (is : n ≡ session). rw is (pair_goes m (subst (λ (k : ℕ). PairIsInOrder cfg end trace k m) is order) (nothing_goes cfg.long_data cfg.channels end moves (pair_ends cfg end session m trace) nothing)))
-      (λ (differs : n ≡ session → ⊥). pair_stays n m differs order)
+      (λ is. rw is (pair_goes m (subst (λ k. PairIsInOrder cfg end trace k m) is order) (nothing_goes cfg.long_data cfg.channels end moves (pair_ends cfg end session m trace) nothing)))
+      (λ differs. pair_stays n m differs order)
 
   pub pairs_go_quietly : TakeNothing moves → (met : List Meeting) → PairsAreInOrder cfg end trace met → PairsAreInOrder cfg end trace_on met
   pairs_go_quietly nothing met pairs =
-      all_map (λ (p : Meeting). PairIsInOrder cfg end trace p.near p.far) (λ (p : Meeting). PairIsInOrder cfg end trace_on p.near p.far) (λ (p : Meeting) order. pair_goes_quietly nothing p.near p.far order) met pairs
+      all_map (λ p. PairIsInOrder cfg end trace p.near p.far) (λ p. PairIsInOrder cfg end trace_on p.near p.far) (λ (p : Meeting) order. pair_goes_quietly nothing p.near p.far order) met pairs
 
 module _ {since : Beginning} (laws : SessionLaws) (cfg : Cfg) (fine : IsConfigured cfg) (end : Role) (w : World) (h : SessionsJoined since cfg end w) where
+  abbrev ours : Settings
+  ours = settings_from end cfg
+
   abbrev session : ℕ
   session = h.links.near.begun
 
@@ -89,13 +92,13 @@ module _ {since : Beginning} (laws : SessionLaws) (cfg : Cfg) (fine : IsConfigur
       → (m : ℕ) × PairIsInOrder cfg end (h.trace ++ moved end session moves) session m → AreReadable cfg.wide cfg.long_data packets
   puts_readable moves packets given octets paired =
       readable_behind cfg.wide cfg.long_data own_now.given packets
-      (subst (AreReadable cfg.wide cfg.long_data) (ap (λ (e : layer.End). e.given) (own_goes cfg end session h.trace moves) ∙ given)
+      (subst (AreReadable cfg.wide cfg.long_data) (ap (λ e. e.given) (own_goes cfg end session h.trace moves) ∙ given)
       (own_readable laws cfg fine end session paired.0 (h.trace ++ moved end session moves) paired.1 (octets_append cfg.wide h.trace (moved end session moves) h.octets octets)))
 
   -- the link's own step is at `v`, with the side `t`; behind it go the octets of the packets that the layer puts
   module _ (step : Step) (v : Sessions) (t : Side) (u : layer.TwoLayers) (moves : List OwnMove) (packets lifted coming : List PlainPacket) (handed came : List (List ℕ)) (took : all_read cfg came ≡ as_read lifted) (left : List links.Entry)
       (g : SessionGoes (link_of cfg end) h.links v session t.near t.out [] came left v.met) (up : is_up w.near.link.phase ≡ true) (up_after : is_up t.near.phase ≡ true)
-      (p : PutsRead (settings_from end cfg) t packets handed step) (m : MovesAs (apart.alone own_now coming) u packets step) (near : u.near ≡ own_run (layer_of cfg end) moves own_now)
+      (p : PutsRead ours t packets handed step) (m : MovesAs (apart.alone own_now coming) u packets step) (near : u.near ≡ own_run (layer_of cfg end) moves own_now)
       (taken : (own_run (layer_of cfg end) moves own_now).taken ≡ own_now.taken ++ lifted) (plain : ArePlain step.entries) (kept : IsKept step.near)
       (octets : BringOctets cfg.wide (moved end session moves)) (paired : (m : ℕ) × PairIsInOrder cfg end (h.trace ++ moved end session moves) session m)
       (tells : AreTold (came_in step.entries) (brought cfg came)) (gave : ℕ → List Gave) (gives : AreSomeOf IsGiven (brought cfg handed) (gave session))
@@ -104,25 +107,25 @@ module _ {since : Beginning} (laws : SessionLaws) (cfg : Cfg) (fine : IsConfigur
     own_then = own_run (layer_of cfg end) moves own_now
 
     told_then : own_then.told ≡ own_now.told ++ layer_notices step.entries
-    told_then = ap (λ (e : layer.End). e.told) (sym near) ∙ m.told
+    told_then = ap (λ e. e.told) (sym near) ∙ m.told
 
     pub joins : ((octets : List ℕ) → MayAsk since end (line.Put octets)) → SessionsReach since cfg end v → (lifted ≡ [] → TakeNothing moves) → PairsAreInOrder cfg end (h.trace ++ moved end session moves) v.met → ((n m : ℕ) → HasMet n m h.links.met → HasMet n m v.met)
         → (own_now.taken ≡ [] → ((lifted ≡ []) × (layer_notices step.entries ≡ [])) ⊎ IsNews session h.links.far.begun v.met (layer_notices step.entries))
-        → Goes since cfg end h.links gave (after_step (settings_from end cfg) w (octets_of left) step)
+        → Goes since cfg end h.links gave (after_step ours w (octets_of left) step)
     joins asks reach alone pairs more news =
-        let r = puts_go (settings_from end cfg) h.links v session packets handed t step came left v.met g p in
+        let r = puts_go ours h.links v session packets handed t step came left v.met g p in
         goes_on cfg end w h step left (all_act (link_of cfg end) (puts_of handed) v) v.met moves packets lifted handed came (back_read cfg handed packets p.readable) took (back_octets cfg handed packets p.readable) r
         (record {
-          layer = ap (λ (e : layer.End). e.layer) (sym near) ∙ m.layer;
-          out = ap (λ (e : layer.End). e.is_out) (sym near) ∙ m.up;
-          given = ap (λ (e : layer.End). e.given) (sym near) ∙ m.given;
+          layer = ap (λ e. e.layer) (sym near) ∙ m.layer;
+          out = ap (λ e. e.is_out) (sym near) ∙ m.up;
+          given = ap (λ e. e.given) (sym near) ∙ m.given;
           taken = taken;
-          entries = ap (λ (e : layer.End). e.entries) (sym near) ∙ m.entries;
+          entries = ap (λ e. e.entries) (sym near) ∙ m.entries;
           told = told_then;
         })
-        up (puts_up laws.stations.put_tells (settings_from end cfg) t packets handed step p up_after) plain kept tells gave gives counts (puts_reach cfg end handed v asks reach) alone
+        up (puts_up laws.stations.put_tells p up_after) plain kept tells gave gives counts (puts_reach laws.unasked cfg fine end handed v asks reach) alone
         (no_faults_behind own_now.told (layer_notices step.entries)
-        (subst AreNoFaults (ap (λ (e : layer.End). e.told) (own_goes cfg end session h.trace moves) ∙ told_then) (own_quiet laws cfg end session paired.0 (h.trace ++ moved end session moves) paired.1).told))
+        (subst AreNoFaults (ap (λ e. e.told) (own_goes cfg end session h.trace moves) ∙ told_then) (own_quiet laws cfg end session paired.0 (h.trace ++ moved end session moves) paired.1).told))
         octets pairs more news
 
   -- ---- a command
@@ -133,7 +136,7 @@ module _ {since : Beginning} (laws : SessionLaws) (cfg : Cfg) (fine : IsConfigur
     packets : List PlainPacket
     handed : List (List ℕ)
     layer : MovesAs (apart.alone own_now []) (moves_all (layer_of cfg end) (apart.alone own_now []) (Requested (waits w.near.link.outgoing == 256) request ∷ pulls_of channels)) packets step
-    puts : AreReadable cfg.wide cfg.long_data packets → PutsRead (settings_from end cfg) (alone w.near.link) packets handed step
+    puts : AreReadable cfg.wide cfg.long_data packets → PutsRead ours (alone w.near.link) packets handed step
     up : is_up w.near.link.phase ≡ true
     may : command.may_ask cfg.wide request ≡ true
     plain : ArePlain step.entries
@@ -162,35 +165,35 @@ module _ {since : Beginning} (laws : SessionLaws) (cfg : Cfg) (fine : IsConfigur
     pair_on = (let pair = session_pair session in (pair.0, pair_goes_quietly laws cfg end h.trace session moves (tt, pulls_take_nothing a.channels) session pair.0 pair.1))
 
     asked_readable : AreReadable cfg.wide cfg.long_data a.packets
-    asked_readable = puts_readable moves a.packets (ap (λ (e : layer.End). e.given) (sym near_on) ∙ a.layer.given) ((octets, a.may), pulls_bring_octets cfg.wide end session a.channels) pair_on
+    asked_readable = puts_readable moves a.packets (ap (λ e. e.given) (sym near_on) ∙ a.layer.given) ((octets, a.may), pulls_bring_octets cfg.wide end session a.channels) pair_on
 
-    asked_puts : HasPut (settings_from end cfg) (alone w.near.link) step
+    asked_puts : HasPut ours (alone w.near.link) step
     asked_puts = record { handed = a.handed; packets = a.packets; put = a.puts asked_readable }
 
-    asked_joined : ((o : List ℕ) → MayAsk since end (line.Put o)) → Goes since cfg end h.links gave (after_step (settings_from end cfg) w w.back step)
+    asked_joined : ((o : List ℕ) → MayAsk since end (line.Put o)) → Goes since cfg end h.links gave (after_step ours w w.back step)
     asked_joined may =
         let nothing : TakeNothing moves = (tt, pulls_take_nothing a.channels) in
         let leaves = asked_leaves (layer_of cfg end) begin (Requested full request ∷ pulls_of a.channels) (tt, pulls_asked a.channels) in
         let untold : layer_notices step.entries ≡ [] =
         append_cancel_left own_now.told (layer_notices step.entries) [] (sym a.layer.told ∙ leaves.told ∙ sym (append-nil own_now.told)) in
-        subst (λ (os : List (List ℕ)). Goes since cfg end h.links gave (after_step (settings_from end cfg) w os step)) h.back
-        (joins step h.links (alone w.near.link) world_on moves a.packets [] [] a.handed [] refl h.links.back (stays_goes (link_of cfg end) h.links w.near.link h.near.link) a.up a.up (a.puts asked_readable) a.layer near_on (ap (λ (e : layer.End). e.taken) (sym near_on) ∙ leaves.taken ∙ sym (append-nil own_now.taken))
-        a.plain a.kept ((octets, a.may), pulls_bring_octets cfg.wide end session a.channels) pair_on (rw a.alone tt) gave (a.gives asked_readable) (λ k name. (let none = a.uncounted k name in omega (arith, none)))
+        subst (λ os. Goes since cfg end h.links gave (after_step ours w os step)) h.back
+        (joins step h.links (alone w.near.link) world_on moves a.packets [] [] a.handed [] refl h.links.back (stays_goes (link_of cfg end) h.links w.near.link h.near.link) a.up a.up (a.puts asked_readable) a.layer near_on (ap (λ e. e.taken) (sym near_on) ∙ leaves.taken ∙ sym (append-nil own_now.taken))
+        a.plain a.kept ((octets, a.may), pulls_bring_octets cfg.wide end session a.channels) pair_on (rw a.alone tt) gave (a.gives asked_readable) (λ k name. (omega (arith, a.uncounted k name)))
         may h.reach (λ none. nothing) (pairs_go_quietly laws cfg end h.trace session moves nothing h.links.met h.pairs) (λ n m has. has) (λ none. inl (refl, untold)))
 
   -- ---- without anything given
 
-  request_asked : (request : LayerRequest) (step : Step) → requests (settings_from end cfg) w.near request ≡ Did step → IsAsked request [] step
+  request_asked : (request : LayerRequest) (step : Step) → requests ours w.near request ≡ Did step → IsAsked request [] step
   request_asked request step is =
-      let c : Settings = settings_from end cfg in
+      let c = settings_from end cfg in
       let granted = did_granted c w.near request step is in
       let now = h.near.now granted.is_up in
-      let j = laws.stations.request c w.near.link (apart.alone own_now []) request step now.out h.near.kept.few (ap (λ (l : Layer). requests c (station_with w.near.link l) request) now.layer ∙ is) in
+      let j = laws.stations.request c w.near.link (apart.alone own_now []) request step now.out h.near.kept.few (ap (λ l. requests c (station_with w.near.link l) request) now.layer ∙ is) in
       record {
         channels = j.0;
         packets = j.2.packets;
         handed = spelled j.2.packets;
-        puts = puts_spelled c (alone w.near.link) j.2.packets step j.2.link;
+        puts = puts_spelled j.2.link;
         layer = j.2.layer;
         up = granted.is_up;
         may = granted.is_taken;
@@ -201,16 +204,16 @@ module _ {since : Beginning} (laws : SessionLaws) (cfg : Cfg) (fine : IsConfigur
         kept = subst KeptBy is (laws.stations.request_keeps c w.near request h.near.kept);
       }
 
-  pub request_puts : (request : LayerRequest) → RequestsOctets request → (step : Step) → requests (settings_from end cfg) w.near request ≡ Did step → HasPut (settings_from end cfg) (alone w.near.link) step
+  pub request_puts : (request : LayerRequest) → RequestsOctets request → (step : Step) → requests ours w.near request ≡ Did step → HasPut ours (alone w.near.link) step
   request_puts request octets step is = asked_puts request octets gave_none step (request_asked request step is)
 
   -- what is asked for may be said in full
-  pub requests_joined : (asked request : LayerRequest) → IsAt since end (Commands (command.Requests asked)) → RequestsOctets request → Goes since cfg end h.links gave_none (after w (of_station (settings_from end cfg) w (requests (settings_from end cfg) w.near request)))
-  requests_joined asked request is_at octets = by (requests (settings_from end cfg) w.near request) refl
+  pub requests_joined : (asked request : LayerRequest) → IsAt since end (Commands (command.Requests asked)) → RequestsOctets request → Goes since cfg end h.links gave_none (after w (of_station ours w (requests ours w.near request)))
+  requests_joined asked request is_at octets = by (requests ours w.near request) refl
     where
-      by : (o : Outcome) → requests (settings_from end cfg) w.near request ≡ o → Goes since cfg end h.links gave_none (after w (of_station (settings_from end cfg) w o))
-      by (Did step) is = asked_joined request octets gave_none step (request_asked request step is) (λ o. may_ask end (Commands (command.Requests asked)) (line.Put o) is_at tt)
-      by (Refused e) is = stays cfg end w h gave_none
+      by : (o : Outcome) → requests ours w.near request ≡ o → Goes since cfg end h.links gave_none (after w (of_station ours w o))
+      by (Did step) is = asked_joined request octets gave_none step (request_asked request step is) (λ o. may_ask (line.Put o) is_at tt)
+      by (Refused e) is = stays h gave_none
 
   -- ---- with something given
 
@@ -218,22 +221,22 @@ module _ {since : Beginning} (laws : SessionLaws) (cfg : Cfg) (fine : IsConfigur
   abbrev pub gave_by_request : PlainGiven → LayerRequest → Option WorldError → ℕ → List Gave
   gave_by_request g request refusal n = gave_where (n == session) refusal (record { channel = channel_for (layer_of cfg end) w.near.layer request; given = g })
 
-  given_asked : (g : PlainGiven) (request : LayerRequest) → GivesOctets g → (step : Step) → gives (settings_from end cfg) w.near g request ≡ Did step → IsAsked request (gave_by_request g request None session) step
+  given_asked : (g : PlainGiven) (request : LayerRequest) → GivesOctets g → (step : Step) → gives ours w.near g request ≡ Did step → IsAsked request (gave_by_request g request None session) step
   given_asked g request of_given step is =
-      let c : Settings = settings_from end cfg in
+      let c = settings_from end cfg in
       let granted = gave_granted c w.near g request step is in
       let now = h.near.now granted.is_up in
-      let j = laws.stations.given c g w.near.link (apart.alone own_now []) request step now.out h.near.kept.few (ap (λ (l : Layer). gives c (station_with w.near.link l) g request) now.layer ∙ is) in
+      let j = laws.stations.given c g w.near.link (apart.alone own_now []) request step now.out h.near.kept.few (ap (λ l. gives c (station_with w.near.link l) g request) now.layer ∙ is) in
       let taken = and_parts c.wide (may_give g && suits g request) granted.is_taken in
       let may = and_parts (may_give g) (suits g request) taken.1 in
-      let first = subst (λ (l : Layer). FirstMayGo g (channel_for (layer_of cfg end) l request) j.2.packets) now.layer
+      let first = subst (λ l. FirstMayGo g (channel_for (layer_of cfg end) l request) j.2.packets) now.layer
       (own_goes_first (layer_of cfg end) g own_now (waits w.near.link.outgoing == 256) request j.0 j.2.packets now.out may.1 granted.next granted.own
-      (ap (λ (l : Layer). layer_outcome (layer_of cfg end) (waits w.near.link.outgoing == 256) l request) now.layer ∙ granted.accepted) j.2.layer.given) in
+      (ap (λ l. layer_outcome (layer_of cfg end) (waits w.near.link.outgoing == 256) l request) now.layer ∙ granted.accepted) j.2.layer.given) in
       record {
         channels = j.0;
         packets = j.2.packets;
         handed = spelled_with g j.2.packets;
-        puts = puts_spelled_with laws.stations.given_read c g (alone w.near.link) j.2.packets step taken.0 may.0 of_given j.2.link;
+        puts = puts_spelled_with laws.stations.given_read taken.0 may.0 of_given j.2.link;
         layer = j.2.layer;
         up = granted.is_up;
         may = suits_asks cfg.wide g request may.1;
@@ -242,20 +245,20 @@ module _ {since : Beginning} (laws : SessionLaws) (cfg : Cfg) (fine : IsConfigur
         uncounted = λ k name. ap (confirmed_in k name) granted.entries ∙ outcome_counts (layer_settings c) w.near.layer request _ k name;
         gives = λ readable.
             (let channel = channel_for (layer_of cfg end) w.near.layer request in
-            subst (λ (b : Bool). AreSomeOf IsGiven (brought cfg (spelled_with g j.2.packets)) (gave_where b None (record { channel = channel; given = g }))) (sym (same_number session))
+            subst (λ b. AreSomeOf IsGiven (brought cfg (spelled_with g j.2.packets)) (gave_where b None (record { channel = channel; given = g }))) (sym (same_number session))
             (spelled_with_bring laws.stations cfg g channel taken.0 may.0 of_given j.2.packets first readable));
         kept = subst KeptBy is (laws.stations.given_keeps c w.near g request h.near.kept);
       }
 
-  pub given_puts : (g : PlainGiven) (request : LayerRequest) → GivesOctets g → RequestsOctets request → (step : Step) → gives (settings_from end cfg) w.near g request ≡ Did step → HasPut (settings_from end cfg) (alone w.near.link) step
+  pub given_puts : (g : PlainGiven) (request : LayerRequest) → GivesOctets g → RequestsOctets request → (step : Step) → gives ours w.near g request ≡ Did step → HasPut ours (alone w.near.link) step
   given_puts g request of_given octets step is = asked_puts request octets (gave_by_request g request None) step (given_asked g request of_given step is)
 
   pub gives_joined : (g : PlainGiven) (asked request : LayerRequest) → IsAt since end (Commands (command.RequestsWith g asked)) → GivesOctets g → RequestsOctets request
-      → (let o = of_station (settings_from end cfg) w (gives (settings_from end cfg) w.near g request) in Goes since cfg end h.links (gave_by_request g request (refusal_of o)) (after w o))
-  gives_joined g asked request is_at of_given octets = by (gives (settings_from end cfg) w.near g request) refl
+      → (let o = of_station ours w (gives ours w.near g request) in Goes since cfg end h.links (gave_by_request g request (refusal_of o)) (after w o))
+  gives_joined g asked request is_at of_given octets = by (gives ours w.near g request) refl
     where
-      by : (o : Outcome) → gives (settings_from end cfg) w.near g request ≡ o
-          → Goes since cfg end h.links (gave_by_request g request (refusal_of (of_station (settings_from end cfg) w o))) (after w (of_station (settings_from end cfg) w o))
+      by : (o : Outcome) → gives ours w.near g request ≡ o
+          → Goes since cfg end h.links (gave_by_request g request (refusal_of (of_station ours w o))) (after w (of_station ours w o))
       by (Did step) is =
-          asked_joined request octets (gave_by_request g request None) step (given_asked g request of_given step is) (λ o. may_ask end (Commands (command.RequestsWith g asked)) (line.Put o) is_at tt)
-      by (Refused e) is = stays cfg end w h (gave_by_request g request (refusal_of (of_station (settings_from end cfg) w (Refused e))))
+          asked_joined request octets (gave_by_request g request None) step (given_asked g request of_given step is) (λ o. may_ask (line.Put o) is_at tt)
+      by (Refused e) is = stays h (gave_by_request g request (refusal_of (of_station ours w (Refused e))))

@@ -2,14 +2,14 @@
 use Rattle.std.proofs.Common.{◌≡◌, ℕ, ◌≤◌, inl, inr, List, [], length, Bool, true, false, Some, refl, sym, ap, ◌∙◌, subst, arith, Option, None, if◌then◌else◌, ◌+◌, ◌==◌, zero, suc, nat_le}
 use Rattle.std.proofs.lemmas.Bool.{eqb-true, eq-eqb, leb-true, and_parts, true_from_ne_false}
 use Rattle.x25_bits.specs.{declared.role.Role.{Role}, declared.role.Role.TheVariants.{Dte, Dce}}
-use Rattle.x25_link.specs.{Hearing.{other}, Station.{LinkStation, is_up}}
+use Rattle.x25_link.specs.{Hearing.{other}, Station.{is_up}}
 use Rattle.x25_line.specs.{laws.Sessions.{Meeting}, laws.SessionClaims.{EachMeetsLatest, IdleHasArrived}}
 use Rattle.x25_circuit.specs.{declared.state.State.{State}, declared.state.State.TheVariants.{Open}, Circuit.{is_free_in, is_open_in, is_open, Circuit, waits}}
 use Rattle.x25_handshakes.specs.laws.Names.{Name}
-use Rattle.x25_layer.specs.{declared.ranges.Ranges.{Ranges}, Layer.{Layer, rested, is_channel}, laws.Transcript.{Entry, name_of}, laws.Law.{HasAllOf, IsIdleTo}}
+use Rattle.x25_layer.specs.{declared.ranges.Ranges.{Ranges}, Layer.{Layer, rested, is_channel}, laws.Transcript.{name_of}, laws.Law.{HasAllOf, IsIdleTo}}
 use Rattle.x25_layer.specs.code.FitsLayer.{waits_up_to}
 use Rattle.x25_station.specs.{declared.config.Cfg.{Cfg}, Config.{settings_from}, Station.{Station}, laws.KeepLaw.{IsKept}, Station.Told.{is_idle, stretch}}
-use Rattle.x25_world.specs.{World.{World, swapped}, laws.Sessions.{Progress, last_session, handed_in, meets}, laws.SessionClaims.{OpenStretchesMeet, AllArrive}}
+use Rattle.x25_world.specs.{World.{World}, laws.Sessions.{last_session, handed_in, meets}, laws.SessionClaims.{OpenStretchesMeet, AllArrive}}
 use Rattle.x25_world.specs.laws.LawsBelow.{SessionLaws}
 use Rattle.x25_world.proofs.{Known.{IsConfigured, true_false}, Growing.{all_read, as_read, none_read, as_many}}
 use Rattle.x25_world.proofs.{sessions.SessionTrace.{layer_of, Done, own_in, own}, sessions.SessionReaches.{Beginning, known_sessions}}
@@ -56,8 +56,8 @@ none_waits circuits (suc n) k none low high =
     lower le not_same = omega (arith, le, not_same)
 
     by : (b : Bool) → (k == suc n) ≡ b → (k ≤ n → waits (circuits k) ≡ 0) → waits (circuits (suc n)) ≡ 0 → waits (circuits k) ≡ 0
-    by true is rest here = ap (λ (j : ℕ). waits (circuits j)) (eqb-true k (suc n) is) ∙ here
-    by false is rest here = rest (lower high (λ (e : k ≡ suc n). true_false (sym (eq-eqb k (suc n) e) ∙ is)))
+    by true is rest here = ap (λ j. waits (circuits j)) (eqb-true k (suc n) is) ∙ here
+    by false is rest here = rest (lower high (λ e. true_false (sym (eq-eqb k (suc n) e) ∙ is)))
 
 -- ---- an end that is idle
 
@@ -74,14 +74,13 @@ idle_between cfg end s t giver taker k name of_giver of_taker idle here there al
     let bounds = and_parts (nat_le 1 k) (nat_le k cfg.channels.count) opened.channel in
     let none : waits (s.layer.circuits k) ≡ 0 =
     none_waits s.layer.circuits cfg.channels.count k (eqb-true (waits_up_to s.layer.circuits cfg.channels.count) 0 both.1) (leb-true 1 k bounds.0) (leb-true k cfg.channels.count bounds.1) in
-    let count : length taker.taken ≡ length giver.given = as_many taker.taken giver.given all in
     record {
       all_acked = refl;
-      acked_taken = omega (arith, count);
-      no_message = ap (λ (l : Layer). waits (l.circuits k)) of_giver ∙ none;
-      opened = ap (λ (l : Layer). is_open (l.circuits k)) of_giver ∙ opened.opened;
-      opened_there = ap (λ (l : Layer). is_open (l.circuits k)) of_taker ∙ opened_there.opened;
-      same_name = ap (λ (l : Layer). name_of l k) of_giver ∙ opened.named ∙ sym (ap (λ (l : Layer). name_of l k) of_taker ∙ opened_there.named);
+      acked_taken = omega (arith, as_many taker.taken giver.given all);
+      no_message = ap (λ l. waits (l.circuits k)) of_giver ∙ none;
+      opened = ap (λ l. is_open (l.circuits k)) of_giver ∙ opened.opened;
+      opened_there = ap (λ l. is_open (l.circuits k)) of_taker ∙ opened_there.opened;
+      same_name = ap (λ l. name_of l k) of_giver ∙ opened.named ∙ sym (ap (λ l. name_of l k) of_taker ∙ opened_there.named);
     }
 
 -- ---- an open stretch
@@ -91,8 +90,8 @@ not_both Open free opened = absurd (cc)
 not_both s free opened = absurd (cc)
 
 -- the link is up
-pub up_where_open : (s : Station) (k : ℕ) → IsKept s → is_open (s.layer.circuits k) ≡ true → is_up s.link.phase ≡ true
-up_where_open s k kept opened = true_from_ne_false (is_up s.link.phase) (λ off. rested_not (ap (λ (l : Layer). is_open (l.circuits k)) (sym (kept.rests off)) ∙ opened))
+pub up_where_open : {s : Station} (k : ℕ) → IsKept s → is_open (s.layer.circuits k) ≡ true → is_up s.link.phase ≡ true
+up_where_open {s} k kept opened = true_from_ne_false (is_up s.link.phase) (λ off. rested_not (ap (λ l. is_open (l.circuits k)) (sym (kept.rests off)) ∙ opened))
   where
     rested_not : is_open ((rested s.layer).circuits k) ≡ true → ⊥
     rested_not e = cc
@@ -114,11 +113,11 @@ pub record StandingMeet {since : Beginning} (cfg : Cfg) (end : Role) (w : World)
   pub has_met : HasMet h.links.near.begun h.links.far.begun h.links.met
   pub begun : (1 ≤ h.links.near.begun) × (1 ≤ h.links.far.begun)
 
-module _ (laws : SessionLaws) (cfg : Cfg) (fine : IsConfigured cfg) where
+module _ (laws : SessionLaws) {cfg : Cfg} (fine : IsConfigured cfg) where
   -- ---- the sessions that stand
 
-  pub meet_from : {since : Beginning} (end : Role) (w : World) (h : SessionsJoined since cfg end w) (k : ℕ) (name : Name) → stretch (settings_from end cfg) w.near k ≡ Some name → StandingMeet cfg end w h
-  meet_from end w h k name here = elim (h.near_hears n) [ inl none ↦ absurd (not_silent none.0) | inr one ↦ standing one.session (is_latest one.session one.has_met) one.told one.has_met one.begun.1 ]
+  pub meet_from : {since : Beginning} {end : Role} {w : World} (h : SessionsJoined since cfg end w) (k : ℕ) (name : Name) → stretch (settings_from end cfg) w.near k ≡ Some name → StandingMeet cfg end w h
+  meet_from {end} {w} h k name here = elim (h.near_hears n) [ inl none ↦ absurd (not_silent none.0) | inr one ↦ standing one.session (is_latest one.session one.has_met) one.told one.has_met one.begun.1 ]
     where
       n : ℕ
       n = h.links.near.begun
@@ -127,7 +126,7 @@ module _ (laws : SessionLaws) (cfg : Cfg) (fine : IsConfigured cfg) where
       open_here = (stretch_of cfg.channels w.near.layer k name here).opened
 
       up : is_up w.near.link.phase ≡ true
-      up = up_where_open w.near k h.near.kept open_here
+      up = up_where_open k h.near.kept open_here
 
       -- an end that took nothing has no channel open
       not_silent : h.links.near.up n ≡ [] → ⊥
@@ -135,61 +134,61 @@ module _ (laws : SessionLaws) (cfg : Cfg) (fine : IsConfigured cfg) where
           let e = own cfg end n h.trace in
           let session = h.near.sessions n (h.near.first up) (omega arith) in
           let silent = laws.alone (layer_of cfg end) (own_in end n h.trace) (none_read e.taken (sym session.up ∙ ap (all_read cfg) nothing)) in
-          not_both (e.layer.circuits k).state (silent.free k) (ap (λ (l : Layer). is_open (l.circuits k)) (h.near.now up).layer ∙ open_here)
+          not_both (e.layer.circuits k).state (silent.free k) (ap (λ l. is_open (l.circuits k)) (h.near.now up).layer ∙ open_here)
 
       is_latest : (m : ℕ) → HasMet n m h.links.met → m ≡ h.links.far.begun
       is_latest m met =
-          all_some (λ (p : Meeting). p.near ≡ n → p.far ≡ h.links.far.begun) (λ (p : Meeting). (p.near ≡ n) × (p.far ≡ m)) (m ≡ h.links.far.begun) (λ (p : Meeting) only is. sym is.1 ∙ only is.0) h.links.met
-          ((known_sessions EachMeetsLatest laws.agree cfg fine end h.links h.reach).near (ap (λ (x : LinkStation). is_up x.phase) h.near.link ∙ up)) met
+          all_some (λ p. p.near ≡ n → p.far ≡ h.links.far.begun) (λ p. (p.near ≡ n) × (p.far ≡ m)) (m ≡ h.links.far.begun) (λ (p : Meeting) only is. sym is.1 ∙ only is.0) h.links.met
+          ((known_sessions EachMeetsLatest laws.agree fine h.reach).near (ap (λ x. is_up x.phase) h.near.link ∙ up)) met
 
       standing : (m : ℕ) → m ≡ h.links.far.begun → meets end n w.transcript ≡ Some m → HasMet n m h.links.met → 1 ≤ m → StandingMeet cfg end w h
       standing m same told met low = record {
         up = up;
-        told = told ∙ ap (λ (x : ℕ). Some x) same;
+        told = told ∙ ap (λ x. Some x) same;
         has_met = rw (sym same) met;
-        begun = (h.near.first up, subst (λ (x : ℕ). 1 ≤ x) same low);
+        begun = (h.near.first up, subst (λ x. 1 ≤ x) same low);
       }
 
-  pub latest_near : {since : Beginning} (end : Role) (w : World) (h : SessionsJoined since cfg end w) → h.links.near.begun ≡ last_session end w
-  latest_near end w h = sym (ap (λ (p : Progress). p.begun) h.near.progress)
+  pub latest_near : {since : Beginning} {end : Role} {w : World} (h : SessionsJoined since cfg end w) → h.links.near.begun ≡ last_session end w
+  latest_near h = sym (ap (λ p. p.begun) h.near.progress)
 
-  pub latest_far : {since : Beginning} (end : Role) (w : World) (h : SessionsJoined since cfg end w) → h.links.far.begun ≡ last_session (other end) w
-  latest_far end w h = sym (ap (λ (p : Progress). p.begun) h.far.progress)
+  pub latest_far : {since : Beginning} {end : Role} {w : World} (h : SessionsJoined since cfg end w) → h.links.far.begun ≡ last_session (other end) w
+  latest_far h = sym (ap (λ p. p.begun) h.far.progress)
 
-  latest_meet : {since : Beginning} (end : Role) (w : World) (h : SessionsJoined since cfg end w) (k : ℕ) (name : Name) → stretch (settings_from end cfg) w.near k ≡ Some name
+  latest_meet : {since : Beginning} {end : Role} {w : World} (h : SessionsJoined since cfg end w) (k : ℕ) (name : Name) → stretch (settings_from end cfg) w.near k ≡ Some name
       → meets end (last_session end w) w.transcript ≡ Some (last_session (other end) w)
-  latest_meet end w h k name here =
-      rw (sym (latest_near end w h)) ((meet_from end w h k name here).told ∙ ap (λ (m : ℕ). Some m) (latest_far end w h))
+  latest_meet {end} {w} h k name here =
+      rw (sym (latest_near h)) ((meet_from h k name here).told ∙ ap (λ m. Some m) (latest_far h))
 
   pub open_stretches_meet : {since : Beginning} (w : World) → SessionsJoined since cfg Dte w → OpenStretchesMeet cfg w
-  open_stretches_meet w h Dte channel there name name_there here at_other = latest_meet Dte w h channel name here
-  open_stretches_meet w h Dce channel there name name_there here at_other = latest_meet Dce (swapped w) (sessions_swapped cfg Dte w h) channel name here
+  open_stretches_meet w h Dte channel there name name_there here at_other = latest_meet h channel name here
+  open_stretches_meet w h Dce channel there name name_there here at_other = latest_meet (sessions_swapped h) channel name here
 
   -- ---- all arrived
 
-  arrives_from : {since : Beginning} (end : Role) (w : World) → SessionsJoined since cfg end w → (k : ℕ) (name : Name) → is_idle (settings_from end cfg) w.near ≡ true → stretch (settings_from end cfg) w.near k ≡ Some name
+  arrives_from : {since : Beginning} {end : Role} {w : World} → SessionsJoined since cfg end w → (k : ℕ) (name : Name) → is_idle (settings_from end cfg) w.near ≡ true → stretch (settings_from end cfg) w.near k ≡ Some name
       → stretch (settings_from (other end) cfg) w.far k ≡ Some name → HasAllOf k name (handed_in end (last_session end w) w) (handed_in (other end) (last_session (other end) w) w)
-  arrives_from end w h k name idle here there =
-      let stands = meet_from end w h k name here in
+  arrives_from {end} {w} h k name idle here there =
+      let stands = meet_from h k name here in
       let n = h.links.near.begun in
       let m = h.links.far.begun in
       let giver = own cfg end n h.trace in
       let taker = own cfg (other end) m h.trace in
       let of_giver = (h.near.now stands.up).layer in
-      let of_taker = (h.far.now (up_where_open w.far k h.far.kept (stretch_of cfg.channels w.far.layer k name there).opened)).layer in
+      let of_taker = (h.far.now (up_where_open k h.far.kept (stretch_of cfg.channels w.far.layer k name there).opened)).layer in
       let near_session = h.near.sessions n stands.begun.0 (omega arith) in
       let far_session = h.far.sessions m stands.begun.1 (omega arith) in
-      let met = some_map (λ (p : Meeting). (p.near ≡ n) × (p.far ≡ m)) (λ (p : Meeting). p.near ≡ n) (λ (p : Meeting) is. is.0) h.links.met stands.has_met in
-      let arrived = (known_sessions IdleHasArrived laws.idle cfg fine end h.links h.reach).near (ap (λ (x : LinkStation). link.is_idle x) h.near.link ∙ link_idle cfg end w.near idle) (inr met) in
+      let met = some_map (λ p. p.near ≡ n) (λ (p : Meeting) is. is.0) h.links.met stands.has_met in
+      let arrived = (known_sessions IdleHasArrived laws.idle fine h.reach).near (ap (λ x. link.is_idle x) h.near.link ∙ link_idle cfg end w.near idle) (inr met) in
       let all : as_read taker.taken ≡ as_read giver.given = sym far_session.up ∙ ap (all_read cfg) arrived ∙ near_session.down in
-      let named : name_of giver.layer k ≡ name = ap (λ (l : Layer). name_of l k) of_giver ∙ (stretch_of cfg.channels w.near.layer k name here).named in
+      let named : name_of giver.layer k ≡ name = ap (λ l. name_of l k) of_giver ∙ (stretch_of cfg.channels w.near.layer k name here).named in
       let order = met_in_order cfg end h.trace h.links.met n m h.pairs stands.has_met in
       let has_all = own_arrives laws cfg end n m h.trace order k (length giver.given) (idle_between cfg end w.near w.far giver taker k name of_giver of_taker idle here there all) in
-      subst (λ (x : ℕ). HasAllOf k name (handed_in end x w) (handed_in (other end) (last_session (other end) w) w)) (latest_near end w h)
-      (rw (sym (latest_far end w h)) (subst (λ (x : Name). HasAllOf k x (handed_in end n w) (handed_in (other end) m w)) named
-      (subst (λ (es : List Entry). HasAllOf k (name_of giver.layer k) es (handed_in (other end) m w)) near_session.entries
-      (subst (λ (es : List Entry). HasAllOf k (name_of giver.layer k) giver.entries es) far_session.entries has_all))))
+      subst (λ x. HasAllOf k name (handed_in end x w) (handed_in (other end) (last_session (other end) w) w)) (latest_near h)
+      (rw (sym (latest_far h)) (subst (λ x. HasAllOf k x (handed_in end n w) (handed_in (other end) m w)) named
+      (subst (λ es. HasAllOf k (name_of giver.layer k) es (handed_in (other end) m w)) near_session.entries
+      (subst (λ es. HasAllOf k (name_of giver.layer k) giver.entries es) far_session.entries has_all))))
 
   pub all_arrive : {since : Beginning} (w : World) → SessionsJoined since cfg Dte w → AllArrive cfg w
-  all_arrive w h Dte k name idle here there = arrives_from Dte w h k name idle here there
-  all_arrive w h Dce k name idle here there = arrives_from Dce (swapped w) (sessions_swapped cfg Dte w h) k name idle here there
+  all_arrive w h Dte k name idle here there = arrives_from h k name idle here there
+  all_arrive w h Dce k name idle here there = arrives_from (sessions_swapped h) k name idle here there

@@ -4,7 +4,7 @@ use Rattle.x25_bits.specs.{declared.role.Role.{Role}, declared.role.Role.TheVari
 use Rattle.x25_link.specs.Hearing.{other}
 use Rattle.x25_line.specs.{laws.Sessions.{Meeting}, laws.SessionClaims.{Each, IsNoEarlier, InStep, OnlyBegunHaveLists}}
 use Rattle.x25_station.specs.declared.config.Cfg.{Cfg}
-use Rattle.x25_world.specs.{World.{World}, laws.Sessions.{Progress, last_session, meets}, laws.SessionClaims.{MeetInStep}, laws.LawsBelow.{SessionLaws}}
+use Rattle.x25_world.specs.{World.{World}, laws.Sessions.{last_session, meets}, laws.SessionClaims.{MeetInStep}, laws.LawsBelow.{SessionLaws}}
 use Rattle.x25_world.proofs.{Known.{IsConfigured}, sessions.SessionReaches.{Beginning, known_sessions}, sessions.SessionJoined.{HasMet, Hears, SessionsJoined}}
 use Rattle.x25_line.proofs.ends.Meetings.{all_no_earlier, all_some}
 use Rattle.x25_line.specs.laws.SessionClaims as line
@@ -18,22 +18,22 @@ AreInStep n m p q = ((n ≡ p) × (m ≡ q)) ⊎ (((n < p) × (m < q)) ⊎ ((p <
 -- this meeting is no later than one
 below : (x : Meeting) (ms : List Meeting) (n m : ℕ) → Each (IsNoEarlier x) ms → HasMet n m ms → ((n ≡ x.near) × (m ≡ x.far)) ⊎ ((n < x.near) × (m < x.far))
 below x ms n m all some =
-    all_some (IsNoEarlier x) (λ (p : Meeting). (p.near ≡ n) × (p.far ≡ m)) (((n ≡ x.near) × (m ≡ x.far)) ⊎ ((n < x.near) × (m < x.far))) no_later ms all some
+    all_some (IsNoEarlier x) (λ p. (p.near ≡ n) × (p.far ≡ m)) (((n ≡ x.near) × (m ≡ x.far)) ⊎ ((n < x.near) × (m < x.far))) no_later ms all some
   where
     no_later : (p : Meeting) → IsNoEarlier x p → (p.near ≡ n) × (p.far ≡ m) → ((n ≡ x.near) × (m ≡ x.far)) ⊎ ((n < x.near) × (m < x.far))
     no_later p (inl same) is = inl (sym is.0 ∙ same.0, sym is.1 ∙ same.1)
     no_later p (inr less) is = inr (omega (arith, is.0, less.0), omega (arith, is.1, less.1))
 
-two_in_step : (ms : List Meeting) → InStep ms → (n m p q : ℕ) → HasMet n m ms → HasMet p q ms → AreInStep n m p q
-two_in_step [] step n m p q f g = absurd f
-two_in_step (x ∷ ms) step n m p q f g = elim f [
+two_in_step : (ms : List Meeting) → InStep ms → {n m p q : ℕ} → HasMet n m ms → HasMet p q ms → AreInStep n m p q
+two_in_step [] step f g = absurd f
+two_in_step (x ∷ ms) step {n} {m} {p} {q} f g = elim f [
   | inl here ↦ elim g [
     | inl also ↦ inl (sym here.0 ∙ also.0, sym here.1 ∙ also.1)
     | inr there ↦ elim (below x ms p q (all_no_earlier x ms step) there) [ inl same ↦ inl (sym here.0 ∙ sym same.0, sym here.1 ∙ sym same.1) | inr less ↦ inr (inr (higher p x.near n here.0 less.0, higher q x.far m here.1 less.1)) ]
   ]
   | inr there ↦ elim g [
     | inl here ↦ elim (below x ms n m (all_no_earlier x ms step) there) [ inl same ↦ inl (same.0 ∙ here.0, same.1 ∙ here.1) | inr less ↦ inr (inl (higher n x.near p here.0 less.0, higher m x.far q here.1 less.1)) ]
-    | inr also ↦ two_in_step ms step.1 n m p q there also
+    | inr also ↦ two_in_step ms step.1 there also
   ]
 ]
   where
@@ -41,9 +41,9 @@ two_in_step (x ∷ ms) step n m p q f g = elim f [
     higher a b c e lt = omega (arith, e, lt)
 
 -- both were begun
-pub begun_both : (near far : ℕ) (met : List Meeting) (n m : ℕ) → Each (λ (p : Meeting). (p.near ≤ near) × (p.far ≤ far)) met → HasMet n m met → (n ≤ near) × (m ≤ far)
-begun_both near far met n m all some =
-    all_some (λ (p : Meeting). (p.near ≤ near) × (p.far ≤ far)) (λ (p : Meeting). (p.near ≡ n) × (p.far ≡ m)) ((n ≤ near) × (m ≤ far))
+pub begun_both : (near far : ℕ) (met : List Meeting) {n m : ℕ} → Each (λ (p : Meeting). (p.near ≤ near) × (p.far ≤ far)) met → HasMet n m met → (n ≤ near) × (m ≤ far)
+begun_both near far met {n} {m} all some =
+    all_some (λ p. (p.near ≤ near) × (p.far ≤ far)) (λ p. (p.near ≡ n) × (p.far ≡ m)) ((n ≤ near) × (m ≤ far))
     (λ (p : Meeting) le is. (omega (arith, is.0, le.0), omega (arith, is.1, le.1))) met all some
 
 -- ---- by the transcript
@@ -59,11 +59,11 @@ pub record MetBegun (Met : Type 0) (n m : ℕ) : Type 0 where
   pub begun : (1 ≤ n) × (1 ≤ m)
 
 -- nothing is handed up in a session that meets none
-pub unmet_up : (Met : ℕ → ℕ → Type 0) (n : ℕ) (up : List (List ℕ)) (met : Option ℕ) → Hears Met n up met → met ≡ None → up ≡ []
-unmet_up Met n up met h unmet = elim h [ inl none ↦ none.0 | inr one ↦ absurd (none-some one.session (sym unmet ∙ one.told)) ]
+pub unmet_up : (Met : ℕ → ℕ → Type 0) {n : ℕ} {up : List (List ℕ)} {met : Option ℕ} → Hears Met n up met → met ≡ None → up ≡ []
+unmet_up Met h unmet = elim h [ inl none ↦ none.0 | inr one ↦ absurd (none-some one.session (sym unmet ∙ one.told)) ]
 
-pub told_met : (Met : ℕ → ℕ → Type 0) (n m : ℕ) (up : List (List ℕ)) (met : Option ℕ) → Hears Met n up met → met ≡ Some m → MetBegun (Met n m) n m
-told_met Met n m up met hears some = elim hears [
+pub told_met : (Met : ℕ → ℕ → Type 0) {n : ℕ} (m : ℕ) {up : List (List ℕ)} {met : Option ℕ} → Hears Met n up met → met ≡ Some m → MetBegun (Met n m) n m
+told_met Met {n} m hears some = elim hears [
   | inl none ↦ absurd (none-some m (sym none.1 ∙ some))
   | inr one ↦ of_same one.session (some_is one.session m (sym one.told ∙ some)) (record { has_met = one.has_met; begun = one.begun })
 ]
@@ -76,43 +76,42 @@ told_met Met n m up met hears some = elim hears [
 
 module _ {since : Beginning} (laws : SessionLaws) (cfg : Cfg) (fine : IsConfigured cfg) (w : World) (h : SessionsJoined since cfg Dte w) where
   met_by_links : (end : Role) (n m : ℕ) → meets end n w.transcript ≡ Some m → MetBegun (HasMetAt end n m h.links.met) n m
-  met_by_links Dte n m told = told_met (λ (n m : ℕ). HasMet n m h.links.met) n m (h.links.near.up n) (meets Dte n w.transcript) (h.near_hears n) told
-  met_by_links Dce n m told = told_met (λ (n m : ℕ). HasMet m n h.links.met) n m (h.links.far.up n) (meets Dce n w.transcript) (h.far_hears n) told
+  met_by_links Dte n m told = told_met (λ n m. HasMet n m h.links.met) m (h.near_hears n) told
+  met_by_links Dce n m told = told_met (λ n m. HasMet m n h.links.met) m (h.far_hears n) told
 
-  in_step : (n m p q : ℕ) → HasMet n m h.links.met → HasMet p q h.links.met → AreInStep n m p q
-  in_step n m p q f g = two_in_step h.links.met (known_sessions line.MeetInStep laws.step cfg fine Dte h.links h.reach) n m p q f g
+  in_step : {n m p q : ℕ} → HasMet n m h.links.met → HasMet p q h.links.met → AreInStep n m p q
+  in_step {n} {m} {p} {q} f g = two_in_step h.links.met (known_sessions line.MeetInStep laws.step fine h.reach) f g
 
-  begun_at : (n m : ℕ) → HasMet n m h.links.met → (n ≤ last_session Dte w) × (m ≤ last_session Dce w)
-  begun_at n m some =
-      let le = begun_both h.links.near.begun h.links.far.begun h.links.met n m (known_sessions OnlyBegunHaveLists laws.begun cfg fine Dte h.links h.reach).met some in
-      let near = ap (λ (p : Progress). p.begun) h.near.progress in
-      let far = ap (λ (p : Progress). p.begun) h.far.progress in
-      (omega (arith, le.0, near), omega (arith, le.1, far))
+  begun_at : {n m : ℕ} → HasMet n m h.links.met → (n ≤ last_session Dte w) × (m ≤ last_session Dce w)
+  begun_at {n} {m} some =
+      let le = begun_both h.links.near.begun h.links.far.begun h.links.met (known_sessions OnlyBegunHaveLists laws.begun fine h.reach).met some in
+      let near = ap (λ p. p.begun) h.near.progress in
+      (omega (arith, le.0, near), omega (arith, le.1, ap (λ p. p.begun) h.far.progress))
 
   begun : (end : Role) (n m : ℕ) → HasMetAt end n m h.links.met → (n ≤ last_session end w) × (m ≤ last_session (other end) w)
-  begun Dte n m some = begun_at n m some
-  begun Dce n m some = let le = begun_at m n some in (le.1, le.0)
+  begun Dte n m some = begun_at some
+  begun Dce n m some = let le = begun_at some in (le.1, le.0)
 
-  later_met : (n m p q : ℕ) → AreInStep n m p q → n < p → m < q
-  later_met n m p q step less = elim step [
+  later_met : {n m p q : ℕ} → AreInStep n m p q → n < p → m < q
+  later_met step less = elim step [
     | inl same ↦ absurd (omega (arith, same.0, less))
     | inr apart ↦ elim apart [ inl below ↦ below.1 | inr above ↦ absurd (omega (arith, above.0, less)) ]
   ]
 
-  earlier_met : (n m p q : ℕ) → AreInStep n m p q → m < q → n < p
-  earlier_met n m p q step less = elim step [
+  earlier_met : {n m p q : ℕ} → AreInStep n m p q → m < q → n < p
+  earlier_met step less = elim step [
     | inl same ↦ absurd (omega (arith, same.1, less))
     | inr apart ↦ elim apart [ inl below ↦ below.0 | inr above ↦ absurd (omega (arith, above.1, less)) ]
   ]
 
-  same_near : (n m p : ℕ) → AreInStep n m p m → p ≡ n
-  same_near n m p step = elim step [
+  same_near : {n m p : ℕ} → AreInStep n m p m → p ≡ n
+  same_near step = elim step [
     | inl same ↦ sym same.0
     | inr apart ↦ elim apart [ inl below ↦ absurd (omega (arith, below.1)) | inr above ↦ absurd (omega (arith, above.1)) ]
   ]
 
-  same_far : (n m p : ℕ) → AreInStep m n m p → p ≡ n
-  same_far n m p step = elim step [
+  same_far : {n m p : ℕ} → AreInStep m n m p → p ≡ n
+  same_far step = elim step [
     | inl same ↦ sym same.1
     | inr apart ↦ elim apart [ inl below ↦ absurd (omega (arith, below.0)) | inr above ↦ absurd (omega (arith, above.0)) ]
   ]
@@ -125,9 +124,9 @@ module _ {since : Beginning} (laws : SessionLaws) (cfg : Cfg) (fine : IsConfigur
   }
     where
       later : (end : Role) (n p m q : ℕ) → HasMetAt end n m h.links.met → HasMetAt end p q h.links.met → n < p → m < q
-      later Dte n p m q f g less = later_met n m p q (in_step n m p q f g) less
-      later Dce n p m q f g less = earlier_met m n q p (in_step m n q p f g) less
+      later Dte n p m q f g less = later_met (in_step f g) less
+      later Dce n p m q f g less = earlier_met (in_step f g) less
 
       returned : (end : Role) (n m p : ℕ) → HasMetAt end n m h.links.met → HasMetAt (other end) m p h.links.met → p ≡ n
-      returned Dte n m p f g = same_near n m p (in_step n m p m f g)
-      returned Dce n m p f g = same_far n m p (in_step m n m p f g)
+      returned Dte n m p f g = same_near (in_step f g)
+      returned Dce n m p f g = same_far (in_step f g)

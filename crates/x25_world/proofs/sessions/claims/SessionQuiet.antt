@@ -8,7 +8,7 @@ use Rattle.x25_line.specs.{laws.StationClaims.{NoFrmr, IsWhole, AreWhole}}
 use Rattle.x25_line.specs.laws.SessionClaims.{OnlyBegunHaveLists, NoSessionSendsFrmr, AllSessionsSendWhole}
 use Rattle.x25_layer.specs.laws.Quiet.{AreQuiet, AreNoFaults}
 use Rattle.x25_station.specs.{Config.{longest_packet}, declared.config.Cfg.{Cfg}, Entry.{layer_notices}, laws.ReadLaw.{AreOctets}}
-use Rattle.x25_world.specs.{World.{OnTap, World, swapped}, laws.Claims.{IsQuietRead, IsQuietFrame, IsQuietTap, HasNoProcedureError, entries_at}}
+use Rattle.x25_world.specs.{World.{OnTap, World}, laws.Claims.{IsQuietRead, IsQuietFrame, IsQuietTap, HasNoProcedureError, entries_at}}
 use Rattle.x25_world.specs.{laws.LawsBelow.{SessionLaws}, laws.TapOctets.{AreOfFrame, AreOfFrames, IsTapOfOctets}}
 use Rattle.x25_world.proofs.{Growing.{read_by, all_read, as_read, first_read, rest_read, AllAreOctets, AreOnTap, octets_in}, Known.{IsConfigured}}
 use Rattle.x25_world.proofs.{sessions.SessionTrace.{own}, sessions.SessionReaches.{Beginning, known_sessions}}
@@ -32,29 +32,29 @@ quiet_octets cfg (o ∷ down) (p ∷ ps) quiet reads all octets (suc k, low, is)
 
 -- ---- frames
 
-quiet_frame : (cfg : Cfg) (given : List (List ℕ)) → ((octets : List ℕ) → Contains given octets → IsQuietOctets cfg octets) → (f : PlainFrame) (fs : List PlainFrame) → IsWhole longest_packet given f
+quiet_frame : (cfg : Cfg) {given : List (List ℕ)} → ((octets : List ℕ) → Contains given octets → IsQuietOctets cfg octets) → (f : PlainFrame) (fs : List PlainFrame) → IsWhole longest_packet given f
     → NoFrmr (f ∷ fs) → IsQuietFrame cfg (Ok f) × NoFrmr fs
-quiet_frame cfg given quiet (info ns nr p x) fs whole none = (quiet x whole.packet, none)
-quiet_frame cfg given quiet (frmr f why) fs whole none = absurd none
-quiet_frame cfg given quiet f fs whole none = (tt, none)
+quiet_frame cfg quiet (info ns nr p x) fs whole none = (quiet x whole.packet, none)
+quiet_frame cfg quiet (frmr f why) fs whole none = absurd none
+quiet_frame cfg quiet f fs whole none = (tt, none)
 
 -- octets that spell a frame read as it
-quiet_read : ReadsSpelled → (cfg : Cfg) (from : Role) (given : List (List ℕ)) (f : PlainFrame) (octets : List ℕ) → IsWhole longest_packet given f → octets ≡ spelling_of from f → IsQuietFrame cfg (Ok f)
+quiet_read : ReadsSpelled → (cfg : Cfg) (from : Role) {given : List (List ℕ)} {f : PlainFrame} (octets : List ℕ) → IsWhole longest_packet given f → octets ≡ spelling_of from f → IsQuietFrame cfg (Ok f)
     → IsQuietFrame cfg (frame_of from longest_packet octets)
-quiet_read reads cfg from given f octets whole is quiet =
+quiet_read reads cfg from {f} octets whole is quiet =
     rw (reads from longest_packet f octets (record { in_range = whole.in_range; carries = whole.carries; within = whole.within; spelling = is })) quiet
 
 quiet_tap : ReadsSpelled → (cfg : Cfg) (given : List (List ℕ)) → ((octets : List ℕ) → Contains given octets → IsQuietOctets cfg octets) → (tap : List OnTap) (fs : List PlainFrame) → AreOnTap tap fs
     → AreWhole longest_packet given fs → NoFrmr fs → IsQuietTap cfg tap
 quiet_tap reads cfg given quiet [] [] on whole none = tt
 quiet_tap reads cfg given quiet (t ∷ tap) (f ∷ fs) on whole none =
-    let here = quiet_frame cfg given quiet f fs whole.0 none in
-    (quiet_read reads cfg t.from given f t.octets whole.0 on.0 here.0, quiet_tap reads cfg given quiet tap fs on.1 whole.1 here.1)
+    let here = quiet_frame cfg quiet f fs whole.0 none in
+    (quiet_read reads cfg t.from t.octets whole.0 on.0 here.0, quiet_tap reads cfg given quiet tap fs on.1 whole.1 here.1)
 quiet_tap reads cfg given quiet tap fs on whole none = absurd on
 
 -- ---- of a world
 
-module _ (laws : SessionLaws) (cfg : Cfg) (fine : IsConfigured cfg) where
+module _ (laws : SessionLaws) {cfg : Cfg} (fine : IsConfigured cfg) where
   -- ---- what was handed down
 
   -- what holds of all octets that are read as packets that tell of no error
@@ -64,16 +64,16 @@ module _ (laws : SessionLaws) (cfg : Cfg) (fine : IsConfigured cfg) where
   nowhere : (P : List ℕ → Type 0) (octets : List ℕ) → Contains [] octets → P octets
   nowhere P octets (k, low, is) = absurd (omega (arith, low))
 
-  held_from : (P : List ℕ → Type 0) → HoldsOfQuiet P → {since : Beginning} (end : Role) (w : World) (h : SessionsJoined since cfg end w) (n : ℕ) (octets : List ℕ) → Contains (h.links.near.down n) octets → P octets
-  held_from P holds end w h n octets there = elim (which_session h.links.near.begun n) [
-    | inl never ↦ nowhere P octets (subst (λ (l : List (List ℕ)). Contains l octets) (nothing_down never) there)
+  held_from : {P : List ℕ → Type 0} → HoldsOfQuiet P → {since : Beginning} {end : Role} {w : World} (h : SessionsJoined since cfg end w) (n : ℕ) (octets : List ℕ) → Contains (h.links.near.down n) octets → P octets
+  held_from {P} holds {end} {w} h n octets there = elim (which_session h.links.near.begun n) [
+    | inl never ↦ nowhere P octets (subst (λ l. Contains l octets) (nothing_down never) there)
     | inr begun ↦ at_session begun.0 begun.1
   ]
     where
       nothing_down : (n ≡ 0) ⊎ (h.links.near.begun < n) → h.links.near.down n ≡ []
       nothing_down never = elim never [
         | inl zeroth ↦ rw zeroth h.near.before.0
-        | inr later ↦ ((known_sessions OnlyBegunHaveLists laws.begun cfg fine end h.links h.reach).near n later).0
+        | inr later ↦ ((known_sessions OnlyBegunHaveLists laws.begun fine h.reach).near n later).0
       ]
 
       at_session : 1 ≤ n → n ≤ h.links.near.begun → P octets
@@ -82,22 +82,22 @@ module _ (laws : SessionLaws) (cfg : Cfg) (fine : IsConfigured cfg) where
           holds (h.links.near.down n) (own cfg end n h.trace).given (own_quiet laws cfg end n pair.0 h.trace pair.1).given (h.near.sessions n low high).down (h.near.octets n) octets there
 
   -- holds of each packet that an end was handed down
-  pub held_of_given : (P : List ℕ → Type 0) → HoldsOfQuiet P → {since : Beginning} (w : World) (h : SessionsJoined since cfg Dte w) (octets : List ℕ)
+  pub held_of_given : {P : List ℕ → Type 0} → HoldsOfQuiet P → {since : Beginning} {w : World} (h : SessionsJoined since cfg Dte w) (octets : List ℕ)
       → ((n : ℕ) × Contains (h.links.near.down n) octets) ⊎ ((n : ℕ) × Contains (h.links.far.down n) octets) → P octets
-  held_of_given P holds w h octets down = elim down [
-    | inl near ↦ held_from P holds Dte w h near.0 octets near.1
-    | inr far ↦ held_from P holds Dce (swapped w) (sessions_swapped cfg Dte w h) far.0 octets (rw (links_swapped cfg Dte w h) far.1)
+  held_of_given {P} holds {w} h octets down = elim down [
+    | inl near ↦ held_from holds h near.0 octets near.1
+    | inr far ↦ held_from holds (sessions_swapped h) far.0 octets (rw (links_swapped h) far.1)
   ]
 
   -- ---- of a world
 
   pub has_no_error : {since : Beginning} (w : World) → SessionsJoined since cfg Dte w → HasNoProcedureError cfg w
   has_no_error w h =
-      let whole = known_sessions AllSessionsSendWhole laws.whole cfg fine Dte h.links h.reach in
+      let whole = known_sessions AllSessionsSendWhole laws.whole fine h.reach in
       record {
         tap = quiet_tap laws.stations.reads cfg whole.given
-            (λ octets there. held_of_given (IsQuietOctets cfg) (quiet_octets cfg) w h octets (whole.handed_down octets there)) w.tap h.links.sent h.tap whole.whole
-            (known_sessions NoSessionSendsFrmr laws.no_frmr cfg fine Dte h.links h.reach);
+            (λ octets there. held_of_given (quiet_octets cfg) h octets (whole.handed_down octets there)) w.tap h.links.sent h.tap whole.whole
+            (known_sessions NoSessionSendsFrmr laws.no_frmr fine h.reach);
         told = told;
       }
     where
@@ -108,16 +108,16 @@ module _ (laws : SessionLaws) (cfg : Cfg) (fine : IsConfigured cfg) where
 -- ---- all that is ever put on the line is octets, at most as many as a frame has
 
 -- a frame that was sent, and the others, of which none is FRMR
-frame_octets : (given : List (List ℕ)) → ((octets : List ℕ) → Contains given octets → AreOctets octets) → (f : PlainFrame) (fs : List PlainFrame) → IsWhole longest_packet given f → NoFrmr (f ∷ fs)
+frame_octets : {given : List (List ℕ)} → ((octets : List ℕ) → Contains given octets → AreOctets octets) → (f : PlainFrame) (fs : List PlainFrame) → IsWhole longest_packet given f → NoFrmr (f ∷ fs)
     → AreOctets (information_of f) × NoFrmr fs
-frame_octets given holds (info ns nr p x) fs whole none = (holds x whole.packet, none)
-frame_octets given holds (frmr f why) fs whole none = absurd none
-frame_octets given holds f fs whole none = (All-nil (λ octet. octet < 256), none)
+frame_octets holds (info ns nr p x) fs whole none = (holds x whole.packet, none)
+frame_octets holds (frmr f why) fs whole none = absurd none
+frame_octets holds f fs whole none = (All-nil (λ octet. octet < 256), none)
 
 tap_octets : (given : List (List ℕ)) → ((octets : List ℕ) → Contains given octets → AreOctets octets) → (tap : List OnTap) (fs : List PlainFrame) → AreOnTap tap fs → AreWhole longest_packet given fs → NoFrmr fs → AreOfFrames tap
 tap_octets given holds [] [] on whole none = tt
 tap_octets given holds (t ∷ tap) (f ∷ fs) on whole none =
-    let here = frame_octets given holds f fs whole.0 none in (
+    let here = frame_octets holds f fs whole.0 none in (
       subst AreOfFrame (sym on.0) (spelled_of_frame t.from f whole.0.in_range whole.0.carries whole.0.within here.0),
       tap_octets given holds tap fs on.1 whole.1 here.1,
     )
@@ -125,6 +125,6 @@ tap_octets given holds tap fs on whole none = absurd on
 
 pub is_of_octets : (laws : SessionLaws) (cfg : Cfg) (fine : IsConfigured cfg) {since : Beginning} (w : World) → SessionsJoined since cfg Dte w → IsTapOfOctets cfg w
 is_of_octets laws cfg fine w h =
-    let whole = known_sessions AllSessionsSendWhole laws.whole cfg fine Dte h.links h.reach in
-    tap_octets whole.given (λ octets there. held_of_given laws cfg fine AreOctets (λ down ps quiet reads all. octets_in down all) w h octets (whole.handed_down octets there)) w.tap h.links.sent h.tap whole.whole
-    (known_sessions NoSessionSendsFrmr laws.no_frmr cfg fine Dte h.links h.reach)
+    let whole = known_sessions AllSessionsSendWhole laws.whole fine h.reach in
+    tap_octets whole.given (λ octets there. held_of_given laws fine (λ down ps quiet reads all. octets_in down all) h octets (whole.handed_down octets there)) w.tap h.links.sent h.tap whole.whole
+    (known_sessions NoSessionSendsFrmr laws.no_frmr fine h.reach)

@@ -9,11 +9,11 @@ use Rattle.x25_circuit.specs.Circuit.{is_open, waits}
 use Rattle.x25_handshakes.specs.laws.Names.{Name}
 use Rattle.x25_layer.specs.{declared.ranges.Ranges.{Ranges}, Layer.{Layer, is_channel, is_ready}, Calls.{PullsAll, outcome_in, layer_outcome}}
 use Rattle.x25_layer.specs.laws.Rounds.{LinkView, Putting, begin, rounds, Answered, Went, Refuses, went, calls}
-use Rattle.x25_layer.specs.{laws.Apart.{AlwaysApart, apart_run, apart_start, as_world}, laws.Transcript.{Entry, name_of}, laws.Law.{HasAllOf}}
+use Rattle.x25_layer.specs.{laws.Apart.{AlwaysApart, apart_run, apart_start, as_world}, laws.Transcript.{name_of}, laws.Law.{HasAllOf}}
 use Rattle.x25_layer.specs.laws.WaitLaw.{PullsNone, RoundsLeaveNone, StillPullsNone, KeepsNoneClosed, OpensNoneInRestart, IsDrained, IsOpenAtBoth, WaitForUsersAlone}
 use Rattle.x25_station.specs.{declared.config.Cfg.{Cfg}, Config.{Settings, settings_from, link_settings, layer_settings}, Entry.{StationEntry}}
 use Rattle.x25_station.specs.{Station.{Station, all_put, view_of}, Step.{did, requests}, Station.Told.{stretch}}
-use Rattle.x25_world.specs.{World.{World, swapped, WorldOutcome, Happened, Declined, of_station, swapped_back, after}, laws.Sessions.{last_session, handed_in}}
+use Rattle.x25_world.specs.{World.{World, mirrored, WorldOutcome, Happened, Declined, of_station, swapped_back, after}, laws.Sessions.{last_session, handed_in}}
 use Rattle.x25_world.specs.laws.WaitClaims.{WaitsForUser, Arrived, NotReady, MessagesWaitForUsers, ClosedKeepNone, PullsLeaveNone, UnpulledWaitForUsers}
 use Rattle.x25_world.specs.laws.LawsBelow.{SessionLaws}
 use Rattle.x25_world.proofs.{Known.{IsConfigured, true_false}, Growing.{all_read, as_read, as_many}, sessions.SessionTrace.{layer_of, Done, own}}
@@ -43,7 +43,7 @@ had_nothing law c w idle still = by _ (calls (view_of (link_settings c) w.near.l
   where
     by : (entries : List StationEntry) (a : Answered) → calls (view_of (link_settings c) w.near.link) (layer_settings c) w.near.layer PullsAll ≡ a → of_station c w (did c (alone w.near.link) entries a) ≡ Happened w
         → PullsNone (layer_settings c) w.near.layer
-    by entries (Went s) is same = law (view_of (link_settings c) w.near.link) (layer_settings c) w.near.layer s is (ap (λ (o : WorldOutcome). layer_after w.near.layer o) same) (idle_has_room w.near.link idle)
+    by entries (Went s) is same = law (view_of (link_settings c) w.near.link) (layer_settings c) w.near.layer s is (ap (λ o. layer_after w.near.layer o) same) (idle_has_room w.near.link idle)
     by entries (Refuses e) is same = absurd (cc)
 
 -- ---- of two layers in order
@@ -79,25 +79,25 @@ module _ (laws : SessionLaws) (waits_law : LayersWait) (cfg : Cfg) where
 -- a stretch that is open, as the station shows it
 stretch_is : (c : Settings) (s : Station) (k : ℕ) (name : Name) → is_channel c.channels k ≡ true → is_open (s.layer.circuits k) ≡ true → name_of s.layer k ≡ name → stretch c s k ≡ Some name
 stretch_is c s k name channel opened named =
-    ap (λ (b : Bool). name_if (open_if b (is_open (s.layer.circuits k))) (name_of s.layer k)) channel ∙ ap (λ (b : Bool). name_if b (name_of s.layer k)) opened ∙ ap (λ (n : Name). Some n) named
+    ap (λ b. name_if (open_if b (is_open (s.layer.circuits k))) (name_of s.layer k)) channel ∙ ap (λ b. name_if b (name_of s.layer k)) opened ∙ ap (λ n. Some n) named
 
-module _ (laws : SessionLaws) (waits_law : LayersWait) (cfg : Cfg) (fine : IsConfigured cfg) where
-  waits_from : {since : Beginning} (end : Role) (w : World) → SessionsJoined since cfg end w → (k : ℕ) (name : Name) → link.is_idle w.near.link ≡ true → link.is_idle w.far.link ≡ true
+module _ (laws : SessionLaws) (waits_law : LayersWait) {cfg : Cfg} (fine : IsConfigured cfg) where
+  waits_from : {since : Beginning} {end : Role} {w : World} → SessionsJoined since cfg end w → (k : ℕ) (name : Name) → link.is_idle w.near.link ≡ true → link.is_idle w.far.link ≡ true
       → PullsNone (layer_of cfg end) w.near.layer → stretch (settings_from end cfg) w.near k ≡ Some name
       → (stretch (settings_from (other end) cfg) w.far k ≡ Some name) × WaitsForUser k name w.near w.far (handed_in end (last_session end w) w) (handed_in (other end) (last_session (other end) w) w)
-  waits_from end w h k name idle idle_there none here =
-      let stands = meet_from laws cfg fine end w h k name here in
+  waits_from {end} {w} h k name idle idle_there none here =
+      let stands = meet_from laws fine h k name here in
       let shown = stretch_of cfg.channels w.near.layer k name here in
       let at = h.near.now stands.up in
       let up_there = (and_parts (is_up w.far.link.phase) (outgoing.waits w.far.link.outgoing == 0 && w.far.link.outgoing.acked == w.far.link.outgoing.sent) idle_there).0 in
       let at_there = h.far.now up_there in
       let near_session = h.near.sessions n stands.begun.0 (omega arith) in
       let far_session = h.far.sessions m stands.begun.1 (omega arith) in
-      let met = some_map (λ (p : Meeting). (p.near ≡ n) × (p.far ≡ m)) (λ (p : Meeting). p.near ≡ n) (λ (p : Meeting) is. is.0) h.links.met stands.has_met in
-      let met_there = some_map (λ (p : Meeting). (p.near ≡ n) × (p.far ≡ m)) (λ (p : Meeting). p.far ≡ m) (λ (p : Meeting) is. is.1) h.links.met stands.has_met in
-      let has = known_sessions IdleHasArrived laws.idle cfg fine end h.links h.reach in
-      let arrived = has.near (ap (λ (x : LinkStation). link.is_idle x) h.near.link ∙ idle) (inr met) in
-      let arrived_back = has.far (ap (λ (x : LinkStation). link.is_idle x) h.far.link ∙ idle_there) (inr met_there) in
+      let met = some_map (λ p. p.near ≡ n) (λ (p : Meeting) is. is.0) h.links.met stands.has_met in
+      let met_there = some_map (λ p. p.far ≡ m) (λ (p : Meeting) is. is.1) h.links.met stands.has_met in
+      let has = known_sessions IdleHasArrived laws.idle fine h.reach in
+      let arrived = has.near (ap (λ x. link.is_idle x) h.near.link ∙ idle) (inr met) in
+      let arrived_back = has.far (ap (λ x. link.is_idle x) h.far.link ∙ idle_there) (inr met_there) in
       let all : as_read taker.taken ≡ as_read giver.given = sym far_session.up ∙ ap (all_read cfg) arrived ∙ near_session.down in
       let all_back : as_read giver.taken ≡ as_read taker.given = sym near_session.up ∙ ap (all_read cfg) arrived_back ∙ far_session.down in
       let order = met_in_order cfg end h.trace h.links.met n m h.pairs stands.has_met in
@@ -122,59 +122,59 @@ module _ (laws : SessionLaws) (waits_law : LayersWait) (cfg : Cfg) (fine : IsCon
 
       there_too : giver.layer ≡ w.near.layer → taker.layer ≡ w.far.layer → is_channel cfg.channels k ≡ true → name_of w.near.layer k ≡ name → IsOpenAtBoth k giver taker → stretch (settings_from (other end) cfg) w.far k ≡ Some name
       there_too of_giver of_taker channel named both =
-          stretch_is (settings_from (other end) cfg) w.far k name channel (ap (λ (l : Layer). is_open (l.circuits k)) (sym of_taker) ∙ both.opened_there)
-          (ap (λ (l : Layer). name_of l k) (sym of_taker) ∙ sym both.same_name ∙ ap (λ (l : Layer). name_of l k) of_giver ∙ named)
+          stretch_is (settings_from (other end) cfg) w.far k name channel (ap (λ l. is_open (l.circuits k)) (sym of_taker) ∙ both.opened_there)
+          (ap (λ l. name_of l k) (sym of_taker) ∙ sym both.same_name ∙ ap (λ l. name_of l k) of_giver ∙ named)
 
       has_all : giver.layer ≡ w.near.layer → name_of w.near.layer k ≡ name → giver.entries ≡ handed_in end n w → taker.entries ≡ handed_in (other end) m w → HasAllOf k (name_of giver.layer k) giver.entries taker.entries
           → HasAllOf k name (handed_in end (last_session end w) w) (handed_in (other end) (last_session (other end) w) w)
       has_all of_giver named down up all =
-          rw (sym (latest_near laws cfg fine end w h)) (subst (λ (x : ℕ). HasAllOf k name (handed_in end n w) (handed_in (other end) x w)) (latest_far laws cfg fine end w h)
-          (subst (λ (x : Name). HasAllOf k x (handed_in end n w) (handed_in (other end) m w)) (ap (λ (l : Layer). name_of l k) of_giver ∙ named)
-          (subst (λ (es : List Entry). HasAllOf k (name_of giver.layer k) es (handed_in (other end) m w)) down
-          (subst (λ (es : List Entry). HasAllOf k (name_of giver.layer k) giver.entries es) up all))))
+          rw (sym (latest_near laws fine h)) (subst (λ x. HasAllOf k name (handed_in end n w) (handed_in (other end) x w)) (latest_far laws fine h)
+          (subst (λ x. HasAllOf k x (handed_in end n w) (handed_in (other end) m w)) (ap (λ l. name_of l k) of_giver ∙ named)
+          (subst (λ es. HasAllOf k (name_of giver.layer k) es (handed_in (other end) m w)) down
+          (subst (λ es. HasAllOf k (name_of giver.layer k) giver.entries es) up all))))
 
       shows : giver.layer ≡ w.near.layer → taker.layer ≡ w.far.layer → is_channel cfg.channels k ≡ true → is_open (w.near.layer.circuits k) ≡ true → name_of w.near.layer k ≡ name → wait.WaitsForUser k giver taker
           → giver.entries ≡ handed_in end n w → taker.entries ≡ handed_in (other end) m w → Claimed
-      shows of_giver of_taker channel opened named (wait.NotOpen closed none) down up = absurd (true_false (sym (ap (λ (l : Layer). is_open (l.circuits k)) of_giver ∙ opened) ∙ closed))
+      shows of_giver of_taker channel opened named (wait.NotOpen closed none) down up = absurd (true_false (sym (ap (λ l. is_open (l.circuits k)) of_giver ∙ opened) ∙ closed))
       shows of_giver of_taker channel opened named (wait.Arrived both none all) down up =
-          (there_too of_giver of_taker channel named both, Arrived (ap (λ (l : Layer). waits (l.circuits k)) (sym of_giver) ∙ none) (has_all of_giver named down up all))
+          (there_too of_giver of_taker channel named both, Arrived (ap (λ l. waits (l.circuits k)) (sym of_giver) ∙ none) (has_all of_giver named down up all))
       shows of_giver of_taker channel opened named (wait.NotReady both not) down up =
-          (there_too of_giver of_taker channel named both, NotReady (ap (λ (l : Layer). (l.circuits k).talk.own_ready) (sym of_taker) ∙ not))
+          (there_too of_giver of_taker channel named both, NotReady (ap (λ l. (l.circuits k).talk.own_ready) (sym of_taker) ∙ not))
 
-swapped_is : (o : WorldOutcome) (w : World) → swapped_back o ≡ Happened w → o ≡ Happened (swapped w)
-swapped_is (Happened v) w is = ap (λ (u : WorldOutcome). swapped_back u) is
+swapped_is : (o : WorldOutcome) (w : World) → swapped_back o ≡ Happened w → o ≡ Happened (mirrored w)
+swapped_is (Happened v) w is = ap (λ u. swapped_back u) is
 swapped_is (Declined e) w is = absurd (cc)
 
-module _ (laws : SessionLaws) (waits_law : LayersWait) (still_law : StillPullsNone) (cfg : Cfg) (fine : IsConfigured cfg) where
+module _ (laws : SessionLaws) (waits_law : LayersWait) (still_law : StillPullsNone) {cfg : Cfg} (fine : IsConfigured cfg) where
   pub messages_wait : {since : Beginning} (w : World) → SessionsJoined since cfg Dte w → MessagesWaitForUsers cfg w
   messages_wait w h Dte k name idle idle_there still here =
-      waits_from laws waits_law cfg fine Dte w h k name idle idle_there (had_nothing still_law (settings_from Dte cfg) w idle still) here
+      waits_from laws waits_law fine h k name idle idle_there (had_nothing still_law (settings_from Dte cfg) w idle still) here
   messages_wait w h Dce k name idle idle_there still here =
-      let same = swapped_is (of_station (settings_from Dce cfg) (swapped w) (requests (settings_from Dce cfg) w.far PullsAll)) w still in
-      waits_from laws waits_law cfg fine Dce (swapped w) (sessions_swapped cfg Dte w h) k name idle idle_there (had_nothing still_law (settings_from Dce cfg) (swapped w) idle same) here
+      let same = swapped_is (of_station (settings_from Dce cfg) (mirrored w) (requests (settings_from Dce cfg) w.far PullsAll)) w still in
+      waits_from laws waits_law fine (sessions_swapped h) k name idle idle_there (had_nothing still_law (settings_from Dce cfg) (mirrored w) idle same) here
 
 -- ---- a circuit that isn't open
 
 abbrev pub LayersKeepNone : Type 0
 LayersKeepNone = (long_data : Bool) (channels : Ranges) → AlwaysApart wait.ClosedKeepNone long_data channels
 
-module _ (laws : SessionLaws) (closed_law : LayersKeepNone) (cfg : Cfg) (fine : IsConfigured cfg) where
+module _ (laws : SessionLaws) (closed_law : LayersKeepNone) {cfg : Cfg} (fine : IsConfigured cfg) where
   own_closed : (end : Role) (n m : ℕ) (trace : List Done) → PairIsInOrder cfg end trace n m → KeepsNoneClosed (own cfg end n trace)
   own_closed = of_either laws cfg (λ end e f. KeepsNoneClosed e) (λ events order. (let both = closed_law cfg.long_data cfg.channels events order in (both.near, both.far)))
 
-  closed_from : {since : Beginning} (end : Role) (w : World) → SessionsJoined since cfg end w → (k : ℕ) → is_open (w.near.layer.circuits k) ≡ false → waits (w.near.layer.circuits k) ≡ 0
-  closed_from end w h k closed = by (is_up w.near.link.phase) refl
+  closed_from : {since : Beginning} {end : Role} {w : World} → SessionsJoined since cfg end w → (k : ℕ) → is_open (w.near.layer.circuits k) ≡ false → waits (w.near.layer.circuits k) ≡ 0
+  closed_from {end} {w} h k closed = by (is_up w.near.link.phase) refl
     where
       by : (b : Bool) → is_up w.near.link.phase ≡ b → waits (w.near.layer.circuits k) ≡ 0
       by true up =
           let pair = session_pair laws cfg fine end w h h.links.near.begun in
           let same = (h.near.now up).layer in
-          ap (λ (l : Layer). waits (l.circuits k)) (sym same) ∙ own_closed end h.links.near.begun pair.0 h.trace pair.1 k (ap (λ (l : Layer). is_open (l.circuits k)) same ∙ closed)
-      by false down = ap (λ (l : Layer). waits (l.circuits k)) (h.near.kept.rests down)
+          ap (λ l. waits (l.circuits k)) (sym same) ∙ own_closed end h.links.near.begun pair.0 h.trace pair.1 k (ap (λ l. is_open (l.circuits k)) same ∙ closed)
+      by false down = ap (λ l. waits (l.circuits k)) (h.near.kept.rests down)
 
   pub closed_keep : {since : Beginning} (w : World) → SessionsJoined since cfg Dte w → ClosedKeepNone cfg w
-  closed_keep w h Dte k closed = closed_from Dte w h k closed
-  closed_keep w h Dce k closed = closed_from Dce (swapped w) (sessions_swapped cfg Dte w h) k closed
+  closed_keep w h Dte k closed = closed_from h k closed
+  closed_keep w h Dce k closed = closed_from (sessions_swapped h) k closed
 
 -- ---- behind a pull
 
@@ -182,7 +182,7 @@ abbrev pub LayersOpenNone : Type 0
 LayersOpenNone = (long_data : Bool) (channels : Ranges) → AlwaysApart wait.NoneOpenInRestart long_data channels
 
 -- while a restart is under way no circuit is open
-module _ (laws : SessionLaws) (shut_law : LayersOpenNone) (cfg : Cfg) (fine : IsConfigured cfg) where
+module _ (laws : SessionLaws) (shut_law : LayersOpenNone) {cfg : Cfg} (fine : IsConfigured cfg) where
   own_shut : (end : Role) (n m : ℕ) (trace : List Done) → PairIsInOrder cfg end trace n m → OpensNoneInRestart (own cfg end n trace)
   own_shut = of_either laws cfg (λ end e f. OpensNoneInRestart e) (λ events order. (let both = shut_law cfg.long_data cfg.channels events order in (both.near, both.far)))
 
@@ -193,22 +193,22 @@ module _ (laws : SessionLaws) (shut_law : LayersOpenNone) (cfg : Cfg) (fine : Is
       by true up =
           let pair = session_pair laws cfg fine end w h h.links.near.begun in
           let same = (h.near.now up).layer in
-          ap (λ (l : Layer). is_open (l.circuits k)) (sym same) ∙ own_shut end h.links.near.begun pair.0 h.trace pair.1 (ap (λ (l : Layer). l.restarting) same ∙ restarts) k
-      by false down = absurd (true_false (sym restarts ∙ ap (λ (l : Layer). l.restarting) (h.near.kept.rests down)))
+          ap (λ l. is_open (l.circuits k)) (sym same) ∙ own_shut end h.links.near.begun pair.0 h.trace pair.1 (ap (λ l. l.restarting) same ∙ restarts) k
+      by false down = absurd (true_false (sym restarts ∙ ap (λ l. l.restarting) (h.near.kept.rests down)))
 
-module _ (laws : SessionLaws) (waits_law : LayersWait) (shut_law : LayersOpenNone) (cfg : Cfg) (fine : IsConfigured cfg) where
-  unpulled_from : {since : Beginning} (end : Role) (w : World) → SessionsJoined since cfg end w → (k : ℕ) (name : Name) → link.is_idle w.near.link ≡ true → link.is_idle w.far.link ≡ true
+module _ (laws : SessionLaws) (waits_law : LayersWait) (shut_law : LayersOpenNone) {cfg : Cfg} (fine : IsConfigured cfg) where
+  unpulled_from : {since : Beginning} {end : Role} {w : World} → SessionsJoined since cfg end w → (k : ℕ) (name : Name) → link.is_idle w.near.link ≡ true → link.is_idle w.far.link ≡ true
       → (w.near.layer.restarting ≡ false → PullsNone (layer_of cfg end) w.near.layer) → stretch (settings_from end cfg) w.near k ≡ Some name
       → (stretch (settings_from (other end) cfg) w.far k ≡ Some name) × WaitsForUser k name w.near w.far (handed_in end (last_session end w) w) (handed_in (other end) (last_session (other end) w) w)
-  unpulled_from end w h k name idle idle_there none here = waits_from laws waits_law cfg fine end w h k name idle idle_there (none (by w.near.layer.restarting refl)) here
+  unpulled_from {end} {w} h k name idle idle_there none here = waits_from laws waits_law fine h k name idle idle_there (none (by w.near.layer.restarting refl)) here
     where
       by : (b : Bool) → w.near.layer.restarting ≡ b → w.near.layer.restarting ≡ false
       by false is = is
-      by true is = absurd (true_false (sym (stretch_of cfg.channels w.near.layer k name here).opened ∙ shut_from laws shut_law cfg fine end w h is k))
+      by true is = absurd (true_false (sym (stretch_of cfg.channels w.near.layer k name here).opened ∙ shut_from laws shut_law fine end w h is k))
 
   pub unpulled_wait : {since : Beginning} (w : World) → SessionsJoined since cfg Dte w → UnpulledWaitForUsers cfg w
-  unpulled_wait w h idle idle_there none none_there Dte k name here = unpulled_from Dte w h k name idle idle_there none here
-  unpulled_wait w h idle idle_there none none_there Dce k name here = unpulled_from Dce (swapped w) (sessions_swapped cfg Dte w h) k name idle_there idle none_there here
+  unpulled_wait w h idle idle_there none none_there Dte k name here = unpulled_from h k name idle idle_there none here
+  unpulled_wait w h idle idle_there none none_there Dce k name here = unpulled_from (sessions_swapped h) k name idle_there idle none_there here
 
 -- what the layer's pull leaves, where the link is idle once it is put
 near_left : RoundsLeaveNone → (c : Settings) (w : World) → (let v = after w (of_station c w (requests c w.near PullsAll)) in link.is_idle v.near.link ≡ true → v.near.layer.restarting ≡ false → PullsNone (layer_settings c) v.near.layer)
@@ -236,9 +236,9 @@ near_left law c w idle ready = by_up _ (is_up w.near.link.phase) refl idle ready
 
 pub pulls_leave_none : RoundsLeaveNone → PullsLeaveNone
 pulls_leave_none law cfg w Dte idle ready = near_left law (settings_from Dte cfg) w idle ready
-pulls_leave_none law cfg w Dce idle ready = by (of_station (settings_from Dce cfg) (swapped w) (requests (settings_from Dce cfg) w.far PullsAll)) (near_left law (settings_from Dce cfg) (swapped w)) idle ready
+pulls_leave_none law cfg w Dce idle ready = by (of_station (settings_from Dce cfg) (mirrored w) (requests (settings_from Dce cfg) w.far PullsAll)) (near_left law (settings_from Dce cfg) (mirrored w)) idle ready
   where
-    by : (o : WorldOutcome) → (link.is_idle (after (swapped w) o).near.link ≡ true → (after (swapped w) o).near.layer.restarting ≡ false → PullsNone (layer_of cfg Dce) (after (swapped w) o).near.layer)
+    by : (o : WorldOutcome) → (link.is_idle (after (mirrored w) o).near.link ≡ true → (after (mirrored w) o).near.layer.restarting ≡ false → PullsNone (layer_of cfg Dce) (after (mirrored w) o).near.layer)
         → link.is_idle (after w (swapped_back o)).far.link ≡ true → (after w (swapped_back o)).far.layer.restarting ≡ false → PullsNone (layer_of cfg Dce) (after w (swapped_back o)).far.layer
     by (Happened v) left = left
     by (Declined e) left = left

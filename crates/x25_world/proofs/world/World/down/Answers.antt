@@ -1,6 +1,5 @@
 use Rattle.std.proofs.{Common.{ap}, lemmas.Result.{err_from_is_err_and}}
 use Rattle.x25_station.specs.Config.{config_refusal}
-use Rattle.x25_world.specs.code.ShownLine.{ShownLine}
 use Rattle.x25_world.proofs.WorldLemmas.{made_as, refused_as, refused_later}
 use Rattle.x25_world.proofs.world.World.down.Goals as goal
 
@@ -22,6 +21,6 @@ pub returns-in-Ok-new_step-clause-fits : goal.returns-in-Ok-new_step-clause-fits
 returns-in-Ok-new_step-clause-fits c = record {
   dte = c.in_ok-dte.ensures.fits;
   dce = c.in-Ok.ensures.fits;
-  to_dce = ap (λ (l : ShownLine). l.to_dce) c.new.ensures;
-  to_dte = ap (λ (l : ShownLine). l.to_dte) c.new.ensures;
+  to_dce = ap (λ l. l.to_dce) c.new.ensures;
+  to_dte = ap (λ l. l.to_dte) c.new.ensures;
 }

@@ -1,9 +1,9 @@
 use Rattle.std.proofs.Common.{sym, subst}
-use Rattle.x25_world.specs.{code.ShownWorld.{ShownWorld}, code.FitsWorld.{FitsWorld}}
+use Rattle.x25_world.specs.code.FitsWorld.{FitsWorld}
 use Rattle.x25_world.proofs.world.World.happen.Goals as goal
 
 pub returns-clause-acted : goal.returns-clause-acted
-returns-clause-acted c = λ cfg w fits. c.act_at_end.ensures.acted cfg w (subst (λ (v : ShownWorld). FitsWorld cfg v w) (sym c.self.view_is) fits)
+returns-clause-acted c = λ cfg w fits. c.act_at_end.ensures.acted cfg w (subst (λ v. FitsWorld cfg v w) (sym c.self.view_is) fits)
 
 pub returns-clause-places : goal.returns-clause-places
 returns-clause-places c =

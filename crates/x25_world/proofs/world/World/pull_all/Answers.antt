@@ -10,7 +10,7 @@ returns-in_err-more-clause-stopped c = λ cfg w before fits.
     let p = err_from_is_err_and c.from_residual.result c.from_residual.ensures.1 in
     let all = pull_rounds cfg most_times most_times w in
     let n = next_round cfg most_times all w before most_times c.loop.counter c.loop.count (telling c.loop.self c.loop.told.items) c.loop-test.true (c.loop.invariant.3 cfg w before fits) in
-    rw (p.1, p.2) (stops_in cfg all w (telling c.loop.self c.loop.told.items) (telling c.pull_round.new.self c.pull_round.new.told.items) before (pull_round cfg most_times) (left_behind cfg most_times (most_times - (c.loop.counter + 1))) c.loop.count n c.in_err-more.field-0.0
+    rw (p.1, p.2) (stops_in (telling c.pull_round.new.self c.pull_round.new.told.items) (pull_round cfg most_times) (left_behind cfg most_times (most_times - (c.loop.counter + 1))) n c.in_err-more.field-0.0
     (c.in_err-more.ensures.stopped cfg (run cfg n.done w) before n.goes.fits))
 
 pub returns-then-is_line_empty-clause-goes : goal.returns-then-is_line_empty-clause-goes
@@ -19,11 +19,11 @@ returns-then-is_line_empty-clause-goes c = λ cfg w before fits.
     let l = c.loop.invariant.3 cfg w before fits in
     let x = run cfg l.done w in
     let left = most_times - (c.loop.counter + 1) in
-    let m = round_done cfg most_times all w before most_times c.loop.counter c.loop.count (telling c.loop.self c.loop.told.items) (telling c.pull_round.new.self c.pull_round.new.told.items) c.from-count.result c.loop-test.true l
+    let m = round_done cfg most_times all w before most_times c.loop.counter c.loop.count (telling c.pull_round.new.self c.pull_round.new.told.items) c.from-count.result c.loop-test.true l
     (c.in_ok-more.ensures.goes cfg x before l.goes.fits) (c.from-count.ensures ∙ c.in_ok-more.ensures.counted cfg x before l.goes.fits) in
     let y = run cfg m.done w in
-    went_all cfg all w (telling c.pull_round.new.self c.pull_round.new.told.items) before (left_behind cfg most_times left) _ m
-    (line_empty cfg most_times left y (sym (line_is cfg c.pull_round.new.self y m.goes.fits.fits) ∙ is_none_true _ (sym c.is_line_empty.ensures ∙ c.if-is_line_empty.true)))
+    went_all m
+    (line_empty cfg most_times left y (sym (line_is m.goes.fits.fits) ∙ is_none_true _ (sym c.is_line_empty.ensures ∙ c.if-is_line_empty.true)))
 
 pub returns-then-is_line_empty-clause-counted : goal.returns-then-is_line_empty-clause-counted
 returns-then-is_line_empty-clause-counted c = λ cfg w before fits.
@@ -31,11 +31,11 @@ returns-then-is_line_empty-clause-counted c = λ cfg w before fits.
     let l = c.loop.invariant.3 cfg w before fits in
     let x = run cfg l.done w in
     let left = most_times - (c.loop.counter + 1) in
-    let m = round_done cfg most_times all w before most_times c.loop.counter c.loop.count (telling c.loop.self c.loop.told.items) (telling c.pull_round.new.self c.pull_round.new.told.items) c.from-count.result c.loop-test.true l
+    let m = round_done cfg most_times all w before most_times c.loop.counter c.loop.count (telling c.pull_round.new.self c.pull_round.new.told.items) c.from-count.result c.loop-test.true l
     (c.in_ok-more.ensures.goes cfg x before l.goes.fits) (c.from-count.ensures ∙ c.in_ok-more.ensures.counted cfg x before l.goes.fits) in
     let y = run cfg m.done w in
-    counted_all cfg all w (telling c.pull_round.new.self c.pull_round.new.told.items) before (left_behind cfg most_times left) _ m
-    (line_empty cfg most_times left y (sym (line_is cfg c.pull_round.new.self y m.goes.fits.fits) ∙ is_none_true _ (sym c.is_line_empty.ensures ∙ c.if-is_line_empty.true)))
+    counted_all m
+    (line_empty cfg most_times left y (sym (line_is m.goes.fits.fits) ∙ is_none_true _ (sym c.is_line_empty.ensures ∙ c.if-is_line_empty.true)))
 
 pub loop-preserved : goal.loop-preserved
 loop-preserved c =
@@ -48,18 +48,18 @@ loop-preserved c =
           let l = c.loop.invariant.3 cfg w before fits in
           let x = run cfg l.done w in
           let left = most_times - (c.loop.counter + 1) in
-          let m = round_done cfg most_times all w before most_times c.loop.counter c.loop.count (telling c.loop.self c.loop.told.items) (telling c.pull_round.new.self c.pull_round.new.told.items) c.from-count.result c.loop-test.true l
+          let m = round_done cfg most_times all w before most_times c.loop.counter c.loop.count (telling c.pull_round.new.self c.pull_round.new.told.items) c.from-count.result c.loop-test.true l
           (c.in_ok-more.ensures.goes cfg x before l.goes.fits) (c.from-count.ensures ∙ c.in_ok-more.ensures.counted cfg x before l.goes.fits) in
           let y = run cfg m.done w in
-          rest_is cfg all w (telling c.pull_round.new.self c.pull_round.new.told.items) before (left_behind cfg most_times left) _ m (pull_rounds cfg most_times left) (line_filled cfg most_times left y (ap is_none (sym (line_is cfg c.pull_round.new.self y m.goes.fits.fits)) ∙ filled)),
+          rest_is m (pull_rounds cfg most_times left) (line_filled cfg most_times left y (ap is_none (sym (line_is m.goes.fits.fits)) ∙ filled)),
     )
 
 pub returns-clause-goes : goal.returns-clause-goes
 returns-clause-goes c = λ cfg w before fits.
     let l = c.loop.invariant.3 cfg w before fits in
-    went_all cfg (pull_rounds cfg most_times most_times w) w (telling c.loop.self c.loop.told.items) before (pull_rounds cfg most_times (most_times - c.loop.counter)) c.loop.count l (no_rounds cfg most_times (most_times - c.loop.counter) (run cfg l.done w) (omega (arith, c.loop-test.false)))
+    went_all l (no_rounds cfg most_times (most_times - c.loop.counter) (run cfg l.done w) (omega (arith, c.loop-test.false)))
 
 pub returns-clause-counted : goal.returns-clause-counted
 returns-clause-counted c = λ cfg w before fits.
     let l = c.loop.invariant.3 cfg w before fits in
-    counted_all cfg (pull_rounds cfg most_times most_times w) w (telling c.loop.self c.loop.told.items) before (pull_rounds cfg most_times (most_times - c.loop.counter)) c.loop.count l (no_rounds cfg most_times (most_times - c.loop.counter) (run cfg l.done w) (omega (arith, c.loop-test.false)))
+    counted_all l (no_rounds cfg most_times (most_times - c.loop.counter) (run cfg l.done w) (omega (arith, c.loop-test.false)))

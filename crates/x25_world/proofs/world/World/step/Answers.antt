@@ -2,7 +2,7 @@ use Rattle.x25_world.proofs.WorldLemmas.{put_last, run_and_then, claims_hold, al
 use Rattle.x25_world.proofs.world.World.step.Goals as goal
 
 pub returns-clause-put : goal.returns-clause-put
-returns-clause-put c = λ cfg w fits. put_last cfg c.args.self.now c.happen.new.self w _ c.happen.result fits (c.happen.ensures.acted cfg w fits).happened
+returns-clause-put c = λ cfg w fits. put_last c.happen.new.self _ c.happen.result fits (c.happen.ensures.acted cfg w fits).happened
 
 pub returns-clause-claims : goal.returns-clause-claims
 returns-clause-claims c =
@@ -11,5 +11,5 @@ returns-clause-claims c =
     let called = c.happen.ensures in
     claims_hold two.lawful two.named two.arrives two.up_once (all_of_sessions of.step of.lawful of.named of.arrives of.unmet of.stand of.quiet of.window) of.window of.beside
     c.args.self.now c.happen.new.self _
-    (λ cfg from past h. run_and_then cfg from _ _ past _ c.happen.result h c.hands_down_octets.ensures
+    (λ cfg from past h. run_and_then _ _ c.happen.result h c.hands_down_octets.ensures
     (λ w fits. (called.acted cfg w fits).happened) (λ w fits. (called.acted cfg w fits).accepted) (λ w fits. (called.acted cfg w fits).stays))

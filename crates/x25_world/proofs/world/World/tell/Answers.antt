@@ -1,13 +1,12 @@
 use Rattle.std.proofs.Common.{◌∙◌, ap, sym, subst}
-use Rattle.x25_station.specs.code.Memory.{ShownEntries}
-use Rattle.x25_world.specs.{code.ShownWorld.{ShownWorld}, code.FitsWorld.{FitsWorld}}
+use Rattle.x25_world.specs.code.FitsWorld.{FitsWorld}
 use Rattle.x25_world.proofs.WorldLemmas.{told_behind}
 use Rattle.x25_world.proofs.world.World.tell.Goals as goal
 
 pub returns-clause-step : goal.returns-clause-step
 returns-clause-step c = λ cfg w before tells.
-    let acted = c.in_ok-act_at_end.ensures.acted cfg w (subst (λ (v : ShownWorld). FitsWorld cfg v w) (sym c.self.view_is) tells.fits) in
+    let acted = c.in_ok-act_at_end.ensures.acted cfg w (subst (λ v. FitsWorld cfg v w) (sym c.self.view_is) tells.fits) in
     record {
       fits = acted.happened;
-      told = rw (c.enter.ensures.entries, c.into_vec-entries.ensures.entries ∙ ap (λ (e : ShownEntries). e.items) c.replace.ensures.value, c.reserve_entries.ensures.items, c.at.ensures) (told_behind w.transcript before _ _ _ tells.told acted.tells);
+      told = rw (c.enter.ensures.entries, c.into_vec-entries.ensures.entries ∙ ap (λ e. e.items) c.replace.ensures.value, c.reserve_entries.ensures.items, c.at.ensures) (told_behind w.transcript before _ _ _ tells.told acted.tells);
     }
