@@ -17,7 +17,7 @@ import tempfile
 
 from building import TOP
 from make_trace import sealed
-from scripts import POLLING, SIM, both_ways, chance, one_octet, refused, set_up, undelivered, user
+from scripts import POLLING, SIM, both_ways, chance, one_octet, random_line, refused, round_of_16, script, undelivered, user
 from timing import timed
 
 OURS = os.path.join(TOP, "build", "x25")
@@ -68,32 +68,6 @@ def trace(one, lines):
     """A trace of so many lines, of 20,000 different ones at most."""
     lines_made = [one() for _ in range(min(lines, 20_000))]
     return "".join(lines_made[place % len(lines_made)] for place in range(lines))
-
-
-def random_line():
-    end, channel = chance.choice(("dte", "dce")), chance.randint(1, 4)
-    kinds = {
-        f"{end} send {channel} {chance.randrange(2)} {user(chance.randint(0, 300))}": 30,
-        f"drain {chance.randint(1, 20)}": 30,
-        f"deliver {chance.choice('<>')}": 15,
-        f"lose {chance.choice('<>')} {chance.randrange(3)}": 5,
-        f"t1 {end}": 6,
-        f"{end} call {chance.randint(1, 999)} {chance.randint(1, 999)} -": 4,
-        f"{end} accept {channel}": 4,
-        f"{end} int {channel} 07": 3,
-        f"{end} reset {channel}": 2,
-        f"{end} clear {channel}": 1,
-    }
-    return chance.choices(list(kinds), list(kinds.values()))[0] + "\n"
-
-
-def script(channels, one, times, begun=""):
-    return set_up(channels) + begun + "".join(one() for _ in range(times))
-
-
-def round_of_16():
-    sends = (f"{end} send {channel} 0 {user(64)}\n" for channel in range(1, 17) for end in ("dte", "dce"))
-    return "".join(sends) + "drain 200\n"
 
 
 DECODE = ["decode"]

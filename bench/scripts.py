@@ -44,6 +44,34 @@ def undelivered():
     return "t1 dte\ndeliver >\n" * 240 + "deliver <\nlose > 0\n"
 
 
+def random_line():
+    """A line of any kind, of four channels."""
+    end, channel = chance.choice(("dte", "dce")), chance.randint(1, 4)
+    kinds = {
+        f"{end} send {channel} {chance.randrange(2)} {user(chance.randint(0, 300))}": 30,
+        f"drain {chance.randint(1, 20)}": 30,
+        f"deliver {chance.choice('<>')}": 15,
+        f"lose {chance.choice('<>')} {chance.randrange(3)}": 5,
+        f"t1 {end}": 6,
+        f"{end} call {chance.randint(1, 999)} {chance.randint(1, 999)} -": 4,
+        f"{end} accept {channel}": 4,
+        f"{end} int {channel} 07": 3,
+        f"{end} reset {channel}": 2,
+        f"{end} clear {channel}": 1,
+    }
+    return chance.choices(list(kinds), list(kinds.values()))[0] + "\n"
+
+
+def script(channels, one, times, begun=""):
+    """A call on each channel, and then so many rounds."""
+    return set_up(channels) + begun + "".join(one() for _ in range(times))
+
+
+def round_of_16():
+    sends = (f"{end} send {channel} 0 {user(64)}\n" for channel in range(1, 17) for end in ("dte", "dce"))
+    return "".join(sends) + "drain 200\n"
+
+
 def of_losses(lines):
     """A script of so many lines by `tools/losses.py`, on three channels."""
     writer = [sys.executable, os.path.join(TOP, "tools", "losses.py"), "1", str(lines), "--channels", "3"]

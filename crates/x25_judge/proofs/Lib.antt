@@ -1,4 +1,5 @@
 pub mod LineLemmas
 pub mod StreamLemmas
 pub mod CountLemmas
+pub mod Passing
 pub mod verdicts

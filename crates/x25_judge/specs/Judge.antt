@@ -197,8 +197,11 @@ abbrev pub next_by : Role → PlainFrame → Both → book.Seen → Judge → Ju
 next_by from frame t s j = counts_carried from frame t.seen.is_again s.verdict.is_judged
     (counts_frame from t.seen.is_judged (behind from t.own t.other s.book j))
 
+abbrev pub book_of : Judge → Role → PlainFrame → Seen → book.Seen
+book_of j from frame t = book.sees from j.reading frame (breaks_order t.rule) j.book
+
 abbrev pub book_by : Judge → Role → PlainFrame → Both → book.Seen
-book_by j from frame t = book.sees from j.reading frame (breaks_order t.seen.rule) j.book
+book_by j from frame t = book_of j from frame t.seen
 
 abbrev pub told_frame : Judge → Role → List ℕ → PlainFrame → Both → Answer
 told_frame j from octets frame t = told_of j from octets (remark_by frame t.seen (book_by j from frame t).verdict)

@@ -241,6 +241,30 @@ minds window t to (ua f) b = accepts f t.facts.is_shown b
 minds window t to (dm f) b = answers f t.facts.is_shown b
 minds window t to (frmr f why) b = answers f t.facts.is_shown b
 
+-- ---- a frame of a session of which nothing is said
+
+abbrev pub quiet : Seen
+quiet = record { rule = None; note = None; is_again = false; is_judged = true }
+
+abbrev pub quietly : Manners → Manners → Minding
+quietly own other = record { own = own; other = other; seen = quiet }
+
+-- in a session, with nothing on the way
+abbrev pub steady : Bool → Numbers → Sent
+steady is_same k = record {
+  facts = record {
+    stand = Up k;
+    is_sure = true;
+    is_counted = true;
+    is_known = true;
+    is_shown = true;
+    is_answering = true;
+  };
+  told = Nothing;
+  is_same = is_same;
+  takes_unread = false;
+}
+
 -- ---- a frame: both ends, and what is said of it
 
 pub record Both : Type 0 where
@@ -254,9 +278,6 @@ is_blind own other = not (steps.is_known own.set) || not (steps.is_known other.s
 -- what is noted where there is no room any more
 abbrev pub blind_note : Bool → Bool → Option Note
 blind_note was is = if is && not was then Some NumbersUnjudged else None
-
-abbrev pub note_of : End → End → End → End → Option Note
-note_of was_own was_other own other = blind_note (is_blind was_own was_other) (is_blind own other)
 
 -- the end behind it, but for manners
 abbrev pub end_sent : PlainFrame → Frame → End → End

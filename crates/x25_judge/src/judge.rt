@@ -1,6 +1,6 @@
 //! What answers a line.
 ghost use Rattle.std.specs.Prelude.{◌≡◌, ◌+◌, ◌≤◌, ◌++◌, ℕ, List, Option, true, length, codes, is_some, IfOk, OnOk};
-ghost use Rattle.std.specs.Prelude.{Err, if◌then◌else◌};
+ghost use Rattle.std.specs.Prelude.{Err, false, if◌then◌else◌};
 ghost use Rattle.std.specs.Prelude.{OnErr, MatchResult};
 ghost use Rattle.x25_io.specs.code.Written.{AppendsPrefix, Tells, TellsMore};
 ghost use Rattle.x25_decode.specs.Decoding.{mark_of, n1};
@@ -11,16 +11,17 @@ ghost use Rattle.x25_text.specs.WideFrameText.{wide_frame_text, wide_reading_tex
 ghost use Rattle.x25_frame.specs.Frame.{plain};
 ghost use Rattle.x25_packet_judge.specs.Book.{IsRead};
 ghost use Rattle.x25_judge.specs.Doubt.{explains_told};
+ghost use Rattle.x25_judge.specs.Links.{quiet};
 ghost use Rattle.x25_judge.specs.Judge.{all_told, answer_to, begins_at, behind, broken_text};
 ghost use Rattle.x25_judge.specs.Judge.{counts_carried, doubt_text, is_nothing, is_settled, lack_of, last_line};
 ghost use Rattle.x25_judge.specs.Judge.{counts_frame, end_of, forgotten, gap_of};
-ghost use Rattle.x25_judge.specs.Judge.{book_by, counts_by, counts_packet, counts_text, covers, missed_by, next_by};
-ghost use Rattle.x25_judge.specs.Judge.{next_missed, no_frame, read_of, remark_missed, remark_of};
+ghost use Rattle.x25_judge.specs.Judge.{book_by, book_of, counts_by, counts_packet, counts_text, covers, missed_by};
+ghost use Rattle.x25_judge.specs.Judge.{next_by, next_missed, no_frame, read_of, remark_by, remark_missed, remark_of};
 ghost use Rattle.x25_judge.specs.Judge.{noted_text, remark_text, seen_by, sign_of, tallies};
 
 use crate::counts::{Count, Counts, Line, Tally, tell_end, tell_line};
 use crate::doubt::{At, Lack};
-use crate::links::{End, Seen, misses, sees};
+use crate::links::{End, Seen, misses, passes, sees};
 use crate::manners::Manners;
 use crate::note::{MOST_NOTE, Note, first_note, push_note, unjudged_note};
 use crate::rule::{Rule, breaks_order, first};
@@ -112,6 +113,7 @@ fn covers(frame: &Frame, is_again: bool, is_judged: bool) -> bool
 }
 
 /// The packet of an I frame, where packets aren't read in all forms.
+#[inline(always)]
 fn packet_of<'a>(reading: Reading, frame: &Frame<'a>) -> Result<Packet<'a>, PacketError>
     ensures { IsRead reading (plain frame.now) result }
 {
@@ -122,6 +124,7 @@ fn packet_of<'a>(reading: Reading, frame: &Frame<'a>) -> Result<Packet<'a>, Pack
 }
 
 /// Appends a frame, as it is read.
+#[inline(always)]
 fn push_seen(reading: Reading, frame: &Frame, packet: &Result<Packet, PacketError>, text: &mut Text)
     requires read { IsRead reading (plain frame.now) packet.now }
     requires room { length text.old + MOST_TEXT ≤ ROOM }
@@ -317,6 +320,7 @@ impl Judge {
 
     /// Appends the rule that was broken, which is counted, or what is noted, and a line feed; whether that counts for
     /// the status is answered.
+    #[inline(always)]
     fn tell(
         &mut self,
         from: Role,
@@ -358,6 +362,21 @@ impl Judge {
         }
     }
 
+    /// Whether the link layer judges a frame and says nothing of it, and it goes for the first time. False: it may, and
+    /// nothing has changed.
+    #[inline(always)]
+    fn passes(&mut self, from: Role, frame: &Frame) -> bool
+        ensures next { result ≡ true → self.new ≡ behind from (seen_by self.old from (plain frame.now)).own
+            (seen_by self.old from (plain frame.now)).other self.old.book self.old }
+        ensures seen { result ≡ true → (seen_by self.old from (plain frame.now)).seen ≡ quiet }
+        ensures kept { result ≡ false → self.new ≡ self.old }
+    {
+        match from {
+            Role::Dte => passes(&mut self.dte, &mut self.dce, self.window, frame),
+            Role::Dce => passes(&mut self.dce, &mut self.dte, self.window, frame),
+        }
+    }
+
     /// What the link layer says of a frame.
     fn look(&mut self, from: Role, frame: &Frame) -> Seen
         ensures next { self.new ≡ behind from (seen_by self.old from (plain frame.now)).own
@@ -382,14 +401,22 @@ impl Judge {
         }
     }
 
-    /// The rule that a frame breaks, and what is noted of it.
-    fn sees(&mut self, from: Role, frame: &Frame, packet: &Result<Packet, PacketError>) -> Remark
+    /// Judges the packet of a frame of which the link layer says this; what is said of both is answered.
+    #[inline(always)]
+    fn carries(
+        &mut self,
+        from: Role,
+        frame: &Frame,
+        packet: &Result<Packet, PacketError>,
+        seen: Seen,
+    ) -> Remark
         requires { IsRead self.old.reading (plain frame.now) packet.now }
-        ensures next { self.new ≡ next_by from (plain frame.now) (seen_by self.old from (plain frame.now))
-            (book_by self.old from (plain frame.now) (seen_by self.old from (plain frame.now))) self.old }
-        ensures remark { result ≡ remark_of self.old from (plain frame.now) (seen_by self.old from (plain frame.now)) }
+        ensures next { let s = book_of self.old from (plain frame.now) seen in self.new
+            ≡ counts_carried from (plain frame.now) seen.is_again s.verdict.is_judged
+            (counts_frame from seen.is_judged (record self.old { book = s.book })) }
+        ensures remark { result
+            ≡ remark_by (plain frame.now) seen (book_of self.old from (plain frame.now) seen).verdict }
     {
-        let seen = self.look(from, frame);
         let verdict = self
             .book
             .sees(from, self.reading, frame, packet, breaks_order(seen.rule));
@@ -399,6 +426,50 @@ impl Judge {
             rule: all_told(seen.rule, verdict.rule),
             note: first_note(unjudged_note(verdict.unjudged), seen.note),
             is_judged: seen.is_judged && covers(frame, seen.is_again, verdict.is_judged),
+        }
+    }
+
+    /// The rule that a frame breaks, and what is noted of it.
+    #[inline(never)]
+    fn sees(&mut self, from: Role, frame: &Frame, packet: &Result<Packet, PacketError>) -> Remark
+        requires { IsRead self.old.reading (plain frame.now) packet.now }
+        ensures next { self.new ≡ next_by from (plain frame.now) (seen_by self.old from (plain frame.now))
+            (book_by self.old from (plain frame.now) (seen_by self.old from (plain frame.now))) self.old }
+        ensures remark { result ≡ remark_of self.old from (plain frame.now) (seen_by self.old from (plain frame.now)) }
+    {
+        let seen = self.look(from, frame);
+        self.carries(from, frame, packet, seen)
+    }
+
+    /// Judges a frame, and appends what is said of it, and a line feed; whether it counts is answered. Of most the link
+    /// layer says nothing.
+    #[inline(always)]
+    fn takes(
+        &mut self,
+        from: Role,
+        strictness: Strictness,
+        lack: Lack,
+        frame: &Frame,
+        packet: &Result<Packet, PacketError>,
+        text: &mut Text,
+    ) -> bool
+        requires read { IsRead self.old.reading (plain frame.now) packet.now }
+        requires room { length text.old + (MOST_REMARK + 1) ≤ ROOM }
+        ensures next { let t = seen_by self.old from (plain frame.now) in
+            let r = remark_of self.old from (plain frame.now) t in
+            self.new ≡ tallies (explains_told lack r.rule) r.rule
+            (next_by from (plain frame.now) t (book_by self.old from (plain frame.now) t) self.old) }
+        ensures text { let r = remark_of self.old from (plain frame.now) (seen_by self.old from (plain frame.now)) in
+            text.new ≡ text.old ++ (remark_text from (explains_told lack r.rule) r.rule r.note ++ codes "\n") }
+        ensures counts { let r = remark_of self.old from (plain frame.now) (seen_by self.old from (plain frame.now)) in
+            result ≡ counts_by strictness (explains_told lack r.rule) r }
+    {
+        if self.passes(from, frame) {
+            let remark = self.carries(from, frame, packet, Seen::quiet());
+            self.tell(from, strictness, lack, remark, text)
+        } else {
+            let remark = self.sees(from, frame, packet);
+            self.tell(from, strictness, lack, remark, text)
         }
     }
 
@@ -432,18 +503,23 @@ impl Judge {
             Role::Dte => text.push(b"> "),
             Role::Dce => text.push(b"< "),
         }
-        let remark = match decode(from, N1, octets) {
-            Ok(frame) => {
+        match decode(from, N1, octets) {
+            // Each with a copy of its own: most frames have no packet, and move none.
+            Ok(frame) => if matches!(frame, Frame::I { .. }) {
                 let packet = packet_of(self.reading, &frame);
                 push_seen(self.reading, &frame, &packet, text);
-                self.sees(from, &frame, &packet)
-            }
+                self.takes(from, strictness, lack, &frame, &packet, text)
+            } else {
+                let packet = packet_of(self.reading, &frame);
+                push_seen(self.reading, &frame, &packet, text);
+                self.takes(from, strictness, lack, &frame, &packet, text)
+            },
             Err(error) => {
                 push_missed(self.reading, from, octets, error, text);
-                self.misses(from, error)
+                let remark = self.misses(from, error);
+                self.tell(from, strictness, lack, remark, text)
             }
-        };
-        self.tell(from, strictness, lack, remark, text)
+        }
     }
 
     /// Appends the line that answers one without octets, a gap or none of a trace; whether it counts is answered.

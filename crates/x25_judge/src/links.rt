@@ -1,8 +1,10 @@
 //! Both ends of a link: the places in which each may be, the octets of its last numbers, and its manners.
-ghost use Rattle.std.specs.Prelude.{◌≡◌, IfOk};
+ghost use Rattle.std.specs.Prelude.{◌≡◌, ℕ, Bool, true, false, IfOk};
 ghost use Rattle.x25_frame.specs.Frame.{plain};
 ghost use Rattle.x25_judge.specs.Held.{keeps, is_same as same_octets};
 ghost use Rattle.x25_judge.specs.Links as definition;
+ghost use Rattle.x25_possible_links.specs.declared.set.LinkSet.{LinkSet};
+ghost use Rattle.x25_possible_links.specs.declared.stand.Stand.TheVariants.{Up};
 
 use crate::held::Held;
 use crate::manners::{Manners, Minded, Place, place_of, says};
@@ -83,6 +85,18 @@ impl Facts {
 }
 
 impl Seen {
+    /// Nothing is said of a frame that goes for the first time, and is judged.
+    pub(crate) fn quiet() -> Seen
+        ensures { result ≡ definition.quiet }
+    {
+        Seen {
+            rule: None,
+            note: None,
+            is_again: false,
+            is_judged: true,
+        }
+    }
+
     fn with(self, minded: Minded) -> Seen
         ensures { result ≡ definition.with_minded minded self }
     {
@@ -535,49 +549,99 @@ fn is_blind(own: &End, other: &End) -> bool
     !own.set.is_known() || !other.set.is_known()
 }
 
-/// A frame goes from an end to the other one: what is known before it and told of it, and what is noted. Most go
-/// between two ends in a session, with nothing on the way.
+/// Manners behind a frame of a session, to an end with such numbers, where it is judged and nothing is said of it.
+/// False: something may be, and nothing has changed.
+#[tactic(auto, unfolding(crate::specs::Links::minds, crate::specs::Links::judges))]
 #[inline(always)]
-fn goes(
-    own: &mut End,
-    other: &mut End,
-    is_same: bool,
-    shown: Shown,
+fn minds_quietly(
+    window: u8,
+    k: Numbers,
+    to: Numbers,
     frame: &Frame,
-) -> (Sent, Option<Note>)
-    requires { is_same ≡ same_octets own.old.held (plain frame.now) }
-    ensures own { own.new ≡ definition.end_sent (plain frame.now) shown own.old }
-    ensures other { other.new ≡ definition.end_shown shown other.old }
-    ensures sent { result.0 ≡ definition.sent_by (plain frame.now) shown own.old }
-    ensures note { result.1 ≡ definition.note_of own.old other.old own.new other.new }
+    own: &mut Manners,
+    other: &mut Manners,
+) -> bool
+    ensures judged { result ≡ true → (polls : ℕ) (is_same : Bool)
+        → definition.judges polls (plain frame.now) (definition.steady is_same k).facts ≡ true }
+    ensures minded { result ≡ true → (is_same : Bool) (there : LinkSet) → definition.numbers there ≡ Up to
+        → definition.minds window (definition.steady is_same k) there (plain frame.now)
+        (definition.quietly own.old other.old) ≡ definition.quietly own.new other.new }
+    ensures own { result ≡ false → own.new ≡ own.old }
+    ensures other { result ≡ false → other.new ≡ other.old }
 {
-    if let (Some((before, next)), Some(taken)) = (own.set.steps(shown), other.set.takes(shown)) {
-        own.set.stands(next);
-        own.held.keep(frame);
-        other.set.stands(taken);
-        let facts = Facts {
-            stand: Stand::Up(before),
-            is_sure: true,
-            is_counted: true,
-            is_known: true,
-            is_shown: true,
-            is_answering: true,
-        };
-        let sent = Sent {
-            facts,
-            told: Told::Nothing,
-            is_same,
-            takes_unread: false,
-        };
-        return (sent, None);
+    match frame {
+        Frame::I { ns, nr, p, .. } => {
+            if *p || !own.goes_straight(window, place_of(k), ns.get()) {
+                return false;
+            }
+            *own = own.grown(1).hears(is_above(Stand::Up(k), nr.get()));
+            *other = other.heard();
+            true
+        }
+        Frame::Rr { command, nr, pf } | Frame::Rnr { command, nr, pf } => {
+            let is_above = is_above(Stand::Up(k), nr.get());
+            if !*pf {
+                *own = own.hears(is_above);
+                *other = other.heard();
+                true
+            } else if *command && !own.is_polling {
+                let asked = own.asks().manners;
+                *own = asked.hears(is_above);
+                *other = other.heard();
+                true
+            } else if !*command && other.polls != 0 {
+                let answered = other.answered(true).manners.heard();
+                *own = own.hears(is_above);
+                *other = answered.sent_back(apart(place_of(to).next, nr.get()));
+                true
+            } else {
+                false
+            }
+        }
+        _ => false,
     }
-    let was_blind = is_blind(own, other);
-    let sent = own.sends(is_same, shown, frame);
-    other.set.shows(shown);
-    (sent, blind_note(was_blind, is_blind(own, other)))
+}
+
+/// A frame goes from an end to the other one, both in a session with nothing on the way; it is judged, goes for the
+/// first time, and nothing is said of it. False: it may be another one, and nothing has changed.
+#[inline(always)]
+pub(crate) fn passes(own: &mut End, other: &mut End, window: u8, frame: &Frame) -> bool
+    ensures both { result ≡ true → definition.sees window (plain frame.now) own.old other.old
+        ≡ record { own = own.new; other = other.new; seen = definition.quiet } }
+    ensures own { result ≡ false → own.new ≡ own.old }
+    ensures other { result ≡ false → other.new ≡ other.old }
+{
+    if !matches!(
+        frame,
+        Frame::I { .. } | Frame::Rr { .. } | Frame::Rnr { .. }
+    ) {
+        return false;
+    }
+    let shown = shown(frame, false);
+    let Some((k, next)) = own.set.steps(shown) else {
+        return false;
+    };
+    let Some(taken) = other.set.takes(shown) else {
+        return false;
+    };
+    if !minds_quietly(
+        window,
+        k,
+        taken,
+        frame,
+        &mut own.manners,
+        &mut other.manners,
+    ) {
+        return false;
+    }
+    own.set.stands(next);
+    own.held.keep(frame);
+    other.set.stands(taken);
+    true
 }
 
 /// An end sends a frame; at most `window` I frames may be unacknowledged.
+#[inline(never)]
 pub(crate) fn sees(own: &mut End, other: &mut End, window: u8, frame: &Frame) -> Seen
     ensures own { own.new ≡ (definition.sees window (plain frame.now) own.old other.old).own }
     ensures other { other.new ≡ (definition.sees window (plain frame.now) own.old other.old).other }
@@ -585,10 +649,12 @@ pub(crate) fn sees(own: &mut End, other: &mut End, window: u8, frame: &Frame) ->
 {
     let (is_same, differs) = own.held.compare(frame);
     let shown = shown(frame, differs);
-    let (sent, note) = goes(own, other, is_same, shown, frame);
+    let was_blind = is_blind(own, other);
+    let sent = own.sends(is_same, shown, frame);
+    other.set.shows(shown);
     let seen = Seen {
         rule: rule_of(sent.told, shown),
-        note,
+        note: blind_note(was_blind, is_blind(own, other)),
         is_again: false,
         is_judged: sent.facts.judges(other.manners.polls, frame),
     };

@@ -1,5 +1,5 @@
 //! The manners of an end: V(S) set back with cause, REJ once for a gap, F=1 for P=1, and the window of --k.
-ghost use Rattle.std.specs.Prelude.{◌≡◌};
+ghost use Rattle.std.specs.Prelude.{◌≡◌, true, false};
 ghost use Rattle.x25_judge.specs.Manners as definition;
 
 use crate::note::Note;
@@ -231,7 +231,7 @@ impl Manners {
     // ---- N(S)
 
     /// So many numbers more were sent. What sent V(S) back to a number that is eight or more behind counts no more.
-    fn grown(self, count: u8) -> Manners
+    pub(crate) fn grown(self, count: u8) -> Manners
         ensures { result ≡ definition.grown count self }
     {
         let reach = self.reach.saturating_add(count);
@@ -298,6 +298,15 @@ impl Manners {
         } else {
             says(None, None, false, self.grown(1))
         }
+    }
+
+    /// Whether it is the next new number, with P=0, and nothing is said of it. False: something may be.
+    #[inline(always)]
+    pub(crate) fn goes_straight(self, window: u8, at: Place, number: u8) -> bool
+        ensures { result ≡ true
+            → definition.sends window at number false false self ≡ definition.quiet (definition.grown 1 self) }
+    {
+        self.behind == 0 && apart(at.next, number) == 0 && (7 <= window || at.pending < window)
     }
 
     /// A number before V(S), with the octets that it had.

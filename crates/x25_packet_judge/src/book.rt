@@ -8,7 +8,7 @@ ghost use Rattle.x25_packet.specs.Grammar.{form_in};
 use crate::channel::{Channel, Event, Finding};
 use crate::channels::Channels;
 use crate::item::item_of;
-use crate::layers::{Layer, Layers, hear};
+use crate::layers::{Layer, Layers, advance, hear};
 use crate::packet_rule::PacketRule;
 use std::alloc::{AllocError, Global};
 use x25_bits::Role;
@@ -206,6 +206,7 @@ impl Book {
     }
 
     /// Packets of an end were missed, of any channels.
+    #[inline(never)]
     fn forget(&mut self)
         ensures { self.new ≡ definition.forgets self.old }
     {
@@ -319,6 +320,7 @@ impl Book {
 
     /// An I frame, which breaks a rule of the link layer where `is_broken`.
     #[tactic(auto, unfolding(crate::specs::Book::sends_info, crate::specs::Book::moves))]
+    #[inline(always)]
     fn info(
         &mut self,
         from: Role,
@@ -339,9 +341,11 @@ impl Book {
             return passed(None);
         }
         self.hears(from, numbers.1);
-        let layers = self.layers(from);
-        self.keep(from, layers.moves(numbers.0));
-        if layers.may_judge(numbers.0) {
+        let may_judge = match from {
+            Role::Dte => advance(&mut self.dte, &self.dce, numbers.0),
+            Role::Dce => advance(&mut self.dce, &self.dte, numbers.0),
+        };
+        if may_judge {
             self.reads(from, reading, octets, packet)
         } else {
             passed(None)
@@ -351,6 +355,7 @@ impl Book {
     /// The end sends a frame, which breaks a rule of the link layer where `is_broken`; what is told of its packet is
     /// answered. `packet` is what the information of an I frame reads as, where packets aren't read in all forms.
     #[tactic(auto, unfolding(crate::specs::Book::sees))]
+    #[inline(always)]
     pub fn sees(
         &mut self,
         from: Role,

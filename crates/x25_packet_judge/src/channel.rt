@@ -33,6 +33,7 @@ pub(crate) struct Finding {
     pub(crate) is_first: bool,
 }
 
+#[inline(always)]
 fn rule_of(told: Told, packet: Packet) -> Option<PacketRule>
     ensures { result ≡ definition.rule_of told packet }
 {
@@ -58,12 +59,12 @@ fn is_begun(set: &Set) -> bool
 
 /// An end sends a packet.
 #[inline(always)]
-fn sent(own: &mut Set, packet: Packet) -> Finding
-    ensures own { own.new ≡ (definition.sent packet own.old).set }
-    ensures finding { result ≡ (definition.sent packet own.old).finding }
+fn sent(own: &mut Set, packet: &Packet) -> Finding
+    ensures own { own.new ≡ (definition.sent packet.now own.old).set }
+    ensures finding { result ≡ (definition.sent packet.now own.old).finding }
 {
     let was_known = own.is_known();
-    let rule = rule_of(own.sends(packet), packet);
+    let rule = rule_of(own.sends(packet), *packet);
     Finding {
         rule,
         is_judged: was_known && (rule.is_some() || own.is_known()),
@@ -133,14 +134,12 @@ impl Channel {
     {
         match from {
             Role::Dte => {
-                let finding = sent(&mut self.dte, packet);
-                self.dce.shows(packet);
-                finding
+                self.dce.shows(&packet);
+                sent(&mut self.dte, &packet)
             }
             Role::Dce => {
-                let finding = sent(&mut self.dce, packet);
-                self.dte.shows(packet);
-                finding
+                self.dte.shows(&packet);
+                sent(&mut self.dce, &packet)
             }
         }
     }

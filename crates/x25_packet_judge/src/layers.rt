@@ -185,61 +185,6 @@ impl Layers {
         })
     }
 
-    /// Whether an N(R) is about the packets of the other end.
-    fn may_hear(self) -> bool
-        ensures { result ≡ definition.may_hear self }
-    {
-        !matches!(self.own.track, Track::Dropped)
-            && (!matches!(self.other.track, Track::Dropped) && !self.other.is_fresh)
-    }
-
-    /// Whether an N(R) shows that packets of the other end weren't seen.
-    pub(crate) fn finds_other(self, number: u8) -> bool
-        ensures { result ≡ definition.finds_other number self }
-    {
-        let seen = apart(self.other.next, self.other.acked);
-        let is_ahead = seen < apart(number, self.other.acked);
-        self.may_hear() && (matches!(self.other.track, Track::Unseen) || is_ahead)
-    }
-
-    /// The end sends a frame that may belong to no set-up.
-    fn worn(self) -> Layers
-        ensures { result ≡ definition.worn self }
-    {
-        self.with_own(Layer {
-            is_fresh: false,
-            ..self.own
-        })
-    }
-
-    /// Whether an I frame is the next one that wasn't seen yet.
-    fn is_next(self, number: u8) -> bool
-        ensures { result ≡ definition.is_next number self }
-    {
-        matches!(self.own.track, Track::Followed) && number == self.own.next
-    }
-
-    /// Whether the packet of an I frame is judged.
-    pub(crate) fn may_judge(self, number: u8) -> bool
-        ensures { result ≡ definition.may_judge number self }
-    {
-        matches!(self.other.track, Track::Followed) && self.is_next(number)
-    }
-
-    /// The end sends an I frame.
-    pub(crate) fn moves(self, number: u8) -> Layers
-        ensures { result ≡ definition.moves number self }
-    {
-        if self.is_next(number) {
-            self.with_own(Layer {
-                next: self.own.next.saturating_add(1) % 8,
-                ..self.own
-            })
-        } else {
-            self
-        }
-    }
-
     /// The end sends SABM.
     pub(crate) fn asks(self) -> Layers
         ensures { result ≡ definition.asks self }
@@ -262,7 +207,10 @@ impl Layers {
     pub(crate) fn misses(self) -> Layers
         ensures { result ≡ definition.misses self }
     {
-        let next = self.worn();
+        let next = self.with_own(Layer {
+            is_fresh: false,
+            ..self.own
+        });
         if 0 < self.own.asked {
             next.lost()
         } else {
@@ -277,17 +225,31 @@ pub(crate) fn hear(own: &mut Layer, other: &mut Layer, number: u8) -> bool
     ensures other { other.new ≡ (definition.hears number (record { own = own.old; other = other.old })).other }
     ensures found { result ≡ definition.finds_other number (record { own = own.old; other = other.old }) }
 {
-    let layers = Layers {
-        own: *own,
-        other: *other,
-    };
     own.is_fresh = false;
-    if layers.finds_other(number) {
-        *other = layers.other.found_at(number);
+    if matches!(own.track, Track::Dropped)
+        || matches!(other.track, Track::Dropped)
+        || other.is_fresh
+    {
+        return false;
+    }
+    let is_ahead = apart(other.next, other.acked) < apart(number, other.acked);
+    if matches!(other.track, Track::Unseen) || is_ahead {
+        *other = other.found_at(number);
         return true;
     }
-    if layers.may_hear() {
-        other.acked = number;
-    }
+    other.acked = number;
     false
+}
+
+/// An end sends an I frame; whether its packet is judged.
+pub(crate) fn advance(own: &mut Layer, other: &Layer, number: u8) -> bool
+    ensures own { own.new ≡ (definition.moves number (record { own = own.old; other = other.now })).own }
+    ensures judged { result ≡ definition.may_judge number (record { own = own.old; other = other.now }) }
+{
+    let is_next = matches!(own.track, Track::Followed) && number == own.next;
+    if !is_next {
+        return false;
+    }
+    own.next = own.next.saturating_add(1) % 8;
+    matches!(other.track, Track::Followed)
 }

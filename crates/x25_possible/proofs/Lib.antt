@@ -7,4 +7,4 @@ mod SetLemmas
 mod RoomLemmas
 mod MannerLemmas
 mod TapeLemmas
-mod FlowLemmas
+mod AloneLemmas

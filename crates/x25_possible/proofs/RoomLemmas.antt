@@ -8,11 +8,12 @@ use Rattle.x25_bits.specs.declared.role.Role.{Role}
 use Rattle.x25_possible.specs.Channel.{at_once, channel_choices, channel_rules, dropped, found, one, sends, takes}
 use Rattle.x25_possible.specs.laws.Possible.{Item, Own, IsIn, IsUnexplained, Place, after_other, after_own, at, grown, possible, settled}
 use Rattle.x25_possible.specs.laws.Sets.{AreCounted, Fits, HasRoomToSend, HasRoomToShow, IsBroken, IsCounted, IsUntold, OfSome, StaysKnown, placed}
-use Rattle.x25_possible.specs.code.Steps.{all_of, and_then, anew, anew_at, are_answered, are_at_end, awaits, breaks, broken_to, hidden_by, located, lost, may_find, is_awaiting}
-use Rattle.x25_possible.specs.code.Steps.{explained, finds, found_from, found_to, is_lost, is_some, settles_found, go_all, goes, goes_by, grow_all, grows, is_blind, is_known, is_large, is_there, kept, known_by}
+use Rattle.x25_possible.specs.code.Steps.{all_of, and_then, anew, anew_at, are_answered, are_at_end, awaits, breaks, broken_to, hidden_by, caught_up, located, lost, may_find, is_awaiting}
+use Rattle.x25_possible.specs.code.Steps.{explained, finds, found_from, found_in, found_to, is_lost, is_some, settles_found, go_all, goes, goes_by, grow_all, grows, is_blind, is_known, is_large, is_there, kept, known_by}
 use Rattle.x25_possible.specs.code.Steps.{latest_from, makes_known, next_of, quietly, rude_from, sends_to, sent, sent_to, settles, settles_by, shown, shown_to}
 use Rattle.x25_possible.specs.code.Steps.{shows_to, spot_at, standing, taken_on, told_by, trimmed, trimmed_to, trims, unexplained, without_room}
 use Rattle.x25_possible.specs.declared.packet.Packet.{Packet}
+use Rattle.x25_possible.specs.declared.packet.Packet.TheVariants.{Data}
 use Rattle.x25_possible.specs.declared.phase.Phase.{Phase}
 use Rattle.x25_possible.specs.declared.phase.Phase.TheVariants.{Idle}
 use Rattle.x25_possible.specs.declared.set.Knowledge.{Knowledge}
@@ -197,8 +198,8 @@ counted_found role last n (y ∷ rest) x out new old h =
     (λ mid e g. counted_found role (Some y) (n + 1) rest x mid new
     (counted_settles_found role n (y ∷ rest) (found last x) out mid old e) g) h
 
-counted_finds : (x : Packet) (s : Set) → AreCounted s.spots.items → AreCounted (finds x s).spots.items
-counted_finds x s all = go (is_lost s && may_find s.knowledge x)
+counted_in : (x : Packet) (s : Set) → AreCounted s.spots.items → AreCounted (found_in x s).spots.items
+counted_in x s all = made (found_from s.role None 0 s.way.items x []) refl
   where
     listed : (b : Bool) (new : List Spot) → AreCounted new
         → AreCounted (if b then s else located x new s).spots.items
@@ -210,8 +211,15 @@ counted_finds x s all = go (is_lost s && may_find s.knowledge x)
     made None e = all
     made (Some new) e = listed (length new == 0) new (counted_found s.role None 0 s.way.items x [] new none_counted e)
 
-    go : (b : Bool) → AreCounted (if b then found_to x (found_from s.role None 0 s.way.items x []) s else s).spots.items
-    go true = made (found_from s.role None 0 s.way.items x []) refl
+counted_caught : (x : Packet) (s : Set) → AreCounted s.spots.items → AreCounted (found_in x (caught_up x s)).spots.items
+counted_caught (Data q m ps pr size) s all = counted_in (Data q m ps pr size) (caught_up (Data q m ps pr size) s) all
+counted_caught x s all = counted_in x s all
+
+counted_finds : (x : Packet) (s : Set) → AreCounted s.spots.items → AreCounted (finds x s).spots.items
+counted_finds x s all = go (is_lost s && may_find s.knowledge x)
+  where
+    go : (b : Bool) → AreCounted (if b then found_in x (caught_up x s) else s).spots.items
+    go true = counted_caught x s all
     go false = all
 
 pub counted_sends : (s : Set) (x : Packet) → AreCounted s.spots.items → AreCounted (sends_to x s).set.spots.items

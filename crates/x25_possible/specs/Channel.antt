@@ -372,7 +372,7 @@ is_polite s x = true
 -- Where a packet breaks a rule of numbers, size or Q, numbers go on from it; where of numbers, what is acknowledged
 -- isn't known, and counts as more than any that comes.
 abbrev pub far : ℕ
-far = 1000000000
+far = 1073741824
 
 abbrev pub next_sent : ℕ → ℕ → ℕ
 next_sent ps sent = if ps == sent % 8 then sent + 1 else ps + 1
@@ -390,6 +390,20 @@ abbrev pub goes_on : Phase → Packet → Option Phase
 goes_on (Talks k) x = talks_on k x
 goes_on s x = None
 
+-- d1, in the midst of a call: what is acknowledged to it, and what it took, isn't known
+abbrev pub amidst : Bool → Bool → ℕ → ℕ → Talk
+amidst q m ps pr = record {
+  most = 0;
+  window = 0;
+  sent = ps + 1;
+  acked = far;
+  taken = far;
+  told = pr;
+  begun = begun_by m q;
+  is_out = false;
+  owed = far;
+}
+
 -- where an end that may have been in any state is behind a packet that it sends, by the last one that it took
 abbrev pub found : Option Packet → Packet → Option Phase
 found last (Call terms) = Some (Calls terms)
@@ -398,4 +412,5 @@ found last Restart = Some Restarts
 found (Some (Call terms)) (Accept said) = Some (fresh (called_limits terms said))
 found (Some Clear) ClearConf = Some Idle
 found (Some Restart) RestartConf = Some Idle
+found last (Data q m ps pr size) = Some (Talks (amidst q m ps pr))
 found last x = None

@@ -11,10 +11,10 @@ use crate::phase::{Limits, Phase, Talk};
 use x25_bits::Role;
 
 /// Numbers up to here are counted; a set with larger ones says nothing.
-const LARGEST: u32 = 2_000_000_000;
+const LARGEST: u32 = 2_147_483_647;
 
 /// What isn't known counts as this number.
-const FAR: u32 = 1_000_000_000;
+const FAR: u32 = 1_073_741_824;
 
 /// Whether a number is so large that it isn't counted on.
 pub(crate) fn is_large(phase: Phase) -> bool
@@ -524,11 +524,51 @@ pub(crate) fn at_once(phase: Phase, packet: Packet) -> Option<Phase>
     }
 }
 
-// ---- one state, in flow control
+// ---- one state, with nothing on the way
 
-/// Its numbers, where they aren't too large.
+/// Where its numbers aren't too large.
+pub(crate) fn small(phase: Phase) -> Option<Phase>
+    ensures same { result ≡ steps.small phase }
+    ensures small { IfSome result (λ s. IsSmall s) }
+{
+    if is_large(phase) { None } else { Some(phase) }
+}
+
+fn small_in(phase: Option<Phase>) -> Option<Phase>
+    ensures { result ≡ steps.small_in phase }
+{
+    match phase {
+        Some(phase) => small(phase),
+        None => None,
+    }
+}
+
+/// Where it is behind a packet that it sends politely.
+pub(crate) fn alone_sends(phase: Phase, packet: Packet) -> Option<Phase>
+    requires { IsSmall phase }
+    ensures { result ≡ steps.alone_sends phase packet }
+{
+    if is_polite(phase, packet) {
+        small_in(sends(phase, packet))
+    } else {
+        None
+    }
+}
+
+/// Where it is behind one that is taken at once.
+pub(crate) fn alone_takes(phase: Phase, packet: Packet) -> Option<Phase>
+    requires { IsSmall phase }
+    ensures { result ≡ steps.alone_takes phase packet }
+{
+    small_in(at_once(phase, packet))
+}
+
+// ---- in flow control, as most are
+
+/// Its numbers.
+#[inline(always)]
 pub(crate) fn flow(phase: Phase) -> Option<Talk>
-    ensures same { result ≡ steps.flow phase }
+    ensures same { result ≡ steps.flow_in (steps.small phase) }
     ensures small { IfSome result (λ k. IsSmall (Talks k)) }
 {
     match phase {
@@ -539,7 +579,7 @@ pub(crate) fn flow(phase: Phase) -> Option<Talk>
 
 #[inline(always)]
 fn flow_in(phase: Option<Phase>) -> Option<Talk>
-    ensures { result ≡ steps.flow_in phase }
+    ensures { result ≡ steps.flow_in (steps.small_in phase) }
 {
     match phase {
         Some(phase) => flow(phase),
@@ -646,6 +686,33 @@ pub(crate) fn goes_on(phase: Phase, packet: Packet) -> Option<Phase>
     }
 }
 
+/// In the midst of a call, behind a data packet: what is acknowledged to it, and what it took, isn't known.
+fn amidst(q: bool, m: bool, ps: u8, pr: u8) -> Talk
+    ensures { result ≡ definition.amidst q m ps pr }
+{
+    Talk {
+        most: 0,
+        window: 0,
+        sent: ps as u32 + 1,
+        acked: FAR,
+        taken: FAR,
+        told: pr as u32,
+        begun: begun_by(m, q),
+        is_out: false,
+        owed: FAR,
+    }
+}
+
+/// Whether it is in no call, or in one that was seen to begin, or in which the other end took nine of its packets.
+pub(crate) fn is_bound(phase: Phase) -> bool
+    ensures { result ≡ steps.is_bound phase }
+{
+    match phase {
+        Phase::Talks(talk) => talk.acked < FAR || talk.acked >= FAR + 16,
+        _ => true,
+    }
+}
+
 /// Where an end that may have been in any state is behind a packet that it sends, by the last one that it took; None
 /// where that says nothing.
 pub(crate) fn found(last: Option<Packet>, packet: Packet) -> Option<Phase>
@@ -667,6 +734,7 @@ pub(crate) fn found(last: Option<Packet>, packet: Packet) -> Option<Phase>
             Some(Packet::Restart) => Some(Phase::Idle),
             _ => None,
         },
+        Packet::Data { q, m, ps, pr, .. } => Some(Phase::Talks(amidst(q, m, ps, pr))),
         _ => None,
     }
 }

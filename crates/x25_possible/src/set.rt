@@ -2,14 +2,15 @@
 ghost use Rattle.std.specs.Prelude.{◌≡◌, IfSome};
 ghost use Rattle.x25_possible.specs.Spots.{IsSmall};
 ghost use Rattle.x25_possible.specs.code.Steps as definition;
-ghost use Rattle.x25_possible.specs.code.Steps.{IsInFlow, IsStep, IsTaken};
+ghost use Rattle.x25_possible.specs.code.Steps.{IsAlone, IsStep, IsTaken};
 ghost use Rattle.x25_possible.specs.declared.phase.Phase.TheVariants.{Talks};
 
-use crate::channel::{dropped, flow, flow_sends, flow_takes};
+use crate::channel::{alone_sends, alone_takes, dropped, flow, flow_sends, flow_takes, small};
 use crate::packet::Packet;
 use crate::phase::{Phase, Talk};
 use crate::spots::{
-    Spot, Spots, are_answered, are_at_end, found_all, gone, grown, is_one_idle, latest, renew, rude,
+    Spot, Spots, are_answered, are_at_end, are_bound, found_all, gone, grown, is_one_idle, latest,
+    renew, rude,
 };
 use arrayvec::ArrayVec;
 use x25_bits::Role;
@@ -51,26 +52,26 @@ fn makes_known(knowledge: Knowledge, packet: Packet, spots: &[Spot]) -> bool
     ensures { result ≡ definition.makes_known knowledge packet spots.now }
 {
     match packet {
-        Packet::RestartConf
-        | Packet::ClearConf
-        | Packet::Accept(_)
-        | Packet::Data { .. }
+        Packet::RestartConf | Packet::ClearConf | Packet::Accept(_) => true,
+        Packet::Restart => matches!(knowledge, Knowledge::Ready) || is_one_idle(spots),
+        Packet::Clear => is_one_idle(spots),
+        Packet::Data { .. }
         | Packet::Rr(_)
         | Packet::Rnr(_)
         | Packet::Interrupt
-        | Packet::InterruptConf => true,
-        Packet::Restart => matches!(knowledge, Knowledge::Ready) || is_one_idle(spots),
-        Packet::Clear => is_one_idle(spots),
+        | Packet::InterruptConf => are_bound(spots),
         Packet::Call(_) | Packet::Reset | Packet::ResetConf | Packet::Elsewhere => false,
     }
 }
 
-/// Whether a packet may say where the end is: behind one that wasn't read no call is known.
+/// Whether a packet may say where the end is: behind one that wasn't read no call is known, and behind a set-up its
+/// RESTART comes.
 fn may_find(knowledge: Knowledge, packet: Packet) -> bool
     ensures { result ≡ definition.may_find knowledge packet }
 {
     match packet {
         Packet::Accept(_) => !matches!(knowledge, Knowledge::Doubt),
+        Packet::Data { .. } => !matches!(knowledge, Knowledge::Ready),
         _ => true,
     }
 }
@@ -113,7 +114,7 @@ impl Set {
         }
     }
 
-    /// Nothing is known, up to the answer to a RESTART, a CLEAR or a CALL.
+    /// Nothing is known yet.
     pub fn any(role: Role) -> Set
         ensures { result ≡ definition.any role }
     {
@@ -278,6 +279,15 @@ impl Set {
         self.trim();
     }
 
+    /// By data it isn't anywhere on the way: all of that counts as taken.
+    fn catch_up(&mut self, packet: Packet)
+        ensures { self.new ≡ definition.caught_up packet self.old }
+    {
+        if matches!(packet, Packet::Data { .. }) {
+            self.way.clear();
+        }
+    }
+
     /// A packet of an end that may be anywhere on the way.
     fn finds(&mut self, packet: Packet)
         ensures { self.new ≡ definition.finds packet self.old }
@@ -285,6 +295,7 @@ impl Set {
         if !self.is_lost() || !may_find(self.knowledge, packet) {
             return;
         }
+        self.catch_up(packet);
         let mut next = Spots::new();
         if found_all(self.role, &self.way, packet, &mut next) && !next.is_empty() {
             self.locates(packet, &next);
@@ -307,9 +318,37 @@ impl Set {
         }
     }
 
-    /// Its numbers, where it is surely in flow control, and nothing is on the way to it.
+    /// Where it surely is, with nothing on the way to it.
+    fn alone(&self) -> Option<Phase>
+        ensures same { result ≡ definition.alone self.now }
+        ensures small { IfSome result (λ s. IsSmall s) }
+    {
+        if !self.is_known() {
+            return None;
+        }
+        match (self.way.as_slice(), self.spots.as_slice()) {
+            ([], [spot]) => if spot.at == 0 {
+                small(spot.phase)
+            } else {
+                None
+            },
+            _ => None,
+        }
+    }
+
+    /// Its one state becomes another.
+    #[inline(always)]
+    fn stands(&mut self, phase: Phase)
+        requires { IsAlone self.old }
+        ensures { self.new ≡ definition.alone_in phase self.old }
+    {
+        self.spots[0].phase = phase;
+    }
+
+    /// Its numbers, where that is in flow control.
+    #[inline(always)]
     fn flow(&self) -> Option<Talk>
-        ensures same { result ≡ definition.flow_of self.now }
+        ensures same { result ≡ definition.flow_in (definition.alone self.now) }
         ensures small { IfSome result (λ k. IsSmall (Talks k)) }
     {
         if !self.is_known() {
@@ -321,18 +360,20 @@ impl Set {
         }
     }
 
-    /// Its one state is in flow control with other numbers.
-    fn flows(&mut self, talk: Talk)
-        requires { IsInFlow self.old }
-        ensures { self.new ≡ definition.in_flow talk self.old }
+    /// Where it is behind a packet that it sends, where the whole of that is this.
+    fn steps_alone(&self, packet: Packet) -> Option<Phase>
+        ensures { IfSome result (λ next. IsStep packet next self.now) }
     {
-        self.spots[0].phase = Phase::Talks(talk);
+        match self.alone() {
+            Some(phase) => alone_sends(phase, packet),
+            None => None,
+        }
     }
 
-    /// Its numbers behind a packet that it sends, where the whole of that is these.
+    /// The same in flow control.
     #[inline(always)]
     fn steps(&self, packet: Packet) -> Option<Talk>
-        ensures { IfSome result (λ next. IsStep packet next self.now) }
+        ensures { IfSome result (λ next. IsStep packet (Talks next) self.now) }
     {
         match self.flow() {
             Some(talk) => flow_sends(talk, packet),
@@ -345,6 +386,10 @@ impl Set {
         ensures set { self.new ≡ (definition.sends_to packet self.old).set }
         ensures told { result ≡ (definition.sends_to packet self.old).told }
     {
+        if let Some(next) = self.steps_alone(packet) {
+            self.stands(next);
+            return Told::Nothing;
+        }
         if self.is_blind() {
             self.finds(packet);
             return Told::Nothing;
@@ -356,14 +401,14 @@ impl Set {
 
     /// The end sends a packet.
     #[inline(always)]
-    pub fn sends(&mut self, packet: Packet) -> Told
-        ensures set { self.new ≡ (definition.sends_to packet self.old).set }
-        ensures told { result ≡ (definition.sends_to packet self.old).told }
+    pub fn sends(&mut self, packet: &Packet) -> Told
+        ensures set { self.new ≡ (definition.sends_to packet.now self.old).set }
+        ensures told { result ≡ (definition.sends_to packet.now self.old).told }
     {
-        let Some(next) = self.steps(packet) else {
-            return self.sends_any(packet);
+        let Some(next) = self.steps(*packet) else {
+            return self.sends_any(*packet);
         };
-        self.flows(next);
+        self.stands(Phase::Talks(next));
         Told::Nothing
     }
 
@@ -403,10 +448,20 @@ impl Set {
         }
     }
 
-    /// Its numbers behind a packet that comes, where the whole of that is these.
+    /// Where it is behind a packet that comes, where the whole of that is this.
+    fn hears_alone(&self, packet: Packet) -> Option<Phase>
+        ensures { IfSome result (λ next. IsTaken packet next self.now) }
+    {
+        match self.alone() {
+            Some(phase) => alone_takes(phase, packet),
+            None => None,
+        }
+    }
+
+    /// The same in flow control.
     #[inline(always)]
     fn hears(&self, packet: Packet) -> Option<Talk>
-        ensures { IfSome result (λ next. IsTaken packet next self.now) }
+        ensures { IfSome result (λ next. IsTaken packet (Talks next) self.now) }
     {
         match self.flow() {
             Some(talk) => flow_takes(talk, packet),
@@ -418,6 +473,10 @@ impl Set {
     fn shows_any(&mut self, packet: Packet)
         ensures { self.new ≡ definition.shows_to packet self.old }
     {
+        if let Some(next) = self.hears_alone(packet) {
+            self.stands(next);
+            return;
+        }
         if self.is_blind() {
             self.awaits(packet);
             return;
@@ -428,12 +487,12 @@ impl Set {
 
     /// The other end sends a packet, which may come at any moment from now on.
     #[inline(always)]
-    pub fn shows(&mut self, packet: Packet)
-        ensures { self.new ≡ definition.shows_to packet self.old }
+    pub fn shows(&mut self, packet: &Packet)
+        ensures { self.new ≡ definition.shows_to packet.now self.old }
     {
-        match self.hears(packet) {
-            Some(next) => self.flows(next),
-            None => self.shows_any(packet),
+        match self.hears(*packet) {
+            Some(next) => self.stands(Phase::Talks(next)),
+            None => self.shows_any(*packet),
         }
     }
 }

@@ -3,7 +3,7 @@ ghost use Rattle.std.specs.Prelude.{◌≡◌, ◌≤◌, None, Some, [], drop, 
 ghost use Rattle.x25_possible.specs.code.Steps as definition;
 ghost use Rattle.x25_possible.specs.declared.phase.Phase.TheVariants.{Idle};
 
-use crate::channel::{at_once, found, goes_on, is_large, is_polite, sends, takes};
+use crate::channel::{at_once, found, goes_on, is_bound, is_large, is_polite, sends, takes};
 use crate::packet::{Packet, Terms};
 use crate::phase::{Limits, Phase};
 use arrayvec::ArrayVec;
@@ -382,6 +382,18 @@ pub(crate) fn is_one_idle(spots: &[Spot]) -> bool
         }
     }
     false
+}
+
+/// Whether each took something that was seen, if it is in a call.
+pub(crate) fn are_bound(spots: &[Spot]) -> bool
+    ensures { result ≡ definition.are_bound spots.now }
+{
+    for spot in spots {
+        if !is_bound(spot.phase) {
+            return false;
+        }
+    }
+    true
 }
 
 /// Whether such a packet answers a state's request, and crosses none; of a DCE that called, the DTE may have called

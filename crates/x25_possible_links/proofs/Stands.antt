@@ -82,7 +82,7 @@ nth_mod : (low t : ℕ) → nth low (t % 8) % 8 ≡ t % 8
 nth_mod low t = omega arith
 
 -- an N(S) stands for one number
-nth_is : (sent n : ℕ) → n ≤ sent → sent ≤ n + 7 → nth (sent - 7) (n % 8) ≡ n
+pub nth_is : (sent n : ℕ) → n ≤ sent → sent ≤ n + 7 → nth (sent - 7) (n % 8) ≡ n
 nth_is sent n h g = omega (arith, h, g)
 
 -- ---- what it makes of what comes
@@ -222,7 +222,7 @@ is_numbered n k ns d h =
       same = e.1;
     }
 
-may_number_by : (n : ℕ) (k : Numbers) (ns : ℕ) (differs : Bool) → IsNumbered n k ns differs → may_number n k ns differs ≡ true
+pub may_number_by : (n : ℕ) (k : Numbers) (ns : ℕ) (differs : Bool) → IsNumbered n k ns differs → may_number n k ns differs ≡ true
 may_number_by n k ns d h =
     and_from (ns == n % 8) (nat_le n k.sent && (nat_le k.sent (n + 7) && (nat_lt n (k.acked + 7) && (n == k.sent || not d))))
     (eq-eqb ns (n % 8) h.number)

@@ -16,6 +16,9 @@ const LARGEST: u64 = (1 << 62) - 1;
 /// As many I frames that are taken, or acknowledged, where it isn't known how many may be.
 const FAR: u64 = 1 << 60;
 
+/// Numbers below this stay below `FAR` behind a frame.
+const NEAR: u64 = 1 << 59;
+
 /// A session that begins.
 pub(crate) const FRESH: Stand = Stand::Up(Numbers {
     sent: 0,
@@ -165,6 +168,7 @@ fn sends(stand: Stand, at: usize, way: &[Frame], frame: Frame) -> Option<Stand>
     }
 }
 
+#[inline(always)]
 fn heard(k: Numbers, frame: Frame) -> Numbers
     requires { IsSmall (Up k) }
     ensures { result ≡ definition.heard true true k frame }
@@ -353,42 +357,62 @@ pub(crate) fn is_sure(stand: Stand) -> bool
     }
 }
 
-/// The numbers of a session, where they aren't too large and what it may acknowledge is known.
-pub(crate) fn sure_numbers(stand: Stand) -> Option<Numbers>
-    ensures same { result ≡ steps.sure_numbers stand }
+/// The numbers of a session, where all are so small that those behind a frame needn't be looked at.
+pub(crate) fn near_numbers(stand: Stand) -> Option<Numbers>
+    ensures same { result ≡ steps.near_numbers stand }
     ensures small { IfSome result (λ k. IsSmall (Up k)) }
 {
     match stand {
-        Stand::Up(k) => if !is_large(stand) && k.taken < FAR {
-            Some(k)
-        } else {
-            None
-        },
+        Stand::Up(k) => {
+            if k.sent < NEAR && k.acked < NEAR && k.taken < NEAR && k.told < NEAR {
+                Some(k)
+            } else {
+                None
+            }
+        }
         _ => None,
     }
 }
 
-/// Its numbers behind a frame of a session that it sends; None where it may not, or they are too large.
+/// Its numbers behind the next I frame, RR, RNR or REJ that it sends; None where it may not, or it is another one.
+#[inline(always)]
 pub(crate) fn up_sends(k: Numbers, frame: Frame) -> Option<Numbers>
     requires { IsSmall (Up k) }
     ensures { result ≡ steps.up_sends k frame }
 {
     match frame {
-        Frame::Info { .. } | Frame::Ready(_) => match up_counts(k, frame) {
-            Some(next) => sure_numbers(next),
-            None => None,
-        },
+        Frame::Info { ns, nr, .. } => {
+            let t = nth(k.told, nr);
+            if ns as u64 == k.sent % 8 && k.sent < k.acked + 7 && may_acknowledge(t, k, nr) {
+                Some(Numbers {
+                    sent: k.sent + 1,
+                    told: t,
+                    ..k
+                })
+            } else {
+                None
+            }
+        }
+        Frame::Ready(nr) => {
+            let t = nth(k.told, nr);
+            if may_acknowledge(t, k, nr) {
+                Some(Numbers { told: t, ..k })
+            } else {
+                None
+            }
+        }
         _ => None,
     }
 }
 
-/// Its numbers behind a frame of a session that comes; None where it is of none, or they are too large.
+/// Its numbers behind an I frame, RR, RNR or REJ that comes; None where it is another one.
+#[inline(always)]
 pub(crate) fn up_hears(k: Numbers, frame: Frame) -> Option<Numbers>
     requires { IsSmall (Up k) }
     ensures { result ≡ steps.up_hears k frame }
 {
     match frame {
-        Frame::Info { .. } | Frame::Ready(_) => sure_numbers(Stand::Up(heard(k, frame))),
+        Frame::Info { .. } | Frame::Ready(_) => Some(heard(k, frame)),
         _ => None,
     }
 }

@@ -5,7 +5,7 @@ ghost use Rattle.x25_possible_links.specs.code.Steps.{IsInSession, IsSmall, IsSt
 ghost use Rattle.x25_possible_links.specs.declared.stand.Stand.TheVariants.{Up};
 
 use crate::frame::Frame;
-use crate::link::{Mode, is_sure, sure_numbers, up_hears, up_sends};
+use crate::link::{Mode, is_sure, near_numbers, up_hears, up_sends};
 use crate::spots::{
     Spot, Spots, agree, grow_all, hurry_all, latest, least, plainest, shift_all, walk_all,
 };
@@ -298,7 +298,7 @@ impl LinkSet {
     {
         match (self.way.as_slice(), self.spots.as_slice()) {
             ([], [spot]) => if spot.at == 0 {
-                sure_numbers(spot.stand)
+                near_numbers(spot.stand)
             } else {
                 None
             },

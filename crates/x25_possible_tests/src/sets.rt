@@ -61,13 +61,13 @@ fn is_told(begun: &Set, tape: &[u8], told: &[u8]) -> bool {
             b'>' => is_own = true,
             b'<' => is_own = false,
             _ => if is_own {
-                let mark = mark_of(set.sends(packet_of(letter)));
+                let mark = mark_of(set.sends(&packet_of(letter)));
                 if count >= told.len() || told[count] != mark {
                     return false;
                 }
                 count += 1;
             } else {
-                set.shows(packet_of(letter));
+                set.shows(&packet_of(letter));
             },
         }
     }
@@ -104,15 +104,24 @@ fn tells_of_an_end(rt: HostRuntime) {
 }
 
 /// Tapes from where nothing is known.
-static UNKNOWN: [(&[u8], &[u8]); 8] = [
+static UNKNOWN: [(&[u8], &[u8]); 11] = [
     (b">0>M>S>J>U>A", b"......"),
     (b">L<M>0", b".!"),
-    (b"<L>0>M>0", b"..!"),
+    (b"<L>0>M>0", b"..."),
     (b">C<A>1", b".!"),
-    (b"<C>0>A>1", b"..!"),
+    (b"<C>0>A>1", b"..."),
     (b"<T>T>0", b".!"),
     (b">T<T>M", b".."),
     (b">L<C<L>M", b".."),
+    (b">1>2>3>4>5>6>7>0>1>2>3>4>5>6>7>0>2", b"................."),
+    (
+        b">0>1>2>3>4>5>6<h>7>0>1>2>3>4>5<g>6>7<a>0>2>J>I>I",
+        b".................!..!",
+    ),
+    (
+        b">0>1>2>3>4>5>6<h>7>0>1>2>3>4>5<g>6>7<h>0>2>J>I>I",
+        b".....................",
+    ),
 ];
 
 #[test]
@@ -135,9 +144,9 @@ fn is_found_by(set: &mut Set, tape: &[u8]) -> bool {
             b'>' => is_own = true,
             b'<' => is_own = false,
             _ => if is_own {
-                set.sends(packet_of(letter));
+                set.sends(&packet_of(letter));
             } else {
-                set.shows(packet_of(letter));
+                set.shows(&packet_of(letter));
             },
         }
     }
@@ -221,12 +230,12 @@ fn doubts_an_end(rt: HostRuntime) {
 fn tells_nothing_without_room(rt: HostRuntime) {
     let mut set = Set::new(Role::Dte);
     for _ in 0..17 {
-        set.shows(Packet::Reset);
-        set.shows(Packet::Call(USUAL));
+        set.shows(&Packet::Reset);
+        set.shows(&Packet::Call(USUAL));
     }
     assert!(rt; !set.is_known());
-    assert_eq!(rt; mark_of(set.sends(Packet::InterruptConf)), b'.');
-    set.shows(Packet::Restart);
-    assert_eq!(rt; mark_of(set.sends(Packet::RestartConf)), b'.');
+    assert_eq!(rt; mark_of(set.sends(&Packet::InterruptConf)), b'.');
+    set.shows(&Packet::Restart);
+    assert_eq!(rt; mark_of(set.sends(&Packet::RestartConf)), b'.');
     assert!(rt; !set.is_known());
 }

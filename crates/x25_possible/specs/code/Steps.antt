@@ -4,7 +4,7 @@ use Rattle.std.specs.Prelude.{◌≡◌, ℕ, ◌+◌, ◌==◌, nat_lt, nat_le,
 use Rattle.std.specs.Prelude.{List, [], ◌∷◌, ◌++◌, length, drop, Option, Some, None}
 use Rattle.x25_bits.specs.declared.role.Role.{Role}
 use Rattle.x25_bits.specs.declared.role.Role.TheVariants.{Dte, Dce}
-use Rattle.x25_possible.specs.Channel.{at_once, dropped, found, goes_on, is_polite, sends, takes}
+use Rattle.x25_possible.specs.Channel.{at_once, dropped, far, found, goes_on, is_polite, sends, takes}
 use Rattle.x25_possible.specs.laws.Possible.{Item, Own, Other}
 use Rattle.x25_possible.specs.declared.packet.Packet.{Packet}
 use Rattle.x25_possible.specs.declared.packet.Packet.TheVariants.{Accept, Clear, ClearConf, Restart, RestartConf, Data}
@@ -65,8 +65,8 @@ and_then (Some out) f = f out
 -- numbers that aren't counted on
 abbrev pub is_large : Phase → Bool
 is_large (Talks k) =
-    nat_lt 2000000000 k.sent || nat_lt 2000000000 k.acked || nat_lt 2000000000 k.taken || nat_lt 2000000000 k.told
-    || nat_lt 2000000000 k.owed
+    nat_lt 2147483647 k.sent || nat_lt 2147483647 k.acked || nat_lt 2147483647 k.taken || nat_lt 2147483647 k.told
+    || nat_lt 2147483647 k.owed
 is_large s = false
 
 abbrev pub spot_at : ℕ → Phase → Spot
@@ -202,28 +202,39 @@ abbrev pub are_answered : Role → Packet → List Spot → Bool
 are_answered role x [] = true
 are_answered role x (q ∷ qs) = is_answered role x q.phase && are_answered role x qs
 
+-- It is in no call, or in one that was seen to begin; or since it was found the other end acknowledged nine of its data
+-- packets or more: at most seven weren't acknowledged as it sent them, so that it took something that was seen.
+abbrev pub is_bound : Phase → Bool
+is_bound (Talks k) = nat_lt k.acked far || nat_le (far + 16) k.acked
+is_bound s = true
+
+abbrev pub are_bound : List Spot → Bool
+are_bound [] = true
+are_bound (q ∷ qs) = is_bound q.phase && are_bound qs
+
 abbrev pub is_ready : Knowledge → Bool
 is_ready Ready = true
 is_ready k = false
 
 -- A packet that the end sends makes it known: an answer, where the request was seen, or a request that crosses one; one
--- of a call that was seen to begin; and behind a set-up its RESTART.
+-- of a call that was seen to begin, or for long enough; and behind a set-up its RESTART.
 abbrev pub makes_known : Knowledge → Packet → List Spot → Bool
 makes_known k RestartConf qs = true
 makes_known k ClearConf qs = true
 makes_known k (Accept said) qs = true
 makes_known k Restart qs = is_ready k || is_one_idle qs
 makes_known k Clear qs = is_one_idle qs
-makes_known k (Data q m ps pr size) qs = true
-makes_known k (Rr pr) qs = true
-makes_known k (Rnr pr) qs = true
-makes_known k Interrupt qs = true
-makes_known k InterruptConf qs = true
+makes_known k (Data q m ps pr size) qs = are_bound qs
+makes_known k (Rr pr) qs = are_bound qs
+makes_known k (Rnr pr) qs = are_bound qs
+makes_known k Interrupt qs = are_bound qs
+makes_known k InterruptConf qs = are_bound qs
 makes_known k x qs = false
 
--- behind one that wasn't read no call is known
+-- behind one that wasn't read no call is known, and behind a set-up its RESTART comes
 abbrev pub may_find : Knowledge → Packet → Bool
 may_find Doubt (Accept said) = false
+may_find Ready (Data q m ps pr size) = false
 may_find k x = true
 
 -- ---- a set
@@ -360,9 +371,16 @@ abbrev pub found_to : Packet → Option (List Spot) → Set → Set
 found_to x None s = s
 found_to x (Some qs) s = if length qs == 0 then s else located x qs s
 
+-- by data no state at a place on the way is listed: all of that counts as taken
+abbrev pub caught_up : Packet → Set → Set
+caught_up (Data q m ps pr size) s = standing s.role [] s.spots.items s.knowledge
+caught_up x s = s
+
+abbrev pub found_in : Packet → Set → Set
+found_in x s = found_to x (found_from s.role None 0 s.way.items x []) s
+
 abbrev pub finds : Packet → Set → Set
-finds x s =
-    if is_lost s && may_find s.knowledge x then found_to x (found_from s.role None 0 s.way.items x []) s else s
+finds x s = if is_lost s && may_find s.knowledge x then found_in x (caught_up x s) else s
 
 -- the end sends a packet
 abbrev pub sends_to : Packet → Set → Stepped
@@ -390,51 +408,61 @@ awaits x s =
 abbrev pub shows_to : Packet → Set → Set
 shows_to x s = if is_blind s then awaits x s else trimmed (shown x s)
 
--- ---- one state, in flow control, with nothing on the way
+-- ---- one state, with nothing on the way
 
-abbrev pub flow : Phase → Option Talk
-flow (Talks k) = if is_large (Talks k) then None else Some k
-flow s = None
+abbrev pub small : Phase → Option Phase
+small s = if is_large s then None else Some s
 
-abbrev pub flow_in : Option Phase → Option Talk
-flow_in None = None
-flow_in (Some s) = flow s
+abbrev pub small_in : Option Phase → Option Phase
+small_in None = None
+small_in (Some s) = small s
 
--- its numbers behind a packet that it sends, or that comes
-abbrev pub flow_politely : Talk → Packet → Option Talk
-flow_politely k x = if is_polite (Talks k) x then flow_in (sends (Talks k) x) else None
+-- where it is behind a packet that it sends politely, and behind one that is taken at once
+abbrev pub alone_sends : Phase → Packet → Option Phase
+alone_sends s x = if is_polite s x then small_in (sends s x) else None
 
-abbrev pub flow_sends : Talk → Packet → Option Talk
-flow_sends k (Data q m ps pr size) = flow_politely k (Data q m ps pr size)
-flow_sends k (Rr pr) = flow_politely k (Rr pr)
-flow_sends k (Rnr pr) = flow_politely k (Rnr pr)
-flow_sends k x = None
+abbrev pub alone_takes : Phase → Packet → Option Phase
+alone_takes s x = small_in (at_once s x)
 
-abbrev pub flow_takes : Talk → Packet → Option Talk
-flow_takes k x = flow_in (at_once (Talks k) x)
+abbrev pub one_of : List Packet → List Spot → Option Phase
+one_of [] (q ∷ []) = if q.at == 0 then small q.phase else None
+one_of way qs = None
 
-abbrev pub flow_alone : List Packet → List Spot → Option Talk
-flow_alone [] (q ∷ []) = if q.at == 0 then flow q.phase else None
-flow_alone way qs = None
+abbrev pub alone : Set → Option Phase
+alone s = if is_known s then one_of s.way.items s.spots.items else None
 
-abbrev pub flow_of : Set → Option Talk
-flow_of s = if is_known s then flow_alone s.way.items s.spots.items else None
+abbrev pub alone_in : Phase → Set → Set
+alone_in p s = standing s.role [] (spot_at 0 p ∷ []) Known
 
-abbrev pub in_flow : Talk → Set → Set
-in_flow k s = standing s.role [] (spot_at 0 (Talks k) ∷ []) Known
-
-pub record IsInFlow (s : Set) : Type 0 where
-  pub numbers : Talk
-  pub stands : s ≡ in_flow numbers s
+pub record IsAlone (s : Set) : Type 0 where
+  pub phase : Phase
+  pub stands : s ≡ alone_in phase s
 
 -- then the set becomes so
-pub record IsStep (x : Packet) (next : Talk) (s : Set) : Type 0 where
-  pub before : IsInFlow s
-  pub step : sends_to x s ≡ quietly (in_flow next s)
+pub record IsStep (x : Packet) (next : Phase) (s : Set) : Type 0 where
+  pub before : IsAlone s
+  pub step : sends_to x s ≡ quietly (alone_in next s)
 
-pub record IsTaken (x : Packet) (next : Talk) (s : Set) : Type 0 where
-  pub before : IsInFlow s
-  pub step : shows_to x s ≡ in_flow next s
+pub record IsTaken (x : Packet) (next : Phase) (s : Set) : Type 0 where
+  pub before : IsAlone s
+  pub step : shows_to x s ≡ alone_in next s
+
+-- in flow control: its numbers
+abbrev pub flow_in : Option Phase → Option Talk
+flow_in (Some (Talks k)) = Some k
+flow_in o = None
+
+abbrev pub is_numbered : Packet → Bool
+is_numbered (Data q m ps pr size) = true
+is_numbered (Rr pr) = true
+is_numbered (Rnr pr) = true
+is_numbered x = false
+
+abbrev pub flow_sends : Talk → Packet → Option Talk
+flow_sends k x = if is_numbered x then flow_in (alone_sends (Talks k) x) else None
+
+abbrev pub flow_takes : Talk → Packet → Option Talk
+flow_takes k x = flow_in (alone_takes (Talks k) x)
 
 -- ---- over a tape, latest first
 

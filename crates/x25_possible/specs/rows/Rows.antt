@@ -1,5 +1,5 @@
 -- Tapes that an end of a channel can't, or can, have sent, latest first: worked out by the definition.
-use Rattle.std.specs.Prelude.{◌≡◌, Bool, true, false, List, [], ◌∷◌, None}
+use Rattle.std.specs.Prelude.{◌≡◌, ℕ, Bool, true, false, List, [], ◌∷◌, ◌++◌, map, None}
 use Rattle.x25_possible.specs.laws.Possible.{Item, Own, Other, Place, possible}
 use Rattle.x25_possible.specs.Channel.{channel_choices}
 use Rattle.x25_possible.specs.code.Steps.{any, begun, doubted, is_known, lost, played, ready}
@@ -7,6 +7,7 @@ use Rattle.x25_possible.specs.declared.packet.Said.{Said}
 use Rattle.x25_possible.specs.declared.packet.Packet.{Packet}
 use Rattle.x25_possible.specs.declared.packet.Packet.TheVariants.{Call, Accept, Clear, ClearConf, Reset, ResetConf}
 use Rattle.x25_possible.specs.declared.packet.Packet.TheVariants.{Restart, RestartConf, Rr, InterruptConf, Elsewhere}
+use Rattle.x25_possible.specs.declared.packet.Packet.TheVariants.{Data}
 use Rattle.x25_possible.specs.declared.packet.Terms.{Terms}
 use Rattle.x25_possible.specs.declared.phase.Phase.{Phase}
 use Rattle.x25_bits.specs.declared.role.Role.{Role}
@@ -25,6 +26,16 @@ calling = Other (Accept as_proposed) ∷ Own (Call usual) ∷ []
 
 abbrev pub called : List (Item Packet)
 called = Own (Accept as_proposed) ∷ Other (Call usual) ∷ []
+
+-- data packets of the end, of these numbers
+abbrev pub sending : List ℕ → List (Item Packet)
+sending = map (λ n. Own (Data false false n 0 9))
+
+-- in the midst of a call seventeen, of which the other end acknowledges seven, fourteen and then up to a number
+abbrev pub amidst_up_to : ℕ → List (Item Packet)
+amidst_up_to n =
+    sending (0 ∷ []) ++ Other (Rr n) ∷ sending (7 ∷ 6 ∷ []) ++ Other (Rr 6) ∷ sending (5 ∷ 4 ∷ 3 ∷ 2 ∷ 1 ∷ 0 ∷ 7 ∷ [])
+    ++ Other (Rr 7) ∷ sending (6 ∷ 5 ∷ 4 ∷ 3 ∷ 2 ∷ 1 ∷ 0 ∷ [])
 
 abbrev pub is_nothing : List (Place Phase Packet) → Bool
 is_nothing [] = true
@@ -79,6 +90,9 @@ pub record RowsAreKnown : Type 0 where
   pub call_answered : is_known (played (any Dte) calling) ≡ true
   -- it talks in a call that was seen to begin
   pub in_call : is_known (played (any Dce) (Own (Rr 0) ∷ calling)) ≡ true
+  -- in the midst of a call the other end acknowledges sixteen, or fifteen
+  pub amidst : is_known (played (any Dte) (amidst_up_to 0)) ≡ true
+  pub too_early : is_known (played (any Dte) (amidst_up_to 7)) ≡ false
   -- a CLEAR that was on the way where packets weren't seen is answered, or crosses its own, and then another one
   pub lost_cleared : is_known (played (lost (played (begun Dte) (Other Clear ∷ []))) (Own ClearConf ∷ [])) ≡ true
   pub lost_crossed :

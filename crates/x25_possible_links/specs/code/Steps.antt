@@ -1,10 +1,10 @@
 -- What a set of places becomes, frame by frame: over lists, in the order in which the code goes. No list has more than
 -- 16 places: None where there is no room, or a number is too large.
-use Rattle.std.specs.Prelude.{◌≡◌, ℕ, ◌+◌, ◌-◌, ◌^◌, ◌<◌, ◌==◌, nat_lt, nat_le, Bool, true, false, not, ◌&&◌, ◌||◌}
+use Rattle.std.specs.Prelude.{◌≡◌, ℕ, ◌+◌, ◌-◌, ◌%◌, ◌^◌, ◌<◌, ◌==◌, nat_lt, nat_le, Bool, true, false, not, ◌&&◌, ◌||◌}
 use Rattle.std.specs.Prelude.{if◌then◌else◌, List, [], ◌∷◌, ◌++◌, length, drop, take, map, Option, Some, None}
 use Rattle.x25_possible.specs.laws.Possible.{Item, Own, Other}
 use Rattle.x25_possible.specs.Channel.{nth}
-use Rattle.x25_possible_links.specs.laws.Link.{counts, fresh, is_asking, may_answer}
+use Rattle.x25_possible_links.specs.laws.Link.{counts, fresh, heard, is_asking, may_acknowledge, may_answer}
 use Rattle.x25_possible_links.specs.laws.Places.{is_plain, least_of, number_of, onward, sends, upward}
 use Rattle.x25_possible_links.specs.declared.frame.Frame.{Frame}
 use Rattle.x25_possible_links.specs.declared.frame.Frame.TheVariants.{Info, Ready, Sabm, Disc, Ua, Unread, Before}
@@ -388,27 +388,38 @@ shows_to x s = extended x (if length s.way.items == 128 then hastened s else s)
 abbrev pub are_sure : Numbers → Bool
 are_sure k = not (is_large (Up k)) && nat_lt k.taken far
 
-abbrev pub sure_numbers : Stand → Option Numbers
-sure_numbers (Up k) = if are_sure k then Some k else None
-sure_numbers s = None
+-- and so are those behind a frame
+abbrev pub near : ℕ
+near = 576460752303423488
 
-abbrev pub sure_in : Option Stand → Option Numbers
-sure_in None = None
-sure_in (Some s) = sure_numbers s
+abbrev pub are_near : Numbers → Bool
+are_near k = nat_lt k.sent near && (nat_lt k.acked near && (nat_lt k.taken near && nat_lt k.told near))
 
--- its numbers behind a frame of a session that it sends, or that comes
+abbrev pub near_numbers : Stand → Option Numbers
+near_numbers (Up k) = if are_near k then Some k else None
+near_numbers s = None
+
+-- its numbers behind the next I frame, RR, RNR or REJ that it sends, or behind one that comes
 abbrev pub up_sends : Numbers → Frame → Option Numbers
-up_sends k (Info ns nr differs) = sure_in (sends (Up k) [] (Info ns nr differs))
-up_sends k (Ready nr) = sure_in (sends (Up k) [] (Ready nr))
+up_sends k (Info ns nr differs) =
+    if ns == k.sent % 8 && (nat_lt k.sent (k.acked + 7) && may_acknowledge (nth k.told nr) k nr)
+    then Some (record k { sent = k.sent + 1; told = nth k.told nr }) else None
+up_sends k (Ready nr) =
+    if may_acknowledge (nth k.told nr) k nr then Some (record k { told = nth k.told nr }) else None
 up_sends k x = None
 
 abbrev pub up_hears : Numbers → Frame → Option Numbers
-up_hears k (Info ns nr differs) = sure_numbers (onward (Up k) (Info ns nr differs))
-up_hears k (Ready nr) = sure_numbers (onward (Up k) (Ready nr))
+up_hears k (Info ns nr differs) = Some (heard true true k (Info ns nr differs))
+up_hears k (Ready nr) = Some (heard true true k (Ready nr))
 up_hears k x = None
 
+-- an I frame of whichever octets
+abbrev pub marked : Bool → Frame → Frame
+marked differs (Info ns nr was) = Info ns nr differs
+marked differs x = x
+
 abbrev pub session_of : List Frame → List Spot → Option Numbers
-session_of [] (q ∷ []) = if q.at == 0 then sure_numbers q.stand else None
+session_of [] (q ∷ []) = if q.at == 0 then near_numbers q.stand else None
 session_of way qs = None
 
 abbrev pub session : LinkSet → Option Numbers
@@ -444,11 +455,12 @@ takes x s = takes_by (session s) x
 pub record IsStep (x : Frame) (k next : Numbers) (s : LinkSet) : Type 0 where
   pub sure : are_sure k ≡ true
   pub stands : s ≡ in_session k s
-  pub step : sends_to x s ≡ telling Nothing (in_session next s)
+  pub step : (differs : Bool) → sends_to (marked differs x) s ≡ telling Nothing (in_session next s)
 
 pub record IsTaken (x : Frame) (next : Numbers) (s : LinkSet) : Type 0 where
+  pub sure : are_sure next ≡ true
   pub before : IsInSession s
-  pub step : shows_to x s ≡ in_session next s
+  pub step : (differs : Bool) → shows_to (marked differs x) s ≡ in_session next s
 
 -- ---- over a tape, latest first
 

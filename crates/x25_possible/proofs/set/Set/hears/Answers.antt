@@ -1,7 +1,7 @@
 use Rattle.std.proofs.Common.{sym, ◌∙◌}
-use Rattle.x25_possible.proofs.FlowLemmas.{takes_in}
+use Rattle.x25_possible.proofs.AloneLemmas.{flow_takes_in}
 use Rattle.x25_possible.proofs.set.Set.hears.Goals as goal
 
 pub returns-in-Some : goal.returns-in-Some
 returns-in-Some c =
-    takes_in c.args.self.now c.in-Some.talk c.args.packet c.flow_takes.result (sym c.flow.ensures.same ∙ c.in-Some.is) c.flow_takes.ensures
+    flow_takes_in c.args.self.now c.in-Some.talk c.args.packet c.flow_takes.result (sym c.flow.ensures.same ∙ c.in-Some.is) c.flow_takes.ensures
