@@ -42,9 +42,9 @@ class Played(unittest.TestCase):
         *(f"{call}({asked}" for call in ("Station::command", "World::step") for asked in ASKING),
     }
     PROMISED = {
-        *(f"Station::{call}" for call in ("connect", "receive", "t1")),
+        *(f"Station::{call}" for call in ("receive", "t1")),
         *(f"Station::command({asked})" for asked in
-          ("Clear", "Interrupt", "Reset", "Ready", "NotReady", "Restart", "Pull", "Disconnect", "Probe", "Relink")),
+          ("Clear", "Interrupt", "Reset", "Ready", "NotReady", "Restart", "Pull", "Connect", "Disconnect", "Probe", "Relink")),
         "World::step(Lose)",
     }
 

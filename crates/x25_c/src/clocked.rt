@@ -1,13 +1,14 @@
 //! The clock of a station that is held, where it has one.
 ghost use Rattle.std.specs.Prelude.{◌≡◌};
-ghost use Rattle.x25_station.specs.Config.{Settings};
+ghost use Rattle.x25_layer.specs.code.FitsLayer.{awaited_at};
+ghost use Rattle.x25_station.specs.Config.{Settings, layer_settings};
 ghost use Rattle.x25_station.specs.Station.{Station as State};
 ghost use Rattle.x25_station.specs.code.FitsStation.{FitsStation};
 ghost use Rattle.x25_clock.specs.Clock.{seen};
 ghost use Rattle.x25_c.specs.Clocked.{Heeds, Tells, TellsNext, due_in, next_in};
 
 use x25_clock::{Clock, Due};
-use x25_station::{Station, Step};
+use x25_station::{Awaits, Station, Step};
 
 /// The clock heeds a step.
 pub(crate) fn heed(
@@ -23,6 +24,14 @@ pub(crate) fn heed(
     if let Some(clock) = clock {
         clock.heed(now, station, step, has_come);
     }
+}
+
+/// The answer that a station awaits on a channel.
+pub(crate) fn awaited(station: &Station, channel: u16) -> Awaits
+    ensures { (c : Settings) (s : State) → FitsStation c station.now s
+        → result ≡ awaited_at (layer_settings c) s.layer channel }
+{
+    station.channel(channel).awaits
 }
 
 /// What is due, whose time begins anew.

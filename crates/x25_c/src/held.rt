@@ -17,7 +17,7 @@ ghost use Rattle.x25_c.specs.code.Happens.{DoesCommand, GivesAnswer, Happens, Is
 ghost use Rattle.x25_c.specs.code.Receives.{ReceivesAll};
 
 use crate::answers::{in_both, then};
-use crate::clocked::{Passed, heed, take_due};
+use crate::clocked::{Passed, awaited, heed, take_due};
 use crate::earlier::{Earlier, append_copies, move_entries};
 use crate::happening::{Happening, happen};
 use crate::item::Item;
@@ -217,7 +217,7 @@ impl Held {
         let entries = replace(&mut self.step.entries, none);
         let timer = self.step.timer;
         self.step.timer = Timer::Off;
-        if self.station.timer_runs() {
+        if self.station.status().timer_runs {
             self.step.timer = Timer::Begins;
         }
         clock.heed(self.time, &self.station, &self.step, false);
@@ -241,7 +241,7 @@ impl Held {
         ensures { Insists self.old self.new result due }
     {
         let channel = due.channel();
-        let timer = due.timer(self.end, self.station.awaits(channel));
+        let timer = due.timer(self.end, awaited(&self.station, channel));
         let answer = match due.command() {
             Some(command) => self.happen(Happening::Asks(command)),
             None => self.happen(Happening::Fires),

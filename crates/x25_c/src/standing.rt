@@ -9,6 +9,7 @@ ghost use Rattle.x25_station.specs.Station.Told.{is_idle, room, stretch};
 ghost use Rattle.x25_station.specs.code.FitsStation.{FitsStation};
 ghost use Rattle.x25_c.specs.StretchName.{Names};
 
+use crate::clocked::awaited;
 use crate::numbers::number_awaited;
 use crate::slot::Slot;
 use crate::stretch_name::{StretchName, tell_name};
@@ -41,7 +42,7 @@ pub extern "C" fn x25_room(alloc: Global, slot: &mut Slot, channel: u16) -> usiz
     let Some(held) = slot.take(alloc) else {
         return 0;
     };
-    let count = held.station.room(channel);
+    let count = held.station.channel(channel).room;
     slot.put(held);
     count
 }
@@ -58,7 +59,7 @@ pub extern "C" fn x25_unconfirmed(alloc: Global, slot: &mut Slot, channel: u16) 
     let Some(held) = slot.take(alloc) else {
         return 0;
     };
-    let count = held.station.unconfirmed(channel);
+    let count = held.station.channel(channel).unconfirmed;
     slot.put(held);
     count
 }
@@ -75,7 +76,7 @@ pub extern "C" fn x25_awaits(alloc: Global, slot: &mut Slot, channel: u16) -> u3
     let Some(held) = slot.take(alloc) else {
         return 0;
     };
-    let number = number_awaited(held.station.awaits(channel));
+    let number = number_awaited(awaited(&held.station, channel));
     slot.put(held);
     number
 }
@@ -91,7 +92,7 @@ pub extern "C" fn x25_is_restarting(alloc: Global, slot: &mut Slot) -> bool
     let Some(held) = slot.take(alloc) else {
         return false;
     };
-    let is_restarting = held.station.is_restarting();
+    let is_restarting = held.station.status().is_restarting;
     slot.put(held);
     is_restarting
 }
@@ -112,7 +113,7 @@ pub extern "C" fn x25_stretch(
     let Some(held) = slot.take(alloc) else {
         return false;
     };
-    let is_open = tell_name(held.station.stretch(channel), name);
+    let is_open = tell_name(held.station.channel(channel).stretch, name);
     slot.put(held);
     is_open
 }

@@ -105,7 +105,7 @@ pub(crate) fn list_all(
     let mut past = 0;
     while let Some(channel) = busy_after(station, past, most) {
         past = channel;
-        let awaits = station.awaits(channel);
+        let awaits = station.channel(channel).awaits;
         if awaits.is_any() {
             let (place, wait) = find(old, at, channel);
             at = place;

@@ -73,11 +73,12 @@ impl Clock {
             Timer::GoesOn => self.t1,
             Timer::Begins => deadline(now, times.t1),
         };
+        let status = station.status();
         let asks = deadline(now, times.t3);
-        self.idle = running(station.is_at_rest(), has_come, self.idle, asks);
+        self.idle = running(status.is_at_rest, has_come, self.idle, asks);
         let anew = step.tells_link();
         let relinks = deadline(now, times.t20);
-        self.restart = running(station.is_restarting(), anew, self.restart, relinks);
+        self.restart = running(status.is_restarting, anew, self.restart, relinks);
         self.heed_channels(now, station);
     }
 

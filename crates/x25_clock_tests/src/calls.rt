@@ -72,8 +72,8 @@ pub fn most_due(clock: &Clock) -> usize {
 /// under way, and whether it awaits anything.
 pub fn awaited(station: &Station) -> (Awaits, bool, bool) {
     (
-        station.awaits(station.channels()),
-        station.is_restarting(),
+        station.channel(station.channels()).awaits,
+        station.status().is_restarting,
         station.awaits_answers(),
     )
 }

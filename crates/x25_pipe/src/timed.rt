@@ -159,7 +159,7 @@ impl TimedPipe {
             (insist_turn c times due) }
         ensures faults { MarksFaults W.Sink writer.old writer.new result }
     {
-        let awaits = self.pipe.station.awaits(channel_of(due));
+        let awaits = self.pipe.station.channel(channel_of(due)).awaits;
         tell_timeout(self.pipe.end, awaits, due, &mut self.pipe.output, writer)?;
         self.pipe.insist(due, writer)?;
         self.heed();

@@ -3,8 +3,7 @@ use crate::counts::Counts;
 use crate::lines::Lines;
 use std::alloc::AllocError;
 use thiserror::Error;
-use x25_layer::Stretch;
-use x25_station::Station;
+use x25_station::{Channel, Station, Status};
 use x25_world::Event;
 
 /// Why the player ends.
@@ -50,23 +49,12 @@ impl Outcome {
     }
 }
 
-/// What an end answers, and which stretch is open on channel 1.
-#[derive(Drop, PartialEq)]
-pub(crate) struct Answers {
-    pub is_idle: bool,
-    pub awaits_ua: bool,
-    pub timer_runs: bool,
-    pub stretch: Option<Stretch>,
-}
+/// Whether an end is idle, and how it and its channel 1 stand.
+pub(crate) type Answers = (bool, Status, Channel);
 
 /// What a station answers.
 pub(crate) fn answers_of(station: &Station) -> Answers {
-    Answers {
-        is_idle: station.idle(),
-        awaits_ua: station.awaits_ua(),
-        timer_runs: station.timer_runs(),
-        stretch: station.stretch(1),
-    }
+    (station.idle(), station.status(), station.channel(1))
 }
 
 /// What both ends answer, and how many frames are on the lines.

@@ -44,7 +44,7 @@ static CALLS_OF_STATIONS: [(Kind, &str); 21] = [
     (Kind::NotReady, "Station::command(NotReady)"),
     (Kind::Restart, "Station::command(Restart)"),
     (Kind::Pull, "Station::command(Pull)"),
-    (Kind::Connect, "Station::connect"),
+    (Kind::Connect, "Station::command(Connect)"),
     (Kind::Disconnect, "Station::command(Disconnect)"),
     (Kind::Probe, "Station::command(Probe)"),
     (Kind::Relink, "Station::command(Relink)"),

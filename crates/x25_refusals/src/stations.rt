@@ -35,7 +35,6 @@ fn made(alloc: Global, role: Role, cfg: Cfg) -> Option<Box<Station>> {
 
 fn call(station: &mut Station, what: Happens<'_>, out: &mut Step) -> Result<(), StationError> {
     match what {
-        Happens::Asked(Cmd::Connect) => station.connect(out),
         Happens::Asked(command) => station.command(command, out),
         Happens::Fired => station.t1(out),
         Happens::Frame(octets) => {

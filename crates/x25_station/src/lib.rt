@@ -19,6 +19,7 @@ mod pulling;
 mod receiving;
 mod reusing;
 mod station;
+mod status;
 mod step;
 mod text;
 mod timer;
@@ -34,6 +35,7 @@ pub use law::{
     steps_are_joined, steps_keep_bounds, ways_out_lead_on, what_is_given_is_told,
 };
 pub use station::Station;
+pub use status::{Channel, Status};
 pub use step::{MOST_ENTRIES, MOST_FRAMES, Step};
 pub use text::Text;
 pub use timer::Timer;

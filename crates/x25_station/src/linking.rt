@@ -20,23 +20,7 @@ use x25_layer::Layer;
 use x25_link::Reason;
 
 impl Station {
-    /// Begins to set the link up. No entry is made.
-    ///
-    /// 12 where it is being set up, 13 where it is closed, 15 where it is up, and nothing else. The station is as
-    /// before then.
-    pub fn connect(&mut self, out: &mut Step) -> Result<(), StationError>
-        ensures does { Does self.old self.new out.new result connects }
-        ensures only { (c : Settings) (s : State) → FitsStation c self.old s → RefusesOnly result (connects c s) }
-        ensures timer { TellsTimer self.old out.new.timer result false connects }
-    {
-        out.clear();
-        let ran = self.timer_runs();
-        let answer = self.set_up(out);
-        out.timer = self.timer_behind(ran, false, false, out.entries.as_slice());
-        answer
-    }
-
-    // Begins to set the link up, into a step that is empty.
+    // Begins to set the link up, into a step that is empty, of which nothing is told yet.
     fn set_up(&mut self, out: &mut Step) -> Result<(), StationError>
         requires { IsEmpty out.old }
         ensures does { Does self.old self.new out.new result connects }
@@ -53,7 +37,7 @@ impl Station {
         }
     }
 
-    /// Begins to set the link up, as a command, which has an entry.
+    /// Begins to set the link up.
     pub(crate) fn connect_asked(&mut self, out: &mut Step) -> Result<(), StationError>
         requires { IsEmpty out.old }
         ensures does { Does self.old self.new out.new result connects_asked }

@@ -2,6 +2,7 @@ ghost use Rattle.x25_station.specs.code.FitsParts.{AreMeant};
 
 use crate::config::{Cfg, Manner};
 use crate::error::StationError;
+use crate::status::{Channel, Status};
 use std::alloc::Global;
 use x25_bits::Role;
 use x25_frame::N1;
@@ -66,41 +67,11 @@ impl Station {
         })
     }
 
-    /// Whether the link is up, no packet waits in it, all that was sent is acknowledged, and no message waits in a
-    /// circuit.
-    pub fn idle(&self) -> bool
-        ensures { (c : Settings) (s : State) → FitsStation c self.now s → result ≡ is_idle c s }
-    {
-        self.link.idle() && self.layer.waits() == 0
-    }
-
-    /// Whether an answer is awaited: that a restart be confirmed, or what `awaits` says of a channel.
-    pub fn awaits_answers(&self) -> bool
-        ensures { (c : Settings) (s : State) → FitsStation c self.now s → result ≡ awaits_answers c s }
-    {
-        self.layer.is_restarting() || self.layer.awaited() > 0
-    }
-
-    /// Whether the link is at rest: it is up, no packet waits in it, all that was sent is acknowledged, and timer T1
-    /// doesn't run. Messages may wait in circuits.
-    pub fn is_at_rest(&self) -> bool
-        ensures { (c : Settings) (s : State) → FitsStation c self.now s → result ≡ is_at_rest s }
-    {
-        self.link.idle() && !self.link.timer_runs()
-    }
-
     /// Whether it takes packets in all their forms (`Cfg::wide`).
     pub fn is_wide(&self) -> bool
         ensures { (c : Settings) (s : State) → FitsStation c self.now s → result ≡ c.wide }
     {
         self.manner.wide
-    }
-
-    /// Whether the link is being set up: a SABM was sent, and its UA is awaited.
-    pub fn awaits_ua(&self) -> bool
-        ensures { (c : Settings) (s : State) → FitsStation c self.now s → result ≡ awaits_ua s.link.phase }
-    {
-        self.link.awaits_ua()
     }
 
     /// How many channels it has.
@@ -121,37 +92,64 @@ impl Station {
         self.layer.busy_after(channel)
     }
 
-    /// The answer that this end awaits on a channel; none where it isn't configured, while a restart is under way, and
-    /// where the link isn't up.
-    pub fn awaits(&self, channel: u16) -> Awaits
-        ensures { (c : Settings) (s : State) → FitsStation c self.now s
-            → result ≡ awaited_at (layer_settings c) s.layer channel }
+    /// Whether the link is up, no packet waits in it, all that was sent is acknowledged, and no message waits in a
+    /// circuit.
+    pub fn idle(&self) -> bool
+        ensures { (c : Settings) (s : State) → FitsStation c self.now s → result ≡ is_idle c s }
     {
-        self.layer.awaits(channel)
+        self.link.idle() && self.layer.waits() == 0
     }
 
-    /// Whether a restart is under way: this end awaits that its RESTART be confirmed.
-    pub fn is_restarting(&self) -> bool
-        ensures { (c : Settings) (s : State) → FitsStation c self.now s → result ≡ s.layer.restarting }
+    /// Whether an answer is awaited: that a restart be confirmed, or on a channel.
+    pub fn awaits_answers(&self) -> bool
+        ensures { (c : Settings) (s : State) → FitsStation c self.now s → result ≡ awaits_answers c s }
     {
-        self.layer.is_restarting()
+        self.layer.is_restarting() || self.layer.awaited() > 0
     }
 
-    /// Whether timer T1 runs: exactly where `t1` isn't refused with 11.
-    pub fn timer_runs(&self) -> bool
-        ensures { (c : Settings) (s : State) → FitsStation c self.now s → result ≡ timer_runs s.link.phase s.link }
+    /// How its link stands, and whether a restart is under way. It looks at no channel.
+    pub fn status(&self) -> Status
+        ensures is_at_rest { (c : Settings) (s : State) → FitsStation c self.now s → result.is_at_rest ≡ is_at_rest s }
+        ensures awaits_ua { (c : Settings) (s : State) → FitsStation c self.now s
+            → result.awaits_ua ≡ awaits_ua s.link.phase }
+        ensures is_restarting { (c : Settings) (s : State) → FitsStation c self.now s
+            → result.is_restarting ≡ s.layer.restarting }
+        ensures timer_runs { (c : Settings) (s : State) → FitsStation c self.now s
+            → result.timer_runs ≡ timer_runs s.link.phase s.link }
     {
-        self.link.timer_runs()
+        let timer_runs = self.link.timer_runs();
+        Status {
+            is_at_rest: self.link.idle() & !timer_runs,
+            awaits_ua: self.link.awaits_ua(),
+            is_restarting: self.layer.is_restarting(),
+            timer_runs,
+        }
     }
 
-    /// How many messages more a channel takes: 8 less those that wait, where it is open and the link is up, and else 0.
-    /// A message that isn't too long, of which confirmation isn't asked or may be, is refused exactly where it is 0,
-    /// but for want of memory.
-    pub fn room(&self, channel: u16) -> usize
-        ensures value { (c : Settings) (s : State) → FitsStation c self.now s → result ≡ room c s channel }
+    /// How a channel stands, configured or not.
+    pub fn channel(&self, number: u16) -> Channel
+        ensures awaits { (c : Settings) (s : State) → FitsStation c self.now s
+            → result.awaits ≡ awaited_at (layer_settings c) s.layer number }
+        ensures room { (c : Settings) (s : State) → FitsStation c self.now s → result.room ≡ room c s number }
         ensures takes { (c : Settings) (s : State) (marks : Marks) (user : List ℕ) → FitsStation c self.now s
             → may_mark c.wide marks ≡ true → length user ≤ c.channels.message
-            → (result == 0) ≡ is_refused (requests c s (Asks channel (Sends marks user))) }
+            → (result.room == 0) ≡ is_refused (requests c s (Asks number (Sends marks user))) }
+        ensures few { result.room ≤ 8 }
+        ensures unconfirmed { (c : Settings) (s : State) → FitsStation c self.now s
+            → result.unconfirmed ≡ unconfirmed_at (layer_settings c) s.layer number }
+        ensures stretch { (c : Settings) (s : State) → FitsStation c self.now s
+            → plain_stretch result.stretch ≡ stretch c s number }
+    {
+        Channel {
+            awaits: self.layer.awaits(number),
+            room: self.room(number),
+            unconfirmed: self.layer.unconfirmed(number),
+            stretch: self.stretch(number),
+        }
+    }
+
+    fn room(&self, channel: u16) -> usize
+        ensures value { (c : Settings) (s : State) → FitsStation c self.now s → result ≡ room c s channel }
         ensures few { result ≤ 8 }
     {
         if !self.link.is_up() {
@@ -160,22 +158,18 @@ impl Station {
         self.layer.room(channel)
     }
 
-    /// How many messages of a channel haven't the confirmation yet that was asked of them: they wait, or their last
-    /// packet isn't acknowledged. 0 where the channel isn't configured.
-    pub fn unconfirmed(&self, channel: u16) -> usize
-        ensures { (c : Settings) (s : State) → FitsStation c self.now s
-            → result ≡ unconfirmed_at (layer_settings c) s.layer channel }
-    {
-        self.layer.unconfirmed(channel)
-    }
-
-    /// The name of the stretch that is open on a channel, in p4 with d1, where one is.
-    pub fn stretch(&self, channel: u16) -> Option<Stretch>
+    fn stretch(&self, channel: u16) -> Option<Stretch>
         ensures { (c : Settings) (s : State) → FitsStation c self.now s → plain_stretch result ≡ stretch c s channel }
     {
         if !self.layer.is_open(channel) {
             return None;
         }
         self.layer.name(channel)
+    }
+
+    pub(crate) fn timer_runs(&self) -> bool
+        ensures { (c : Settings) (s : State) → FitsStation c self.now s → result ≡ timer_runs s.link.phase s.link }
+    {
+        self.link.timer_runs()
     }
 }

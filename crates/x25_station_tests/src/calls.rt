@@ -15,10 +15,6 @@ pub fn station(alloc: Global, role: Role, cfg: Cfg) -> Result<Box<Station>, Stat
     boxed(alloc, Station::new(alloc, role, cfg)?).ok_or(StationError::NoMemory)
 }
 
-pub fn connect(station: &mut Station, out: &mut Step) -> Result<(), StationError> {
-    station.connect(out)
-}
-
 /// Timer T1 fires.
 pub fn fire(station: &mut Station, out: &mut Step) -> Result<(), StationError> {
     station.t1(out)

@@ -1,7 +1,9 @@
 //! Calls on the highest of 4,095 channels.
 
 use crate::calls::station;
-use crate::steps::{Act, CALL, DCE_RESTARTS, DTE_RESTARTS, RR_1, SABM, SETTINGS, UA, refusal};
+use crate::steps::{
+    Act, CALL, CONNECT, DCE_RESTARTS, DTE_RESTARTS, RR_1, SABM, SETTINGS, UA, refusal,
+};
 use std::alloc::Global;
 use x25_station::{Cfg, Cmd, Ranges, Role, Station, StationError, Step};
 
@@ -39,7 +41,7 @@ const DATA: &[u8] = &[0x03, 0x64, 0x1F, 0xFF, 0x20, 0x4F, 0x4B, 0x2F, 0x92];
 const CLEARED: &[u8] = &[0x03, 0xA6, 0x1F, 0xFF, 0x17, 0xB0, 0x6F];
 
 static DTE: [Row; 13] = [
-    (Act::Connect, 0, 0, &[]),
+    (CONNECT, 0, 1, &[]),
     (Act::Take(UA), 0, 1, &[0x10, 0x00, 0xFB, 0x00, 0x00]),
     (Act::Take(DCE_RESTARTS), 0, 1, &[]),
     (Act::Take(RR_1), 0, 0, &[]),

@@ -1,7 +1,7 @@
 //! Messages of which confirmation is asked: what confirms them, and what doesn't.
 
 use crate::calls::station;
-use crate::steps::{Act, CALL, DCE_RESTARTS, RR_1, SETTINGS, UA, refusal};
+use crate::steps::{Act, CALL, CONNECT, DCE_RESTARTS, RR_1, SETTINGS, UA, refusal};
 use std::alloc::Global;
 use x25_layer::Stretch;
 use x25_station::{Cfg, Cmd, Entry, Role, Said, Station, StationError, Step, Told};
@@ -52,7 +52,7 @@ const RESET: &[u8] = &[0x03, 0x4C, 0x10, 0x01, 0x1B, 0x00, 0x00, 0xF3, 0x13];
 
 // The window is 2: a third message waits in its circuit.
 static ASKS: [Row; 17] = [
-    (Act::Connect, 0, 0, 0, 0),
+    (CONNECT, 0, 1, 0, 0),
     (Act::Take(UA), 0, 1, 0, 0),
     (Act::Take(DCE_RESTARTS), 0, 1, 0, 0),
     (Act::Take(RR_1), 0, 0, 0, 0),
@@ -76,7 +76,7 @@ static IS_RESET: [Row; 2] = [(Act::Take(RESET), 0, 1, 0, 0), (Act::Ask(ASK), 0, 
 
 // A station that reads packets in the one form alone.
 static STRICT: [Row; 8] = [
-    (Act::Connect, 0, 0, 0, 0),
+    (CONNECT, 0, 1, 0, 0),
     (Act::Take(UA), 0, 1, 0, 0),
     (Act::Take(DCE_RESTARTS), 0, 1, 0, 0),
     (Act::Take(RR_1), 0, 0, 0, 0),
@@ -120,7 +120,7 @@ fn odd_row(station: &mut Station, out: &mut Step, rows: &[Row]) -> Option<usize>
         if (number, out.entries.len(), told(out)) != (wanted, count, confirmed) {
             return Some(row);
         }
-        if station.unconfirmed(1) != unconfirmed || is_asked(out) != (count == 2) {
+        if station.channel(1).unconfirmed != unconfirmed || is_asked(out) != (count == 2) {
             return Some(row);
         }
     }

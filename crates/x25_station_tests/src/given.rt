@@ -1,6 +1,6 @@
 //! What is given beside a call, its acceptance and its clearing: the packet that goes, and each refusal.
 
-use crate::calls::{ask, connect, receive, station};
+use crate::calls::{ask, receive, station};
 use crate::steps::{CALLS, DCE_RESTARTS, DTE_RESTARTS, RR_1, SABM, SETTINGS, UA};
 use std::alloc::Global;
 use x25_layer::Params;
@@ -170,7 +170,7 @@ fn odd_row_of(
     let mut station = station(alloc, role, cfg)?;
     let mut out = Step::new(alloc)?;
     if role == Role::Dte {
-        connect(&mut station, &mut out)?;
+        ask(&mut station, Cmd::Connect, &mut out)?;
     }
     for octets in come {
         receive(&mut station, octets, &mut out);

@@ -1,6 +1,6 @@
 //! Memory of steps that serves a station again.
 
-use crate::calls::{ask, connect, reuse, station};
+use crate::calls::{ask, reuse, station};
 use crate::steps::SETTINGS;
 use std::alloc::Global;
 use std::mem::replace;
@@ -20,7 +20,7 @@ fn memory_of_sabm(step: &Step) -> usize {
 // How many frames there are once SABM is sent, for how many octets it has memory, and how many there are once the step
 // is taken back.
 fn sends(station: &mut Station, out: &mut Step) -> Option<(usize, usize, usize)> {
-    connect(station, out).ok()?;
+    ask(station, Cmd::Connect, out).ok()?;
     let (count, memory) = (out.frames.len(), memory_of_sabm(out));
     reuse(station, out);
     Some((count, memory, out.frames.len()))

@@ -1,6 +1,6 @@
 //! What a step brings, and what a station says of itself behind it; `tests/golden` has the lines of whole sessions.
 
-use crate::calls::{ask, connect, fire, pull, receive, station};
+use crate::calls::{ask, fire, pull, receive, station};
 use std::alloc::Global;
 use x25_layer::Stretch;
 use x25_station::{Cfg, Cmd, Ranges, Role, Station, StationError, Step, Timer};
@@ -24,7 +24,6 @@ pub const SETTINGS: Cfg = Cfg {
 #[derive(Clone, Copy)]
 pub enum Act {
     Nothing,
-    Connect,
     /// Timer T1 fires.
     T1,
     Ask(Cmd<'static>),
@@ -85,6 +84,8 @@ const AT_REST_IN_A_CALL: Says = (false, true, false, false, 7, OPEN);
 
 const BUSY_BEHIND_A_RESET: Says = (false, false, false, true, 8, WAS_RESET);
 
+pub const CONNECT: Act = Act::Ask(Cmd::Connect);
+
 /// An address that isn't one.
 const BAD_CALL: Cmd<'static> = Cmd::Call {
     called: "1",
@@ -129,17 +130,17 @@ pub const RR_1: &[u8] = &[0x01, 0x21, 0x14, 0x26];
 const RR_2: &[u8] = &[0x01, 0x41, 0x12, 0x45];
 
 // Nine packets are sent and wait, and a message waits in its circuit behind them until it is pulled.
-static DTE: [Row; 31] = [
+static DTE: [Row; 30] = [
     (1, Act::Nothing, (0, 0, 0, OFF), DOWN),
     (1, Act::T1, (11, 0, 0, OFF), DOWN),
     (1, Act::Pull, (0, 0, 0, OFF), DOWN),
-    (1, Act::Connect, (0, 1, 0, BEGINS), AWAITS_UA),
-    (1, Act::Connect, (12, 0, 0, GOES_ON), AWAITS_UA),
+    (1, CONNECT, (0, 1, 1, BEGINS), AWAITS_UA),
+    (1, CONNECT, (12, 0, 0, GOES_ON), AWAITS_UA),
     (1, Act::T1, (0, 1, 0, BEGINS), AWAITS_UA),
     (1, Act::T1, (0, 0, 1, OFF), DOWN),
-    (1, Act::Connect, (0, 1, 0, BEGINS), AWAITS_UA),
+    (1, CONNECT, (0, 1, 1, BEGINS), AWAITS_UA),
     (1, Act::Take(UA), (0, 1, 1, BEGINS), BUSY),
-    (1, Act::Connect, (15, 0, 0, GOES_ON), BUSY),
+    (1, CONNECT, (15, 0, 0, GOES_ON), BUSY),
     (1, Act::Take(DCE_RESTARTS), (0, 1, 1, GOES_ON), BUSY),
     (1, Act::Take(RR_1), (0, 0, 0, OFF), IDLE),
     (1, Act::T1, (11, 0, 0, OFF), IDLE),
@@ -159,8 +160,7 @@ static DTE: [Row; 31] = [
     (1, Act::Take(RR_2), (0, 0, 0, OFF), IDLE_IN_A_CALL),
     (1, Act::Ask(Cmd::Disconnect), (0, 1, 2, OFF), DOWN),
     (1, Act::Ask(Cmd::Disconnect), (13, 0, 0, OFF), DOWN),
-    (1, Act::Connect, (13, 0, 0, OFF), DOWN),
-    (1, Act::Ask(Cmd::Connect), (13, 0, 0, OFF), DOWN),
+    (1, CONNECT, (13, 0, 0, OFF), DOWN),
 ];
 
 // 7 is a cause of a network.
@@ -209,7 +209,6 @@ static DCE: [Row; 12] = [
 fn happens(station: &mut Station, act: Act, out: &mut Step) -> Result<(), StationError> {
     match act {
         Act::Nothing => Ok(()),
-        Act::Connect => connect(station, out),
         Act::T1 => fire(station, out),
         Act::Ask(command) => ask(station, command, out),
         Act::Take(octets) => {
@@ -236,13 +235,15 @@ pub fn refusal(station: &mut Station, (count, act): (u16, Act), out: &mut Step) 
 }
 
 fn says(station: &Station) -> Says {
+    let status = station.status();
+    let channel = station.channel(1);
     (
         station.idle(),
-        station.is_at_rest(),
-        station.awaits_ua(),
-        station.timer_runs(),
-        station.room(1),
-        station.stretch(1),
+        status.is_at_rest,
+        status.awaits_ua,
+        status.timer_runs,
+        channel.room,
+        channel.stretch,
     )
 }
 

@@ -8,7 +8,7 @@ ghost use Rattle.x25_station.specs.code.PlainEntry.{plain_entry};
 ghost use Rattle.x25_station.specs.declared.config.Cfg.{Cfg};
 ghost use Rattle.x25_station.specs.Config.{settings_from};
 ghost use Rattle.x25_station.specs.code.FitsStation.{IsEmpty};
-ghost use Rattle.x25_station.specs.Step.{connects, commands};
+ghost use Rattle.x25_station.specs.Step.{commands};
 ghost use Rattle.x25_world.specs.World as definition;
 ghost use Rattle.x25_world.specs.World.{Happened, Declined, of_station, delivered, is_on_line, fired, on_line, lost};
 ghost use Rattle.x25_world.specs.World.{damaged, acts, entered, event_of};
@@ -89,9 +89,9 @@ fn refuse(near: &Station, step: &mut Step, error: WorldError) -> Result<(), Worl
     Err(error)
 }
 
-// The user of the end asks for something.
+/// The user of the end asks for something. 53 where the station refuses it, or else 70; all is as before then.
 #[inline(always)]
-fn command(
+pub fn command(
     at: Role,
     near: &mut Station,
     line: &mut Line,
@@ -179,32 +179,7 @@ fn awaits_frames(at: Role, near: &Station, line: &Line) -> bool
     ensures { (cfg : Cfg) (w : definition.World) → FitsSide cfg at near.now line.now w →
         result ≡ (awaits_ua w.near.link.phase && is_on_line (settings_from at cfg) w) }
 {
-    near.awaits_ua() && is_on_line(at, line)
-}
-
-/// The end asks that the link be set up. 53 where the station refuses it, or else 70; all is as before then.
-pub fn connect(
-    at: Role,
-    near: &mut Station,
-    line: &mut Line,
-    out: &mut Step,
-) -> Result<(), WorldError>
-    ensures step { IsStepOf result out.new 3 }
-    ensures places { TakesFew 9 line.old line.new }
-    ensures acted { (cfg : Cfg) (w : definition.World) → FitsSide cfg at near.old line.old w →
-        HasActed cfg at near.new line.new (entered at (map plain_entry out.new.entries.items)) result w
-        (of_station (settings_from at cfg) w (connects (settings_from at cfg) w.near)) }
-{
-    if let Err(error) = reserve_frames(line) {
-        return refuse(near, out, error);
-    }
-    match near.connect(out) {
-        Ok(()) => {
-            put(at, line, &mut out.frames);
-            Ok(())
-        }
-        Err(error) => Err(WorldError::of_station(error)),
-    }
+    near.status().awaits_ua && is_on_line(at, line)
 }
 
 // Room for the frames that a step of a station answers.

@@ -135,7 +135,7 @@ impl World {
     fn are_at_rest(&self) -> bool
         ensures { (cfg : Cfg) (w : definition.World) → FitsWorld cfg self.now w → result ≡ are_at_rest w }
     {
-        self.station(Role::Dte).is_at_rest() && self.station(Role::Dce).is_at_rest()
+        self.station(Role::Dte).status().is_at_rest && self.station(Role::Dce).status().is_at_rest
     }
 
     // The schedule of `heal`, without the laws of runs.

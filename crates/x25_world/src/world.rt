@@ -20,7 +20,7 @@ ghost use Rattle.x25_world.specs.World as definition;
 ghost use Rattle.x25_world.specs.World.{AtEnd, entered, tapped, event_of, happens, after, refusal_of, start};
 ghost use Rattle.x25_world.specs.World.{connected, established, Commands};
 
-use crate::acting::{act_at_end, connect, enter, reserve_entries};
+use crate::acting::{act_at_end, command, enter, reserve_entries};
 use crate::bit_damage::octets_of_damage;
 use crate::error::WorldError;
 use crate::event::{Event, SABM_ARRIVES, UA_ARRIVES};
@@ -31,7 +31,7 @@ use std::alloc::Global;
 use std::marker::Model;
 use std::mem::replace;
 use x25_bits::{Bits, Direction, Role};
-use x25_station::{Cfg, Station, StationError, Step};
+use x25_station::{Cfg, Cmd, Station, StationError, Step};
 
 /// Two stations, and the line between them.
 ///
@@ -130,7 +130,13 @@ impl World {
             OnOk result (FitsWorld cfg self.new (connected cfg)) }
         ensures refused { (cfg : Cfg) → FitsWorld cfg self.old start → IfErr result (λ e. e ≡ WorldError.NoMemory) }
     {
-        connect(Role::Dte, &mut self.dte, &mut self.line, &mut self.out)
+        command(
+            Role::Dte,
+            &mut self.dte,
+            &mut self.line,
+            &mut self.out,
+            Cmd::Connect,
+        )
     }
 
     /// Two stations whose link was just set up: the DTE has asked, SABM and UA were delivered, each end was told that

@@ -25,7 +25,7 @@ pub returns-in_err-tell_timeout-clause-turns : goal.returns-in_err-tell_timeout-
 returns-in_err-tell_timeout-clause-turns g c = λ k times old w told refused h.
     let p = err_from_is_err_and c.from_residual.result c.from_residual.ensures.1 in
     let due = c.args.due in
-    let line = line_is k w.station _ c.awaits-awaits.result _ due h.pipe.role (c.awaits-awaits.ensures k w.station h.pipe.fits) c.channel_of.ensures in
+    let line = line_is k w.station _ c.channel-awaits.result.awaits _ due h.pipe.role (c.channel-awaits.ensures.awaits k w.station h.pipe.fits) c.channel_of.ensures in
     rw p.1 (begins_before k times old _ told refused (λ (v : Timed). act_turn k times v (event_act k v.station (event_for (command_for due)))) (writes w (timeout_line k.role (awaited_for k w.station due) due))
     (subst (λ t. AppendsPrefix old (g.W.Sink.contents c.tell_timeout.new.writer) (told ++ t)) line (c.in_err-tell_timeout.ensures.tells old told h.pipe.tells)))
 
@@ -33,7 +33,7 @@ pub returns-in_err-insist-clause-turns : goal.returns-in_err-insist-clause-turns
 returns-in_err-insist-clause-turns g c = λ k times old w told refused h.
     let p = err_from_is_err_and c.from_residual-in_err-insist.result c.from_residual-in_err-insist.ensures.1 in
     let due = c.args.due in
-    let line = line_is k w.station _ c.awaits-awaits.result _ due h.pipe.role (c.awaits-awaits.ensures k w.station h.pipe.fits) c.channel_of.ensures in
+    let line = line_is k w.station _ c.channel-awaits.result.awaits _ due h.pipe.role (c.channel-awaits.ensures.awaits k w.station h.pipe.fits) c.channel_of.ensures in
     let text = timeout_line k.role (awaited_for k w.station due) due in
     rw p.1 (begins_behind k times old _ told refused (λ (v : Timed). act_turn k times v (event_act k v.station (event_for (command_for due)))) (writes w text)
     (c.in_err-insist.ensures.acts k old w.station (told ++ text) (refused || false)
@@ -47,7 +47,7 @@ returns-in_err-insist-clause-turns g c = λ k times old w told refused h.
 pub returns-clause-turns : goal.returns-clause-turns
 returns-clause-turns g c = λ k times old w told refused h.
     let due = c.args.due in
-    let line = line_is k w.station _ c.awaits-awaits.result _ due h.pipe.role (c.awaits-awaits.ensures k w.station h.pipe.fits) c.channel_of.ensures in
+    let line = line_is k w.station _ c.channel-awaits.result.awaits _ due h.pipe.role (c.channel-awaits.ensures.awaits k w.station h.pipe.fits) c.channel_of.ensures in
     let text = timeout_line k.role (awaited_for k w.station due) due in
     stands_behind k times old _ told refused (λ (v : Timed). act_turn k times v (event_act k v.station (event_for (command_for due)))) (writes w text) _
     (c.heed.ensures k times old _ w (told ++ text) (refused || false) (event_act k w.station (event_for (command_for due)))
