@@ -33,7 +33,8 @@ in_stretch t b x u v y h =
       down = there.text.messages;
       first = (
         rest,
-        ap (λ l. carried l ++ rest) few ∙ sym (carried-append no_part (take x.acked y.taken) (drop x.acked y.taken)) ∙ ap carried (take-append-drop x.acked y.taken) ∙ sym there.up,
+        ap (λ l. carried l ++ rest) few ∙ sym (carried-append no_part (take x.acked y.taken) (drop x.acked y.taken))
+            ∙ ap carried (take-append-drop x.acked y.taken) ∙ sym there.up,
       );
     }
 
@@ -53,9 +54,11 @@ abbrev Calls : Connection → Connection → Type 0
 Calls x y = Transfers (transfer_of x.phase) (transfer_of y.phase)
 
 in_call : (r : Role) (x : Connection) (u v : List Packet) (y : Connection) → Seen r x u v y → Calls x y
-in_call Dte x u v y h = (joint_order TalksRelated fresh_transfer fresh_transfer Transfers both_new in_talk x.phase y.phase x.made x.indicated y.made y.indicated u v h).2
+in_call Dte x u v y h = (joint_order TalksRelated fresh_transfer fresh_transfer Transfers both_new in_talk x.phase y.phase x.made x.indicated y.made
+    y.indicated u v h).2
 in_call Dce x u v y h =
-    (joint_order TalksRelated fresh_transfer fresh_transfer (λ b a. Transfers a b) both_new (λ t b y u v t₂ b₂ x h. in_talk t₂ b₂ x v u t b y (TalksRelated-flip h))
+    (joint_order TalksRelated fresh_transfer fresh_transfer (λ b a. Transfers a b) both_new
+    (λ t b y u v t₂ b₂ x h. in_talk t₂ b₂ x v u t b y (TalksRelated-flip h))
     y.phase x.phase y.made y.indicated x.made x.indicated v u h).2
 
 abbrev Channel : At Connection → At Connection → Type 0
@@ -101,7 +104,8 @@ up_is other = refl
 abbrev up_of : Connection → List Message
 up_of y = (messages.held y).up
 
-meets_clears : (x : Stretch) (c s : ℕ) (t b : Terms) (m i : List CallRequest) (y : At Connection) → Channel (live c (record { phase = Talking t b (live s x); made = m; indicated = i })) y
+meets_clears : (x : Stretch) (c s : ℕ) (t b : Terms) (m i : List CallRequest) (y : At Connection)
+    → Channel (live c (record { phase = Talking t b (live s x); made = m; indicated = i })) y
     → Meets x ((c ≡ y.epoch) × (s ≡ messages.resets (state_of y.side))) (up_of (state_of y.side))
 meets_clears x c s t b m i y h = elim h.apart [
   | inl same ↦ elim (meets_resets x s (h.same same)) [
@@ -114,8 +118,10 @@ meets_clears x c s t b m i y h = elim h.apart [
   ]
 ]
 
-meets_restarts : (x : Stretch) (e : ℕ) (chans : Channels) (k c s : ℕ) (t b : Terms) (m i : List CallRequest) {y : At Channels} → chans k ≡ live c (record { phase = Talking t b (live s x); made = m; indicated = i })
-    → InEpochs AllChannels all_fresh all_fresh (live e chans) y → Meets x (name_at messages y k ≡ record { restarts = e; clears = c; resets = s }) (held_at messages y k).up
+meets_restarts : (x : Stretch) (e : ℕ) (chans : Channels) (k c s : ℕ) (t b : Terms) (m i : List CallRequest) {y : At Channels} → chans k
+    ≡ live c (record { phase = Talking t b (live s x); made = m; indicated = i })
+    → InEpochs AllChannels all_fresh all_fresh (live e chans) y
+    → Meets x (name_at messages y k ≡ record { restarts = e; clears = c; resets = s }) (held_at messages y k).up
 meets_restarts x e chans k c s t b m i {y} is h = elim h.apart [
   | inl same ↦ elim (meets_clears x c s t b m i (circuit_at y k) (rw (sym is) (h.same same k))) [
     | inl meet ↦ inl (name_eq (name_at messages y k) (record { restarts = e; clears = c; resets = s }) (sym same) (sym meet.0.0) (sym meet.0.1), meet.1)
@@ -134,7 +140,8 @@ in_history x history name y k held (inl meet) =
     subst (AcknowledgedAreUp x) (ap (λ l. l.up) (sym held) ∙ ap (λ n. (history n).up) meet.0) meet.1
 in_history x history name y k held (inr none) = record { sent = none.sent; down = none.down; first = none_is_first _ (history name).up none.first }
 
-at_near : {r : Role} {w : Pair} (k : ℕ) (x : Stretch) (history : Name → Lists Message) → Stands r w → history (name_at messages (state_of w.far) k) ≡ held_at messages (state_of w.far) k
+at_near : {r : Role} {w : Pair} (k : ℕ) (x : Stretch) (history : Name → Lists Message) → Stands r w → history (name_at messages (state_of w.far) k)
+    ≡ held_at messages (state_of w.far) k
     → open_at w.near k ≡ Some x → AcknowledgedAreUp x (history (name_at messages (state_of w.near) k)).up
 at_near {r} {w} k x history stands held is =
     let o = opened w.near k x is in

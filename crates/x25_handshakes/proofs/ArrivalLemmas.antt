@@ -66,7 +66,8 @@ opened (Live z) k x is = ends z.epoch z.side is
     ends e (Left y) is_open = absurd (none-some x is_open)
 
 -- its name
-pub name_opened : {s : Side (At Channels)} {k : ℕ} {x : Stretch} (o : Opened s k x) → name_at messages (state_of s) k ≡ record { restarts = o.restarts; clears = o.clears; resets = o.resets }
+pub name_opened : {s : Side (At Channels)} {k : ℕ} {x : Stretch} (o : Opened s k x) → name_at messages (state_of s) k
+    ≡ record { restarts = o.restarts; clears = o.clears; resets = o.resets }
 name_opened {k} o =
     ap (λ z. name_at messages (state_of z) k) o.end
     ∙ ap (λ c. record { restarts = o.restarts; clears = c.epoch; resets = messages.resets (state_of c.side) }) o.circuit
@@ -89,7 +90,8 @@ pub nothing_waits : (sent rest : List Piece) → joining no_part (sent ++ rest) 
 nothing_waits sent rest whole none = whole_rest (joining no_part sent) rest (sym (joining-append no_part sent rest) ∙ whole) none
 
 arrived : {r : Role} {w : Pair} {k : ℕ} {x y : Stretch} → Stands r w → (o : Opened w.near k x) (p : Opened w.far k y)
-    → ◌≡◌ {A = Name} (record { restarts = o.restarts; clears = o.clears; resets = o.resets }) (record { restarts = p.restarts; clears = p.clears; resets = p.resets })
+    → ◌≡◌ {A = Name} (record { restarts = o.restarts; clears = o.clears; resets = o.resets })
+    (record { restarts = p.restarts; clears = p.clears; resets = p.resets })
     → w.out ≡ [] → HasArrived x y
 arrived {r} {w} {k} {x} {y} stands o p same none =
     let top : EndsRelated r (Live (live o.restarts o.channels)) [] w.back (Live (live o.restarts p.channels)) =
@@ -98,7 +100,8 @@ arrived {r} {w} {k} {x} {y} stands o p same none =
     (rw (sym o.end) (subst (λ l. EndsRelated r w.near l w.back w.far) none stands.top))) in
     let there : p.channels k ≡ live o.clears (record { phase = Talking p.sends p.takes (live o.resets y); made = p.made; indicated = p.indicated }) =
     p.circuit ∙ ap (λ n. live n.clears (record { phase = Talking p.sends p.takes (live n.resets y); made = p.made; indicated = p.indicated })) (sym same) in
-    let got = open_stretch r o.sends o.takes p.sends p.takes o.restarts o.clears o.resets o.channels p.channels k o.made o.indicated p.made p.indicated x y o.circuit there top in
+    let got = open_stretch r o.sends o.takes p.sends p.takes o.restarts o.clears o.resets o.channels p.channels k o.made o.indicated p.made p.indicated x y
+    o.circuit there top in
     let all = FollowsFrom-from_Dir got.1.there in
     record { messages = λ waits. all.all refl (nothing_waits x.sent x.rest got.1.there.text.whole waits); interrupts = all.int_all refl }
 

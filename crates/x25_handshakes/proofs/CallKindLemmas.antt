@@ -3,21 +3,26 @@ use Rattle.std.proofs.{Common.{◌≡◌, inr, ℕ, List, [], ◌∷◌, ◌++�
 use Rattle.x25_bits.specs.{declared.role.Role.{Role}, declared.role.Role.TheVariants.{Dte, Dce}}
 use Rattle.x25_circuit.specs.{declared.params.Params.{Params}, Params.{Proposal, may_propose, may_answer, field_for, said_in}, Notice.{CallRequest}}
 use Rattle.x25_handshakes.specs.{laws.Handshake.{Inner, Step}, laws.Stretch.{Packet, Call, Accept}}
-use Rattle.x25_handshakes.specs.laws.Calls.{Phase, Unused, Waiting, Offered, Crossed, Talking, Connection, goes, unexpected, calling_talk, called_talk, is_answered, accepts, phase_takes, call_takes, CallAct, PlacesCall, AcceptsCall, Talks, phase_acts}
+use Rattle.x25_handshakes.specs.laws.Calls.{Phase, Unused, Waiting, Offered, Crossed, Talking, Connection, goes, unexpected, calling_talk, called_talk}
+use Rattle.x25_handshakes.specs.laws.Calls.{is_answered, accepts, phase_takes, call_takes, CallAct, PlacesCall, AcceptsCall, Talks, phase_acts}
 use Rattle.x25_handshakes.specs.{laws.Histories.{calls, IsPrefix}, laws.Transfer.{fresh_transfer}}
 use Rattle.x25_handshakes.proofs.{CallsRelation.{TalksRelated}, JointLemmas.{joint_order}, ChannelRelation.{clear_mark, Seen}, CallLemmas.{Seen-takes}}
 use Rattle.x25_handshakes.proofs.{HistoryLemmas.{Stays, alike}, TurnLemmas.{MayIndicate, WithinCall, IsHandled}}
 
 seen_begins : (r : Role) (x : Connection) (u v : List Packet) (y : Connection) → Seen r x u v y → IsPrefix x.indicated y.made
-seen_begins Dte x u v y h = (joint_order TalksRelated fresh_transfer fresh_transfer (λ a b. Unit {0}) tt (λ t k x u v t₂ k₂ y h. tt) x.phase y.phase x.made x.indicated y.made y.indicated u v h).0
-seen_begins Dce x u v y h = (joint_order TalksRelated fresh_transfer fresh_transfer (λ a b. Unit {0}) tt (λ t k x u v t₂ k₂ y h. tt) y.phase x.phase y.made y.indicated x.made x.indicated v u h).1
+seen_begins Dte x u v y h = (joint_order TalksRelated fresh_transfer fresh_transfer (λ a b. Unit {0}) tt (λ t k x u v t₂ k₂ y h. tt) x.phase y.phase x.made
+    x.indicated y.made y.indicated u v h).0
+seen_begins Dce x u v y h = (joint_order TalksRelated fresh_transfer fresh_transfer (λ a b. Unit {0}) tt (λ t k x u v t₂ k₂ y h. tt) y.phase x.phase y.made
+    y.indicated x.made x.indicated v u h).1
 
-indicated_begins : (r : Role) (c : Connection) (u : List Packet) (p : Packet) (v : List Packet) (y : Connection) → Seen r c u (p ∷ v) y → IsPrefix (call_takes r c p).next.indicated y.made
+indicated_begins : (r : Role) (c : Connection) (u : List Packet) (p : Packet) (v : List Packet) (y : Connection) → Seen r c u (p ∷ v) y
+    → IsPrefix (call_takes r c p).next.indicated y.made
 indicated_begins r c u p v y h = seen_begins r (call_takes r c p).next (u ++ (call_takes r c p).out) v y (Seen-takes r c u p v y h).1
 
 -- a packet makes no call
 answered_made : (a : Phase) (mine : Params) (m i : List CallRequest) (most : ℕ) (q : Params) → (is_answered a mine m i most q).next.made ≡ m
-answered_made a mine m i most q = cond_both (may_answer mine q) (goes (calling_talk most q) m i []) (unexpected a m i) (λ s. s.next.made ≡ m) (λ _. refl) (λ _. refl)
+answered_made a mine m i most q = cond_both (may_answer mine q) (goes (calling_talk most q) m i []) (unexpected a m i) (λ s. s.next.made ≡ m) (λ _. refl)
+    (λ _. refl)
 
 takes_made : (r : Role) (a : Phase) (m i : List CallRequest) (p : Packet) → (phase_takes r a m i p).next.made ≡ m
 takes_made r Unused m i (Call n) = refl
@@ -38,7 +43,8 @@ Acted m i s = IsPrefix m s.next.made × (s.next.indicated ≡ i)
 accepted : (theirs : Params) (m i : List CallRequest) (answer : Option Proposal) (most : ℕ) → Acted m i (accepts theirs m i answer most)
 accepted theirs m i None most = (alike m, refl)
 accepted theirs m i (Some q) most =
-    cond_both (may_answer theirs q.params) (goes (called_talk most q.params) m i (Accept (field_for theirs q) most ∷ [])) (goes (Offered theirs) m i []) (λ s. Acted m i s) (λ _. (alike m, refl)) (λ _. (alike m, refl))
+    cond_both (may_answer theirs q.params) (goes (called_talk most q.params) m i (Accept (field_for theirs q) most ∷ [])) (goes (Offered theirs) m i [])
+    (λ s. Acted m i s) (λ _. (alike m, refl)) (λ _. (alike m, refl))
 
 acted : (a : Phase) (m i : List CallRequest) (act : CallAct) → Acted m i (phase_acts a m i act)
 acted Unused m i (PlacesCall n) =
@@ -49,4 +55,8 @@ acted (Talking t b x) m i (Talks a) = (alike m, refl)
 acted a m i act = (alike m, refl)
 
 pub calls_handled : IsHandled calls
-calls_handled = record { fresh = refl; takes = call_taken; acts = λ c a. (refl, (acted c.phase c.made c.indicated a).0, (acted c.phase c.made c.indicated a).1) }
+calls_handled = record {
+  fresh = refl;
+  takes = call_taken;
+  acts = λ c a. (refl, (acted c.phase c.made c.indicated a).0, (acted c.phase c.made c.indicated a).1);
+}

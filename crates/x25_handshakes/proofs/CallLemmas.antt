@@ -29,7 +29,8 @@ own_stretches t b st sb = record {
 
 -- two ends in p4
 
-pub TalksRelated-flip : {t b : Terms} {x : At Stretch} {u v : List Packet} {t₂ b₂ : Terms} {y : At Stretch} → TalksRelated t b x u v t₂ b₂ y → TalksRelated t₂ b₂ y v u t b x
+pub TalksRelated-flip : {t b : Terms} {x : At Stretch} {u v : List Packet} {t₂ b₂ : Terms} {y : At Stretch} → TalksRelated t b x u v t₂ b₂ y
+    → TalksRelated t₂ b₂ y v u t b x
 TalksRelated-flip {t} {b} {x} {u} {v} {y} h = record {
   there = sym h.back;
   back = sym h.there;
@@ -56,7 +57,8 @@ dce_talks = record {
 
 -- ---- the two roles at once
 
-pub Seen-takes : (r : Role) (x : Connection) (u : List Packet) (p : Packet) (v : List Packet) (y : Connection) → Seen r x u (p ∷ v) y → GoodCall (Seen r) (call_takes r x p) u v y
+pub Seen-takes : (r : Role) (x : Connection) (u : List Packet) (p : Packet) (v : List Packet) (y : Connection) → Seen r x u (p ∷ v) y
+    → GoodCall (Seen r) (call_takes r x p) u v y
 Seen-takes Dte x u p v y h = dte_takes dte_talks x y.phase y.made y.indicated u p v h
 Seen-takes Dce x u p v y h = dce_takes dce_talks x y.phase y.made y.indicated u p v h
 

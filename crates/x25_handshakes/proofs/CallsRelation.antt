@@ -7,8 +7,10 @@ use Rattle.x25_handshakes.specs.laws.Calls.{Phase, Unused, Waiting, Offered, Cro
 use Rattle.x25_handshakes.proofs.{TermsLemmas.{IsSound}, TransferRelation.{OwnTransfer}, StretchRelation.{StretchesRelated}}
 use Rattle.x25_handshakes.specs.laws.Terms.{Terms, called_terms, calling_terms}
 
--- our own end and the other one in p4, of whatever kind: what the one sends by, the other takes by; R is kept in a stretch, and y₀ is the other end as one begins
-pub record TalkOf {T : Type 0} (R : Terms → Terms → Stretch → List Packet → List Packet → T → Type 0) (y₀ : T) (t b : Terms) (x : At Stretch) (u v : List Packet) (t₂ b₂ : Terms) (y : At T) : Type 0 where
+-- our own end and the other one in p4, of whatever kind: what the one sends by, the other takes by; R is kept in a
+-- stretch, and y₀ is the other end as one begins
+pub record TalkOf {T : Type 0} (R : Terms → Terms → Stretch → List Packet → List Packet → T → Type 0) (y₀ : T) (t b : Terms) (x : At Stretch)
+    (u v : List Packet) (t₂ b₂ : Terms) (y : At T) : Type 0 where
   pub there : b₂ ≡ t
   pub back : t₂ ≡ b
   pub sound : IsSound t
@@ -76,7 +78,8 @@ CallAccepted m mine t b R (p ∷ u) = call_or_accept_at m mine t b p (Accepted m
 abbrev pub TalksOf : Type 0 → Type 0 → Type 1
 TalksOf A B = Terms → Terms → A → List Packet → List Packet → Terms → Terms → B → Type 0
 
--- The stages in which the DTE and the DCE may stand, with what is made and indicated at each; u is on the way to the DCE, v to the DTE. Each may be an end of any kind: R is what is
+-- The stages in which the DTE and the DCE may stand, with what is made and indicated at each; u is on the way to the
+-- DCE, v to the DTE. Each may be an end of any kind: R is what is
 -- kept of them in p4, and what an end is as p4 begins is a at the DTE and b at the DCE.
 abbrev pub JointOf : {A B : Type 0} → TalksOf A B → A → B → Stage A → Stage B
     → List CallRequest → List CallRequest → List CallRequest → List CallRequest → List Packet → List Packet → Type 0

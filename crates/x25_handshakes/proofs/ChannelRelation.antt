@@ -16,7 +16,8 @@ Seen Dte x u v y = Joint x.phase y.phase x.made x.indicated y.made y.indicated u
 Seen Dce x u v y = Joint y.phase x.phase y.made y.indicated x.made x.indicated v u
 
 -- our own end and the other one, of whatever kind: R is kept between two clears, y₀ is the other end as one begins, and `left` is so of an end that sent CLEAR
-abbrev pub own_call_level : {T : Type 0} → (Connection → Type 0) → (T → Type 0) → (Connection → List Packet → List Packet → T → Type 0) → T → Level Connection T Packet
+abbrev pub own_call_level : {T : Type 0} → (Connection → Type 0) → (T → Type 0) → (Connection → List Packet → List Packet → T → Type 0) → T
+    → Level Connection T Packet
 own_call_level left left_there R y₀ = record { mark = clear_mark; fresh = fresh_call; fresh_there = y₀; gone = left; gone_there = left_there; related = R }
 
 abbrev pub connection_level : Role → Level Connection Connection Packet

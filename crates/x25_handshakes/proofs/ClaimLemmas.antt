@@ -13,12 +13,14 @@ use Rattle.x25_handshakes.specs.laws.Terms.{Terms}
 -- both ends live at all levels, in one stretch, and nothing on the way from the first
 
 Seen-p4 : (r : Role) (t b t₂ b₂ : Terms) (m i n j : List CallRequest) (x y : At Stretch) {u v : List Packet}
-    → Seen r (record { phase = Talking t b x; made = m; indicated = i }) u v (record { phase = Talking t₂ b₂ y; made = n; indicated = j }) → TransfersRelated t b x u v y
+    → Seen r (record { phase = Talking t b x; made = m; indicated = i }) u v (record { phase = Talking t₂ b₂ y; made = n; indicated = j })
+    → TransfersRelated t b x u v y
 Seen-p4 Dte t b t₂ b₂ m i n j x y h = h.0.related
 Seen-p4 Dce t b t₂ b₂ m i n j x y {u} {v} h = (TalksRelated-flip h.0).related
 
 pub open_stretch : (r : Role) (t b t₂ b₂ : Terms) (rs cs ss : ℕ) (x y : Channels) (h : ℕ) (m i n j : List CallRequest) (p q : Stretch) {K : List LayerPacket}
-    → x h ≡ live cs (record { phase = Talking t b (live ss p); made = m; indicated = i }) → y h ≡ live cs (record { phase = Talking t₂ b₂ (live ss q); made = n; indicated = j })
+    → x h ≡ live cs (record { phase = Talking t b (live ss p); made = m; indicated = i }) → y h
+    ≡ live cs (record { phase = Talking t₂ b₂ (live ss q); made = n; indicated = j })
     → EndsRelated r (Live (live rs x)) [] K (Live (live rs y)) → (v : List Packet) × StretchesRelated t b p [] v q
 open_stretch r t b t₂ b₂ rs cs ss x y h m i n j p q {K} is_x is_y top =
     let chans = both_live x y top.hand in
@@ -39,13 +41,15 @@ pub record BothTalk (t b : Terms) (x : At Stretch) (u v : List Packet) (c : Phas
   pub phase : c ≡ Talking sends takes other
   pub talks : TalksRelated t b x u v sends takes other
 
-joint_a : (t b : Terms) (x : At Stretch) (c : Phase) (ma ia mb ib : List CallRequest) {u : List Packet} (p : Packet) (v : List Packet) → Joint (Talking t b x) c ma ia mb ib u (p ∷ v)
+joint_a : (t b : Terms) (x : At Stretch) (c : Phase) (ma ia mb ib : List CallRequest) {u : List Packet} (p : Packet) (v : List Packet)
+    → Joint (Talking t b x) c ma ia mb ib u (p ∷ v)
     → BothTalk t b x u (p ∷ v) c
 joint_a t b x (Talking t₂ b₂ y) ma ia mb ib p v h = record { sends = t₂; takes = b₂; other = y; phase = refl; talks = h.0 }
 joint_a t b x (Waiting q) ma ia mb ib p v h = absurd h.1
 joint_a t b x other ma ia mb ib p v h = absurd h
 
-joint_b : (t b : Terms) (a : Phase) (y : At Stretch) (ma ia mb ib : List CallRequest) (v u : List Packet) (p : Packet) → Joint a (Talking t b y) ma ia mb ib (p ∷ v) u
+joint_b : (t b : Terms) (a : Phase) (y : At Stretch) (ma ia mb ib : List CallRequest) (v u : List Packet) (p : Packet)
+    → Joint a (Talking t b y) ma ia mb ib (p ∷ v) u
     → BothTalk t b y u (p ∷ v) a
 joint_b t b (Talking t₂ b₂ x) y ma ia mb ib v u p h = record { sends = t₂; takes = b₂; other = x; phase = refl; talks = TalksRelated-flip h.0 }
 joint_b t b (Waiting q) y ma ia mb ib v u p h = absurd h.0

@@ -1,5 +1,6 @@
 -- Where nothing is on the way, a stretch that is open at one end is open at the other, and all that either told is known.
-use Rattle.std.proofs.Common.{◌≡◌, ◌⊎◌, inl, inr, ℕ, ◌+◌, ◌%◌, ◌≤◌, List, [], ◌∷◌, ◌++◌, length, Some, Bool, true, false, nat_lt, if◌then◌else◌, refl, sym, ap, subst, ◌∙◌, arith}
+use Rattle.std.proofs.Common.{◌≡◌, ◌⊎◌, inl, inr, ℕ, ◌+◌, ◌%◌, ◌≤◌, List, [], ◌∷◌, ◌++◌, length, Some, Bool, true, false, nat_lt, if◌then◌else◌, refl, sym, ap}
+use Rattle.std.proofs.Common.{subst, ◌∙◌, arith}
 use Rattle.std.proofs.lemmas.Bool.{true≢false, lt-ltb}
 use Rattle.x25_circuit.specs.{Message.{Piece}, Notice.{CallRequest}}
 use Rattle.x25_bits.specs.{declared.role.Role.{Role}, declared.role.Role.TheVariants.{Dte, Dce}}
@@ -42,7 +43,8 @@ rest_b t b (Waiting q) y ma ia mb ib h = absurd h.1
 rest_b t b (Crossed q) y ma ia mb ib h = absurd h.1
 rest_b t b a y ma ia mb ib h = absurd h
 
-rest_seen : (r : Role) (t b : Terms) (m i : List CallRequest) (x : At Stretch) (y : Connection) → Seen r (record { phase = Talking t b x; made = m; indicated = i }) [] [] y → BothTalk t b x [] [] y.phase
+rest_seen : (r : Role) (t b : Terms) (m i : List CallRequest) (x : At Stretch) (y : Connection)
+    → Seen r (record { phase = Talking t b x; made = m; indicated = i }) [] [] y → BothTalk t b x [] [] y.phase
 rest_seen Dte t b m i x y h = rest_a t b x y.phase m i y.made y.indicated h
 rest_seen Dce t b m i x y h = rest_b t b y.phase x y.made y.indicated m i h
 
@@ -51,7 +53,8 @@ abbrev sent_by : ℕ → ℕ → Terms → Terms → List CallRequest → List C
 sent_by k e t b m i s st = addressed k (lifted_call e (in_transfer t b m i (lifted s st st.error)) (in_transfer t b m i (lifted s st st.error)).error).out
 
 -- where all that was sent is acknowledged, a pull that sends none has none to send, or the other end isn't ready
-held_back : (k e : ℕ) (t b : Terms) (m i : List CallRequest) (s : ℕ) (x : Stretch) → 1 ≤ t.window → x.acked ≡ length x.sent → sent_by k e t b m i s (pulls t x x.rest) ≡ [] → (x.rest ≡ []) ⊎ (x.peer_ready ≡ false)
+held_back : (k e : ℕ) (t b : Terms) (m i : List CallRequest) (s : ℕ) (x : Stretch) → 1 ≤ t.window → x.acked ≡ length x.sent
+    → sent_by k e t b m i s (pulls t x x.rest) ≡ [] → (x.rest ≡ []) ⊎ (x.peer_ready ≡ false)
 held_back k e t b m i s x least acked none = by x.rest refl none
   where
     next : Piece → List Piece → Step Stretch Packet
@@ -61,7 +64,8 @@ held_back k e t b m i s x least acked none = by x.rest refl none
     room = lt-ltb (length x.sent) (x.acked + t.window) (omega (arith, least, acked))
 
     ready_by : (p : Piece) (ps : List Piece) (c : Bool) → x.peer_ready ≡ c
-        → sent_by k e t b m i s (if c then (if nat_lt (length x.sent) (x.acked + t.window) then next p ps else stretch_does x []) else stretch_does x []) ≡ [] → (x.rest ≡ []) ⊎ (x.peer_ready ≡ false)
+        → sent_by k e t b m i s (if c then (if nat_lt (length x.sent) (x.acked + t.window) then next p ps else stretch_does x []) else stretch_does x []) ≡ []
+        → (x.rest ≡ []) ⊎ (x.peer_ready ≡ false)
     ready_by p ps true is sends = absurd (cons≢nil _ _ (subst (λ a. sent_by k e t b m i s (if a then next p ps else stretch_does x []) ≡ []) room sends))
     ready_by p ps false is sends = inr is
 
@@ -81,20 +85,23 @@ opened_by z k far y c t b at q up restarts clears talks resets =
 
 -- the name of the stretch that is open
 named_by : (z : At Channels) (k : ℕ) (far : Side (At Channels)) (y : Channels) (c : Connection) (t b : Terms) (at : At Stretch)
-    → far ≡ Live z → z.side ≡ Live y → (y k).side ≡ Live c → c.phase ≡ Talking t b at → name_at messages (state_of far) k ≡ record { restarts = z.epoch; clears = (y k).epoch; resets = at.epoch }
+    → far ≡ Live z → z.side ≡ Live y → (y k).side ≡ Live c → c.phase ≡ Talking t b at → name_at messages (state_of far) k
+    ≡ record { restarts = z.epoch; clears = (y k).epoch; resets = at.epoch }
 named_by z k far y c t b at up restarts clears talks =
     ap (λ s. name_at messages (state_of s) k) up
     ∙ ap (λ s. record { restarts = z.epoch; clears = (state_of s k).epoch; resets = resets_in (state_of (state_of s k).side).phase }) restarts
     ∙ ap (λ s. record { restarts = z.epoch; clears = (y k).epoch; resets = resets_in (state_of s).phase }) clears
     ∙ ap (λ p. record { restarts = z.epoch; clears = (y k).epoch; resets = resets_in p }) talks
 
-name_same : (a b c d e f : ℕ) → a ≡ d → b ≡ e → c ≡ f → ◌≡◌ {A = Name} (record { restarts = a; clears = b; resets = c }) (record { restarts = d; clears = e; resets = f })
+name_same : (a b c d e f : ℕ) → a ≡ d → b ≡ e → c ≡ f
+    → ◌≡◌ {A = Name} (record { restarts = a; clears = b; resets = c }) (record { restarts = d; clears = e; resets = f })
 name_same a b c d e f p q r =
     ap (λ n. record { restarts = n; clears = b; resets = c }) p
     ∙ ap (λ n. record { restarts = d; clears = n; resets = c }) q
     ∙ ap (λ n. record { restarts = d; clears = e; resets = n }) r
 
-known : {r : Role} {w : Pair} {k : ℕ} {x : Stretch} → Stands r w → (o : Opened w.near k x) → (z : At Channels) → w.far ≡ Live z → w.out ≡ [] → w.back ≡ [] → IsOpenThere k w.near w.far x
+known : {r : Role} {w : Pair} {k : ℕ} {x : Stretch} → Stands r w → (o : Opened w.near k x) → (z : At Channels) → w.far ≡ Live z → w.out ≡ [] → w.back ≡ []
+    → IsOpenThere k w.near w.far x
 known {r} {w} {k} {x} stands o z up out back =
     let a : Connection = record { phase = Talking o.sends o.takes (live o.resets x); made = o.made; indicated = o.indicated } in
     let top : EndsRelated r (Live (live o.restarts o.channels)) [] [] (Live z) =

@@ -2,7 +2,8 @@
 use Rattle.std.proofs.{Common.{◌≡◌, inl, inr, ℕ, suc, List, [], ◌∷◌, ◌++◌, Bool, true, false, refl, sym, ap, subst, ◌∙◌}, lemmas.Bool.{true≢false}}
 use Rattle.std.proofs.lemmas.List.{append-nil}
 use Rattle.x25_handshakes.specs.laws.Handshake.{Mark, Inner, Request, Confirm, Side, Live, Left, At, has_left, state_of}
-use Rattle.x25_handshakes.proofs.HandshakeRelation.{Handshaken, kept_before, before, kept_past, past, ends_at, Ends, behind_at, Behind, Extended, Level, Handshake, Each, AllInner}
+use Rattle.x25_handshakes.proofs.HandshakeRelation.{Handshaken, kept_before, before, kept_past, past, ends_at, Ends, behind_at, Behind, Extended, Level}
+use Rattle.x25_handshakes.proofs.HandshakeRelation.{Handshake, Each, AllInner}
 
 pub each_append : {P : Type 0} (A : P → Type 0) (u o : List P) → Each A u → Each A o → Each A (u ++ o)
 each_append A [] o h g = g
@@ -34,19 +35,23 @@ ends_inner mark (p ∷ L) o all ends = ends_step (mark p) L (L ++ o) (Ends mark 
 -- a request at the back: its sender leaves
 ends_leave : {P : Type 0} (mark : P → Mark) (q : P) → mark q ≡ Request → (L : List P) → Ends mark false L → Ends mark true (L ++ q ∷ [])
 ends_leave {P} mark q is [] ends = rw is (refl, refl)
-ends_leave mark q is (p ∷ L) ends = ends_step (mark p) L (L ++ q ∷ []) (Ends mark false L) (Ends mark true (L ++ q ∷ [])) true ends (λ e. ends_leave mark q is L e)
+ends_leave mark q is (p ∷ L) ends = ends_step (mark p) L (L ++ q ∷ []) (Ends mark false L) (Ends mark true (L ++ q ∷ [])) true ends
+    (λ e. ends_leave mark q is L e)
 
 -- what stands before the first marker is as it was, where more goes behind
-before_step : {P : Type 0} (m : Mark) (p : P) (rest : List P) (a : Type 0) (later later₂ : List P) → ends_at m false rest a → (a → later ≡ later₂) → kept_before m p later ≡ kept_before m p later₂
+before_step : {P : Type 0} (m : Mark) (p : P) (rest : List P) (a : Type 0) (later later₂ : List P) → ends_at m false rest a → (a → later ≡ later₂)
+    → kept_before m p later ≡ kept_before m p later₂
 before_step Inner p rest a later later₂ ends go = ap (λ l. p ∷ l) (go ends)
 before_step m p rest a later later₂ ends go = refl
 
 before_leave : {P : Type 0} (mark : P → Mark) (q : P) → mark q ≡ Request → (L : List P) → Ends mark false L → before mark (L ++ q ∷ []) ≡ before mark L
 before_leave {P} mark q is [] ends = rw is refl
-before_leave mark q is (p ∷ L) ends = before_step (mark p) p L (Ends mark false L) (before mark (L ++ q ∷ [])) (before mark L) ends (λ e. before_leave mark q is L e)
+before_leave mark q is (p ∷ L) ends = before_step (mark p) p L (Ends mark false L) (before mark (L ++ q ∷ [])) (before mark L) ends
+    (λ e. before_leave mark q is L e)
 
 -- an end stops: its state is kept, and what is on the way to it
-stops : {S T P : Type 0} (gone : S → Type 0) (gone_there : T → Type 0) (R : S → List P → List P → T → Type 0) (x : S) (u v : List P) (y : Side T) → gone x → Extended gone gone_there R (Live x) u v y → Extended gone gone_there R (Left x) u v y
+stops : {S T P : Type 0} (gone : S → Type 0) (gone_there : T → Type 0) (R : S → List P → List P → T → Type 0) (x : S) (u v : List P) (y : Side T) → gone x
+    → Extended gone gone_there R (Live x) u v y → Extended gone gone_there R (Left x) u v y
 stops gone gone_there R x u v (Live y) is r = (v, is, r)
 stops gone gone_there R x u v (Left y) is r = (r.0, v, r.2)
 
@@ -58,9 +63,11 @@ behind_step Confirm rest a here later ends go = absurd ends
 
 behind_confirm : {P : Type 0} (mark : P → Mark) (c : P) → mark c ≡ Confirm → (L : List P) → Ends mark false L → Behind mark false (L ++ c ∷ [])
 behind_confirm mark c is [] ends = rw is refl
-behind_confirm mark c is (p ∷ L) ends = behind_step (mark p) L (Ends mark false L) (Ends mark false (L ++ c ∷ [])) (Behind mark false (L ++ c ∷ [])) ends (λ e. behind_confirm mark c is L e)
+behind_confirm mark c is (p ∷ L) ends = behind_step (mark p) L (Ends mark false L) (Ends mark false (L ++ c ∷ [])) (Behind mark false (L ++ c ∷ [])) ends
+    (λ e. behind_confirm mark c is L e)
 
-past_step : {P : Type 0} (m : Mark) (rest rest₂ : List P) (a : Type 0) (later : List P) → ends_at m false rest a → (a → later ≡ []) → kept_past m rest₂ later ≡ []
+past_step : {P : Type 0} (m : Mark) (rest rest₂ : List P) (a : Type 0) (later : List P) → ends_at m false rest a → (a → later ≡ []) → kept_past m rest₂ later
+    ≡ []
 past_step Inner rest rest₂ a later ends go = go ends
 past_step Request rest rest₂ a later ends go = absurd (true≢false (sym ends.0))
 past_step Confirm rest rest₂ a later ends go = absurd ends
@@ -90,7 +97,8 @@ behind_map m here here₂ later later₂ b f g = f b
 
 behind_leave : {P : Type 0} (mark : P → Mark) (q : P) → mark q ≡ Request → (L : List P) → Behind mark false L → Behind mark true (L ++ q ∷ [])
 behind_leave mark q is [] b = absurd b
-behind_leave {P} mark q is (p ∷ L) b = behind_map (mark p) (Ends mark false L) (Ends mark true (L ++ q ∷ [])) (Behind mark false L) (Behind mark true (L ++ q ∷ [])) b
+behind_leave {P} mark q is (p ∷ L) b = behind_map (mark p) (Ends mark false L) (Ends mark true (L ++ q ∷ [])) (Behind mark false L)
+    (Behind mark true (L ++ q ∷ [])) b
     (λ e. ends_leave mark q is L e) (λ e. behind_leave mark q is L e)
 
 -- (f of what is past the first marker, by cases on the front)
@@ -99,9 +107,11 @@ past_map : {P Q : Type 0} (f g : List P → Q) (m : Mark) (rest rest₂ past_res
 past_map f g Inner rest rest₂ p p₂ here later b h k = k b
 past_map f g m rest rest₂ p p₂ here later b h k = h b
 
-past_leave : {P : Type 0} (mark : P → Mark) (q : P) → mark q ≡ Request → (L : List P) → Behind mark false L → before mark (past mark (L ++ q ∷ [])) ≡ before mark (past mark L)
+past_leave : {P : Type 0} (mark : P → Mark) (q : P) → mark q ≡ Request → (L : List P) → Behind mark false L → before mark (past mark (L ++ q ∷ []))
+    ≡ before mark (past mark L)
 past_leave mark q is [] b = absurd b
-past_leave {P} mark q is (p ∷ L) b = past_map (λ l. before mark l) (λ l. before mark l) (mark p) (L ++ q ∷ []) L (past mark (L ++ q ∷ [])) (past mark L) (Ends mark false L) (Behind mark false L) b
+past_leave {P} mark q is (p ∷ L) b = past_map (λ l. before mark l) (λ l. before mark l) (mark p) (L ++ q ∷ []) L (past mark (L ++ q ∷ [])) (past mark L)
+    (Ends mark false L) (Behind mark false L) b
     (λ e. before_leave mark q is L e) (λ e. past_leave mark q is L e)
 
 -- inner packets at the back
@@ -109,27 +119,32 @@ before_inner_all : {P : Type 0} (mark : P → Mark) (o : List P) → AllInner ma
 before_inner_all mark [] all = refl
 before_inner_all {P} mark (p ∷ o) all = rw all.0 (ap (λ l. p ∷ l) (before_inner_all mark o all.1))
 
-before_more_step : {P : Type 0} (m : Mark) (p : P) (o rest : List P) (a : Type 0) (later later₂ : List P) → ends_at m false rest a → (a → later ≡ later₂ ++ o) → kept_before m p later ≡ kept_before m p later₂ ++ o
+before_more_step : {P : Type 0} (m : Mark) (p : P) (o rest : List P) (a : Type 0) (later later₂ : List P) → ends_at m false rest a → (a → later ≡ later₂ ++ o)
+    → kept_before m p later ≡ kept_before m p later₂ ++ o
 before_more_step Inner p o rest a later later₂ ends go = ap (λ l. p ∷ l) (go ends)
 before_more_step Request p o rest a later later₂ ends go = absurd (true≢false (sym ends.0))
 before_more_step Confirm p o rest a later later₂ ends go = absurd ends
 
 before_inner : {P : Type 0} (mark : P → Mark) (L o : List P) → AllInner mark o → Ends mark false L → before mark (L ++ o) ≡ before mark L ++ o
 before_inner mark [] o all ends = before_inner_all mark o all
-before_inner mark (p ∷ L) o all ends = before_more_step (mark p) p o L (Ends mark false L) (before mark (L ++ o)) (before mark L) ends (λ e. before_inner mark L o all e)
+before_inner mark (p ∷ L) o all ends = before_more_step (mark p) p o L (Ends mark false L) (before mark (L ++ o)) (before mark L) ends
+    (λ e. before_inner mark L o all e)
 
 behind_inner : {P : Type 0} (mark : P → Mark) (L o : List P) → AllInner mark o → Behind mark false L → Behind mark false (L ++ o)
 behind_inner mark [] o all b = absurd b
 behind_inner {P} mark (p ∷ L) o all b = behind_map (mark p) (Ends mark false L) (Ends mark false (L ++ o)) (Behind mark false L) (Behind mark false (L ++ o)) b
     (λ e. ends_inner mark L o all e) (λ e. behind_inner mark L o all e)
 
-past_inner : {P : Type 0} (mark : P → Mark) (L o : List P) → AllInner mark o → Behind mark false L → before mark (past mark (L ++ o)) ≡ before mark (past mark L) ++ o
+past_inner : {P : Type 0} (mark : P → Mark) (L o : List P) → AllInner mark o → Behind mark false L → before mark (past mark (L ++ o))
+    ≡ before mark (past mark L) ++ o
 past_inner mark [] o all b = absurd b
-past_inner {P} mark (p ∷ L) o all b = past_map (λ l. before mark l) (λ l. before mark l ++ o) (mark p) (L ++ o) L (past mark (L ++ o)) (past mark L) (Ends mark false L) (Behind mark false L) b
+past_inner {P} mark (p ∷ L) o all b = past_map (λ l. before mark l) (λ l. before mark l ++ o) (mark p) (L ++ o) L (past mark (L ++ o)) (past mark L)
+    (Ends mark false L) (Behind mark false L) b
     (λ e. before_inner mark L o all e) (λ e. past_inner mark L o all e)
 
 -- what R keeps with both ends there is kept for the end that is there
-pub ext_step : {S T P : Type 0} (gone : S → Type 0) (gone_there : T → Type 0) (R : S → List P → List P → T → Type 0) (x x₂ : S) (o u : List P) {v : List P} (v₂ : List P) (y : Side T) →
+pub ext_step : {S T P : Type 0} (gone : S → Type 0) (gone_there : T → Type 0) (R : S → List P → List P → T → Type 0) (x x₂ : S) (o u : List P) {v : List P}
+    (v₂ : List P) (y : Side T) →
     ((w : List P) (z : T) → R x w v z → R x₂ (w ++ o) v₂ z) → Extended gone gone_there R (Live x) u v y → Extended gone gone_there R (Live x₂) (u ++ o) v₂ y
 ext_step gone gone_there R x x₂ o u v₂ (Live y) kept r = kept u y r
 ext_step gone gone_there R x x₂ o u v₂ (Left z) kept r = (r.0 ++ o, r.1, kept r.0 z r.2)
@@ -150,7 +165,8 @@ leave {l} q is x {L} gone (inr (inl ahead)) =
       waits = ahead.waits;
       back = ahead.back;
       there = behind_leave l.mark q is L ahead.there;
-      inner = rw (past_leave l.mark q is L ahead.there) (stops l.gone l.gone_there l.related x (before l.mark (past l.mark L)) [] (Live l.fresh_there) gone ahead.inner);
+      inner = rw (past_leave l.mark q is L ahead.there)
+          (stops l.gone l.gone_there l.related x (before l.mark (past l.mark L)) [] (Live l.fresh_there) gone ahead.inner);
     }))
 leave q is x gone (inr (inr later)) = absurd (true≢false (sym later.waits))
 
@@ -163,7 +179,8 @@ inner_act {l} o all x x₂ {y} {L} {K} kept (inl same) =
       epochs = same.epochs;
       there = ends_inner l.mark L o all same.there;
       back = same.back;
-      inner = rw (before_inner l.mark L o all same.there) (ext_step l.gone l.gone_there l.related x x₂ o (before l.mark L) (before l.mark K) y (λ w z r. kept w (before l.mark K) z r) same.inner);
+      inner = rw (before_inner l.mark L o all same.there)
+          (ext_step l.gone l.gone_there l.related x x₂ o (before l.mark L) (before l.mark K) y (λ w z r. kept w (before l.mark K) z r) same.inner);
     })
 inner_act {l} o all x x₂ {L} kept (inr (inl ahead)) =
     inr (inl (record {
@@ -179,7 +196,8 @@ inner_front : {P : Type 0} (mark : P → Mark) (p : P) (K : List P) (left : Bool
 inner_front mark p K left is ends = subst (λ m. ends_at m left K (Ends mark left K)) is ends
 
 -- behind inner packets
-skipped_ends : {P : Type 0} (mark : P → Mark) (j : List P) (p : P) (K : List P) {left : Bool} → AllInner mark j → mark p ≡ Request → Ends mark left (j ++ p ∷ K) → (left ≡ true) × (K ≡ [])
+skipped_ends : {P : Type 0} (mark : P → Mark) (j : List P) (p : P) (K : List P) {left : Bool} → AllInner mark j → mark p ≡ Request
+    → Ends mark left (j ++ p ∷ K) → (left ≡ true) × (K ≡ [])
 skipped_ends mark [] p K {left} all is ends = request_front mark p K is ends
 skipped_ends mark (q ∷ j) p K {left} all is ends = skipped_ends mark j p K all.1 is (inner_front mark q (j ++ p ∷ K) left all.0 ends)
 
@@ -188,8 +206,10 @@ some≢nil [] p K e = cons≢nil p K e
 some≢nil (q ∷ j) p K e = cons≢nil q (j ++ p ∷ K) e
 
 -- A live end takes a request before what stands in front of it, which it drops, and confirms it.
-pub request_skips : {S T P : Type 0} {l : Level S T P} (empty : l.related l.fresh [] [] l.fresh_there) (c p : P) (j : List P) → AllInner l.mark j → l.mark c ≡ Confirm → l.mark p ≡ Request →
-    {ex ey : ℕ} (x : S) {y : Side T} {L : List P} (K : List P) → Handshake l ex ey (Live x) y L (j ++ p ∷ K) → Handshake l (suc ex) ey (Live l.fresh) y (L ++ c ∷ []) K
+pub request_skips : {S T P : Type 0} {l : Level S T P} (empty : l.related l.fresh [] [] l.fresh_there) (c p : P) (j : List P) → AllInner l.mark j → l.mark c
+    ≡ Confirm → l.mark p ≡ Request →
+    {ex ey : ℕ} (x : S) {y : Side T} {L : List P} (K : List P) → Handshake l ex ey (Live x) y L (j ++ p ∷ K)
+    → Handshake l (suc ex) ey (Live l.fresh) y (L ++ c ∷ []) K
 request_skips {l} empty c p j all is_c is_p x {y} {L} K (inl same) =
     inr (inl (record {
       epochs = ap suc same.epochs;
@@ -230,9 +250,11 @@ inner_take_behind {l} j p o front is all x x₂ {y} {L} K kept (inl same) =
       epochs = same.epochs;
       there = ends_inner l.mark L o all same.there;
       back = inner_more l.mark j K (has_left y) front (inner_front l.mark p K (has_left y) is (inner_fronts l.mark j (p ∷ K) (has_left y) front same.back));
-      inner = rw (before_inner l.mark L o all same.there) (subst (λ v. Extended l.gone l.gone_there l.related (Live x₂) (before l.mark L ++ o) v y) (sym (before_fronts l.mark j K front))
+      inner = rw (before_inner l.mark L o all same.there)
+          (subst (λ v. Extended l.gone l.gone_there l.related (Live x₂) (before l.mark L ++ o) v y) (sym (before_fronts l.mark j K front))
           (ext_step l.gone l.gone_there l.related x x₂ o (before l.mark L) (j ++ before l.mark K) y (λ w z r. kept w (before l.mark K) z r)
-          (subst (λ v. Extended l.gone l.gone_there l.related (Live x) (before l.mark L) v y) (before_fronts l.mark j (p ∷ K) front ∙ ap (λ v. j ++ v) (before_front l.mark p K is)) same.inner)));
+          (subst (λ v. Extended l.gone l.gone_there l.related (Live x) (before l.mark L) v y)
+          (before_fronts l.mark j (p ∷ K) front ∙ ap (λ v. j ++ v) (before_front l.mark p K is)) same.inner)));
     })
 inner_take_behind j p o front is all x x₂ K kept (inr (inl ahead)) = absurd (some≢nil j p K ahead.back)
 inner_take_behind j p o front is all x x₂ K kept (inr (inr later)) = absurd (true≢false (sym later.waits))
@@ -242,7 +264,8 @@ pub inner_take : {S T P : Type 0} (l : Level S T P) (p : P) (o : List P) → l.m
     Handshake l ex ey (Live x) y L (p ∷ K) → Handshake l ex ey (Live x₂) y (L ++ o) K
 inner_take l p o is all ex ey x x₂ y L K kept h = inner_take_behind [] p o tt is all x x₂ K kept h
 
-forget_back : {S T P : Type 0} (gone : S → Type 0) (gone_there : T → Type 0) (R : S → List P → List P → T → Type 0) (x : S) (u v v₂ : List P) (y : Side T) → Extended gone gone_there R (Left x) u v y → Extended gone gone_there R (Left x) u v₂ y
+forget_back : {S T P : Type 0} (gone : S → Type 0) (gone_there : T → Type 0) (R : S → List P → List P → T → Type 0) (x : S) (u v v₂ : List P) (y : Side T)
+    → Extended gone gone_there R (Left x) u v y → Extended gone gone_there R (Left x) u v₂ y
 forget_back gone gone_there R x u v v₂ (Live y) r = r
 forget_back gone gone_there R x u v v₂ (Left y) r = r
 
@@ -267,7 +290,8 @@ drops {l} p is x {y} K (inr (inr later)) =
     }))
 
 -- the line of an end that has left ends in its request
-ends_behind_at : {P : Type 0} (mark : P → Mark) (m : Mark) (rest : List P) → ends_at m true rest (Ends mark true rest) → (Ends mark true rest → Behind mark false rest) → behind_at m (Ends mark false rest) (Behind mark false rest)
+ends_behind_at : {P : Type 0} (mark : P → Mark) (m : Mark) (rest : List P) → ends_at m true rest (Ends mark true rest)
+    → (Ends mark true rest → Behind mark false rest) → behind_at m (Ends mark false rest) (Behind mark false rest)
 ends_behind_at mark Inner rest e go = go e
 ends_behind_at mark Request rest e go = rw e.1 refl
 ends_behind_at mark Confirm rest e go = absurd e
@@ -316,34 +340,62 @@ marker_left {l} empty p never x {y} K (inr (inr later)) =
       epochs = sym later.epochs;
       there = rw later.there refl;
       back = marker_behind (l.mark p) (Ends l.mark (has_left y) K) (Behind l.mark (has_left y) K) never later.back;
-      inner = rw later.there (subst (λ u. Extended l.gone l.gone_there l.related (Live l.fresh) [] (before l.mark u) y) (marker_past (l.mark p) K (past l.mark K) never) later.inner);
+      inner = rw later.there (subst (λ u. Extended l.gone l.gone_there l.related (Live l.fresh) [] (before l.mark u) y)
+          (marker_past (l.mark p) K (past l.mark K) never) later.inner);
     })
 
 -- The relation seen from the other end.
 abbrev pub flip : {S T P : Type 0} → Level S T P → Level T S P
-flip l = record { mark = l.mark; fresh = l.fresh_there; fresh_there = l.fresh; gone = l.gone_there; gone_there = l.gone; related = λ x u v y. l.related y v u x }
+flip l = record {
+  mark = l.mark;
+  fresh = l.fresh_there;
+  fresh_there = l.fresh;
+  gone = l.gone_there;
+  gone_there = l.gone;
+  related = λ x u v y. l.related y v u x;
+}
 
-ext_flip : {S T P : Type 0} (l : Level S T P) (x : Side S) (u v : List P) (y : Side T) → Extended l.gone l.gone_there l.related x u v y → Extended l.gone_there l.gone (λ a b c d. l.related d c b a) y v u x
+ext_flip : {S T P : Type 0} (l : Level S T P) (x : Side S) (u v : List P) (y : Side T) → Extended l.gone l.gone_there l.related x u v y
+    → Extended l.gone_there l.gone (λ a b c d. l.related d c b a) y v u x
 ext_flip l (Live x) u v (Live y) r = r
 ext_flip l (Left x) u v (Live y) r = r
 ext_flip l (Live x) u v (Left y) r = r
 ext_flip l (Left x) u v (Left y) r = (r.1, r.0, r.2)
 
-pub hand_flip : {S T P : Type 0} {l : Level S T P} {ex ey : ℕ} {x : Side S} {y : Side T} {L K : List P} → Handshake l ex ey x y L K → Handshake (flip l) ey ex y x K L
+pub hand_flip : {S T P : Type 0} {l : Level S T P} {ex ey : ℕ} {x : Side S} {y : Side T} {L K : List P} → Handshake l ex ey x y L K
+    → Handshake (flip l) ey ex y x K L
 hand_flip {l} {x} {y} {L} {K} (inl same) =
     inl (record { epochs = sym same.epochs; there = same.back; back = same.there; inner = ext_flip l x (before l.mark L) (before l.mark K) y same.inner })
 hand_flip {l} {x} {L} (inr (inl ahead)) =
-    inr (inr (record { epochs = ahead.epochs; waits = ahead.waits; there = ahead.back; back = ahead.there; inner = ext_flip l x (before l.mark (past l.mark L)) [] (Live l.fresh_there) ahead.inner }))
+    inr (inr (record {
+      epochs = ahead.epochs;
+      waits = ahead.waits;
+      there = ahead.back;
+      back = ahead.there;
+      inner = ext_flip l x (before l.mark (past l.mark L)) [] (Live l.fresh_there) ahead.inner;
+    }))
 hand_flip {l} {y} {K} (inr (inr later)) =
-    inr (inl (record { epochs = later.epochs; waits = later.waits; there = later.back; back = later.there; inner = ext_flip l (Live l.fresh) [] (before l.mark (past l.mark K)) y later.inner }))
+    inr (inl (record {
+      epochs = later.epochs;
+      waits = later.waits;
+      there = later.back;
+      back = later.there;
+      inner = ext_flip l (Live l.fresh) [] (before l.mark (past l.mark K)) y later.inner;
+    }))
 
-pub both_fresh : {S T P : Type 0} (l : Level S T P) → l.related l.fresh [] [] l.fresh_there → (e : ℕ) → Handshake l e e (Live l.fresh) (Live l.fresh_there) [] []
+pub both_fresh : {S T P : Type 0} (l : Level S T P) → l.related l.fresh [] [] l.fresh_there → (e : ℕ)
+    → Handshake l e e (Live l.fresh) (Live l.fresh_there) [] []
 both_fresh l empty e = inl (record { epochs = refl; there = refl; back = refl; inner = empty })
 
 -- two ends that both begin with their requests on the way (the start of a link)
 pub both_requests : {S T P : Type 0} (l : Level S T P) → l.related l.fresh [] [] l.fresh_there → (q : P) → l.mark q ≡ Request → (e : ℕ)
     → Handshake l e e (Left l.fresh) (Left l.fresh_there) (q ∷ []) (q ∷ [])
-both_requests l empty q is e = inl (record { epochs = refl; there = ends_leave l.mark q is [] refl; back = ends_leave l.mark q is [] refl; inner = ([], [], empty) })
+both_requests l empty q is e = inl (record {
+  epochs = refl;
+  there = ends_leave l.mark q is [] refl;
+  back = ends_leave l.mark q is [] refl;
+  inner = ([], [], empty);
+})
 
 -- A live end stands in the inner relation, with some lines and some end (for what follows from it alone, as 'no error').
 pub inner_live : {S T P : Type 0} {l : Level S T P} {ex ey : ℕ} (x : S) (y : Side T) {L K : List P} → Handshake l ex ey (Live x) y L K
@@ -354,7 +406,8 @@ inner_live {l} x y {L} (inr (inl ahead)) = (before l.mark (past l.mark L), [], l
 inner_live x y (inr (inr later)) = absurd (true≢false (sym later.waits))
 
 -- The relation of the ends may be put by one that follows from it.
-ext_map : {S T P : Type 0} (gone : S → Type 0) (gone_there : T → Type 0) (R Q : S → List P → List P → T → Type 0) → ((x : S) (u v : List P) (y : T) → R x u v y → Q x u v y)
+ext_map : {S T P : Type 0} (gone : S → Type 0) (gone_there : T → Type 0) (R Q : S → List P → List P → T → Type 0)
+    → ((x : S) (u v : List P) (y : T) → R x u v y → Q x u v y)
     → (x : Side S) (u v : List P) (y : Side T) → Extended gone gone_there R x u v y → Extended gone gone_there Q x u v y
 ext_map gone gone_there R Q f (Live x) u v (Live y) r = f x u v y r
 ext_map gone gone_there R Q f (Left x) u v (Live y) r = (r.0, r.1, f x u r.0 y r.2)
@@ -365,14 +418,32 @@ pub hand_map : {S T P : Type 0} {l : Level S T P} (Q : S → List P → List P �
     → {ex ey : ℕ} {x : Side S} {y : Side T} {L K : List P} → Handshake l ex ey x y L K
     → Handshake (record { mark = l.mark; fresh = l.fresh; fresh_there = l.fresh_there; gone = l.gone; gone_there = l.gone_there; related = Q }) ex ey x y L K
 hand_map {l} Q f {x} {y} {L} {K} (inl same) =
-    inl (record { epochs = same.epochs; there = same.there; back = same.back; inner = ext_map l.gone l.gone_there l.related Q f x (before l.mark L) (before l.mark K) y same.inner })
+    inl (record {
+      epochs = same.epochs;
+      there = same.there;
+      back = same.back;
+      inner = ext_map l.gone l.gone_there l.related Q f x (before l.mark L) (before l.mark K) y same.inner;
+    })
 hand_map {l} Q f {x} {L} (inr (inl ahead)) =
-    inr (inl (record { epochs = ahead.epochs; waits = ahead.waits; back = ahead.back; there = ahead.there; inner = ext_map l.gone l.gone_there l.related Q f x (before l.mark (past l.mark L)) [] (Live l.fresh_there) ahead.inner }))
+    inr (inl (record {
+      epochs = ahead.epochs;
+      waits = ahead.waits;
+      back = ahead.back;
+      there = ahead.there;
+      inner = ext_map l.gone l.gone_there l.related Q f x (before l.mark (past l.mark L)) [] (Live l.fresh_there) ahead.inner;
+    }))
 hand_map {l} Q f {y} {K} (inr (inr later)) =
-    inr (inr (record { epochs = later.epochs; waits = later.waits; there = later.there; back = later.back; inner = ext_map l.gone l.gone_there l.related Q f (Live l.fresh) [] (before l.mark (past l.mark K)) y later.inner }))
+    inr (inr (record {
+      epochs = later.epochs;
+      waits = later.waits;
+      there = later.there;
+      back = later.back;
+      inner = ext_map l.gone l.gone_there l.related Q f (Live l.fresh) [] (before l.mark (past l.mark K)) y later.inner;
+    }))
 
 -- A request reaches a live end only from an end that has left a state from which one leaves, with nothing before it.
-pub request_gone : {S T P : Type 0} (l : Level S T P) (p : P) → l.mark p ≡ Request → (ex ey : ℕ) (x : S) (y : Side T) (L K : List P) → Handshake l ex ey (Live x) y L (p ∷ K)
+pub request_gone : {S T P : Type 0} (l : Level S T P) (p : P) → l.mark p ≡ Request → (ex ey : ℕ) (x : S) (y : Side T) (L K : List P)
+    → Handshake l ex ey (Live x) y L (p ∷ K)
     → (w : List P) × (z : T) × l.gone_there z × l.related x w [] z
 request_gone l p is ex ey x (Live z) L K (inl same) = absurd (true≢false (sym (request_front l.mark p K is same.back).0))
 request_gone {P} l p is ex ey x (Left z) L K (inl same) =
@@ -381,7 +452,8 @@ request_gone l p is ex ey x y L K (inr (inl ahead)) = absurd (cons≢nil p K ahe
 request_gone l p is ex ey x y L K (inr (inr later)) = absurd (true≢false (sym later.waits))
 
 -- A live end takes an inner packet only in the epoch of the other end, from the state in which that is or which it left.
-pub meets : {S T P : Type 0} (l : Level S T P) (p : P) → l.mark p ≡ Inner → (ex ey : ℕ) (x : S) (y : Side T) (L K : List P) → Handshake l ex ey (Live x) y L (p ∷ K)
+pub meets : {S T P : Type 0} (l : Level S T P) (p : P) → l.mark p ≡ Inner → (ex ey : ℕ) (x : S) (y : Side T) (L K : List P)
+    → Handshake l ex ey (Live x) y L (p ∷ K)
     → (ex ≡ ey) × (w : List P) × (v : List P) × l.related x w (p ∷ v) (state_of y)
 meets {P} l p is ex ey x (Live z) L K (inl same) =
     (same.epochs, before l.mark L, before l.mark K, subst (λ v. l.related x (before l.mark L) v z) (before_front l.mark p K is) same.inner)
@@ -391,12 +463,14 @@ meets l p is ex ey x y L K (inr (inl ahead)) = absurd (cons≢nil p K ahead.back
 meets l p is ex ey x y L K (inr (inr later)) = absurd (true≢false (sym later.waits))
 
 -- so it stands in the inner relation, with the packet at the front
-pub live_front : {S T P : Type 0} (l : Level S T P) (p : P) → l.mark p ≡ Inner → (ex ey : ℕ) (x : S) (y : Side T) (L K : List P) → Handshake l ex ey (Live x) y L (p ∷ K)
+pub live_front : {S T P : Type 0} (l : Level S T P) (p : P) → l.mark p ≡ Inner → (ex ey : ℕ) (x : S) (y : Side T) (L K : List P)
+    → Handshake l ex ey (Live x) y L (p ∷ K)
     → (w : List P) × (v : List P) × (z : T) × l.related x w (p ∷ v) z
 live_front l p is ex ey x y L K h = (let m = meets l p is ex ey x y L K h in (m.1, m.2, state_of y, m.3))
 
 -- Two live ends of one epoch stand in the inner relation.
-pub both_live : {S T P : Type 0} {l : Level S T P} {e : ℕ} (x : S) (y : T) {L K : List P} → Handshake l e e (Live x) (Live y) L K → l.related x (before l.mark L) (before l.mark K) y
+pub both_live : {S T P : Type 0} {l : Level S T P} {e : ℕ} (x : S) (y : T) {L K : List P} → Handshake l e e (Live x) (Live y) L K
+    → l.related x (before l.mark L) (before l.mark K) y
 both_live x y (inl same) = same.inner
 both_live x y (inr (inl ahead)) = absurd (true≢false (sym ahead.waits))
 both_live x y (inr (inr later)) = absurd (true≢false (sym later.waits))

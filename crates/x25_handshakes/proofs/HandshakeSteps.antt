@@ -2,7 +2,8 @@
 use Rattle.std.proofs.Common.{◌≡◌, ℕ, suc, List, [], ◌∷◌, ◌++◌, Option, None, refl, sym, subst, ◌∙◌}
 use Rattle.x25_handshakes.specs.laws.Handshake.{Mark, Inner, Request, Confirm, Side, Live, Left, At}
 use Rattle.x25_handshakes.proofs.HandshakeRelation.{Level, Handshake, Handshaken, GoodStep, AllInner}
-use Rattle.x25_handshakes.proofs.HandshakeLemmas.{request_live, request_gone, confirm_never, leave, inner_act, inner_take, drops, marker_left, inner_live, live_front, flip, still, turned}
+use Rattle.x25_handshakes.proofs.HandshakeLemmas.{request_live, request_gone, confirm_never, leave, inner_act, inner_take, drops, marker_left, inner_live}
+use Rattle.x25_handshakes.proofs.HandshakeLemmas.{live_front, flip, still, turned}
 
 -- any packets
 abbrev pub Any : {P : Type 0} → List P → Type 0
@@ -46,12 +47,14 @@ module _ {S T P : Type 0} (l : Level S T P) (Q : List P → Type 0) where
   abbrev Good : Option ℕ → At S → List P → List P → List P → At T → Type 0
   Good error next out L K y = GoodStep l error next out L K y × Q out
 
-  silent : Q [] → {a next : At S} {out : List P} {error : Option ℕ} → Silent a next out error → {L K : List P} {y : At T} → Handshaken l a L K y → Good error next out L K y
+  silent : Q [] → {a next : At S} {out : List P} {error : Option ℕ} → Silent a next out error → {L K : List P} {y : At T} → Handshaken l a L K y
+      → Good error next out L K y
   silent none {a} {error} s {L} {K} {y} h =
       rw s.0 (subst (λ o. Good error a o L K y) (sym s.1) (record { quiet = s.2; kept = still h }, none))
 
   -- it goes on in its epoch, of its own accord
-  pub acts_inside : (e : ℕ) (x : S) (next : At S) (out : List P) (error : Option ℕ) → Inside e x [] next out error → (L K : List P) (y : At T) → Handshaken l (record { epoch = e; side = Live x }) L K y
+  pub acts_inside : (e : ℕ) (x : S) (next : At S) (out : List P) (error : Option ℕ) → Inside e x [] next out error → (L K : List P) (y : At T)
+      → Handshaken l (record { epoch = e; side = Live x }) L K y
       → Good error next out L K y
   acts_inside e x next out error a L K y h =
       let some = inner_live x y.side h.hand in
@@ -69,7 +72,8 @@ module _ {S T P : Type 0} (l : Level S T P) (Q : List P → Type 0) where
   pub stays : {x : At S} {L K : List P} {y : At T} → Handshaken l x L K y → GoodStep l None x [] L K y
   stays {x} {L} {K} {y} h = record { quiet = refl; kept = still h }
 
-  pub answered : Q [] → l.related l.fresh [] [] l.fresh_there → {e : ℕ} {x : Side S} {p : P} {next : At S} {out : List P} {error : Option ℕ} → Answers e x p (l.mark p) next out error
+  pub answered : Q [] → l.related l.fresh [] [] l.fresh_there → {e : ℕ} {x : Side S} {p : P} {next : At S} {out : List P} {error : Option ℕ}
+      → Answers e x p (l.mark p) next out error
       → {L : List P} (K : List P) {y : At T} → Handshaken l (record { epoch = e; side = x }) L (p ∷ K) y → Good error next out L K y
   answered none empty {e} {x} {p} {next} {out} {error} a {L} K {y} h = by x (l.mark p) refl a h.hand
     where
@@ -78,14 +82,23 @@ module _ {S T P : Type 0} (l : Level S T P) (Q : List P → Type 0) where
           let some = live_front l p is e y.epoch x y.side L K h in
           let good = a.goes some.0 some.1 some.2 some.3 in
           subst (λ n. Good error n out L K y) (sym good.at) (
-            record { quiet = good.quiet; kept = record { hand = inner_take l p out is good.inner e y.epoch x a.after y.side L K (λ w v z k. (a.goes w v z k).kept) h } },
+            record {
+              quiet = good.quiet;
+              kept = record {
+                hand = inner_take l p out is good.inner e y.epoch x a.after y.side L K
+                    (λ w v z k. (a.goes w v z k).kept) h;
+              };
+            },
             good.passes,
           )
       by (Live x) Request is a h =
           let some = request_gone l p is e y.epoch x y.side L K h in
           let quiet = a.quiet some.0 some.1 some.2 some.3 in
-          let hand = request_live l empty a.confirm p a.is is e y.epoch x y.side L K h in
-          (rw a.at (subst (λ o. GoodStep l error (record { epoch = suc e; side = Live l.fresh }) o L K y) (sym a.sent) (record { quiet = quiet; kept = record { hand = hand } })), a.passes)
+          let hand = request_live l empty a.confirm p a.is is e y.epoch x y.side L K h in (
+            rw a.at (subst (λ o. GoodStep l error (record { epoch = suc e; side = Live l.fresh }) o L K y) (sym a.sent)
+                (record { quiet = quiet; kept = record { hand = hand } })),
+            a.passes,
+          )
       by (Live x) Confirm is a h = absurd (confirm_never p is x K h)
       by (Left x) Inner is a h = silent none a (record { hand = drops p is x K h })
       by (Left x) Request is a h = silent none a (record { hand = marker_left empty p (λ same. let no : Request ≡ Inner = sym is ∙ same in cc) x K h })
@@ -94,5 +107,6 @@ module _ {S T P : Type 0} (l : Level S T P) (Q : List P → Type 0) where
 -- ---- of the second end
 
 -- seen from it, and back
-pub there : {S T P : Type 0} (l : Level S T P) (x : At S) (L L₂ K K₂ : List P) (y y₂ : At T) → (Handshaken (flip l) y K L x → GoodStep (flip l) None y₂ K₂ K L₂ x) → Handshaken l x L K y → Handshaken l x L₂ (K ++ K₂) y₂
+pub there : {S T P : Type 0} (l : Level S T P) (x : At S) (L L₂ K K₂ : List P) (y y₂ : At T)
+    → (Handshaken (flip l) y K L x → GoodStep (flip l) None y₂ K₂ K L₂ x) → Handshaken l x L K y → Handshaken l x L₂ (K ++ K₂) y₂
 there l x L L₂ K K₂ y y₂ step h = turned (step (turned h)).kept

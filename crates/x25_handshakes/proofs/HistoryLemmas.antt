@@ -14,7 +14,8 @@ pub data Change {M : Type 0} (Allowed : List M → Type 0) (clears resets : ℕ)
 -- the same in a step of the layer
 pub data Turn {M : Type 0} (kind : Kind M) (Allowed : List M → Type 0) (k : ℕ) (x y : At Channels) : Type 0 where
   Remained : y.epoch ≡ x.epoch
-      → Change Allowed (name_at kind x k).clears (name_at kind x k).resets (held_at kind x k) (name_at kind y k).clears (name_at kind y k).resets (held_at kind y k) → Turn kind Allowed k x y
+      → Change Allowed (name_at kind x k).clears (name_at kind x k).resets (held_at kind x k) (name_at kind y k).clears (name_at kind y k).resets
+      (held_at kind y k) → Turn kind Allowed k x y
   Restarted : x.epoch < y.epoch → held_at kind y k ≡ none → Turn kind Allowed k x y
 
 written_here : {M : Type 0} (history : Name → Lists M) (n : Name) (l : Lists M) → written history n l n ≡ l
@@ -52,13 +53,15 @@ IsPrefix-trans a h g = (h.0 ++ g.0, sym (append_assoc a h.0 g.0) ∙ ap (λ l. l
 abbrev pub MayHandUp : {M : Type 0} → Name → ChannelView M → List M → Type 0
 MayHandUp n f up = (f.name ≡ n) × IsPrefix up f.held.down
 
-stays_up : {M : Type 0} (e f : ChannelView M) (n : Name) (l : Lists M) → n ≡ e.name → (l.up ≡ e.held.up) ⊎ MayHandUp e.name f l.up → IsLawful e f → IsPrefix l.up (f.history n).down
+stays_up : {M : Type 0} (e f : ChannelView M) (n : Name) (l : Lists M) → n ≡ e.name → (l.up ≡ e.held.up) ⊎ MayHandUp e.name f l.up → IsLawful e f
+    → IsPrefix l.up (f.history n).down
 stays_up {M} e f n l is (inl same) k =
     rw is (subst (λ u. IsPrefix u (f.history e.name).down) (ap (λ x. x.up) k.held ∙ sym same) (k.begins e.name))
 stays_up {M} e f n l is (inr new) k =
     rw (sym (new.0 ∙ sym is)) (subst (λ x. IsPrefix l.up x.down) (sym k.held_there) new.1)
 
-stays : {M : Type 0} (e f : ChannelView M) (n : Name) (l : Lists M) → n ≡ e.name → IsPrefix e.held.down l.down → (l.up ≡ e.held.up) ⊎ MayHandUp e.name f l.up → IsLawful e f → IsLawful (rewritten e n l) f
+stays : {M : Type 0} (e f : ChannelView M) (n : Name) (l : Lists M) → n ≡ e.name → IsPrefix e.held.down l.down → (l.up ≡ e.held.up) ⊎ MayHandUp e.name f l.up
+    → IsLawful e f → IsLawful (rewritten e n l) f
 stays {M} e f n l name down up k =
     rewritten_kept e f n l k (λ m less. rw (sym name) less) (stays_up e f n l name up k)
     (IsPrefix-trans (f.history n).up
@@ -72,13 +75,23 @@ grows {M} e f n l later empty k =
     (rw (sym (k.later n later ∙ sym empty)) (k.begins_there n))
 
 pub lawful_turned : {M : Type 0} {e f : ChannelView M} → IsLawful e f → IsLawful f e
-lawful_turned k = record { held = k.held_there; held_there = k.held; later = k.later_there; later_there = k.later; begins = k.begins_there; begins_there = k.begins }
+lawful_turned k = record {
+  held = k.held_there;
+  held_there = k.held;
+  later = k.later_there;
+  later_there = k.later;
+  begins = k.begins_there;
+  begins_there = k.begins;
+}
 
 -- A step of an end that lets its name stay or grow keeps lawful histories.
-pub lawful_turn : {M : Type 0} {kind : Kind M} {k : ℕ} {x y : At Channels} (history : Name → Lists M) {f : ChannelView M} → Turn kind (MayHandUp (name_at kind x k) f) k x y → IsLawful (channel_view kind x k history) f
+pub lawful_turn : {M : Type 0} {kind : Kind M} {k : ℕ} {x y : At Channels} (history : Name → Lists M) {f : ChannelView M}
+    → Turn kind (MayHandUp (name_at kind x k) f) k x y → IsLawful (channel_view kind x k history) f
     → IsLawful (channel_view kind y k (written history (name_at kind y k) (held_at kind y k))) f
 lawful_turn {kind} {k} {x} {y} history {f} (Remained is (Stays c s down up)) h =
     stays (channel_view kind x k history) f (name_at kind y k) (held_at kind y k) (name_eq (name_at kind y k) (name_at kind x k) is c s) down up h
-lawful_turn {kind} {k} {x} {y} history {f} (Remained is (MoreResets c s empty)) h = grows (channel_view kind x k history) f (name_at kind y k) (held_at kind y k) (inr (sym is, inr (sym c, s))) empty h
-lawful_turn {kind} {k} {x} {y} history {f} (Remained is (MoreClears c empty)) h = grows (channel_view kind x k history) f (name_at kind y k) (held_at kind y k) (inr (sym is, inl c)) empty h
+lawful_turn {kind} {k} {x} {y} history {f} (Remained is (MoreResets c s empty)) h =
+    grows (channel_view kind x k history) f (name_at kind y k) (held_at kind y k) (inr (sym is, inr (sym c, s))) empty h
+lawful_turn {kind} {k} {x} {y} history {f} (Remained is (MoreClears c empty)) h =
+    grows (channel_view kind x k history) f (name_at kind y k) (held_at kind y k) (inr (sym is, inl c)) empty h
 lawful_turn {kind} {k} {x} {y} history {f} (Restarted r empty) h = grows (channel_view kind x k history) f (name_at kind y k) (held_at kind y k) (inl r) empty h

@@ -4,28 +4,35 @@ use Rattle.x25_bits.specs.{declared.role.Role.{Role}, declared.role.Role.TheVari
 use Rattle.x25_handshakes.specs.{laws.Handshake.{Side, Live, Left, At, state_of, live}, laws.Calls.{call_takes}}
 use Rattle.x25_handshakes.specs.laws.Layers.{LayerPacket, On, Channels, Move, Acts, Takes, LinkDown, LayerEvent, pair_moves, layer_side_takes}
 use Rattle.x25_handshakes.specs.laws.Names.{Name}
-use Rattle.x25_handshakes.specs.laws.Histories.{Lists, Kind, name_at, held_at, channel_view, written, IsLawful, Histories, turned_histories, histories_moves, histories_run, histories_start, AreInOrder}
+use Rattle.x25_handshakes.specs.laws.Histories.{Lists, Kind, name_at, held_at, channel_view, written, IsLawful, Histories, turned_histories, histories_moves}
+use Rattle.x25_handshakes.specs.laws.Histories.{histories_run, histories_start, AreInOrder}
 use Rattle.x25_handshakes.specs.{laws.PeerLayers.{other_role}, laws.LawsBelow.{Laws}}
 use Rattle.x25_handshakes.proofs.{LayersRelation.{EndsRelated}, LayerLemmas.{Stands, Stands-moves, Stands-turned, Stands-start}}
 use Rattle.x25_handshakes.proofs.HistoryLemmas.{Turn, MayHandUp, lawful_turned, lawful_turn}
 use Rattle.x25_handshakes.proofs.TurnLemmas.{IsHandled, WithinCall, turn_still, turn_taken, turn_acted, taken_in_its_epoch}
 
-taken : {M : Type 0} (kind : Kind M) → IsHandled kind → (r : Role) (e : ℕ) (x : Side Channels) (k : ℕ) (p : LayerPacket) (L K : List LayerPacket) (far : Side (At Channels))
+taken : {M : Type 0} (kind : Kind M) → IsHandled kind
+    → (r : Role) (e : ℕ) (x : Side Channels) (k : ℕ) (p : LayerPacket) (L K : List LayerPacket) (far : Side (At Channels))
     (history : Name → Lists M) → EndsRelated r (Live (record { epoch = e; side = x })) L (p ∷ K) far
-    → Turn kind (MayHandUp (name_at kind (record { epoch = e; side = x }) k) (channel_view kind (state_of far) k history)) k (record { epoch = e; side = x }) (layer_side_takes r e x p).next
+    → Turn kind (MayHandUp (name_at kind (record { epoch = e; side = x }) k) (channel_view kind (state_of far) k history)) k (record { epoch = e; side = x })
+    (layer_side_takes r e x p).next
 taken kind handled r e x k p L K far history top =
     turn_taken kind handled (MayHandUp (name_at kind (record { epoch = e; side = x }) k) (channel_view kind (state_of far) k history)) k r e x p
     (λ y q c is_x is_p side inner.
     let top_y : EndsRelated r (Live (live e y)) L (On k q ∷ K) far =
     subst (λ z. EndsRelated r (Live (live e y)) L (z ∷ K) far) is_p
     (rw (sym is_x) top) in
-    subst (λ z. WithinCall kind (MayHandUp (name_at kind (record { epoch = e; side = z }) k) (channel_view kind (state_of far) k history)) (y k).epoch c (call_takes r c q).next) (sym is_x)
+    subst (λ z. WithinCall kind (MayHandUp (name_at kind (record { epoch = e; side = z }) k) (channel_view kind (state_of far) k history)) (y k).epoch c
+    (call_takes r c q).next) (sym is_x)
     (taken_in_its_epoch kind handled r e y k c q L K far history inner side top_y))
 
-lawful_moves : {M : Type 0} (kind : Kind M) → IsHandled kind → (r : Role) (near : Side (At Channels)) (out back : List LayerPacket) (far : Side (At Channels)) (error : Option ℕ)
-    (what : Move) (k : ℕ) (history there : Name → Lists M) → EndsRelated r near out back far → IsLawful (channel_view kind (state_of near) k history) (channel_view kind (state_of far) k there)
+lawful_moves : {M : Type 0} (kind : Kind M) → IsHandled kind
+    → (r : Role) (near : Side (At Channels)) (out back : List LayerPacket) (far : Side (At Channels)) (error : Option ℕ)
+    (what : Move) (k : ℕ) (history there : Name → Lists M) → EndsRelated r near out back far
+    → IsLawful (channel_view kind (state_of near) k history) (channel_view kind (state_of far) k there)
     → let w = pair_moves r (record { near = near; far = far; out = out; back = back; error = error }) near what in
-    IsLawful (channel_view kind (state_of w.near) k (written history (name_at kind (state_of w.near) k) (held_at kind (state_of w.near) k))) (channel_view kind (state_of w.far) k there)
+    IsLawful (channel_view kind (state_of w.near) k (written history (name_at kind (state_of w.near) k) (held_at kind (state_of w.near) k)))
+    (channel_view kind (state_of w.far) k there)
 lawful_moves kind handled r (Live x) out back far error (Acts a) k history there top h =
     lawful_turn history (turn_acted kind handled (MayHandUp (name_at kind x k) (channel_view kind (state_of far) k there)) k x.epoch x.side a) h
 lawful_moves kind handled r (Live x) out [] far error Takes k history there top h =
@@ -49,7 +56,8 @@ holds_turned {kind} {r} {g} h = record {
 
 holds_moves : {M : Type 0} (kind : Kind M) → IsHandled kind → Laws → (r : Role) (near far : Side (At Channels)) (out back : List LayerPacket) (error : Option ℕ)
     (history there : ℕ → Name → Lists M) (what : Move)
-    → let g : Histories M = record { pair = record { near = near; far = far; out = out; back = back; error = error }; near = history; far = there } in Holds kind r g → Holds kind r (histories_moves kind r g what)
+    → let g : Histories M = record { pair = record { near = near; far = far; out = out; back = back; error = error }; near = history; far = there } in
+    Holds kind r g → Holds kind r (histories_moves kind r g what)
 holds_moves kind handled laws r near far out back error history there what h = record {
   stands = Stands-moves laws near out back far error what h.stands;
   histories = λ k. lawful_moves kind handled r near out back far error what k (history k) (there k) h.stands.top (h.histories k);
@@ -59,7 +67,8 @@ holds_if : {M : Type 0} {kind : Kind M} {r : Role} (first : Bool) {u v : Histori
 holds_if true f g = f
 holds_if false f g = g
 
-holds_run : {M : Type 0} {kind : Kind M} → IsHandled kind → Laws → (es : List LayerEvent) {g : Histories M} → Holds kind Dte g → Holds kind Dte (histories_run kind es g)
+holds_run : {M : Type 0} {kind : Kind M} → IsHandled kind → Laws → (es : List LayerEvent) {g : Histories M} → Holds kind Dte g
+    → Holds kind Dte (histories_run kind es g)
 holds_run handled laws [] h = h
 holds_run {kind} handled laws (e ∷ es) {g} h =
     holds_run handled laws es

@@ -2,7 +2,8 @@
 use Rattle.std.proofs.Common.{ℕ, List, [], Option, refl, ◌≡◌, ◌∷◌, None, Bool, true, false, if◌then◌else◌, ap, ◌∙◌}
 use Rattle.x25_handshakes.specs.{laws.Handshake.{At, Side, Live, Left, first_error}, laws.Stretch.{Packet, Stretch}, laws.Calls.{Connection, fresh_call}}
 use Rattle.x25_handshakes.specs.{laws.Channel.{fresh_channel}, laws.Transfer.{fresh_transfer}, laws.LawsBelow.{Laws}, laws.PeerLayers.{other_role}}
-use Rattle.x25_handshakes.specs.laws.Layers.{LayerPacket, Restart, Channels, all_fresh, layer_takes, LayerAct, layer_acts, Pair, Move, Acts, Takes, LinkDown, turned, pair_moves, LayerEvent, pair_run, pair_start}
+use Rattle.x25_handshakes.specs.laws.Layers.{LayerPacket, Restart, Channels, all_fresh, layer_takes, LayerAct, layer_acts, Pair, Move, Acts, Takes, LinkDown}
+use Rattle.x25_handshakes.specs.laws.Layers.{turned, pair_moves, LayerEvent, pair_run, pair_start}
 use Rattle.x25_bits.specs.{declared.role.Role.{Role}, declared.role.Role.TheVariants.{Dte, Dce}}
 use Rattle.x25_handshakes.proofs.{HandshakeLemmas.{hand_flip, both_fresh, hand_map, ext_step, both_requests}, CallsRelation.{TalksRelated, IsCalled}}
 use Rattle.x25_handshakes.proofs.ChannelRelation.{Seen, connection_level, ChannelRelated}
@@ -25,7 +26,8 @@ Seen-quiet Dce x u v y h =
     let k = quiet_joint TalksRelated fresh_transfer fresh_transfer talk_quiet y.phase x.phase y.made y.indicated x.made x.indicated v u h in
     (k.1, k.0)
 
-pub ChannelRelated-flip : (r : Role) {x : At Connection} {L K : List Packet} {y : At Connection} → ChannelRelated r x L K y → ChannelRelated (other_role r) y K L x
+pub ChannelRelated-flip : (r : Role) {x : At Connection} {L K : List Packet} {y : At Connection} → ChannelRelated r x L K y
+    → ChannelRelated (other_role r) y K L x
 ChannelRelated-flip r {x} {L} {K} {y} h = record {
   hand = hand_flip
       (hand_map (λ x u v y. Seen (other_role r) y v u x) (λ x u v y k. Seen-flip r x u v y k) h.hand);
@@ -61,14 +63,17 @@ own_channels : Laws → (r : Role) → OwnChannels (ChannelRelated r) all_fresh 
 own_channels laws r = record {
   empty = λ h. ChannelRelated-fresh r;
   acts = λ x L K y a h. (let good = channel_acts_good IsCalled IsCalled (Seen r) fresh_call r call_found (own_calls laws r) a h in (good.quiet, good.kept));
-  takes = λ k x L p K y h. (let good = channel_takes_good IsCalled IsCalled (Seen r) fresh_call r call_found (own_calls laws r) p K h in (good.quiet, good.kept));
+  takes = λ k x L p K y h. (let good = channel_takes_good IsCalled IsCalled (Seen r) fresh_call r call_found (own_calls laws r) p K h in
+      (good.quiet, good.kept));
   none = λ p. refl;
 }
 
-pub GoodLayer-takes : Laws → (r : Role) {x : At Channels} {L : List LayerPacket} (p : LayerPacket) (K : List LayerPacket) {y : At Channels} → LayersRelated r x L (p ∷ K) y → GoodLayer r (layer_takes r x p) L K y
+pub GoodLayer-takes : Laws → (r : Role) {x : At Channels} {L : List LayerPacket} (p : LayerPacket) (K : List LayerPacket) {y : At Channels}
+    → LayersRelated r x L (p ∷ K) y → GoodLayer r (layer_takes r x p) L K y
 GoodLayer-takes laws r {x} {L} p K {y} h = layer_takes_good (ChannelRelated r) all_fresh r as_found (own_channels laws r) p K h
 
-pub GoodLayer-acts : Laws → (r : Role) {x : At Channels} {L K : List LayerPacket} {y : At Channels} (a : LayerAct) → LayersRelated r x L K y → GoodLayer r (layer_acts x a) L K y
+pub GoodLayer-acts : Laws → (r : Role) {x : At Channels} {L K : List LayerPacket} {y : At Channels} (a : LayerAct) → LayersRelated r x L K y
+    → GoodLayer r (layer_acts x a) L K y
 GoodLayer-acts laws r {x} {L} {K} {y} a h = layer_acts_good (ChannelRelated r) all_fresh r as_found (own_channels laws r) a h
 
 LayersRelated-flip : (r : Role) {x : At Channels} {L K : List LayerPacket} {y : At Channels} → LayersRelated r x L K y → LayersRelated (other_role r) y K L x
@@ -83,7 +88,8 @@ pub record Stands (r : Role) (w : Pair) : Type 0 where
   pub quiet : w.error ≡ None
   pub top : EndsRelated r w.near w.out w.back w.far
 
-EndsRelated-some : (r : Role) (x : At Channels) (L K : List LayerPacket) (y : Side (At Channels)) → EndsRelated r (Live x) L K y → (w : List LayerPacket) × (z : At Channels) × LayersRelated r x w K z
+EndsRelated-some : (r : Role) (x : At Channels) (L K : List LayerPacket) (y : Side (At Channels)) → EndsRelated r (Live x) L K y → (w : List LayerPacket)
+    × (z : At Channels) × LayersRelated r x w K z
 EndsRelated-some r x L K (Live z) h = (L, z, h)
 EndsRelated-some r x L K (Left z) h = (h.0, z, h.2)
 
@@ -91,7 +97,8 @@ EndsRelated-stops : (r : Role) (x : At Channels) (L K : List LayerPacket) (y : S
 EndsRelated-stops r x L K (Live z) h = (K, tt, h)
 EndsRelated-stops r x L K (Left z) h = (h.0, K, h.2)
 
-EndsRelated-flip : (r : Role) (x : Side (At Channels)) (L K : List LayerPacket) (y : Side (At Channels)) → EndsRelated r x L K y → EndsRelated (other_role r) y K L x
+EndsRelated-flip : (r : Role) (x : Side (At Channels)) (L K : List LayerPacket) (y : Side (At Channels)) → EndsRelated r x L K y
+    → EndsRelated (other_role r) y K L x
 EndsRelated-flip r (Live x) L K (Live y) h = LayersRelated-flip r h
 EndsRelated-flip r (Left x) L K (Live y) h = (h.0, h.1, LayersRelated-flip r h.2)
 EndsRelated-flip r (Live x) L K (Left y) h = (h.0, h.1, LayersRelated-flip r h.2)
@@ -107,14 +114,16 @@ Stands-moves laws {r} (Live x) out back far error (Acts a) h =
     let some = EndsRelated-some r x out back far h.top in
     record {
       quiet = ap (λ e. first_error e (layer_acts x a).error) h.quiet ∙ (GoodLayer-acts laws r a some.2).quiet;
-      top = ext_step (λ z. Unit {0}) (λ z. Unit {0}) (LayersRelated r) x (layer_acts x a).next (layer_acts x a).out out back far (λ w z k. (GoodLayer-acts laws r a k).kept) h.top;
+      top = ext_step (λ z. Unit {0}) (λ z. Unit {0}) (LayersRelated r) x (layer_acts x a).next (layer_acts x a).out out back far
+          (λ w z k. (GoodLayer-acts laws r a k).kept) h.top;
     }
 Stands-moves laws (Live x) out [] far error Takes h = h
 Stands-moves laws {r} (Live x) out (p ∷ K) far error Takes h =
     let some = EndsRelated-some r x out (p ∷ K) far h.top in
     record {
       quiet = ap (λ e. first_error e (layer_takes r x p).error) h.quiet ∙ (GoodLayer-takes laws r p K some.2).quiet;
-      top = ext_step (λ z. Unit {0}) (λ z. Unit {0}) (LayersRelated r) x (layer_takes r x p).next (layer_takes r x p).out out K far (λ w z k. (GoodLayer-takes laws r p K k).kept) h.top;
+      top = ext_step (λ z. Unit {0}) (λ z. Unit {0}) (LayersRelated r) x (layer_takes r x p).next (layer_takes r x p).out out K far
+          (λ w z k. (GoodLayer-takes laws r p K k).kept) h.top;
     }
 Stands-moves laws {r} (Live x) out back far error LinkDown h = record { quiet = h.quiet; top = EndsRelated-stops r x out back far h.top }
 Stands-moves laws (Left x) out back far error what h = h
@@ -133,4 +142,7 @@ Stands-run laws (e ∷ events) {w} h =
     (Stands-moves laws w.far w.back w.out w.near w.error e.what (Stands-turned h))))
 
 pub Stands-start : Stands Dte pair_start
-Stands-start = record { quiet = refl; top = record { hand = both_requests (channels_level Dte) (record { each = λ h. ChannelRelated-fresh Dte }) Restart refl 0 } }
+Stands-start = record {
+  quiet = refl;
+  top = record { hand = both_requests (channels_level Dte) (record { each = λ h. ChannelRelated-fresh Dte }) Restart refl 0 };
+}

@@ -5,14 +5,17 @@ use Rattle.x25_bits.specs.{declared.role.Role.{Role}, declared.role.Role.TheVari
 use Rattle.x25_circuit.specs.{declared.params.Params.{Params}, Params.{Proposal, may_propose, may_answer, field_for, said_in}, Notice.{CallRequest}}
 use Rattle.x25_handshakes.specs.{laws.Handshake.{Side, Live, Left, At, Step, PeerStep, live}, laws.Stretch.{Packet, Call, Accept, Clear, ClearConf}}
 use Rattle.x25_handshakes.specs.laws.Transfer.{transfer_side_takes, transfer_side_acts}
-use Rattle.x25_handshakes.specs.laws.Calls.{Phase, Unused, Waiting, Offered, Crossed, Talking, Connection, goes, unexpected, called_talk, calling_talk, is_answered, phase_takes, call_takes, CallAct, PlacesCall, AcceptsCall, Talks, accepts, phase_acts, call_acts}
+use Rattle.x25_handshakes.specs.laws.Calls.{Phase, Unused, Waiting, Offered, Crossed, Talking, Connection, goes, unexpected, called_talk, calling_talk}
+use Rattle.x25_handshakes.specs.laws.Calls.{is_answered, phase_takes, call_takes, CallAct, PlacesCall, AcceptsCall, Talks, accepts, phase_acts, call_acts}
 use Rattle.x25_handshakes.specs.laws.Channel.{lifted_call, channel_side_takes, ChannelAct, Within, SendsClear, clears, channel_side_acts}
 use Rattle.x25_handshakes.specs.laws.PeerTransfer.{transfer_taking}
-use Rattle.x25_handshakes.specs.laws.PeerCalls.{PeerCall, CallDeed, stands, InTransfer, MayDoCall, called_in_data, calling_in_data, does_call, call_packet_of, call_taking}
+use Rattle.x25_handshakes.specs.laws.PeerCalls.{PeerCall, CallDeed, stands, InTransfer, MayDoCall, called_in_data, calling_in_data, does_call, call_packet_of}
+use Rattle.x25_handshakes.specs.laws.PeerCalls.{call_taking}
 use Rattle.x25_handshakes.specs.laws.PeerChannel.{ChannelDeed, InCall, Clears, MayDoChannel, does_channel, channel_packet_of, channel_taking}
 use Rattle.x25_handshakes.specs.{laws.LayerPeers.{as_peer_stretch, as_side, as_at, as_stage, as_peer_call}, laws.LawsBelow.{Laws}}
 use Rattle.x25_handshakes.proofs.TermsLemmas.{answer_read}
-use Rattle.x25_handshakes.proofs.LayerPeers.{Deeds, Did, Nothing, Something, Heard, at_once, did_above, transfer_deeds, TransferHeard, IsFit, transfer_did, transfer_heard}
+use Rattle.x25_handshakes.proofs.LayerPeers.{Deeds, Did, Nothing, Something, Heard, at_once, did_above, transfer_deeds, TransferHeard, IsFit, transfer_did}
+use Rattle.x25_handshakes.proofs.LayerPeers.{transfer_heard}
 use Rattle.x25_handshakes.specs.laws.PeerCalls as peer
 
 -- ---- a call
@@ -41,32 +44,39 @@ places_did m i n =
     (λ may. Something (peer.PlacesCall n) may refl refl)
     (λ _. Nothing refl refl)
 
-accepts_did : Laws → (theirs : Params) → may_propose theirs ≡ true → (m i : List CallRequest) (answer : Option Proposal) (most : ℕ) → Did_to (Offered theirs) m i (accepts theirs m i answer most)
+accepts_did : Laws → (theirs : Params) → may_propose theirs ≡ true → (m i : List CallRequest) (answer : Option Proposal) (most : ℕ)
+    → Did_to (Offered theirs) m i (accepts theirs m i answer most)
 accepts_did laws theirs proposed m i None most =
     let same = laws.no_field theirs in
     Something (peer.AcceptsCall [] most) (rw same (laws.proposal theirs)) (ap (λ q. stands (called_in_data most q) m i) same) refl
 accepts_did laws theirs proposed m i (Some q) most =
-    cond_both (may_answer theirs q.params) (goes (called_talk most q.params) m i (Accept (field_for theirs q) most ∷ [])) (goes (Offered theirs) m i []) (λ s. Did_to (Offered theirs) m i s)
+    cond_both (may_answer theirs q.params) (goes (called_talk most q.params) m i (Accept (field_for theirs q) most ∷ [])) (goes (Offered theirs) m i [])
+    (λ s. Did_to (Offered theirs) m i s)
     (λ may. let same = answer_read laws theirs q proposed may in
     Something (peer.AcceptsCall (field_for theirs q) most) (rw same may) (ap (λ q. stands (called_in_data most q) m i) same) refl)
     (λ _. Nothing refl refl)
 
-pub call_did : Laws → (a : Phase) → IsKnown a → (m i : List CallRequest) (act : CallAct) → (phase_acts a m i act).error ≡ None → Did_to a m i (phase_acts a m i act)
+pub call_did : Laws → (a : Phase) → IsKnown a → (m i : List CallRequest) (act : CallAct) → (phase_acts a m i act).error ≡ None
+    → Did_to a m i (phase_acts a m i act)
 call_did laws Unused known m i (PlacesCall n) quiet = places_did m i n
 call_did laws (Offered theirs) known m i (AcceptsCall answer most) quiet = accepts_did laws theirs known m i answer most
 call_did laws (Talking t b at) known m i (Talks act) quiet =
     did_above (transfer_deeds t.longest t.size) call_deeds (λ y. stands (Talking t b y) m i) (λ d. InTransfer d)
-    (as_at as_peer_stretch at) (as_at as_peer_stretch (transfer_side_acts t at.epoch at.side act).next) (transfer_side_acts t at.epoch at.side act).out (λ d may. may) (λ d. refl) (λ d. refl)
+    (as_at as_peer_stretch at) (as_at as_peer_stretch (transfer_side_acts t at.epoch at.side act).next) (transfer_side_acts t at.epoch at.side act).out
+    (λ d may. may) (λ d. refl) (λ d. refl)
     (transfer_did t known.0 at.epoch at.side known.1 act quiet)
 call_did laws a known m i act_2 quiet = Nothing refl refl
 
 -- an answer that is allowed
 answered_heard : (a : Phase) (mine : Params) (most : ℕ) (q : Params) (m i : List CallRequest) → (is_answered a mine m i most q).error ≡ None
-    → CallHeard (record { next = stands (calling_in_data most q) m i; out = [] }) (as_peer_call (is_answered a mine m i most q).next) (is_answered a mine m i most q).out
+    → CallHeard (record { next = stands (calling_in_data most q) m i; out = [] }) (as_peer_call (is_answered a mine m i most q).next)
+    (is_answered a mine m i most q).out
 answered_heard a mine most q m i quiet = by (may_answer mine q) quiet
   where
     by : (c : Bool) → (if c then goes (calling_talk most q) m i [] else unexpected a m i).error ≡ None
-        → CallHeard (record { next = stands (calling_in_data most q) m i; out = [] }) (as_peer_call (if c then goes (calling_talk most q) m i [] else unexpected a m i).next) (if c then goes (calling_talk most q) m i [] else unexpected a m i).out
+        → CallHeard (record { next = stands (calling_in_data most q) m i; out = [] })
+        (as_peer_call (if c then goes (calling_talk most q) m i [] else unexpected a m i).next)
+        (if c then goes (calling_talk most q) m i [] else unexpected a m i).out
     by true q = at_once call_deeds _ _ _ _ refl refl
     by false q = absurd (cc)
 
@@ -78,13 +88,15 @@ call_heard Dce (Waiting mine) m i (Call n) quiet = at_once call_deeds _ _ _ _ re
 call_heard r (Waiting mine) m i (Accept field most) quiet = answered_heard (Waiting mine) mine most (said_in mine field) m i quiet
 call_heard r (Crossed mine) m i (Accept field most) quiet = answered_heard (Crossed mine) mine most (said_in mine field) m i quiet
 call_heard r (Talking t b at) m i p quiet =
-    let h : TransferHeard t.longest t.size (transfer_taking at.epoch (as_side as_peer_stretch at.side) p) (as_at as_peer_stretch (transfer_side_takes b.longest b.size at.epoch at.side p).next) (transfer_side_takes b.longest b.size at.epoch at.side p).out =
+    let h : TransferHeard t.longest t.size (transfer_taking at.epoch (as_side as_peer_stretch at.side) p)
+    (as_at as_peer_stretch (transfer_side_takes b.longest b.size at.epoch at.side p).next) (transfer_side_takes b.longest b.size at.epoch at.side p).out =
     transfer_heard t.longest t.size b.longest b.size at.epoch at.side p quiet in
     record {
       rest = h.rest;
       split = h.split;
       did = did_above (transfer_deeds t.longest t.size) call_deeds (λ y. stands (Talking t b y) m i) (λ d. InTransfer d)
-          (transfer_taking at.epoch (as_side as_peer_stretch at.side) p).next (as_at as_peer_stretch (transfer_side_takes b.longest b.size at.epoch at.side p).next) h.rest (λ d may. may) (λ d. refl) (λ d. refl) h.did;
+          (transfer_taking at.epoch (as_side as_peer_stretch at.side) p).next
+          (as_at as_peer_stretch (transfer_side_takes b.longest b.size at.epoch at.side p).next) h.rest (λ d may. may) (λ d. refl) (λ d. refl) h.did;
     }
 call_heard r a m i p_2 quiet = absurd (cc)
 
@@ -120,20 +132,28 @@ clears_did e x other = Something Clears tt refl refl
 pub channel_did : Laws → (e : ℕ) (x : Side Connection) → IsKnownSide x → (a : ChannelAct) → (channel_side_acts e x a).error ≡ None
     → ChannelDid (as_at as_peer_call (record { epoch = e; side = x })) (as_at as_peer_call (channel_side_acts e x a).next) (channel_side_acts e x a).out
 channel_did laws e (Live x) known (Within a) quiet =
-    in_call_did e (call_acts x a) (call_acts x a).error quiet (call_did laws x.phase known x.made x.indicated a (no_error e (call_acts x a) (call_acts x a).error quiet))
+    in_call_did e (call_acts x a) (call_acts x a).error quiet
+    (call_did laws x.phase known x.made x.indicated a (no_error e (call_acts x a) (call_acts x a).error quiet))
 channel_did laws e (Live x) known SendsClear quiet = clears_did e x x.phase
 channel_did laws e (Left x) known a quiet = Nothing refl refl
 
 heard_in_call : (r : Role) (e : ℕ) (x : Connection) (p : Packet) → (lifted_call e (call_takes r x p) (call_takes r x p).error).error ≡ None
-    → ChannelHeard (record { next = live e (call_taking r (as_stage x.phase) x.made x.indicated p).next; out = (call_taking r (as_stage x.phase) x.made x.indicated p).out })
+    → ChannelHeard (record {
+      next = live e (call_taking r (as_stage x.phase) x.made x.indicated p).next;
+      out = (call_taking r (as_stage x.phase) x.made x.indicated p).out;
+    })
     (as_at as_peer_call (lifted_call e (call_takes r x p) (call_takes r x p).error).next) (lifted_call e (call_takes r x p) (call_takes r x p).error).out
 heard_in_call r e x p quiet =
     let none = no_error e (call_takes r x p) (call_takes r x p).error quiet in
     let h = call_heard r x.phase x.made x.indicated p none in
     by (call_takes r x p).error quiet h
   where
-    by : (n : Option ℕ) → (lifted_call e (call_takes r x p) n).error ≡ None → CallHeard (call_taking r (as_stage x.phase) x.made x.indicated p) (as_peer_call (call_takes r x p).next) (call_takes r x p).out
-        → ChannelHeard (record { next = live e (call_taking r (as_stage x.phase) x.made x.indicated p).next; out = (call_taking r (as_stage x.phase) x.made x.indicated p).out })
+    by : (n : Option ℕ) → (lifted_call e (call_takes r x p) n).error ≡ None
+        → CallHeard (call_taking r (as_stage x.phase) x.made x.indicated p) (as_peer_call (call_takes r x p).next) (call_takes r x p).out
+        → ChannelHeard (record {
+          next = live e (call_taking r (as_stage x.phase) x.made x.indicated p).next;
+          out = (call_taking r (as_stage x.phase) x.made x.indicated p).out;
+        })
         (as_at as_peer_call (lifted_call e (call_takes r x p) n).next) (lifted_call e (call_takes r x p) n).out
     by None q h = record {
       rest = h.rest;

@@ -1,12 +1,15 @@
 -- Each of two of our own layers is a peer of the other, in every run.
-use Rattle.std.proofs.Common.{◌≡◌, ℕ, ◌≤◌, List, [], ◌∷◌, ◌++◌, Option, None, Bool, true, false, ◌==◌, if◌then◌else◌, refl, sym, ap, subst, ◌∙◌, eq-eqb, append_assoc}
+use Rattle.std.proofs.Common.{◌≡◌, ℕ, ◌≤◌, List, [], ◌∷◌, ◌++◌, Option, None, Bool, true, false, ◌==◌, if◌then◌else◌, refl, sym, ap, subst, ◌∙◌, eq-eqb}
+use Rattle.std.proofs.Common.{append_assoc}
 use Rattle.std.proofs.{lemmas.List.{append-nil}, lemmas.Bool.{eqb-true}, Math.Path.{fun_ext}}
 use Rattle.x25_bits.specs.{declared.role.Role.{Role}, declared.role.Role.TheVariants.{Dte, Dce}}
 use Rattle.x25_circuit.specs.{Params.{may_propose}, Notice.{CallRequest}}
 use Rattle.x25_handshakes.specs.{laws.Handshake.{Side, Live, Left, At, Step, PeerStep, live, left}, laws.Stretch.{Packet, Stretch}}
 use Rattle.x25_handshakes.specs.laws.Calls.{Phase, Waiting, Offered, Crossed, Talking, Connection}
 use Rattle.x25_handshakes.specs.laws.Channel.{channel_takes, channel_acts}
-use Rattle.x25_handshakes.specs.laws.Layers.{LayerPacket, On, Restart, RestartConf, Channels, put, addressed, all_fresh, layer_side_takes, layer_takes, LayerAct, OnChannel, SendsRestart, layer_side_acts, layer_acts, Pair, Move, Acts, Takes, LinkDown, turned, pair_moves, LayerEvent, pair_happens, pair_run, pair_start}
+use Rattle.x25_handshakes.specs.laws.Layers.{LayerPacket, On, Restart, RestartConf, Channels, put, addressed, all_fresh, layer_side_takes, layer_takes}
+use Rattle.x25_handshakes.specs.laws.Layers.{LayerAct, OnChannel, SendsRestart, layer_side_acts, layer_acts, Pair, Move, Acts, Takes, LinkDown, turned}
+use Rattle.x25_handshakes.specs.laws.Layers.{pair_moves, LayerEvent, pair_happens, pair_run, pair_start}
 use Rattle.x25_handshakes.specs.{laws.PeerCalls.{PeerCall}, laws.PeerChannel.{does_channel, channel_packet_of, channel_taking}}
 use Rattle.x25_handshakes.specs.laws.PeerLayer.{PeerChannels, put_peer, LayerDeed, InChannel, Restarts, MayDoLayer, does_layer, layer_packet_of, layer_taking}
 use Rattle.x25_handshakes.specs.laws.PeerLayers.{other_role, layer_found, ReachedInLayers}
@@ -27,7 +30,8 @@ fit : (t b : Terms) {e f : ℕ} (x : Side Stretch) {y : Side Stretch} {L K : Lis
 fit t b {e} {f} (Live x) {y} {L} {K} h = (inner_live x y h).3.there.text.fits
 fit t b (Left x) h = tt
 
-talk_known : {t b : Terms} {x : At Stretch} {u v : List Packet} {t₂ b₂ : Terms} {y : At Stretch} → TalksRelated t b x u v t₂ b₂ y → (t.window ≤ 7) × IsFit t.longest t.size x.side
+talk_known : {t b : Terms} {x : At Stretch} {u v : List Packet} {t₂ b₂ : Terms} {y : At Stretch} → TalksRelated t b x u v t₂ b₂ y → (t.window ≤ 7)
+    × IsFit t.longest t.size x.side
 talk_known {t} {b} {x} {u} {v} {y} h = (h.sound.window, fit t b x.side h.related.hand)
 
 dte_known : (a b : Phase) (ma ia mb ib : List CallRequest) (u v : List Packet) → Joint a b ma ia mb ib u v → IsKnown a
@@ -58,7 +62,8 @@ seen_known : (r : Role) (x : Connection) (u v : List Packet) (y : Connection) �
 seen_known Dte x u v y h = dte_known x.phase y.phase x.made x.indicated y.made y.indicated u v h
 seen_known Dce x u v y h = dce_known y.phase x.phase y.made y.indicated x.made x.indicated v u h
 
-channel_known : (r : Role) {e f : ℕ} (x : Side Connection) {y : Side Connection} {L K : List Packet} → Handshake (connection_level r) e f x y L K → IsKnownSide x
+channel_known : (r : Role) {e f : ℕ} (x : Side Connection) {y : Side Connection} {L K : List Packet} → Handshake (connection_level r) e f x y L K
+    → IsKnownSide x
 channel_known r {e} {f} (Live x) {y} {L} {K} h = let some = inner_live x y h in seen_known r x some.0 some.1 some.2 some.3
 channel_known r (Left x) h = tt
 
@@ -74,25 +79,30 @@ abbrev LayerHeard : PeerStep (At PeerChannels) LayerPacket → At PeerChannels �
 LayerHeard s y₂ o = Heard layer_deeds s.next s.out y₂ o
 
 -- one channel was put anew, as a peer's and as ours
-put_as : (e : ℕ) (x : Channels) (h : ℕ) (z : At PeerCall) (c : At Connection) → z ≡ as_at as_peer_call c → live e (put_peer (as_peer_channels x) h z) ≡ as_peer (live e (put x h c))
+put_as : (e : ℕ) (x : Channels) (h : ℕ) (z : At PeerCall) (c : At Connection) → z ≡ as_at as_peer_call c → live e (put_peer (as_peer_channels x) h z)
+    ≡ as_peer (live e (put x h c))
 put_as e x h z c is = ap (λ f. live e f) (fun_ext (λ k. by k (k == h)))
   where
     by : (k : ℕ) (b : Bool) → (if b then z else as_at as_peer_call (x k)) ≡ as_at as_peer_call (if b then c else x k)
     by k true = is
     by k false = refl
 
-put_same : (e : ℕ) (x : Channels) (h : ℕ) (c : At Connection) → as_at as_peer_call (x h) ≡ as_at as_peer_call c → as_peer (live e x) ≡ as_peer (live e (put x h c))
+put_same : (e : ℕ) (x : Channels) (h : ℕ) (c : At Connection) → as_at as_peer_call (x h) ≡ as_at as_peer_call c → as_peer (live e x)
+    ≡ as_peer (live e (put x h c))
 put_same e x h c is = ap (λ f. live e f) (fun_ext (λ k. by k (k == h) refl))
   where
     by : (k : ℕ) (b : Bool) → (k == h) ≡ b → as_at as_peer_call (x k) ≡ as_at as_peer_call (if b then c else x k)
     by k true at = ap (λ j. as_at as_peer_call (x j)) (eqb-true k h at) ∙ is
     by k false at = refl
 
-on_channel_did : (e : ℕ) (x : Channels) (h : ℕ) (s : Step (At Connection) Packet) → ChannelDid (as_at as_peer_call (x h)) (as_at as_peer_call s.next) s.out → LayerDid (as_peer (live e x)) (as_peer (live e (put x h s.next))) (addressed h s.out)
+on_channel_did : (e : ℕ) (x : Channels) (h : ℕ) (s : Step (At Connection) Packet) → ChannelDid (as_at as_peer_call (x h)) (as_at as_peer_call s.next) s.out
+    → LayerDid (as_peer (live e x)) (as_peer (live e (put x h s.next))) (addressed h s.out)
 on_channel_did e x h s (Nothing same none) = Nothing (put_same e x h s.next same) (ap (addressed h) none)
-on_channel_did e x h s (Something d may next out) = Something (InChannel h d) may (put_as e x h (does_channel (x h).epoch (as_side as_peer_call (x h).side) d) s.next next) (ap (addressed h) out)
+on_channel_did e x h s (Something d may next out) = Something (InChannel h d) may
+    (put_as e x h (does_channel (x h).epoch (as_side as_peer_call (x h).side) d) s.next next) (ap (addressed h) out)
 
-layer_did : Laws → (r : Role) {e f : ℕ} (x : Side Channels) {y : Side Channels} {L K : List LayerPacket} → Handshake (channels_level r) e f x y L K → (a : LayerAct) → (layer_side_acts e x a).error ≡ None
+layer_did : Laws → (r : Role) {e f : ℕ} (x : Side Channels) {y : Side Channels} {L K : List LayerPacket} → Handshake (channels_level r) e f x y L K
+    → (a : LayerAct) → (layer_side_acts e x a).error ≡ None
     → LayerDid (as_peer (record { epoch = e; side = x })) (as_peer (layer_side_acts e x a).next) (layer_side_acts e x a).out
 layer_did laws r {e} {f} (Live x) {y} {L} {K} hand (OnChannel h a) quiet =
     let some = inner_live x y hand in
@@ -121,12 +131,14 @@ behind_did e x h {z} c (Something d may next out) =
     ∙ put_as e x h (does_channel z.epoch z.side d) c next)
     (ap (λ w. On h (channel_packet_of w.side d) ∷ []) at ∙ ap (addressed h) out)
   where
-    twice : (y : PeerChannels) → y h ≡ z → live e (put_peer (put_peer (as_peer_channels x) h z) h (does_channel (y h).epoch (y h).side d)) ≡ live e (put_peer (as_peer_channels x) h (does_channel z.epoch z.side d))
+    twice : (y : PeerChannels) → y h ≡ z → live e (put_peer (put_peer (as_peer_channels x) h z) h (does_channel (y h).epoch (y h).side d))
+        ≡ live e (put_peer (as_peer_channels x) h (does_channel z.epoch z.side d))
     twice y at =
         ap (λ w. live e (put_peer (put_peer (as_peer_channels x) h z) h (does_channel w.epoch w.side d))) at
         ∙ ap (λ f. live e f) (fun_ext (λ k. by k (k == h)))
       where
-        by : (k : ℕ) (b : Bool) → (if b then does_channel z.epoch z.side d else (if b then z else as_at as_peer_call (x k))) ≡ (if b then does_channel z.epoch z.side d else as_at as_peer_call (x k))
+        by : (k : ℕ) (b : Bool) → (if b then does_channel z.epoch z.side d else (if b then z else as_at as_peer_call (x k)))
+            ≡ (if b then does_channel z.epoch z.side d else as_at as_peer_call (x k))
         by k true = refl
         by k false = refl
 
@@ -150,21 +162,27 @@ layer_heard r e (Left x) p quiet = at_once layer_deeds _ _ _ _ refl refl
 
 -- what was reached, by other names
 reached_at : {r : Role} (x : At Channels) (y y₂ : At PeerChannels) (u u₂ v v₂ : List LayerPacket) (e e₂ : Option ℕ) → y ≡ y₂ → u ≡ u₂ → v ≡ v₂ → e ≡ e₂
-    → ReachedInLayers r (record { near = x; peer = y; out = u; back = v; error = e }) → ReachedInLayers r (record { near = x; peer = y₂; out = u₂; back = v₂; error = e₂ })
+    → ReachedInLayers r (record { near = x; peer = y; out = u; back = v; error = e })
+    → ReachedInLayers r (record { near = x; peer = y₂; out = u₂; back = v₂; error = e₂ })
 reached_at {r} x y y₂ u u₂ v v₂ e e₂ p q s t h =
     rw (sym p) (subst (λ a. ReachedInLayers r (record { near = x; peer = y; out = a; back = v₂; error = e₂ })) q
     (subst (λ a. ReachedInLayers r (record { near = x; peer = y; out = u; back = a; error = e₂ })) s
     (subst (λ a. ReachedInLayers r (record { near = x; peer = y; out = u; back = v; error = a })) t h)))
 
 -- the peer did nothing, or one thing
-did_reached : {r : Role} (x : At Channels) {y y₂ : At PeerChannels} (u v : List LayerPacket) {o : List LayerPacket} → LayerDid y y₂ o → ReachedInLayers r (record { near = x; peer = y; out = u; back = v; error = None })
+did_reached : {r : Role} (x : At Channels) {y y₂ : At PeerChannels} (u v : List LayerPacket) {o : List LayerPacket} → LayerDid y y₂ o
+    → ReachedInLayers r (record { near = x; peer = y; out = u; back = v; error = None })
     → ReachedInLayers r (record { near = x; peer = y₂; out = u; back = v ++ o; error = None })
-did_reached {r} x {y} {y₂} u v {o} (Nothing same none) h = reached_at x y y₂ u u v (v ++ o) None None same refl (sym (append-nil v) ∙ ap (λ l. v ++ l) none) refl h
+did_reached {r} x {y} {y₂} u v {o} (Nothing same none) h = reached_at x y y₂ u u v (v ++ o) None None same refl (sym (append-nil v) ∙ ap (λ l. v ++ l) none)
+    refl h
 did_reached {r} x {y} {y₂} u v {o} (Something d may next out) h =
-    reached_at x (does_layer y.epoch y.side d) y₂ u u (v ++ layer_packet_of y.side d ∷ []) (v ++ o) None None next refl (ap (λ l. v ++ l) out) refl (joined.goes_on _ _ h (joined.Does d may))
+    reached_at x (does_layer y.epoch y.side d) y₂ u u (v ++ layer_packet_of y.side d ∷ []) (v ++ o) None None next refl (ap (λ l. v ++ l) out) refl
+    (joined.goes_on _ _ h (joined.Does d may))
 
-heard_reached : (r : Role) (x : At Channels) (y y₂ : At PeerChannels) (p : LayerPacket) (u v o : List LayerPacket) → LayerHeard (layer_taking (other_role r) y.epoch y.side p) y₂ o
-    → ReachedInLayers r (record { near = x; peer = y; out = p ∷ u; back = v; error = None }) → ReachedInLayers r (record { near = x; peer = y₂; out = u; back = v ++ o; error = None })
+heard_reached : (r : Role) (x : At Channels) (y y₂ : At PeerChannels) (p : LayerPacket) (u v o : List LayerPacket)
+    → LayerHeard (layer_taking (other_role r) y.epoch y.side p) y₂ o
+    → ReachedInLayers r (record { near = x; peer = y; out = p ∷ u; back = v; error = None })
+    → ReachedInLayers r (record { near = x; peer = y₂; out = u; back = v ++ o; error = None })
 heard_reached r x y y₂ p u v o g h =
     let s = layer_taking (other_role r) y.epoch y.side p in
     reached_at x y₂ y₂ u u ((v ++ s.out) ++ g.rest) (v ++ o) None None refl refl (append_assoc v s.out g.rest ∙ ap (λ l. v ++ l) g.split) refl
@@ -188,33 +206,40 @@ both_out r x far out back = record { second = tt; first = one_is_out (other_role
 both_far_out : (r : Role) (near : Side (At Channels)) (y : At Channels) (out back : List LayerPacket) → Both r near (Left y) out back
 both_far_out r near y out back = record { second = one_is_out r near y out back; first = tt }
 
-acts_kept : Laws → {r : Role} {x y : At Channels} {out back : List LayerPacket} (a : LayerAct) → LayersRelated r x out back y → Both r (Live x) (Live y) out back
+acts_kept : Laws → {r : Role} {x y : At Channels} {out back : List LayerPacket} (a : LayerAct) → LayersRelated r x out back y
+    → Both r (Live x) (Live y) out back
     → Both r (Live (layer_acts x a).next) (Live y) (out ++ (layer_acts x a).out) back
 acts_kept laws {r} {x} {y} {out} {back} a rel h =
     let s = layer_acts x a in
     let quiet : s.error ≡ None = (GoodLayer-acts laws r a rel).quiet in
     record {
-      second = reached_at s.next (as_peer y) (as_peer y) (out ++ s.out) (out ++ s.out) back back s.error None refl refl refl quiet (joined.goes_on _ _ h.second (joined.Acts a));
+      second = reached_at s.next (as_peer y) (as_peer y) (out ++ s.out) (out ++ s.out) back back s.error None refl refl refl quiet
+          (joined.goes_on _ _ h.second (joined.Acts a));
       first = did_reached y back out (layer_did laws r x.side rel.hand a quiet) h.first;
     }
 
-takes_kept : Laws → (r : Role) (x y : At Channels) (out : List LayerPacket) (p : LayerPacket) (K : List LayerPacket) → LayersRelated r x out (p ∷ K) y → Both r (Live x) (Live y) out (p ∷ K)
+takes_kept : Laws → (r : Role) (x y : At Channels) (out : List LayerPacket) (p : LayerPacket) (K : List LayerPacket) → LayersRelated r x out (p ∷ K) y
+    → Both r (Live x) (Live y) out (p ∷ K)
     → Both r (Live (layer_takes r x p).next) (Live y) (out ++ (layer_takes r x p).out) K
 takes_kept laws r x y out p K rel h =
     let s = layer_takes r x p in
     let quiet : s.error ≡ None = (GoodLayer-takes laws r p K rel).quiet in
     record {
-      second = reached_at s.next (as_peer y) (as_peer y) (out ++ s.out) (out ++ s.out) K K (layer_found p s.error) None refl refl refl (found_none p s.error quiet)
+      second = reached_at s.next (as_peer y) (as_peer y) (out ++ s.out) (out ++ s.out) K K (layer_found p s.error) None refl refl refl
+          (found_none p s.error quiet)
           (joined.goes_on _ _ h.second (joined.Takes p K refl));
       first = heard_reached (other_role r) y (as_peer x) (as_peer s.next) p K out s.out (turned_role r (layer_heard r x.epoch x.side p quiet)) h.first;
     }
   where
-    turned_role : (r : Role) → LayerHeard (layer_taking r x.epoch (as_side as_peer_channels x.side) p) (as_peer (layer_takes r x p).next) (layer_takes r x p).out
-        → LayerHeard (layer_taking (other_role (other_role r)) x.epoch (as_side as_peer_channels x.side) p) (as_peer (layer_takes r x p).next) (layer_takes r x p).out
+    turned_role : (r : Role) → LayerHeard (layer_taking r x.epoch (as_side as_peer_channels x.side) p) (as_peer (layer_takes r x p).next)
+        (layer_takes r x p).out
+        → LayerHeard (layer_taking (other_role (other_role r)) x.epoch (as_side as_peer_channels x.side) p) (as_peer (layer_takes r x p).next)
+        (layer_takes r x p).out
     turned_role Dte g = g
     turned_role Dce g = g
 
-moves_kept : Laws → (r : Role) (near far : Side (At Channels)) (out back : List LayerPacket) (error : Option ℕ) (what : Move) → let w : Pair = record { near = near; far = far; out = out; back = back; error = error } in
+moves_kept : Laws → (r : Role) (near far : Side (At Channels)) (out back : List LayerPacket) (error : Option ℕ) (what : Move) → let w : Pair =
+    record { near = near; far = far; out = out; back = back; error = error } in
     EndsRelated r near out back far → Both r near far out back → let v = pair_moves r w near what in Both r v.near v.far v.out v.back
 moves_kept laws r (Left x) far out back error what rel h = h
 moves_kept laws r (Live x) far out back error LinkDown rel h = both_out r x far out back
@@ -256,7 +281,8 @@ run_kept laws [] h = h
 run_kept laws (e ∷ events) {w} h = run_kept laws events (happens_kept laws w e h)
 
 -- at the start both have sent RESTART: the peer did so at once
-start_reached : (r : Role) → ReachedInLayers r (record { near = left 0 all_fresh; peer = as_peer (left 0 all_fresh); out = Restart ∷ []; back = Restart ∷ []; error = None })
+start_reached : (r : Role) → ReachedInLayers r
+    (record { near = left 0 all_fresh; peer = as_peer (left 0 all_fresh); out = Restart ∷ []; back = Restart ∷ []; error = None })
 start_reached r = joined.goes_on _ _ joined.at_start (joined.Does Restarts tt)
 
 start_kept : Kept pair_start

@@ -1,9 +1,12 @@
 -- What our own end does is what a peer may do.
-use Rattle.std.proofs.Common.{◌≡◌, ℕ, ◌+◌, ◌%◌, ◌≤◌, List, [], ◌∷◌, ◌++◌, length, Option, Some, None, Bool, true, false, nat_lt, nat_le, if◌then◌else◌, refl, sym, ap, ◌∙◌, arith}
+use Rattle.std.proofs.Common.{◌≡◌, ℕ, ◌+◌, ◌%◌, ◌≤◌, List, [], ◌∷◌, ◌++◌, length, Option, Some, None, Bool, true, false, nat_lt, nat_le, if◌then◌else◌, refl}
+use Rattle.std.proofs.Common.{sym, ap, ◌∙◌, arith}
 use Rattle.std.proofs.{lemmas.List.{length_push, append-nil}, lemmas.Bool.{cond_both, ltb-true}}
 use Rattle.x25_packet.specs.declared.marks.Marks.{Marks}
 use Rattle.x25_circuit.specs.{Message.{Piece, no_part, cut, wholes, AreSound}}
-use Rattle.x25_handshakes.specs.laws.Stretch.{Packet, Data, Rr, Rnr, Int, IntConf, Reset, Call, Accept, Clear, ClearConf, Stretch, stretch_does, stretch_fails, StretchAct, Send, Pull, Ready, NotReady, Interrupt, sends, pulls, interrupts, stretch_acts, ack_ground, data_ground, by_ground, takes_data, takes_status, stretch_takes}
+use Rattle.x25_handshakes.specs.laws.Stretch.{Packet, Data, Rr, Rnr, Int, IntConf, Reset, Call, Accept, Clear, ClearConf, Stretch, stretch_does, stretch_fails}
+use Rattle.x25_handshakes.specs.laws.Stretch.{StretchAct, Send, Pull, Ready, NotReady, Interrupt, sends, pulls, interrupts, stretch_acts, ack_ground}
+use Rattle.x25_handshakes.specs.laws.Stretch.{data_ground, by_ground, takes_data, takes_status, stretch_takes}
 use Rattle.x25_handshakes.specs.laws.PeerStretch.{PeerStretch, Deed, Sends, Says, Interrupts, Confirms, MayDo, does, packet_of, taking}
 use Rattle.x25_handshakes.specs.laws.Handshake.{Side, Live, Left, At, Step, PeerStep, live}
 use Rattle.x25_handshakes.specs.laws.Transfer.{lifted, TransferAct, Inside, SendsReset, transfer_side_takes, transfer_side_acts}
@@ -34,7 +37,8 @@ at_once k y first y₂ o next out = record { rest = []; split = append-nil first
 
 -- what is done on one level is done on the one above
 pub did_above : {Y D Z E P : Type 0} (k : Deeds Y D P) (l : Deeds Z E P) (f : Y → Z) (g : D → E) (y y₂ : Y) (o : List P)
-    → ((d : D) → k.may y d → l.may (f y) (g d)) → ((d : D) → l.does (f y) (g d) ≡ f (k.does y d)) → ((d : D) → l.packet (f y) (g d) ≡ k.packet y d) → Did k y y₂ o → Did l (f y) (f y₂) o
+    → ((d : D) → k.may y d → l.may (f y) (g d)) → ((d : D) → l.does (f y) (g d) ≡ f (k.does y d)) → ((d : D) → l.packet (f y) (g d) ≡ k.packet y d)
+    → Did k y y₂ o → Did l (f y) (f y₂) o
 did_above k l f g y y₂ o may same out (Nothing e none) = Nothing (ap f e) none
 did_above k l f g y y₂ o may same out (Something d ok next sent) = Something (g d) (may d ok) (same d ∙ ap f next) (ap (λ p. p ∷ []) (out d) ∙ sent)
 
@@ -52,11 +56,13 @@ Does longest size x s = StretchDid longest size (as_peer_stretch x) (as_peer_str
 does_still : (longest size : ℕ) (x : Stretch) → Does longest size x (stretch_does x [])
 does_still longest size x = Nothing refl refl
 
-does_pull : (t : Terms) → t.window ≤ 7 → (x : Stretch) (ps : List Piece) → x.rest ≡ ps → AreSound t.longest t.size no_part (x.sent ++ x.rest) → Does t.longest t.size x (pulls t x ps)
+does_pull : (t : Terms) → t.window ≤ 7 → (x : Stretch) (ps : List Piece) → x.rest ≡ ps → AreSound t.longest t.size no_part (x.sent ++ x.rest)
+    → Does t.longest t.size x (pulls t x ps)
 does_pull t small x [] is sound = does_still t.longest t.size x
 does_pull t small x (p ∷ ps) is sound =
     let next = stretch_does (record x { sent = x.sent ++ p ∷ []; rest = ps }) (Data (length x.sent % 8) (length x.taken % 8) p ∷ []) in
-    cond_both x.peer_ready (if nat_lt (length x.sent) (x.acked + t.window) then next else stretch_does x []) (stretch_does x []) (λ s. Does t.longest t.size x s)
+    cond_both x.peer_ready (if nat_lt (length x.sent) (x.acked + t.window) then next else stretch_does x []) (stretch_does x [])
+    (λ s. Does t.longest t.size x s)
     (λ _. cond_both (nat_lt (length x.sent) (x.acked + t.window)) next (stretch_does x []) (λ s. Does t.longest t.size x s)
     (λ room. let open_room = ltb-true (length x.sent) (x.acked + t.window) room in
     Something (Sends p (length x.taken)) (
@@ -70,9 +76,11 @@ does_pull t small x (p ∷ ps) is sound =
 does_interrupt : (longest size : ℕ) (x : Stretch) (xs : List ℕ) → Does longest size x (interrupts x xs)
 does_interrupt longest size x xs =
     let next = stretch_does (record x { int_out = true; int_down = x.int_down ++ xs ∷ [] }) (Int xs ∷ []) in
-    cond_both (nat_le 1 (length xs)) (if nat_le (length xs) 32 then (if x.int_out then stretch_does x [] else next) else stretch_does x []) (stretch_does x []) (λ s. Does longest size x s)
+    cond_both (nat_le 1 (length xs)) (if nat_le (length xs) 32 then (if x.int_out then stretch_does x [] else next) else stretch_does x []) (stretch_does x [])
+    (λ s. Does longest size x s)
     (λ _. cond_both (nat_le (length xs) 32) (if x.int_out then stretch_does x [] else next) (stretch_does x []) (λ s. Does longest size x s)
-    (λ _. cond_both x.int_out (stretch_does x []) next (λ s. Does longest size x s) (λ _. does_still longest size x) (λ free. Something (Interrupts xs) free refl refl))
+    (λ _. cond_both x.int_out (stretch_does x []) next (λ s. Does longest size x s) (λ _. does_still longest size x)
+    (λ free. Something (Interrupts xs) free refl refl))
     (λ _. does_still longest size x))
     (λ _. does_still longest size x)
 
@@ -80,10 +88,12 @@ does_send : (t : Terms) (x : Stretch) (q : Marks) (xs : List ℕ) → Does t.lon
 does_send t x q xs =
     let sent = stretch_does (record x { rest = x.rest ++ cut t.size q xs; down = x.down ++ record { marks = q; user = xs } ∷ [] }) [] in
     cond_both (nat_le (length xs) t.longest) (if nat_lt (wholes x.rest) 8 then sent else stretch_does x []) (stretch_does x []) (λ s. Does t.longest t.size x s)
-    (λ _. cond_both (nat_lt (wholes x.rest) 8) sent (stretch_does x []) (λ s. Does t.longest t.size x s) (λ _. Nothing refl refl) (λ _. does_still t.longest t.size x))
+    (λ _. cond_both (nat_lt (wholes x.rest) 8) sent (stretch_does x []) (λ s. Does t.longest t.size x s) (λ _. Nothing refl refl)
+    (λ _. does_still t.longest t.size x))
     (λ _. does_still t.longest t.size x)
 
-pub stretch_did : (t : Terms) → t.window ≤ 7 → (x : Stretch) → AreSound t.longest t.size no_part (x.sent ++ x.rest) → (a : StretchAct) → Does t.longest t.size x (stretch_acts t x a)
+pub stretch_did : (t : Terms) → t.window ≤ 7 → (x : Stretch) → AreSound t.longest t.size no_part (x.sent ++ x.rest) → (a : StretchAct)
+    → Does t.longest t.size x (stretch_acts t x a)
 stretch_did t small x sound (Send q xs) = does_send t x q xs
 stretch_did t small x sound Pull = does_pull t small x x.rest refl sound
 stretch_did t small x sound Ready = Something (Says true (length x.taken)) (record { rising = omega arith; taken = omega arith }) refl refl
@@ -100,7 +110,8 @@ hears_data longest size x s r p =
     Something (Says x.own_ready (length x.taken + 1)) (record { rising = omega arith; taken = omega (arith, n) })
     (ap (λ k. record (as_peer_stretch (takes_data x r p).next) { told = k }) (sym n)) refl
 
-by_none : {longest size : ℕ} (x : Stretch) (p : Packet) (g : Option ℕ) (good : Step Stretch Packet) → (by_ground g x good).error ≡ None → Hears longest size x p good → Hears longest size x p (by_ground g x good)
+by_none : {longest size : ℕ} (x : Stretch) (p : Packet) (g : Option ℕ) (good : Step Stretch Packet) → (by_ground g x good).error ≡ None
+    → Hears longest size x p good → Hears longest size x p (by_ground g x good)
 by_none x p None good quiet h = h
 by_none x p (Some n) good quiet h = absurd (cc)
 
@@ -109,8 +120,10 @@ hears_confirmed : (longest size : ℕ) (x : Stretch) (b : Bool) → (if b then s
 hears_confirmed longest size x true quiet = Nothing refl refl
 hears_confirmed longest size x false quiet = absurd (cc)
 
-pub stretch_heard : (longest size most b : ℕ) (x : Stretch) (p : Packet) → (stretch_takes most b x p).error ≡ None → Hears longest size x p (stretch_takes most b x p)
-stretch_heard longest size most b x (Data s r p) quiet = by_none x (Data s r p) (data_ground most b x s r p) (takes_data x r p) quiet (hears_data longest size x s r p)
+pub stretch_heard : (longest size most b : ℕ) (x : Stretch) (p : Packet) → (stretch_takes most b x p).error ≡ None
+    → Hears longest size x p (stretch_takes most b x p)
+stretch_heard longest size most b x (Data s r p) quiet = by_none x (Data s r p) (data_ground most b x s r p) (takes_data x r p) quiet
+    (hears_data longest size x s r p)
 stretch_heard longest size most b x (Rr r) quiet = by_none x (Rr r) (ack_ground x r) (takes_status x true r) quiet (Nothing refl refl)
 stretch_heard longest size most b x (Rnr r) quiet = by_none x (Rnr r) (ack_ground x r) (takes_status x false r) quiet (Nothing refl refl)
 stretch_heard longest size most b x (Int xs) quiet = Something Confirms (omega arith) refl refl
@@ -120,7 +133,11 @@ stretch_heard longest size most b x p quiet = absurd (cc)
 -- ---- p4
 
 abbrev pub transfer_deeds : ℕ → ℕ → Deeds (At PeerStretch) TransferDeed Packet
-transfer_deeds longest size = record { may = λ y d. MayDoTransfer longest size y.side d; does = λ y d. does_transfer y.epoch y.side d; packet = λ y d. transfer_packet_of y.side d }
+transfer_deeds longest size = record {
+  may = λ y d. MayDoTransfer longest size y.side d;
+  does = λ y d. does_transfer y.epoch y.side d;
+  packet = λ y d. transfer_packet_of y.side d;
+}
 
 abbrev pub TransferDid : ℕ → ℕ → At PeerStretch → At PeerStretch → List Packet → Type 0
 TransferDid longest size y y₂ o = Did (transfer_deeds longest size) y y₂ o
@@ -133,37 +150,47 @@ abbrev pub IsFit : ℕ → ℕ → Side Stretch → Type 0
 IsFit longest size (Live x) = AreSound longest size no_part (x.sent ++ x.rest)
 IsFit longest size (Left x) = Unit {0}
 
-lifted_did : {longest size : ℕ} (e : ℕ) (x : Stretch) (s : Step Stretch Packet) → (lifted e s s.error).error ≡ None → StretchDid longest size (as_peer_stretch x) (as_peer_stretch s.next) s.out
+lifted_did : {longest size : ℕ} (e : ℕ) (x : Stretch) (s : Step Stretch Packet) → (lifted e s s.error).error ≡ None
+    → StretchDid longest size (as_peer_stretch x) (as_peer_stretch s.next) s.out
     → TransferDid longest size (as_at as_peer_stretch (live e x)) (as_at as_peer_stretch (lifted e s s.error).next) (lifted e s s.error).out
 lifted_did {longest} {size} e x s quiet did = by s.error quiet
   where
-    by : (n : Option ℕ) → (lifted e s n).error ≡ None → TransferDid longest size (as_at as_peer_stretch (live e x)) (as_at as_peer_stretch (lifted e s n).next) (lifted e s n).out
+    by : (n : Option ℕ) → (lifted e s n).error ≡ None
+        → TransferDid longest size (as_at as_peer_stretch (live e x)) (as_at as_peer_stretch (lifted e s n).next) (lifted e s n).out
     by None q =
-        did_above (stretch_deeds longest size) (transfer_deeds longest size) (λ y. live e y) (λ d. InStretch d) (as_peer_stretch x) (as_peer_stretch s.next) s.out (λ d may. may) (λ d. refl) (λ d. refl) did
+        did_above (stretch_deeds longest size) (transfer_deeds longest size) (λ y. live e y) (λ d. InStretch d) (as_peer_stretch x) (as_peer_stretch s.next)
+        s.out (λ d may. may) (λ d. refl) (λ d. refl) did
     by (Some n) q = absurd (cc)
 
-pub transfer_did : (t : Terms) → t.window ≤ 7 → (e : ℕ) (x : Side Stretch) → IsFit t.longest t.size x → (a : TransferAct) → (transfer_side_acts t e x a).error ≡ None
-    → TransferDid t.longest t.size (as_at as_peer_stretch (record { epoch = e; side = x })) (as_at as_peer_stretch (transfer_side_acts t e x a).next) (transfer_side_acts t e x a).out
+pub transfer_did : (t : Terms) → t.window ≤ 7 → (e : ℕ) (x : Side Stretch) → IsFit t.longest t.size x → (a : TransferAct) → (transfer_side_acts t e x a).error
+    ≡ None
+    → TransferDid t.longest t.size (as_at as_peer_stretch (record { epoch = e; side = x })) (as_at as_peer_stretch (transfer_side_acts t e x a).next)
+    (transfer_side_acts t e x a).out
 transfer_did t small e (Live x) fit (Inside a) quiet = lifted_did e x (stretch_acts t x a) quiet (stretch_did t small x fit a)
 transfer_did t small e (Live x) fit SendsReset quiet = Something Resets tt refl refl
 transfer_did t small e (Left x) fit a quiet = Nothing refl refl
 
 lifted_heard : (longest size most b e : ℕ) (x : Stretch) (p : Packet) → (lifted e (stretch_takes most b x p) (stretch_takes most b x p).error).error ≡ None
-    → TransferHeard longest size (record { next = live e (taking (as_peer_stretch x) p); out = [] }) (as_at as_peer_stretch (lifted e (stretch_takes most b x p) (stretch_takes most b x p).error).next) (lifted e (stretch_takes most b x p) (stretch_takes most b x p).error).out
+    → TransferHeard longest size (record { next = live e (taking (as_peer_stretch x) p); out = [] })
+    (as_at as_peer_stretch (lifted e (stretch_takes most b x p) (stretch_takes most b x p).error).next)
+    (lifted e (stretch_takes most b x p) (stretch_takes most b x p).error).out
 lifted_heard longest size most b e x p quiet = by (stretch_takes most b x p).error refl quiet
   where
     by : (n : Option ℕ) → (stretch_takes most b x p).error ≡ n → (lifted e (stretch_takes most b x p) n).error ≡ None
-        → TransferHeard longest size (record { next = live e (taking (as_peer_stretch x) p); out = [] }) (as_at as_peer_stretch (lifted e (stretch_takes most b x p) n).next) (lifted e (stretch_takes most b x p) n).out
+        → TransferHeard longest size (record { next = live e (taking (as_peer_stretch x) p); out = [] })
+        (as_at as_peer_stretch (lifted e (stretch_takes most b x p) n).next) (lifted e (stretch_takes most b x p) n).out
     by None is q = record {
       rest = (stretch_takes most b x p).out;
       split = refl;
       did = did_above (stretch_deeds longest size) (transfer_deeds longest size) (λ y. live e y) (λ d. InStretch d)
-          (taking (as_peer_stretch x) p) (as_peer_stretch (stretch_takes most b x p).next) (stretch_takes most b x p).out (λ d may. may) (λ d. refl) (λ d. refl) (stretch_heard longest size most b x p is);
+          (taking (as_peer_stretch x) p) (as_peer_stretch (stretch_takes most b x p).next) (stretch_takes most b x p).out (λ d may. may) (λ d. refl)
+          (λ d. refl) (stretch_heard longest size most b x p is);
     }
     by (Some n) is q = absurd (cc)
 
 pub transfer_heard : (longest size most b e : ℕ) (x : Side Stretch) (p : Packet) → (transfer_side_takes most b e x p).error ≡ None
-    → TransferHeard longest size (transfer_taking e (as_side as_peer_stretch x) p) (as_at as_peer_stretch (transfer_side_takes most b e x p).next) (transfer_side_takes most b e x p).out
+    → TransferHeard longest size (transfer_taking e (as_side as_peer_stretch x) p) (as_at as_peer_stretch (transfer_side_takes most b e x p).next)
+    (transfer_side_takes most b e x p).out
 transfer_heard longest size most b e (Live x) Reset quiet = at_once (transfer_deeds longest size) _ _ _ _ refl refl
 transfer_heard longest size most b e (Live x) (Data s r p) quiet = lifted_heard longest size most b e x (Data s r p) quiet
 transfer_heard longest size most b e (Live x) (Rr r) quiet = lifted_heard longest size most b e x (Rr r) quiet

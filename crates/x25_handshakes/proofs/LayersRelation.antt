@@ -26,7 +26,14 @@ restart_mark Restart = Request
 restart_mark RestartConf = Confirm
 
 abbrev pub own_channels_level : {Z : Type 0} → (At Connection → List Packet → List Packet → Z → Type 0) → (ℕ → Z) → Level Channels (ℕ → Z) LayerPacket
-own_channels_level R y₀ = record { mark = restart_mark; fresh = all_fresh; fresh_there = y₀; gone = λ x. Unit {0}; gone_there = λ y. Unit {0}; related = OnEach R }
+own_channels_level R y₀ = record {
+  mark = restart_mark;
+  fresh = all_fresh;
+  fresh_there = y₀;
+  gone = λ x. Unit {0};
+  gone_there = λ y. Unit {0};
+  related = OnEach R;
+}
 
 abbrev pub channels_level : Role → Level Channels Channels LayerPacket
 channels_level r = own_channels_level (ChannelRelated r) all_fresh

@@ -1,9 +1,11 @@
 -- One more packet at the back of a line.
-use Rattle.std.proofs.Common.{◌≡◌, ℕ, ◌+◌, ◌%◌, ◌<◌, ◌≤◌, List, [], ◌∷◌, ◌++◌, length, Option, Some, None, refl, sym, ap, subst, ◌∙◌, arith, append_assoc, length-append}
+use Rattle.std.proofs.Common.{◌≡◌, ℕ, ◌+◌, ◌%◌, ◌<◌, ◌≤◌, List, [], ◌∷◌, ◌++◌, length, Option, Some, None, refl, sym, ap, subst, ◌∙◌, arith, append_assoc}
+use Rattle.std.proofs.Common.{length-append}
 use Rattle.std.proofs.lemmas.List.{append-nil}
 use Rattle.x25_window.specs.code.Modulo.{resolved}
 use Rattle.x25_handshakes.specs.laws.Stretch.{Packet}
-use Rattle.x25_handshakes.proofs.StretchRelation.{Numbering, numbering, ack_in, int_in, conf_in, piece_of, pieces, number_at, Numbered, hears, heard, ints, confs}
+use Rattle.x25_handshakes.proofs.StretchRelation.{Numbering, numbering, ack_in, int_in, conf_in, piece_of, pieces, number_at, Numbered, hears, heard, ints}
+use Rattle.x25_handshakes.proofs.StretchRelation.{confs}
 
 pub resolved_is : (a n : ℕ) → a ≤ n → n < a + 8 → resolved a (n % 8) ≡ n
 resolved_is a n low high = omega arith
@@ -22,7 +24,8 @@ heard_push a (q ∷ v) p = heard_push (hears a (ack_in q)) v p
 
 pub pieces_push : (u : List Packet) (p : Packet) → pieces (u ++ p ∷ []) ≡ pieces u ++ piece_of (numbering p)
 pieces_push [] p = append-nil (piece_of (numbering p))
-pieces_push (q ∷ u) p = ap (λ l. piece_of (numbering q) ++ l) (pieces_push u p) ∙ sym (append_assoc (piece_of (numbering q)) (pieces u) (piece_of (numbering p)))
+pieces_push (q ∷ u) p = ap (λ l. piece_of (numbering q) ++ l) (pieces_push u p)
+    ∙ sym (append_assoc (piece_of (numbering q)) (pieces u) (piece_of (numbering p)))
 
 pub ints_push : (u : List Packet) (p : Packet) → ints (u ++ p ∷ []) ≡ ints u ++ int_in p
 ints_push [] p = append-nil (int_in p)
@@ -36,7 +39,8 @@ number_map : (n : ℕ) (c : Option Numbering) (P Q : ℕ → Type 0) → ((m : �
 number_map n None P Q f h = f n (omega arith) h
 number_map n (Some c) P Q f h = (h.0, f (n + 1) (omega arith) h.1)
 
-pub Numbered_push : (n : ℕ) (u : List Packet) (p : Packet) → Numbered n u → number_at (n + length (pieces u)) (numbering p) (λ m. Unit {0}) → Numbered n (u ++ p ∷ [])
+pub Numbered_push : (n : ℕ) (u : List Packet) (p : Packet) → Numbered n u → number_at (n + length (pieces u)) (numbering p) (λ m. Unit {0})
+    → Numbered n (u ++ p ∷ [])
 Numbered_push n [] p h is = rw (sym (let e : n + 0 ≡ n = omega arith in e)) is
 Numbered_push n (q ∷ u) p h is =
     number_map n (numbering q) (λ m. Numbered m u) (λ m. Numbered m (u ++ p ∷ []))

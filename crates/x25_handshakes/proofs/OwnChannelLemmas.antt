@@ -2,7 +2,8 @@
 use Rattle.std.proofs.Common.{◌≡◌, ℕ, List, [], ◌∷◌, ◌++◌, Option, None, refl, sym, ◌∙◌}
 use Rattle.x25_handshakes.specs.{laws.Handshake.{Inner, Side, Live, Left, At, Step, live}, laws.Stretch.{Packet, Clear, ClearConf}}
 use Rattle.x25_handshakes.specs.laws.Calls.{Phase, Unused, Connection, call_takes, CallAct, call_acts, fresh_call}
-use Rattle.x25_handshakes.specs.laws.Channel.{lifted_call, in_p1, channel_side_takes, channel_takes, ChannelAct, Within, SendsClear, clears, channel_side_acts, channel_acts}
+use Rattle.x25_handshakes.specs.laws.Channel.{lifted_call, in_p1, channel_side_takes, channel_takes, ChannelAct, Within, SendsClear, clears, channel_side_acts}
+use Rattle.x25_handshakes.specs.laws.Channel.{channel_acts}
 use Rattle.x25_bits.specs.declared.role.Role.{Role}
 use Rattle.x25_handshakes.proofs.HandshakeRelation.{Level, Handshaken, GoodStep}
 use Rattle.x25_handshakes.proofs.{HandshakeSteps.{Any, Goes, Inside, Answers, acts_inside, leaves, stays, answered}, CallsRelation.{GoodCall, IsCalled}}
@@ -13,7 +14,8 @@ not_p1 Unused h = absurd (h refl)
 not_p1 other h = refl
 
 -- what has to be known of a call; `finds` says what of an error is counted as a packet is taken
-pub record OwnCalls {T : Type 0} (gone : Connection → Type 0) (gone_there : T → Type 0) (R : Connection → List Packet → List Packet → T → Type 0) (y₀ : T) (r : Role) (finds : Packet → Option ℕ → Option ℕ) : Type 0 where
+pub record OwnCalls {T : Type 0} (gone : Connection → Type 0) (gone_there : T → Type 0) (R : Connection → List Packet → List Packet → T → Type 0) (y₀ : T)
+    (r : Role) (finds : Packet → Option ℕ → Option ℕ) : Type 0 where
   pub empty : R fresh_call [] [] y₀
   pub quiet : (x : Connection) (u v : List Packet) (y : T) → R x u v y → Quiet u × Quiet v
   pub acts : (x : Connection) (u v : List Packet) (y : T) (a : CallAct) → R x u v y → GoodCall R (call_acts x a) u v y
@@ -22,7 +24,8 @@ pub record OwnCalls {T : Type 0} (gone : Connection → Type 0) (gone_there : T 
   pub none : (p : Packet) → finds p None ≡ None
   pub clear : (x : Connection) (u : List Packet) (y : T) → gone_there y → R x u [] y → finds Clear (in_p1 x.phase) ≡ None
 
-module _ {T : Type 0} (gone : Connection → Type 0) (gone_there : T → Type 0) (R : Connection → List Packet → List Packet → T → Type 0) (y₀ : T) (r : Role) (finds : Packet → Option ℕ → Option ℕ) (own : OwnCalls gone gone_there R y₀ r finds) where
+module _ {T : Type 0} (gone : Connection → Type 0) (gone_there : T → Type 0) (R : Connection → List Packet → List Packet → T → Type 0) (y₀ : T) (r : Role)
+    (finds : Packet → Option ℕ → Option ℕ) (own : OwnCalls gone gone_there R y₀ r finds) where
   abbrev level : Level Connection T Packet
   level = own_call_level gone gone_there R y₀
 
@@ -30,7 +33,8 @@ module _ {T : Type 0} (gone : Connection → Type 0) (gone_there : T → Type 0)
   Good e s L K y = GoodStep level e s.next s.out L K y
 
   -- a step in a call that is no error, with these packets taken, one or none
-  inside : (f : Option ℕ → Option ℕ) → f None ≡ None → (e : ℕ) (x : Connection) (s : Step Connection Packet) (taken : List Packet) → ((u v : List Packet) (y : T) → R x u (taken ++ v) y → GoodCall R s u v y)
+  inside : (f : Option ℕ → Option ℕ) → f None ≡ None → (e : ℕ) (x : Connection) (s : Step Connection Packet) (taken : List Packet)
+      → ((u v : List Packet) (y : T) → R x u (taken ++ v) y → GoodCall R s u v y)
       → (let k = lifted_call e s s.error in Inside level Any e x taken k.next k.out (f k.error))
   inside f none e x s taken good = record { after = s.next; goes = λ u v y h. at u v y (good u v y h) }
     where
@@ -38,26 +42,32 @@ module _ {T : Type 0} (gone : Connection → Type 0) (gone_there : T → Type 0)
       at u v y g =
           rw g.0 (record { quiet = none; at = refl; inner = each_back (λ p. clear_mark p ≡ Inner) u s.out (own.quiet _ _ _ _ g.1).0; passes = tt; kept = g.1 })
 
-  answers : (e : ℕ) (x : Side Connection) (p : Packet) → (let s = channel_side_takes r e x p in Answers level Any e x p (clear_mark p) s.next s.out (finds p s.error))
+  answers : (e : ℕ) (x : Side Connection) (p : Packet)
+      → (let s = channel_side_takes r e x p in Answers level Any e x p (clear_mark p) s.next s.out (finds p s.error))
   answers e (Live x) Clear = record { confirm = ClearConf; is = refl; at = refl; sent = refl; passes = tt; quiet = λ w z gone h. own.clear x w z gone h }
   answers e (Live x) ClearConf = tt
   answers e (Live x) p = inside (finds p) (own.none p) e x (call_takes r x p) (p ∷ []) (λ u v y h. own.takes x u p v y h)
   answers e (Left x) Clear = (refl, refl, own.none Clear)
   answers e (Left x) p = (refl, refl, own.none p)
 
-  pub channel_takes_good : {x : At Connection} {L : List Packet} (p : Packet) (K : List Packet) {y : At T} → Handshaken level x L (p ∷ K) y → Good (finds p (channel_takes r x p).error) (channel_takes r x p) L K y
+  pub channel_takes_good : {x : At Connection} {L : List Packet} (p : Packet) (K : List Packet) {y : At T} → Handshaken level x L (p ∷ K) y
+      → Good (finds p (channel_takes r x p).error) (channel_takes r x p) L K y
   channel_takes_good {x} {L} p K {y} h =
       let s = channel_takes r x p in
       (answered level Any tt own.empty (answers x.epoch x.side p) K h).0
 
-  own_clears : (e : ℕ) (x : Connection) (a : Phase) (L K : List Packet) (y : At T) → x.phase ≡ a → Handshaken level (live e x) L K y → Good (clears e x a).error (clears e x a) L K y
+  own_clears : (e : ℕ) (x : Connection) (a : Phase) (L K : List Packet) (y : At T) → x.phase ≡ a → Handshaken level (live e x) L K y
+      → Good (clears e x a).error (clears e x a) L K y
   own_clears e x Unused L K y is h = stays level Any h
   own_clears e x other L K y is h = leaves level Any Clear refl e x (own.called x (λ free. let no : other ≡ Unused = sym is ∙ free in cc)) h
 
-  own_side_acts : (e : ℕ) (x : Side Connection) (L K : List Packet) (y : At T) (a : ChannelAct) → Handshaken level (record { epoch = e; side = x }) L K y → Good (channel_side_acts e x a).error (channel_side_acts e x a) L K y
-  own_side_acts e (Live x) L K y (Within a) h = (acts_inside level Any e x _ _ _ (inside (λ n. n) refl e x (call_acts x a) [] (λ u v y h. own.acts x u v y a h)) L K y h).0
+  own_side_acts : (e : ℕ) (x : Side Connection) (L K : List Packet) (y : At T) (a : ChannelAct) → Handshaken level (record { epoch = e; side = x }) L K y
+      → Good (channel_side_acts e x a).error (channel_side_acts e x a) L K y
+  own_side_acts e (Live x) L K y (Within a) h =
+      (acts_inside level Any e x _ _ _ (inside (λ n. n) refl e x (call_acts x a) [] (λ u v y h. own.acts x u v y a h)) L K y h).0
   own_side_acts e (Live x) L K y SendsClear h = own_clears e x x.phase L K y refl h
   own_side_acts e (Left x) L K y a h = stays level Any h
 
-  pub channel_acts_good : {x : At Connection} {L K : List Packet} {y : At T} (a : ChannelAct) → Handshaken level x L K y → Good (channel_acts x a).error (channel_acts x a) L K y
+  pub channel_acts_good : {x : At Connection} {L K : List Packet} {y : At T} (a : ChannelAct) → Handshaken level x L K y
+      → Good (channel_acts x a).error (channel_acts x a) L K y
   channel_acts_good {x} {L} {K} {y} a h = own_side_acts x.epoch x.side L K y a h

@@ -1,11 +1,13 @@
 -- What each step does to the parts of the relation of two stretches.
-use Rattle.std.proofs.Common.{◌≡◌, ℕ, ◌+◌, ◌-◌, ◌%◌, ◌≤◌, List, [], ◌∷◌, ◌++◌, length, Some, None, Bool, true, false, refl, sym, ap, subst, ◌∙◌, arith, append_assoc, length-append}
+use Rattle.std.proofs.Common.{◌≡◌, ℕ, ◌+◌, ◌-◌, ◌%◌, ◌≤◌, List, [], ◌∷◌, ◌++◌, length, Some, None, Bool, true, false, refl, sym, ap, subst, ◌∙◌, arith}
+use Rattle.std.proofs.Common.{append_assoc, length-append}
 use Rattle.std.proofs.lemmas.List.{length_push, append-nil}
 use Rattle.x25_packet.specs.declared.marks.Marks.{Marks}
 use Rattle.x25_circuit.specs.{declared.message.Message.{Message}, Message.{Piece, no_part, joining, completed, carried_from, carried, AreSound, cut}}
 use Rattle.x25_window.specs.code.Modulo.{resolved}
 use Rattle.x25_handshakes.specs.laws.Stretch.{Packet, Data, Int, IntConf}
-use Rattle.x25_handshakes.proofs.StretchRelation.{numbering, ack_in, int_in, conf_in, piece_of, pieces, number_at, Numbered, hears, heard, ints, confs, InFlowControl, Line, Acks, Ints, Text}
+use Rattle.x25_handshakes.proofs.StretchRelation.{numbering, ack_in, int_in, conf_in, piece_of, pieces, number_at, Numbered, hears, heard, ints, confs}
+use Rattle.x25_handshakes.proofs.StretchRelation.{InFlowControl, Line, Acks, Ints, Text}
 use Rattle.x25_handshakes.proofs.TextLemmas.{joining-append, carried-append, AreSound-append, AreSound-cut, joining-cut, carried-cut}
 use Rattle.x25_handshakes.proofs.LineLemmas.{resolved_is, heard_least, heard_push, pieces_push, ints_push, confs_push, Numbered_push}
 use Rattle.x25_handshakes.proofs.HandshakeLemmas.{each_append}
@@ -15,14 +17,16 @@ use Rattle.x25_handshakes.proofs.HandshakeLemmas.{each_append}
 pub Line-le : {sent taken : List Piece} {u : List Packet} → Line sent taken u → length sent ≡ length taken + length (pieces u)
 Line-le {taken} {u} h = ap length h.flow ∙ length-append taken (pieces u)
 
-pub Line-send : {sent taken : List Piece} {u : List Packet} (r : ℕ) (p : Piece) → Line sent taken u → Line (sent ++ p ∷ []) taken (u ++ Data (length sent % 8) r p ∷ [])
+pub Line-send : {sent taken : List Piece} {u : List Packet} (r : ℕ) (p : Piece) → Line sent taken u
+    → Line (sent ++ p ∷ []) taken (u ++ Data (length sent % 8) r p ∷ [])
 Line-send {sent} {taken} {u} r p h = record {
   flow = ap (λ l. l ++ p ∷ []) h.flow ∙ append_assoc taken (pieces u) (p ∷ []) ∙ ap (λ l. taken ++ l) (sym (pieces_push u (Data (length sent % 8) r p)));
   numbers = Numbered_push (length taken) u (Data (length sent % 8) r p) h.numbers (ap (λ n. n % 8) (Line-le h), tt);
   kinds = each_append InFlowControl u (Data (length sent % 8) r p ∷ []) h.kinds (tt, tt);
 }
 
-pub Line-push : {sent taken : List Piece} {u : List Packet} (q : Packet) → numbering q ≡ None → InFlowControl q → Line sent taken u → Line sent taken (u ++ q ∷ [])
+pub Line-push : {sent taken : List Piece} {u : List Packet} (q : Packet) → numbering q ≡ None → InFlowControl q → Line sent taken u
+    → Line sent taken (u ++ q ∷ [])
 Line-push {taken} {u} q none is h = record {
   flow = h.flow ∙ ap (λ l. taken ++ l) (sym (pieces_push u q ∙ ap (λ c. pieces u ++ piece_of c) none ∙ append-nil (pieces u)));
   numbers = Numbered_push (length taken) u q h.numbers (rw none tt);
@@ -45,7 +49,8 @@ Line-skip {sent} {taken} u q none h = record {
 
 -- the window, and the numbers P(R) on the way back
 
-pub Acks-push : {k acked sent : ℕ} {v : List Packet} {taken : ℕ} (q : Packet) → k ≤ 7 → taken ≤ sent → ack_in q ≡ Some (taken % 8) → Acks k acked sent v taken → Acks k acked sent (v ++ q ∷ []) taken
+pub Acks-push : {k acked sent : ℕ} {v : List Packet} {taken : ℕ} (q : Packet) → k ≤ 7 → taken ≤ sent → ack_in q ≡ Some (taken % 8) → Acks k acked sent v taken
+    → Acks k acked sent (v ++ q ∷ []) taken
 Acks-push {k} {acked} {sent} {v} {taken} q small le is h =
     let least = heard_least acked v in
     let low = h.acks in
@@ -54,7 +59,8 @@ Acks-push {k} {acked} {sent} {v} {taken} q small le is h =
     let same = resolved_is (heard acked v) taken low (omega arith) in
     record { room = room; acks = subst (λ n. n ≤ taken) (sym (end ∙ same)) (let e : taken ≤ taken = omega arith in e) }
 
-pub Acks-pass : {k acked sent : ℕ} {v : List Packet} {taken : ℕ} (q : Packet) → ack_in q ≡ None → Acks k acked sent v taken → Acks k acked sent (v ++ q ∷ []) taken
+pub Acks-pass : {k acked sent : ℕ} {v : List Packet} {taken : ℕ} (q : Packet) → ack_in q ≡ None → Acks k acked sent v taken
+    → Acks k acked sent (v ++ q ∷ []) taken
 Acks-pass {acked} {v} {taken} q is h =
     let end = heard_push acked v q ∙ ap (λ r. hears (heard acked v) r) is in
     record { room = h.room; acks = subst (λ n. n ≤ taken) (sym end) h.acks }
@@ -65,10 +71,12 @@ Acks-more more room h = record { room = room; acks = h.acks }
 pub Acks-taken : {k acked sent : ℕ} {v : List Packet} {taken : ℕ} (more : ℕ) → taken ≤ more → Acks k acked sent v taken → Acks k acked sent v more
 Acks-taken more le h = record { room = h.room; acks = omega arith }
 
-pub Acks-told : {k acked sent : ℕ} {v : List Packet} {told : ℕ} (n : ℕ) (q : Packet) → k ≤ 7 → told ≤ n → n ≤ sent → ack_in q ≡ Some (n % 8) → Acks k acked sent v told → Acks k acked sent (v ++ q ∷ []) n
+pub Acks-told : {k acked sent : ℕ} {v : List Packet} {told : ℕ} (n : ℕ) (q : Packet) → k ≤ 7 → told ≤ n → n ≤ sent → ack_in q ≡ Some (n % 8)
+    → Acks k acked sent v told → Acks k acked sent (v ++ q ∷ []) n
 Acks-told {k} {acked} {sent} {v} {told} n q small rising le is h = Acks-push q small le is (Acks-taken n rising h)
 
-pub Acks-hear : (k acked sent : ℕ) (v : List Packet) (r taken : ℕ) → sent ≤ acked + k → heard (resolved acked r) v ≤ taken → Acks k (resolved acked r) sent v taken
+pub Acks-hear : (k acked sent : ℕ) (v : List Packet) (r taken : ℕ) → sent ≤ acked + k → heard (resolved acked r) v ≤ taken
+    → Acks k (resolved acked r) sent v taken
 Acks-hear k acked sent v r taken room acks = record { room = omega arith; acks = acks }
 
 pub heard_below : (acked sent : ℕ) (v : List Packet) (r taken : ℕ) → taken ≤ sent → heard (resolved acked r) v ≤ taken → resolved acked r ≤ sent
@@ -76,15 +84,18 @@ heard_below acked sent v r taken le acks = omega (arith, heard_least (resolved a
 
 -- interrupts and their confirmations
 
-pub Ints-there : {out : Bool} {down up : List (List ℕ)} {u v : List Packet} {owed : ℕ} (q : Packet) → int_in q ≡ [] → Ints out down up u v owed → Ints out down up (u ++ q ∷ []) v owed
+pub Ints-there : {out : Bool} {down up : List (List ℕ)} {u v : List Packet} {owed : ℕ} (q : Packet) → int_in q ≡ [] → Ints out down up u v owed
+    → Ints out down up (u ++ q ∷ []) v owed
 Ints-there {up} {u} {v} {owed} q none h =
     let e = ints_push u q ∙ ap (λ l. ints u ++ l) none ∙ append-nil (ints u) in
     record { count = h.count ∙ ap (λ l. (length l + confs v) + owed) (sym e); flow = h.flow ∙ ap (λ l. up ++ l) (sym e) }
 
-pub Ints-back : {out : Bool} {down up : List (List ℕ)} {u v : List Packet} {owed : ℕ} (q : Packet) → conf_in q ≡ 0 → Ints out down up u v owed → Ints out down up u (v ++ q ∷ []) owed
+pub Ints-back : {out : Bool} {down up : List (List ℕ)} {u v : List Packet} {owed : ℕ} (q : Packet) → conf_in q ≡ 0 → Ints out down up u v owed
+    → Ints out down up u (v ++ q ∷ []) owed
 Ints-back {v} q none h = let count = h.count in record { count = omega (arith, count, confs_push v q); flow = h.flow }
 
-pub Ints-send : {down up : List (List ℕ)} {u v : List Packet} {owed : ℕ} (xs : List ℕ) → Ints false down up u v owed → Ints true (down ++ xs ∷ []) up (u ++ Int xs ∷ []) v owed
+pub Ints-send : {down up : List (List ℕ)} {u v : List Packet} {owed : ℕ} (xs : List ℕ) → Ints false down up u v owed
+    → Ints true (down ++ xs ∷ []) up (u ++ Int xs ∷ []) v owed
 Ints-send {up} {u} xs h =
     let e = ints_push u (Int xs) in
     let n : length (ints (u ++ Int xs ∷ [])) ≡ length (ints u) + 1 = ap length e ∙ length_push (ints u) xs in
@@ -95,17 +106,25 @@ Ints-send {up} {u} xs h =
     }
 
 -- the other end takes it, and has to confirm it
-pub Ints-take : {out : Bool} {down up : List (List ℕ)} (u : List Packet) {v : List Packet} {owed : ℕ} (xs : List ℕ) → Ints out down up (Int xs ∷ u) v owed → Ints out down (up ++ xs ∷ []) u v (owed + 1)
+pub Ints-take : {out : Bool} {down up : List (List ℕ)} (u : List Packet) {v : List Packet} {owed : ℕ} (xs : List ℕ) → Ints out down up (Int xs ∷ u) v owed
+    → Ints out down (up ++ xs ∷ []) u v (owed + 1)
 Ints-take {up} u xs h = let count = h.count in record { count = omega (arith, count); flow = h.flow ∙ sym (append_assoc up (xs ∷ []) (ints u)) }
 
 -- and does so
-pub Ints-confirm : {out : Bool} {down up : List (List ℕ)} {u v : List Packet} {owed : ℕ} → 1 ≤ owed → Ints out down up u v owed → Ints out down up u (v ++ IntConf ∷ []) (owed - 1)
+pub Ints-confirm : {out : Bool} {down up : List (List ℕ)} {u v : List Packet} {owed : ℕ} → 1 ≤ owed → Ints out down up u v owed
+    → Ints out down up u (v ++ IntConf ∷ []) (owed - 1)
 Ints-confirm {v} some h = let count = h.count in record { count = omega (arith, count, confs_push v IntConf); flow = h.flow }
 
-pub Ints-past : {out : Bool} {down up : List (List ℕ)} (u : List Packet) {v : List Packet} {owed : ℕ} (q : Packet) → int_in q ≡ [] → Ints out down up (q ∷ u) v owed → Ints out down up u v owed
-Ints-past {up} u {v} {owed} q none h = record { count = h.count ∙ ap (λ l. (length (l ++ ints u) + confs v) + owed) none; flow = h.flow ∙ ap (λ l. up ++ (l ++ ints u)) none }
+pub Ints-past : {out : Bool} {down up : List (List ℕ)} (u : List Packet) {v : List Packet} {owed : ℕ} (q : Packet) → int_in q ≡ []
+    → Ints out down up (q ∷ u) v owed → Ints out down up u v owed
+Ints-past {up} u {v} {owed} q none h = record {
+  count = h.count ∙ ap (λ l. (length (l ++ ints u) + confs v) + owed) none;
+  flow = h.flow
+      ∙ ap (λ l. up ++ (l ++ ints u)) none;
+}
 
-pub Ints-skip : {out : Bool} {down up : List (List ℕ)} {u : List Packet} (v : List Packet) {owed : ℕ} (q : Packet) → conf_in q ≡ 0 → Ints out down up u (q ∷ v) owed → Ints out down up u v owed
+pub Ints-skip : {out : Bool} {down up : List (List ℕ)} {u : List Packet} (v : List Packet) {owed : ℕ} (q : Packet) → conf_in q ≡ 0
+    → Ints out down up u (q ∷ v) owed → Ints out down up u v owed
 Ints-skip v q none h = let count = h.count in record { count = omega (arith, count); flow = h.flow }
 
 pub Ints-out : (out : Bool) {down up : List (List ℕ)} {u : List Packet} (v : List Packet) {owed : ℕ} → Ints out down up u (IntConf ∷ v) owed → out ≡ true
@@ -117,7 +136,8 @@ Ints-conf v h = let count = h.count in record { count = omega (arith, count); fl
 
 -- messages
 
-pub Text-send : {longest size : ℕ} {sent rest : List Piece} {down : List Message} (q : Marks) (xs : List ℕ) → 1 ≤ size → length xs ≤ longest → Text longest size sent rest down
+pub Text-send : {longest size : ℕ} {sent rest : List Piece} {down : List Message} (q : Marks) (xs : List ℕ) → 1 ≤ size → length xs ≤ longest
+    → Text longest size sent rest down
     → Text longest size sent (rest ++ cut size q xs) (down ++ record { marks = q; user = xs } ∷ [])
 Text-send {longest} {size} {sent} {rest} q xs one small h =
     let e = append_assoc sent rest (cut size q xs) in
@@ -125,14 +145,16 @@ Text-send {longest} {size} {sent} {rest} q xs one small h =
     record {
       fits = rw (sym e) (AreSound-append longest size no_part (sent ++ rest) (cut size q xs) h.fits
           (subst (λ j. AreSound longest size j (cut size q xs)) (sym h.whole) (AreSound-cut (length xs) longest size q xs no_part one far (omega arith) refl)));
-      whole = ap (joining no_part) (sym e) ∙ joining-append no_part (sent ++ rest) (cut size q xs) ∙ joining-cut (length xs) size q xs (joining no_part (sent ++ rest));
+      whole = ap (joining no_part) (sym e) ∙ joining-append no_part (sent ++ rest) (cut size q xs)
+          ∙ joining-cut (length xs) size q xs (joining no_part (sent ++ rest));
       messages = ap (λ l. l ++ record { marks = q; user = xs } ∷ []) h.messages
           ∙ sym (ap carried (sym e) ∙ carried-append no_part (sent ++ rest) (cut size q xs)
           ∙ ap (λ j. carried (sent ++ rest) ++ carried_from j (cut size q xs)) h.whole
           ∙ ap (λ l. carried (sent ++ rest) ++ l) (carried-cut (length xs) size q xs no_part));
     }
 
-pub Text-pull : {longest size : ℕ} {sent : List Piece} (p : Piece) (rest : List Piece) {down : List Message} → Text longest size sent (p ∷ rest) down → Text longest size (sent ++ p ∷ []) rest down
+pub Text-pull : {longest size : ℕ} {sent : List Piece} (p : Piece) (rest : List Piece) {down : List Message} → Text longest size sent (p ∷ rest) down
+    → Text longest size (sent ++ p ∷ []) rest down
 Text-pull {sent} p rest h =
     let e : sent ++ (p ∷ rest) ≡ (sent ++ p ∷ []) ++ rest = sym (append_assoc sent (p ∷ []) rest) in
     record {

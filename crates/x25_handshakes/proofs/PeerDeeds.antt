@@ -6,12 +6,14 @@ use Rattle.x25_window.specs.code.Modulo.{resolved}
 use Rattle.x25_handshakes.specs.laws.Stretch.{Packet, Data, Rr, Rnr, Int, IntConf, Stretch}
 use Rattle.x25_handshakes.specs.laws.PeerStretch.{PeerStretch, Deed, Sends, Says, Interrupts, Confirms, MayAcknowledge, MayDo, does, packet_of, taking}
 use Rattle.x25_handshakes.proofs.{StretchRelation.{numbering, ack_in, int_in, conf_in, InFlowControl, hears, heard}, TextLemmas.{AreSound-append}}
-use Rattle.x25_handshakes.proofs.PartLemmas.{Line-le, Line-send, Line-push, Line-take, Line-skip, Acks-pass, Acks-more, Acks-told, Acks-hear, Ints-there, Ints-back, Ints-send, Ints-take, Ints-confirm, Ints-past, Ints-skip, Ints-out, Ints-conf}
+use Rattle.x25_handshakes.proofs.PartLemmas.{Line-le, Line-send, Line-push, Line-take, Line-skip, Acks-pass, Acks-more, Acks-told, Acks-hear, Ints-there}
+use Rattle.x25_handshakes.proofs.PartLemmas.{Ints-back, Ints-send, Ints-take, Ints-confirm, Ints-past, Ints-skip, Ints-out, Ints-conf}
 use Rattle.x25_handshakes.proofs.PeerRelation.{Ours, Kept}
 use Rattle.x25_handshakes.specs.laws.Terms.{Terms}
 
 -- it acknowledges so many, whatever it has sent
-Ours-told : {t : Terms} → t.window ≤ 7 → {x : Stretch} {u v : List Packet} {y : PeerStretch} (sent : List Piece) {n : ℕ} (q : Packet) → conf_in q ≡ 0 → ack_in q ≡ Some (n % 8) → MayAcknowledge y n → Ours t x u v y
+Ours-told : {t : Terms} → t.window ≤ 7 → {x : Stretch} {u v : List Packet} {y : PeerStretch} (sent : List Piece) {n : ℕ} (q : Packet) → conf_in q ≡ 0
+    → ack_in q ≡ Some (n % 8) → MayAcknowledge y n → Ours t x u v y
     → Ours t x u (v ++ q ∷ []) (record y { sent = sent; told = n })
 Ours-told {t} small {x} {u} {v} {y} sent {n} q no_conf ack may h =
     let e = Line-le h.line in
@@ -24,14 +26,16 @@ Ours-told {t} small {x} {u} {v} {y} sent {n} q no_conf ack may h =
     }
 
 -- by a packet that is none of the others
-says_kept : {t : Terms} {longest size : ℕ} → t.window ≤ 7 → {x : Stretch} {u v : List Packet} {y : PeerStretch} {n : ℕ} (q : Packet) → numbering q ≡ None → int_in q ≡ [] → conf_in q ≡ 0 → InFlowControl q → ack_in q ≡ Some (n % 8)
+says_kept : {t : Terms} {longest size : ℕ} → t.window ≤ 7 → {x : Stretch} {u v : List Packet} {y : PeerStretch} {n : ℕ} (q : Packet) → numbering q ≡ None
+    → int_in q ≡ [] → conf_in q ≡ 0 → InFlowControl q → ack_in q ≡ Some (n % 8)
     → MayAcknowledge y n → Kept t longest size x u v y → Kept t longest size x u (v ++ q ∷ []) (record y { told = n })
 says_kept {t} small {x} {u} {v} {y} {n} q none no_int no_conf is ack may h = record {
   there = Ours-told small y.sent q no_conf ack may h.there;
   back = record { line = Line-push q none is h.back.line; acks = h.back.acks; ints = Ints-there q no_int h.back.ints; text = h.back.text };
 }
 
-pub does_kept : (t : Terms) (longest size : ℕ) → t.window ≤ 7 → (x : Stretch) (u v : List Packet) (y : PeerStretch) (d : Deed) → MayDo longest size y d → Kept t longest size x u v y → Kept t longest size x u (v ++ packet_of y d ∷ []) (does y d)
+pub does_kept : (t : Terms) (longest size : ℕ) → t.window ≤ 7 → (x : Stretch) (u v : List Packet) (y : PeerStretch) (d : Deed) → MayDo longest size y d
+    → Kept t longest size x u v y → Kept t longest size x u (v ++ packet_of y d ∷ []) (does y d)
 does_kept t longest size small x u v y (Sends p n) may h =
     let longer = length_push y.sent p in
     let room = may.1.window in
@@ -74,22 +78,26 @@ does_kept t longest size small x u v y Confirms may h = record {
 -- ---- what comes to it
 
 -- what is no data and no interrupt, whatever it says of what the peer sent
-Ours-past : (t : Terms) (x : Stretch) (u v : List Packet) (y : PeerStretch) (acked : ℕ) (out : Bool) (q : Packet) → numbering q ≡ None → int_in q ≡ [] → Ours t x (q ∷ u) v y → Ours t x u v (record y { acked = acked; int_out = out })
+Ours-past : (t : Terms) (x : Stretch) (u v : List Packet) (y : PeerStretch) (acked : ℕ) (out : Bool) (q : Packet) → numbering q ≡ None → int_in q ≡ []
+    → Ours t x (q ∷ u) v y → Ours t x u v (record y { acked = acked; int_out = out })
 Ours-past t x u v y acked out q none no_int h = record { line = Line-skip u q none h.line; acks = h.acks; ints = Ints-past u q no_int h.ints; text = h.text }
 
-status_heard : {t : Terms} {longest size : ℕ} {x : Stretch} (u : List Packet) {v : List Packet} {y : PeerStretch} (r : ℕ) (q : Packet) → numbering q ≡ None → int_in q ≡ [] → conf_in q ≡ 0 → ack_in q ≡ Some r → Kept t longest size x (q ∷ u) v y
+status_heard : {t : Terms} {longest size : ℕ} {x : Stretch} (u : List Packet) {v : List Packet} {y : PeerStretch} (r : ℕ) (q : Packet) → numbering q ≡ None
+    → int_in q ≡ [] → conf_in q ≡ 0 → ack_in q ≡ Some r → Kept t longest size x (q ∷ u) v y
     → Kept t longest size x u v (record y { acked = resolved y.acked r })
 status_heard {t} {x} u {v} {y} r q none no_int no_conf ack h = record {
   there = Ours-past t x u v y (resolved y.acked r) y.int_out q none no_int h.there;
   back = record {
     line = h.back.line;
-    acks = Acks-hear 7 y.acked (length y.sent) u r (length x.taken) h.back.acks.room (subst (λ a. heard (hears y.acked a) u ≤ length x.taken) ack h.back.acks.acks);
+    acks = Acks-hear 7 y.acked (length y.sent) u r (length x.taken) h.back.acks.room
+        (subst (λ a. heard (hears y.acked a) u ≤ length x.taken) ack h.back.acks.acks);
     ints = Ints-skip u q no_conf h.back.ints;
     text = h.back.text;
   };
 }
 
-pub taking_kept : {t : Terms} {longest size : ℕ} {x : Stretch} (p : Packet) (u : List Packet) {v : List Packet} {y : PeerStretch} → Kept t longest size x (p ∷ u) v y → Kept t longest size x u v (taking y p)
+pub taking_kept : {t : Terms} {longest size : ℕ} {x : Stretch} (p : Packet) (u : List Packet) {v : List Packet} {y : PeerStretch}
+    → Kept t longest size x (p ∷ u) v y → Kept t longest size x u v (taking y p)
 taking_kept {x} (Data s r p) u {v} {y} h =
     let longer = length_push y.taken p in
     let late = h.there.acks.late in

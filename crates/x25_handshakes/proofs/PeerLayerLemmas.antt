@@ -4,17 +4,21 @@ use Rattle.std.proofs.lemmas.Option.{none-some}
 use Rattle.x25_handshakes.specs.{laws.Handshake.{Side, Live, Left, At, Step, live, first_error, near_stepped}, laws.Stretch.{Packet}}
 use Rattle.x25_handshakes.specs.laws.Layers.{LayerPacket, On, Restart, RestartConf, Channels, addressed, all_fresh, layer_takes, LayerAct, layer_acts}
 use Rattle.x25_handshakes.specs.{laws.PeerCalls.{PeerCall, fresh_peer_call}, laws.PeerChannel.{does_channel, channel_packet_of, channel_taking}}
-use Rattle.x25_handshakes.specs.laws.PeerLayer.{PeerChannels, put_peer, peer_fresh, LayerDeed, InChannel, Restarts, MayDoLayer, does_layer, layer_packet_of, ready_taking, layer_taking}
-use Rattle.x25_handshakes.specs.laws.PeerLayers.{other_role, found, layer_found, AreElsewhere, JoinedLayers, HappensInLayers, Acts, Takes, Does, Hears, HearsChannel, ReachedInLayers, at_start, goes_on}
+use Rattle.x25_handshakes.specs.laws.PeerLayer.{PeerChannels, put_peer, peer_fresh, LayerDeed, InChannel, Restarts, MayDoLayer, does_layer, layer_packet_of}
+use Rattle.x25_handshakes.specs.laws.PeerLayer.{ready_taking, layer_taking}
+use Rattle.x25_handshakes.specs.laws.PeerLayers.{other_role, found, layer_found, AreElsewhere, JoinedLayers, HappensInLayers, Acts, Takes, Does, Hears}
+use Rattle.x25_handshakes.specs.laws.PeerLayers.{HearsChannel, ReachedInLayers, at_start, goes_on}
 use Rattle.x25_handshakes.specs.{laws.LawsBelow.{Laws}, laws.Arrivals.{open_channel}}
-use Rattle.x25_handshakes.specs.laws.PeerClaims.{ChannelsAreInOrder, is_open_there, TookLayer, WithAnyPeerLayer, KeepsLayers, LayerFindsNoError, LayerHasArrived}
+use Rattle.x25_handshakes.specs.laws.PeerClaims.{ChannelsAreInOrder, is_open_there, TookLayer, WithAnyPeerLayer, KeepsLayers, LayerFindsNoError}
+use Rattle.x25_handshakes.specs.laws.PeerClaims.{LayerHasArrived}
 use Rattle.x25_bits.specs.{declared.role.Role.{Role}, declared.role.Role.TheVariants.{Dte, Dce}}
 use Rattle.x25_handshakes.proofs.{HandshakeRelation.{Level, Handshaken, GoodStep, AllInner, Handshake}, HandshakeLemmas.{inner_take_behind, flip}}
 use Rattle.x25_handshakes.proofs.HandshakeSteps.{Any, Answers, acts_inside, leaves, answered, there}
 use Rattle.x25_handshakes.proofs.LayersRelation.{kept_on, on, OnEach, restart_mark, own_channels_level}
 use Rattle.x25_handshakes.proofs.OwnLayerLemmas.{put_kept, on-append, inner_addressed, on-front, on-past, OwnChannels, layer_takes_good, layer_acts_good}
 use Rattle.x25_handshakes.proofs.{OwnChannelLemmas.{channel_takes_good, channel_acts_good}, PeerCallLemmas.{PeerSeen}}
-use Rattle.x25_handshakes.proofs.PeerChannelLemmas.{PeerChannelRelated, PeerChannelRelated-fresh, found_none, peer_calls, channel_taking_kept, channel_does_kept}
+use Rattle.x25_handshakes.proofs.PeerChannelLemmas.{PeerChannelRelated, PeerChannelRelated-fresh, found_none, peer_calls, channel_taking_kept}
+use Rattle.x25_handshakes.proofs.PeerChannelLemmas.{channel_does_kept}
 use Rattle.x25_handshakes.proofs.PeerOrder.{in_epochs, channel_order, meet, took_channel}
 
 abbrev pub peer_channels_level : Role → Level Channels PeerChannels LayerPacket
@@ -39,12 +43,15 @@ layer_found_none p = refl
 peer_channels : Laws → (r : Role) → OwnChannels (PeerChannelRelated r) peer_fresh r layer_found
 peer_channels laws r = record {
   empty = λ h. PeerChannelRelated-fresh r;
-  acts = λ x L K y a h. (let good = channel_acts_good (λ x. Unit {0}) (λ y. Unit {0}) (PeerSeen r) fresh_peer_call r found (peer_calls laws r) a h in (good.quiet, good.kept));
-  takes = λ k x L p K y h. (let good = channel_takes_good (λ x. Unit {0}) (λ y. Unit {0}) (PeerSeen r) fresh_peer_call r found (peer_calls laws r) p K h in (good.quiet, good.kept));
+  acts = λ x L K y a h. (let good = channel_acts_good (λ x. Unit {0}) (λ y. Unit {0}) (PeerSeen r) fresh_peer_call r found (peer_calls laws r) a h in
+      (good.quiet, good.kept));
+  takes = λ k x L p K y h. (let good = channel_takes_good (λ x. Unit {0}) (λ y. Unit {0}) (PeerSeen r) fresh_peer_call r found (peer_calls laws r) p K h in
+      (good.quiet, good.kept));
   none = layer_found_none;
 }
 
-pub layer_takes_kept : Laws → (r : Role) {x : At Channels} {L : List LayerPacket} (p : LayerPacket) (K : List LayerPacket) {y : At PeerChannels} → PeerLayersRelated r x L (p ∷ K) y
+pub layer_takes_kept : Laws → (r : Role) {x : At Channels} {L : List LayerPacket} (p : LayerPacket) (K : List LayerPacket) {y : At PeerChannels}
+    → PeerLayersRelated r x L (p ∷ K) y
     → GoodPeerLayer r (layer_found p (layer_takes r x p).error) (layer_takes r x p) L K y
 layer_takes_kept laws r {x} {L} p K {y} h = layer_takes_good (PeerChannelRelated r) peer_fresh r layer_found (peer_channels laws r) p K h
 
@@ -72,12 +79,15 @@ module _ (r : Role) where
   level = flip (peer_channels_level r)
 
   -- the peer's step on channel h
-  peer_put : {x : Channels} (L : List LayerPacket) {M K : List LayerPacket} {y : PeerChannels} (h : ℕ) {z : At PeerCall} (o : List Packet) → OnEach (PeerChannelRelated r) x M K y → ((k : ℕ) → (k == h) ≡ false → on k M ≡ on k L)
+  peer_put : {x : Channels} (L : List LayerPacket) {M K : List LayerPacket} {y : PeerChannels} (h : ℕ) {z : At PeerCall} (o : List Packet)
+      → OnEach (PeerChannelRelated r) x M K y → ((k : ℕ) → (k == h) ≡ false → on k M ≡ on k L)
       → PeerChannelRelated r (x h) (on h L) (on h K ++ o) z → OnEach (PeerChannelRelated r) x L (K ++ addressed h o) (put_peer y h z)
   peer_put {x} L {M} {K} {y} h {z} o all others here = record { each = put_kept (λ z w v x. PeerChannelRelated r x v w z) y z o K L M x h all.each others here }
 
-  taken_at : (x : Channels) (j : List LayerPacket) (h : ℕ) (p : Packet) (L K : List LayerPacket) (y : PeerChannels) → AreElsewhere h j → OnEach (PeerChannelRelated r) x (j ++ On h p ∷ L) K y
-      → OnEach (PeerChannelRelated r) x (j ++ L) (K ++ addressed h (channel_taking (other_role r) (y h).epoch (y h).side p).out) (put_peer y h (channel_taking (other_role r) (y h).epoch (y h).side p).next)
+  taken_at : (x : Channels) (j : List LayerPacket) (h : ℕ) (p : Packet) (L K : List LayerPacket) (y : PeerChannels) → AreElsewhere h j
+      → OnEach (PeerChannelRelated r) x (j ++ On h p ∷ L) K y
+      → OnEach (PeerChannelRelated r) x (j ++ L) (K ++ addressed h (channel_taking (other_role r) (y h).epoch (y h).side p).out)
+      (put_peer y h (channel_taking (other_role r) (y h).epoch (y h).side p).next)
   taken_at x j h p L K y apart all =
       let s = channel_taking (other_role r) (y h).epoch (y h).side p in
       let none = elsewhere_none h j apart in
@@ -89,7 +99,8 @@ module _ (r : Role) where
       (λ k not. on-append k j (On h p ∷ L) ∙ ap (λ l. on k j ++ l) (on-past k h p L not) ∙ sym (on-append k j L))
       (rw rest here)
     where
-      taking_there : (r : Role) (x : At _) (p : Packet) (L K : List Packet) (e : ℕ) (y : Side PeerCall) → PeerChannelRelated r x (p ∷ L) K (record { epoch = e; side = y })
+      taking_there : (r : Role) (x : At _) (p : Packet) (L K : List Packet) (e : ℕ) (y : Side PeerCall)
+          → PeerChannelRelated r x (p ∷ L) K (record { epoch = e; side = y })
           → PeerChannelRelated r x L (K ++ (channel_taking (other_role r) e y p).out) (channel_taking (other_role r) e y p).next
       taking_there Dte x p L K e y h = channel_taking_kept Dte x p L K e y h
       taking_there Dce x p L K e y h = channel_taking_kept Dce x p L K e y h
@@ -109,20 +120,27 @@ module _ (r : Role) where
         };
       }) all
 
-  answers : (e : ℕ) (y : Side PeerChannels) (p : LayerPacket) → (let s = layer_taking (other_role r) e y p in Answers level Any e y p (restart_mark p) s.next s.out None)
-  answers e (Live y) (On h p) = record { after = _; goes = λ w v z c. record { quiet = refl; at = refl; inner = inner_addressed h _; passes = tt; kept = taken_at z [] h p v w y tt c } }
+  answers : (e : ℕ) (y : Side PeerChannels) (p : LayerPacket)
+      → (let s = layer_taking (other_role r) e y p in Answers level Any e y p (restart_mark p) s.next s.out None)
+  answers e (Live y) (On h p) = record {
+    after = _;
+    goes = λ w v z c. record { quiet = refl; at = refl; inner = inner_addressed h _; passes = tt; kept = taken_at z [] h p v w y tt c };
+  }
   answers e (Live y) Restart = record { confirm = RestartConf; is = refl; at = refl; sent = refl; passes = tt; quiet = λ w z gone h. refl }
   answers e (Live y) RestartConf = tt
   answers e (Left y) Restart = (refl, refl, refl)
   answers e (Left y) p = (refl, refl, refl)
 
-  pub hears_kept : (x : At Channels) (p : LayerPacket) (L K : List LayerPacket) (e : ℕ) (y : Side PeerChannels) → PeerLayersRelated r x (p ∷ L) K (record { epoch = e; side = y })
+  pub hears_kept : (x : At Channels) (p : LayerPacket) (L K : List LayerPacket) (e : ℕ) (y : Side PeerChannels)
+      → PeerLayersRelated r x (p ∷ L) K (record { epoch = e; side = y })
       → PeerLayersRelated r x L (K ++ (layer_taking (other_role r) e y p).out) (layer_taking (other_role r) e y p).next
   hears_kept x p L K e y h =
       let s = layer_taking (other_role r) e y p in
-      there (peer_channels_level r) x (p ∷ L) L K s.out (record { epoch = e; side = y }) s.next (λ k. (answered level Any tt (PeerChannelsRelated-fresh r) (answers e y p) L k).0) h
+      there (peer_channels_level r) x (p ∷ L) L K s.out (record { epoch = e; side = y }) s.next
+      (λ k. (answered level Any tt (PeerChannelsRelated-fresh r) (answers e y p) L k).0) h
 
-  does_good : Laws → (x : At Channels) (L K : List LayerPacket) (e : ℕ) (y : Side PeerChannels) (d : LayerDeed) → MayDoLayer y d → Handshaken level (record { epoch = e; side = y }) K L x
+  does_good : Laws → (x : At Channels) (L K : List LayerPacket) (e : ℕ) (y : Side PeerChannels) (d : LayerDeed) → MayDoLayer y d
+      → Handshaken level (record { epoch = e; side = y }) K L x
       → GoodStep level None (does_layer e y d) (layer_packet_of y d ∷ []) K L x
   does_good laws x L K e (Live y) (InChannel h d) may all =
       let p = channel_packet_of (y h).side d in
@@ -140,15 +158,18 @@ module _ (r : Role) where
   does_good laws x L K e (Live y) Restarts may all = leaves level Any Restart refl e y tt all
   does_good laws x L K e (Left y) d may all = absurd may
 
-  pub does_kept : Laws → {x : At Channels} {L K : List LayerPacket} (e : ℕ) {y : Side PeerChannels} (d : LayerDeed) → MayDoLayer y d → PeerLayersRelated r x L K (record { epoch = e; side = y })
+  pub does_kept : Laws → {x : At Channels} {L K : List LayerPacket} (e : ℕ) {y : Side PeerChannels} (d : LayerDeed) → MayDoLayer y d
+      → PeerLayersRelated r x L K (record { epoch = e; side = y })
       → PeerLayersRelated r x L (K ++ layer_packet_of y d ∷ []) (does_layer e y d)
-  does_kept laws {x} {L} {K} e {y} d may h = there (peer_channels_level r) x L L K (layer_packet_of y d ∷ []) (record { epoch = e; side = y }) (does_layer e y d) (λ k. does_good laws x L K e y d may k) h
+  does_kept laws {x} {L} {K} e {y} d may h = there (peer_channels_level r) x L L K (layer_packet_of y d ∷ []) (record { epoch = e; side = y })
+      (does_layer e y d) (λ k. does_good laws x L K e y d may k) h
 
 record Holds (r : Role) (w : JoinedLayers) : Type 0 where
   pub quiet : w.error ≡ None
   pub kept : PeerLayersRelated r w.near w.out w.back w.peer
 
-stepped_holds : {r : Role} (w : JoinedLayers) {back : List LayerPacket} (s : Step (At Channels) LayerPacket) {e : Option ℕ} → w.error ≡ None → GoodPeerLayer r e s w.out back w.peer → Holds r (near_stepped w back s e)
+stepped_holds : {r : Role} (w : JoinedLayers) {back : List LayerPacket} (s : Step (At Channels) LayerPacket) {e : Option ℕ} → w.error ≡ None
+    → GoodPeerLayer r e s w.out back w.peer → Holds r (near_stepped w back s e)
 stepped_holds w s {e} none good = record { quiet = ap (λ f. first_error f e) none ∙ good.quiet; kept = good.kept }
 
 happens_holds : Laws → (r : Role) (w v : JoinedLayers) → HappensInLayers r w v → Holds r w → Holds r v
@@ -166,7 +187,10 @@ happens_holds laws r w v (HearsChannel y k passed p rest live apart is) h = reco
 }
 
 reached_holds : Laws → {r : Role} {w : JoinedLayers} → ReachedInLayers r w → Holds r w
-reached_holds laws {r} at_start = record { quiet = refl; kept = record { hand = inl (record { epochs = refl; there = (refl, refl); back = refl; inner = ([], tt, PeerChannelsRelated-fresh r) }) } }
+reached_holds laws {r} at_start = record {
+  quiet = refl;
+  kept = record { hand = inl (record { epochs = refl; there = (refl, refl); back = refl; inner = ([], tt, PeerChannelsRelated-fresh r) }) };
+}
 reached_holds laws {r} {w} (goes_on v u h event) = happens_holds laws r v w event (reached_holds laws h)
 
 pub keeps_layers : Laws → WithAnyPeerLayer KeepsLayers
@@ -180,7 +204,8 @@ pub layer_has_arrived : Laws → WithAnyPeerLayer LayerHasArrived
 layer_has_arrived laws r w reached none k a is there =
     by w.near.side w.peer.side (subst (λ l. PeerLayersRelated r w.near l w.back w.peer) none (reached_holds laws reached).kept).hand is there
   where
-    by : (x : Side Channels) (y : Side PeerChannels) → Handshake (peer_channels_level r) w.near.epoch w.peer.epoch x y [] w.back → open_channel x k ≡ Some a → is_open_there y k ≡ true
+    by : (x : Side Channels) (y : Side PeerChannels) → Handshake (peer_channels_level r) w.near.epoch w.peer.epoch x y [] w.back → open_channel x k ≡ Some a
+        → is_open_there y k ≡ true
         → TookLayer k (record { epoch = w.near.epoch; side = x }) (record { epoch = w.peer.epoch; side = y }) a
     by (Live x) (Live y) h is there =
         let m = meet x y h in

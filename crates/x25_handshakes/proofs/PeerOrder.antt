@@ -1,12 +1,14 @@
 -- What is kept of our end and a peer says that all is in order, and that all was taken where nothing is on the way.
-use Rattle.std.proofs.Common.{◌≡◌, inl, inr, ℕ, suc, ◌+◌, ◌≤◌, List, [], ◌∷◌, ◌++◌, length, Some, true, false, refl, sym, ap, subst, ◌∙◌, arith, append_assoc, length-append}
+use Rattle.std.proofs.Common.{◌≡◌, inl, inr, ℕ, suc, ◌+◌, ◌≤◌, List, [], ◌∷◌, ◌++◌, length, Some, true, false, refl, sym, ap, subst, ◌∙◌, arith, append_assoc}
+use Rattle.std.proofs.Common.{length-append}
 use Rattle.std.proofs.{lemmas.Bool.{true≢false}, lemmas.List.{append-nil}, lemmas.Option.{same_Some, none-some}}
 use Rattle.x25_bits.specs.{declared.role.Role.{Role}, declared.role.Role.TheVariants.{Dte, Dce}}
 use Rattle.x25_circuit.specs.{Message.{no_part, joining, carried, carried_from}, Notice.{CallRequest}}
 use Rattle.x25_handshakes.specs.{laws.Handshake.{Side, Live, Left, At, state_of}, laws.Stretch.{Packet, Stretch}, laws.Transfer.{fresh_transfer}}
 use Rattle.x25_handshakes.specs.{laws.Calls.{Phase, Talking, Connection, Stage}, laws.PeerStretch.{PeerStretch}, laws.PeerTransfer.{fresh_peer_transfer}}
 use Rattle.x25_handshakes.specs.{laws.PeerCalls.{PeerCall}, laws.Arrivals.{open_in, open_phase, open_call}}
-use Rattle.x25_handshakes.specs.laws.PeerClaims.{InEpochs, AreInOrder, StretchesAreInOrder, CallIsInOrder, ChannelIsInOrder, is_open_stage, is_open_call, TookAll, TookCall, TookChannel}
+use Rattle.x25_handshakes.specs.laws.PeerClaims.{InEpochs, AreInOrder, StretchesAreInOrder, CallIsInOrder, ChannelIsInOrder, is_open_stage, is_open_call}
+use Rattle.x25_handshakes.specs.laws.PeerClaims.{TookAll, TookCall, TookChannel}
 use Rattle.x25_handshakes.proofs.{StretchRelation.{pieces, ints, confs, one_if}, TextLemmas.{carried-append}, LineLemmas.{heard_least}}
 use Rattle.x25_handshakes.proofs.{HandshakeRelation.{before, past, Extended, Level, Handshake}, HandshakeLemmas.{both_fresh}, CallsRelation.{JointOf}}
 use Rattle.x25_handshakes.proofs.{ArrivalLemmas.{nothing_waits}, PeerRelation.{Kept, Kept-start}, PeerTransferLemmas.{peer_level}}
@@ -66,9 +68,11 @@ in_order t longest size x u v y h =
     let there = h.there in
     let back = h.back in
     let down : x.down ≡ carried y.taken ++ carried_from (joining no_part y.taken) (pieces u ++ x.rest) =
-    there.text.messages ∙ ap (λ l. carried (l ++ x.rest)) there.line.flow ∙ ap carried (append_assoc y.taken (pieces u) x.rest) ∙ carried-append no_part y.taken (pieces u ++ x.rest)
+    there.text.messages ∙ ap (λ l. carried (l ++ x.rest)) there.line.flow ∙ ap carried (append_assoc y.taken (pieces u) x.rest)
+    ∙ carried-append no_part y.taken (pieces u ++ x.rest)
     in
-    let sent : carried y.sent ≡ carried x.taken ++ carried_from (joining no_part x.taken) (pieces v) = ap carried back.line.flow ∙ carried-append no_part x.taken (pieces v) in
+    let sent : carried y.sent ≡ carried x.taken ++ carried_from (joining no_part x.taken) (pieces v) =
+    ap carried back.line.flow ∙ carried-append no_part x.taken (pieces v) in
     record {
       up = (carried_from (joining no_part x.taken) (pieces v), ap (λ l. l ++ carried_from (joining no_part x.taken) (pieces v)) back.text.up ∙ sym sent);
       there = (carried_from (joining no_part y.taken) (pieces u ++ x.rest), sym down);
@@ -83,16 +87,19 @@ in_order t longest size x u v y h =
           let count : one_if false ≡ (length (ints v) + confs u) + 0 = subst (λ o. one_if o ≡ (length (ints v) + confs u) + 0) none back.ints.count in
           sym (back.ints.flow ∙ ap (λ l. x.int_up ++ l) (none_left (ints v) (omega (arith, count))) ∙ append-nil x.int_up));
       int_all_there = λ none. (
-          let count : one_if false ≡ (length (ints u) + confs v) + y.owed = subst (λ o. one_if o ≡ (length (ints u) + confs v) + y.owed) none there.ints.count in
+          let count : one_if false ≡ (length (ints u) + confs v) + y.owed =
+          subst (λ o. one_if o ≡ (length (ints u) + confs v) + y.owed) none there.ints.count in
           sym (there.ints.flow ∙ ap (λ l. y.int_up ++ l) (none_left (ints u) (omega (arith, count))) ∙ append-nil y.int_up));
     }
 
-pub stretches_order : (t : Terms) (longest size : ℕ) (x : At Stretch) {L K : List Packet} (y : At PeerStretch) → Handshake (peer_level t longest size) x.epoch y.epoch x.side y.side L K → StretchesAreInOrder x y
+pub stretches_order : (t : Terms) (longest size : ℕ) (x : At Stretch) {L K : List Packet} (y : At PeerStretch)
+    → Handshake (peer_level t longest size) x.epoch y.epoch x.side y.side L K → StretchesAreInOrder x y
 stretches_order t longest size x {L} {K} y h = in_epochs (peer_level t longest size) AreInOrder (in_order t longest size) x y h
 
 -- before p4: any terms do
 fresh_order : StretchesAreInOrder fresh_transfer fresh_peer_transfer
-fresh_order = stretches_order (record { window = 0; size = 0; longest = 0 }) 0 0 fresh_transfer fresh_peer_transfer (both_fresh (peer_level (record { window = 0; size = 0; longest = 0 }) 0 0) (Kept-start (record { window = 0; size = 0; longest = 0 }) 0 0) 0)
+fresh_order = stretches_order (record { window = 0; size = 0; longest = 0 }) 0 0 fresh_transfer fresh_peer_transfer
+    (both_fresh (peer_level (record { window = 0; size = 0; longest = 0 }) 0 0) (Kept-start (record { window = 0; size = 0; longest = 0 }) 0 0) 0)
 
 talks_order : (t b : Terms) (x : At Stretch) (u v : List Packet) (t₂ b₂ : Terms) (y : At PeerStretch) → PeerTalks t b x u v t₂ b₂ y → StretchesAreInOrder x y
 talks_order t b x u v t₂ b₂ y h = stretches_order t b.longest b.size x y h.related.hand
@@ -101,10 +108,12 @@ talks_order t b x u v t₂ b₂ y h = stretches_order t b.longest b.size x y h.r
 
 call_order : (r : Role) (x : Connection) (u v : List Packet) (y : PeerCall) → PeerSeen r x u v y → CallIsInOrder x y
 call_order Dte x u v y h =
-    let o = joint_order PeerTalks fresh_transfer fresh_peer_transfer StretchesAreInOrder fresh_order talks_order x.phase y.stage x.made x.indicated y.made y.indicated u v h in
+    let o = joint_order PeerTalks fresh_transfer fresh_peer_transfer StretchesAreInOrder fresh_order talks_order x.phase y.stage x.made x.indicated y.made
+    y.indicated u v h in
     record { up = o.0; there = o.1; stretches = o.2 }
 call_order Dce x u v y h =
-    let o = joint_order TalksPeer fresh_peer_transfer fresh_transfer (λ b a. StretchesAreInOrder a b) fresh_order (λ t b y u v t₂ b₂ x h. talks_order t₂ b₂ x v u t b y h) y.stage x.phase y.made y.indicated x.made x.indicated v u h in
+    let o = joint_order TalksPeer fresh_peer_transfer fresh_transfer (λ b a. StretchesAreInOrder a b) fresh_order
+    (λ t b y u v t₂ b₂ x h. talks_order t₂ b₂ x v u t b y h) y.stage x.phase y.made y.indicated x.made x.indicated v u h in
     record { up = o.1; there = o.0; stretches = o.2 }
 
 pub channel_order : (r : Role) {x : At Connection} {L K : List Packet} {y : At PeerCall} → PeerChannelRelated r x L K y → ChannelIsInOrder x y
@@ -128,7 +137,8 @@ took_all {x} {y} h =
     let there = h.there in
     let all = there.line.flow ∙ append-nil y.taken in
     record {
-      messages = λ none. sym (there.text.messages ∙ ap (λ l. carried (x.sent ++ l)) (nothing_waits x.sent x.rest there.text.whole none) ∙ ap carried (append-nil x.sent ∙ all));
+      messages = λ none. sym (there.text.messages ∙ ap (λ l. carried (x.sent ++ l)) (nothing_waits x.sent x.rest there.text.whole none)
+          ∙ ap carried (append-nil x.sent ∙ all));
       interrupts = sym (there.ints.flow ∙ append-nil y.int_up);
     }
 
@@ -136,7 +146,8 @@ record TookStretch (ex ey : ℕ) (y : Side PeerStretch) (a : Stretch) : Type 0 w
   epochs : ex ≡ ey
   all : TookAll a (state_of y)
 
-took_stretch : (t : Terms) (longest size : ℕ) {ex ey : ℕ} (x : Side Stretch) (y : Side PeerStretch) {K : List Packet} (a : Stretch) → Handshake (peer_level t longest size) ex ey x y [] K
+took_stretch : (t : Terms) (longest size : ℕ) {ex ey : ℕ} (x : Side Stretch) (y : Side PeerStretch) {K : List Packet} (a : Stretch)
+    → Handshake (peer_level t longest size) ex ey x y [] K
     → open_in x ≡ Some a → is_open_stage (Talking t t (record { epoch = ey; side = y })) ≡ true → TookStretch ex ey y a
 took_stretch t longest size {ex} {ey} (Live x) (Live y) {K} a h is there =
     let m = meet x y h in
@@ -144,29 +155,34 @@ took_stretch t longest size {ex} {ey} (Live x) (Live y) {K} a h is there =
 took_stretch t longest size (Left x) y a h is there = absurd (none-some a is)
 took_stretch t longest size (Live x) (Left y) a h is there = absurd (true≢false (sym there))
 
-took_talk : {t b : Terms} {x : At Stretch} {v : List Packet} {t₂ b₂ : Terms} {y : At PeerStretch} (m i : List CallRequest) (a : Stretch) → PeerTalks t b x [] v t₂ b₂ y → open_in x.side ≡ Some a
+took_talk : {t b : Terms} {x : At Stretch} {v : List Packet} {t₂ b₂ : Terms} {y : At PeerStretch} (m i : List CallRequest) (a : Stretch)
+    → PeerTalks t b x [] v t₂ b₂ y → open_in x.side ≡ Some a
     → is_open_stage (Talking t₂ b₂ y) ≡ true → TookCall (Talking t b x) (record { stage = Talking t₂ b₂ y; made = m; indicated = i }) a
 took_talk {t} {b} {x} {v} {y} m i a h is there =
     let s = took_stretch t b.longest b.size x.side y.side a h.related.hand is there in
     record { resets = s.epochs; all = s.all }
 
-dte_took : (p : Phase) (c : Stage (At PeerStretch)) (ma ia : List CallRequest) {mb ib : List CallRequest} (v : List Packet) (a : Stretch) → JointOf PeerTalks fresh_transfer fresh_peer_transfer p c ma ia mb ib [] v
+dte_took : (p : Phase) (c : Stage (At PeerStretch)) (ma ia : List CallRequest) {mb ib : List CallRequest} (v : List Packet) (a : Stretch)
+    → JointOf PeerTalks fresh_transfer fresh_peer_transfer p c ma ia mb ib [] v
     → open_phase p ≡ Some a → is_open_stage c ≡ true → TookCall p (record { stage = c; made = mb; indicated = ib }) a
 dte_took (Talking t k x) (Talking t₂ k₂ y) ma ia {mb} {ib} v a h is there = took_talk mb ib a h.0 is there
 dte_took (Talking t k x) other ma ia v a h is there = absurd (true≢false (sym there))
 dte_took other c ma ia v a h is there = absurd (none-some a is)
 
-dce_took : (c : Stage (At PeerStretch)) (p : Phase) {ma ia : List CallRequest} (mb ib : List CallRequest) (v : List Packet) (a : Stretch) → JointOf TalksPeer fresh_peer_transfer fresh_transfer c p ma ia mb ib v []
+dce_took : (c : Stage (At PeerStretch)) (p : Phase) {ma ia : List CallRequest} (mb ib : List CallRequest) (v : List Packet) (a : Stretch)
+    → JointOf TalksPeer fresh_peer_transfer fresh_transfer c p ma ia mb ib v []
     → open_phase p ≡ Some a → is_open_stage c ≡ true → TookCall p (record { stage = c; made = ma; indicated = ia }) a
 dce_took (Talking t k y) (Talking t₂ k₂ x) {ma} {ia} mb ib v a h is there = took_talk ma ia a h.0 is there
 dce_took (Talking t k y) other mb ib v a h is there = absurd (none-some a is)
 dce_took other p mb ib v a h is there = absurd (true≢false (sym there))
 
-took_call : (r : Role) (x : Connection) (v : List Packet) (y : PeerCall) (a : Stretch) → PeerSeen r x [] v y → open_phase x.phase ≡ Some a → is_open_stage y.stage ≡ true → TookCall x.phase y a
+took_call : (r : Role) (x : Connection) (v : List Packet) (y : PeerCall) (a : Stretch) → PeerSeen r x [] v y → open_phase x.phase ≡ Some a
+    → is_open_stage y.stage ≡ true → TookCall x.phase y a
 took_call Dte x v y a h is there = dte_took x.phase y.stage x.made x.indicated v a h is there
 took_call Dce x v y a h is there = dce_took y.stage x.phase x.made x.indicated v a h is there
 
-pub took_channel : (r : Role) {x : At Connection} {K : List Packet} {y : At PeerCall} (a : Stretch) → PeerChannelRelated r x [] K y → open_call x.side ≡ Some a → is_open_call y.side ≡ true → TookChannel x y a
+pub took_channel : (r : Role) {x : At Connection} {K : List Packet} {y : At PeerCall} (a : Stretch) → PeerChannelRelated r x [] K y → open_call x.side ≡ Some a
+    → is_open_call y.side ≡ true → TookChannel x y a
 took_channel r {x} {K} {y} a h is there = by x.side y.side h.hand is there
   where
     by : (s : Side Connection) (q : Side PeerCall) → Handshake (peer_call_level r) x.epoch y.epoch s q [] K → open_call s ≡ Some a → is_open_call q ≡ true

@@ -8,7 +8,8 @@ use Rattle.x25_handshakes.specs.{laws.Stretch.{Data, Call, Accept, Send, Pull}, 
 use Rattle.x25_handshakes.specs.{laws.PeerTransfer.{InStretch}, laws.PeerJoined.{start, Acts, Takes, Does, Hears, ReachedInCall, at_start, goes_on}}
 use Rattle.x25_handshakes.specs.{laws.Calls.{AcceptsCall}, laws.Channel.{Within}, laws.Layers.{On, Restart, RestartConf, OnChannel}}
 use Rattle.x25_handshakes.specs.{laws.PeerCalls.{PlacesCall}, laws.PeerChannel.{InCall}, laws.PeerLayer.{InChannel}}
-use Rattle.x25_handshakes.specs.rows.PeerRows.{terms, handed_down, pulled, heard, answered, taken, acknowledged, LatePeerMoves, proposal, layer_does, peer_hears, layer_does_itself, restarted, called, accepted, message, came, PeerLayerMoves}
+use Rattle.x25_handshakes.specs.rows.PeerRows.{terms, handed_down, pulled, heard, answered, taken, acknowledged, LatePeerMoves, proposal, layer_does}
+use Rattle.x25_handshakes.specs.rows.PeerRows.{peer_hears, layer_does_itself, restarted, called, accepted, message, came, PeerLayerMoves}
 use Rattle.x25_handshakes.specs.laws.PeerLayers as layers
 use Rattle.x25_handshakes.specs.laws.Terms.{calling_terms}
 
@@ -18,7 +19,8 @@ late_peer_moves =
     let r2 = goes_on handed_down pulled r1 (Acts (Inside Pull)) in
     let r3 = goes_on pulled heard r2 (Hears (Data 0 0 (Last (with_q false) (5 ∷ []))) [] refl) in
     let r4 : ReachedInCall terms 1 128 answered =
-    goes_on heard answered r3 (Does (InStretch (Sends (Last (with_q false) (7 ∷ [])) 0)) (record { rising = omega arith; taken = omega arith }, record { window = omega arith; fits = refl })) in
+    goes_on heard answered r3 (Does (InStretch (Sends (Last (with_q false) (7 ∷ [])) 0))
+    (record { rising = omega arith; taken = omega arith }, record { window = omega arith; fits = refl })) in
     let r5 = goes_on answered taken r4 (Takes (Data 0 0 (Last (with_q false) (7 ∷ []))) [] refl) in
     record {
       reached = goes_on taken acknowledged r5 (Does (InStretch (Says true 1)) (record { rising = omega arith; taken = omega arith }));

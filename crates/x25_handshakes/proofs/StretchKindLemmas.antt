@@ -1,5 +1,6 @@
 -- Messages and interrupts: what belongs to a stretch is handed up as the other end handed it down in that stretch.
-use Rattle.std.proofs.Common.{◌≡◌, inl, inr, ℕ, ◌+◌, List, [], ◌∷◌, ◌++◌, length, Option, Some, None, Bool, true, false, nat_lt, nat_le, if◌then◌else◌, refl, sym, ap, subst, ◌∙◌, arith}
+use Rattle.std.proofs.Common.{◌≡◌, inl, inr, ℕ, ◌+◌, List, [], ◌∷◌, ◌++◌, length, Option, Some, None, Bool, true, false, nat_lt, nat_le, if◌then◌else◌, refl}
+use Rattle.std.proofs.Common.{sym, ap, subst, ◌∙◌, arith}
 use Rattle.std.proofs.{lemmas.List.{append-nil}, lemmas.Bool.{cond_both}}
 use Rattle.x25_circuit.specs.{Message.{Piece, wholes}, declared.params.Params.{Params}, Params.{Proposal, may_propose, may_answer, field_for, said_in}}
 use Rattle.x25_circuit.specs.Notice.{CallRequest}
@@ -9,9 +10,12 @@ use Rattle.x25_handshakes.proofs.{TransferRelation.{stretch_level, TransfersRela
 use Rattle.x25_handshakes.proofs.{OwnTransferLemmas.{inner_mark}, StretchLemmas.{GoodStretch-takes, FollowsFrom-from_Dir}, ClaimLemmas.{Seen-joint}}
 use Rattle.x25_handshakes.proofs.{HistoryLemmas.{Change, Stays, MoreResets, alike}, TurnLemmas.{MayIndicate, WithinCall, IsHandled}}
 use Rattle.x25_handshakes.specs.laws.Handshake.{Inner, Side, Live, Left, At, state_of, Step, live, left}
-use Rattle.x25_handshakes.specs.laws.Stretch.{Packet, Data, Rr, Rnr, IntConf, Reset, ResetConf, Call, Accept, Clear, ClearConf, Stretch, fresh, stretch_does, stretch_fails, StretchAct, Send, Pull, Interrupt, pulls, stretch_acts, by_ground, data_ground, ack_ground, takes_data, takes_status, stretch_takes}
+use Rattle.x25_handshakes.specs.laws.Stretch.{Packet, Data, Rr, Rnr, IntConf, Reset, ResetConf, Call, Accept, Clear, ClearConf, Stretch, fresh, stretch_does}
+use Rattle.x25_handshakes.specs.laws.Stretch.{stretch_fails, StretchAct, Send, Pull, Interrupt, pulls, stretch_acts, by_ground, data_ground, ack_ground}
+use Rattle.x25_handshakes.specs.laws.Stretch.{takes_data, takes_status, stretch_takes}
 use Rattle.x25_handshakes.specs.laws.Transfer.{fresh_transfer, lifted, transfer_side_takes, transfer_takes, TransferAct, Inside, SendsReset, transfer_side_acts}
-use Rattle.x25_handshakes.specs.laws.Calls.{Phase, Unused, Waiting, Offered, Crossed, Talking, Connection, goes, unexpected, calling_talk, called_talk, is_answered, accepts, phase_takes, call_takes, CallAct, PlacesCall, AcceptsCall, Talks, phase_acts}
+use Rattle.x25_handshakes.specs.laws.Calls.{Phase, Unused, Waiting, Offered, Crossed, Talking, Connection, goes, unexpected, calling_talk, called_talk}
+use Rattle.x25_handshakes.specs.laws.Calls.{is_answered, accepts, phase_takes, call_takes, CallAct, PlacesCall, AcceptsCall, Talks, phase_acts}
 use Rattle.x25_handshakes.specs.laws.Histories.{Lists, none, resets_in, held_in, of_stretch, messages, interrupts, IsPrefix}
 use Rattle.x25_handshakes.specs.laws.Terms.{Terms}
 
@@ -39,27 +43,32 @@ TransferChange down up A e x y = Change A e x.epoch (held_of down up x) e y.epoc
 still : {M : Type 0} (down up : Stretch → List M) (A : List M → Type 0) (e : ℕ) (x : At Stretch) → TransferChange down up A e x x
 still down up A e x = Stays refl refl (alike (down (state_of x.side))) (inl refl)
 
-lifted_taken : {M : Type 0} (down up : Stretch → List M) (A : List M → Type 0) (e s : ℕ) (x : Stretch) (st : Step Stretch Packet) (n : Option ℕ) → down st.next ≡ down x → A (up st.next)
+lifted_taken : {M : Type 0} (down up : Stretch → List M) (A : List M → Type 0) (e s : ℕ) (x : Stretch) (st : Step Stretch Packet) (n : Option ℕ) → down st.next
+    ≡ down x → A (up st.next)
     → TransferChange down up A e (live s x) (lifted s st n).next
 lifted_taken down up A e s x st None same may = Stays refl refl ([], append-nil (down x) ∙ sym same) (inr may)
 lifted_taken down up A e s x st (Some n) same may = Stays refl refl ([], append-nil (down x) ∙ sym same) (inr may)
 
 transfer_taken : {M : Type 0} (down up : Stretch → List M) → IsKept down up → (A : List M → Type 0) (longest size e s : ℕ) (x : Side Stretch) (p : Packet)
-    → ((a : Stretch) → x ≡ Live a → InFlowControl p → A (up (stretch_takes longest size a p).next)) → TransferChange down up A e (record { epoch = s; side = x }) (transfer_side_takes longest size s x p).next
+    → ((a : Stretch) → x ≡ Live a → InFlowControl p → A (up (stretch_takes longest size a p).next))
+    → TransferChange down up A e (record { epoch = s; side = x }) (transfer_side_takes longest size s x p).next
 transfer_taken down up k A longest size e s (Live x) Reset f = MoreResets refl (omega arith) (held_fresh k)
 transfer_taken down up k A longest size e s (Live x) ResetConf f = still down up A e (live s x)
 transfer_taken down up k A longest size e s (Live x) (Call i) f = still down up A e (live s x)
 transfer_taken down up k A longest size e s (Live x) (Accept field most) f = still down up A e (live s x)
 transfer_taken down up k A longest size e s (Live x) Clear f = still down up A e (live s x)
 transfer_taken down up k A longest size e s (Live x) ClearConf f = still down up A e (live s x)
-transfer_taken down up k A longest size e s (Live x) other f = lifted_taken down up A e s x (stretch_takes longest size x other) (stretch_takes longest size x other).error (k.takes longest size x other) (f x refl tt)
+transfer_taken down up k A longest size e s (Live x) other f =
+    lifted_taken down up A e s x (stretch_takes longest size x other) (stretch_takes longest size x other).error (k.takes longest size x other) (f x refl tt)
 transfer_taken down up k A longest size e s (Left x) Reset f = MoreResets refl (omega arith) (held_fresh k)
 transfer_taken down up k A longest size e s (Left x) ResetConf f = MoreResets refl (omega arith) (held_fresh k)
 transfer_taken down up k A longest size e s (Left x) other f = still down up A e (left s x)
 
 -- in p4: the packet is taken in the stretch in which the other end is, or which it left
-in_its_stretch : {M : Type 0} {down up : Stretch → List M} → IsKept down up → {t b : Terms} → IsSound b → (e : ℕ) {x : At Stretch} {u : List Packet} (p : Packet) (v : List Packet) {z : At Stretch}
-    → TransfersRelated t b x u (p ∷ v) z → TransferChange down up (λ l. (z.epoch ≡ x.epoch) × IsPrefix l (down (state_of z.side))) e x (transfer_takes b.longest b.size x p).next
+in_its_stretch : {M : Type 0} {down up : Stretch → List M} → IsKept down up → {t b : Terms} → IsSound b
+    → (e : ℕ) {x : At Stretch} {u : List Packet} (p : Packet) (v : List Packet) {z : At Stretch}
+    → TransfersRelated t b x u (p ∷ v) z
+    → TransferChange down up (λ l. (z.epoch ≡ x.epoch) × IsPrefix l (down (state_of z.side))) e x (transfer_takes b.longest b.size x p).next
 in_its_stretch {down} {up} k {t} {b} sound e {x} {u} p v {z} h =
     transfer_taken down up k (λ l. (z.epoch ≡ x.epoch) × IsPrefix l (down (state_of z.side))) b.longest b.size e x.epoch x.side p
     (λ a is open_p.
@@ -79,17 +88,21 @@ connects : {M : Type 0} (down up : Stretch → List M) → IsKept down up → (A
 connects down up k A e = Stays refl refl (down fresh, refl) (inl k.up_fresh)
 
 -- the start of p4, or none
-answered : {M : Type 0} (down up : Stretch → List M) → IsKept down up → (A : List M → Type 0) (e : ℕ) (a : Phase) (mine : Params) (m i : List CallRequest) (most : ℕ) (q : Params) → resets_in a ≡ 0 → held_in down up a ≡ none
+answered : {M : Type 0} (down up : Stretch → List M) → IsKept down up
+    → (A : List M → Type 0) (e : ℕ) (a : Phase) (mine : Params) (m i : List CallRequest) (most : ℕ) (q : Params) → resets_in a ≡ 0 → held_in down up a ≡ none
     → Change A e 0 none e (resets_in (is_answered a mine m i most q).next.phase) (held_in down up (is_answered a mine m i most q).next.phase)
 answered {M} down up k A e a mine m i most q resets held =
-    cond_both (may_answer mine q) (goes (calling_talk most q) m i []) (unexpected a m i) (λ s. Change A e 0 none e (resets_in s.next.phase) (held_in down up s.next.phase))
+    cond_both (may_answer mine q) (goes (calling_talk most q) m i []) (unexpected a m i)
+    (λ s. Change A e 0 none e (resets_in s.next.phase) (held_in down up s.next.phase))
     (λ _. connects down up k A e)
     (λ _. rw resets (subst (λ l. Change A e 0 none e 0 l) (sym held) (idle down up A e)))
 
 -- the change by a packet within a call, where the other end is y
-phase_taken : {M : Type 0} (down up : Stretch → List M) → IsKept down up → (r : Role) (e : ℕ) (a : Phase) (m i : List CallRequest) (u : List Packet) (p : Packet) (v : List Packet) (y : Connection)
+phase_taken : {M : Type 0} (down up : Stretch → List M) → IsKept down up
+    → (r : Role) (e : ℕ) (a : Phase) (m i : List CallRequest) (u : List Packet) (p : Packet) (v : List Packet) (y : Connection)
     → Seen r (record { phase = a; made = m; indicated = i }) u (p ∷ v) y
-    → WithinCall (of_stretch down up) (MayIndicate (of_stretch down up) (record { phase = a; made = m; indicated = i }) y) e (record { phase = a; made = m; indicated = i }) (phase_takes r a m i p).next
+    → WithinCall (of_stretch down up) (MayIndicate (of_stretch down up) (record { phase = a; made = m; indicated = i }) y) e
+    (record { phase = a; made = m; indicated = i }) (phase_takes r a m i p).next
 phase_taken down up k r e Unused m i u (Call n) v y h = idle down up _ e
 phase_taken down up k r e Unused m i u other v y h = idle down up _ e
 phase_taken down up k Dte e (Waiting mine) m i u (Call n) v y h = idle down up _ e
@@ -101,18 +114,21 @@ phase_taken down up k r e (Crossed mine) m i u (Accept field most) v y h = answe
 phase_taken down up k r e (Crossed mine) m i u other v y h = idle down up _ e
 phase_taken {M} down up k r e (Talking t b x) m i u p v y h =
     let joint = Seen-joint r t b m i x y u p v h in
-    subst (λ a. Change (λ l. (resets_in a ≡ x.epoch) × IsPrefix l (held_in down up a).down) e x.epoch (held_of down up x) e (transfer_takes b.longest b.size x p).next.epoch
+    subst (λ a. Change (λ l. (resets_in a ≡ x.epoch) × IsPrefix l (held_in down up a).down) e x.epoch (held_of down up x) e
+    (transfer_takes b.longest b.size x p).next.epoch
     (held_of down up (transfer_takes b.longest b.size x p).next)) (sym joint.phase)
     (in_its_stretch k joint.talks.sound_back e p v joint.talks.related)
 
-call_taken : {M : Type 0} (down up : Stretch → List M) → IsKept down up → (r : Role) (e : ℕ) (c : Connection) (u : List Packet) (p : Packet) (v : List Packet) (y : Connection)
+call_taken : {M : Type 0} (down up : Stretch → List M) → IsKept down up
+    → (r : Role) (e : ℕ) (c : Connection) (u : List Packet) (p : Packet) (v : List Packet) (y : Connection)
     → clear_mark p ≡ Inner → Seen r c u (p ∷ v) y → WithinCall (of_stretch down up) (MayIndicate (of_stretch down up) c y) e c (call_takes r c p).next
 call_taken down up k r e c u p v y inner h = phase_taken down up k r e c.phase c.made c.indicated u p v y h
 
 abbrev Acted : {M : Type 0} → (Stretch → List M) → (Stretch → List M) → Phase → Phase → Type 0
 Acted down up a z = (resets_in z ≡ resets_in a) × IsPrefix (held_in down up a).down (held_in down up z).down × ((held_in down up z).up ≡ (held_in down up a).up)
 
-lifted_acted : {M : Type 0} (down up : Stretch → List M) (t b : Terms) (s : ℕ) (x : Stretch) (st : Step Stretch Packet) (n : Option ℕ) → IsPrefix (down x) (down st.next) × (up st.next ≡ up x)
+lifted_acted : {M : Type 0} (down up : Stretch → List M) (t b : Terms) (s : ℕ) (x : Stretch) (st : Step Stretch Packet) (n : Option ℕ)
+    → IsPrefix (down x) (down st.next) × (up st.next ≡ up x)
     → Acted down up (Talking t b (live s x)) (Talking t b (lifted s st n).next)
 lifted_acted down up t b s x st None h = (refl, h.0, h.1)
 lifted_acted down up t b s x st (Some n) h = (refl, h.0, h.1)
@@ -126,14 +142,17 @@ transfer_acted down up k t b s (Left x) a = (refl, alike (down x), refl)
 unmoved : {M : Type 0} (down up : Stretch → List M) (a : Phase) → Acted down up a a
 unmoved down up a = (refl, alike (held_in down up a).down, refl)
 
-accepted : {M : Type 0} (down up : Stretch → List M) → IsKept down up → (theirs : Params) (m i : List CallRequest) (answer : Option Proposal) (most : ℕ) → Acted down up (Offered theirs) (accepts theirs m i answer most).next.phase
+accepted : {M : Type 0} (down up : Stretch → List M) → IsKept down up → (theirs : Params) (m i : List CallRequest) (answer : Option Proposal) (most : ℕ)
+    → Acted down up (Offered theirs) (accepts theirs m i answer most).next.phase
 accepted down up k theirs m i None most = (refl, (down fresh, refl), k.up_fresh)
 accepted down up k theirs m i (Some q) most =
-    cond_both (may_answer theirs q.params) (goes (called_talk most q.params) m i (Accept (field_for theirs q) most ∷ [])) (goes (Offered theirs) m i []) (λ s. Acted down up (Offered theirs) s.next.phase)
+    cond_both (may_answer theirs q.params) (goes (called_talk most q.params) m i (Accept (field_for theirs q) most ∷ [])) (goes (Offered theirs) m i [])
+    (λ s. Acted down up (Offered theirs) s.next.phase)
     (λ _. (refl, (down fresh, refl), k.up_fresh))
     (λ _. unmoved down up (Offered theirs))
 
-phase_acted : {M : Type 0} (down up : Stretch → List M) → IsKept down up → (a : Phase) (m i : List CallRequest) (act : CallAct) → Acted down up a (phase_acts a m i act).next.phase
+phase_acted : {M : Type 0} (down up : Stretch → List M) → IsKept down up → (a : Phase) (m i : List CallRequest) (act : CallAct)
+    → Acted down up a (phase_acts a m i act).next.phase
 phase_acted down up k Unused m i (PlacesCall n) =
     cond_both (may_propose n.params) (goes (Waiting n.params) (m ++ n ∷ []) i (Call n ∷ [])) (goes Unused m i []) (λ s. Acted down up Unused s.next.phase)
     (λ _. (refl, ([], refl), refl))
@@ -183,21 +202,36 @@ none_done x = record { messages = (alike x.down, refl); interrupts = (alike x.in
 pulled : (t : Terms) (x : Stretch) (ps : List Piece) → Quiet x (pulls t x ps)
 pulled t x [] = none_done x
 pulled t x (p ∷ ps) =
-    if_quiet x.peer_ready (if_quiet (nat_lt (length x.sent) (x.acked + t.window)) (record { messages = (alike x.down, refl); interrupts = (alike x.int_down, refl) }) (none_done x)) (none_done x)
+    if_quiet x.peer_ready (if_quiet (nat_lt (length x.sent) (x.acked + t.window))
+    (record { messages = (alike x.down, refl); interrupts = (alike x.int_down, refl) }) (none_done x)) (none_done x)
 
 acted : (t : Terms) (x : Stretch) (a : StretchAct) → Quiet x (stretch_acts t x a)
 acted t x (Send q xs) =
     if_quiet (nat_le (length xs) t.longest)
-    (if_quiet (nat_lt (wholes x.rest) 8) (record { messages = ((record { marks = q; user = xs } ∷ [], refl), refl); interrupts = (alike x.int_down, refl) }) (none_done x)) (none_done x)
+    (if_quiet (nat_lt (wholes x.rest) 8) (record { messages = ((record { marks = q; user = xs } ∷ [], refl), refl); interrupts = (alike x.int_down, refl) })
+    (none_done x)) (none_done x)
 acted t x Pull = pulled t x x.rest
 acted t x (Interrupt xs) =
     if_quiet (nat_le 1 (length xs))
-    (if_quiet (nat_le (length xs) 32) (if_quiet x.int_out (none_done x) (record { messages = (alike x.down, refl); interrupts = ((xs ∷ [], refl), refl) })) (none_done x)) (none_done x)
+    (if_quiet (nat_le (length xs) 32) (if_quiet x.int_out (none_done x) (record { messages = (alike x.down, refl); interrupts = ((xs ∷ [], refl), refl) }))
+    (none_done x)) (none_done x)
 acted t x a = record { messages = (alike x.down, refl); interrupts = (alike x.int_down, refl) }
 
 pub messages_handled : IsHandled messages
-messages_handled = handled (record { down_fresh = refl; up_fresh = refl; takes = λ longest size x p. (taken longest size x p).0; acts = λ t x a. (acted t x a).messages; begins = λ giver u taker h. h.begins })
+messages_handled = handled (record {
+  down_fresh = refl;
+  up_fresh = refl;
+  takes = λ longest size x p. (taken longest size x p).0;
+  acts = λ t x a. (acted t x a).messages;
+  begins = λ giver u taker h. h.begins;
+})
 
 pub interrupts_handled : IsHandled interrupts
 interrupts_handled =
-    handled (record { down_fresh = refl; up_fresh = refl; takes = λ longest size x p. (taken longest size x p).1; acts = λ t x a. (acted t x a).interrupts; begins = λ giver u taker h. h.int_begins })
+    handled (record {
+      down_fresh = refl;
+      up_fresh = refl;
+      takes = λ longest size x p. (taken longest size x p).1;
+      acts = λ t x a. (acted t x a).interrupts;
+      begins = λ giver u taker h. h.int_begins;
+    })

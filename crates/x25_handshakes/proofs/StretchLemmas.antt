@@ -12,7 +12,12 @@ pub StretchesRelated-flip : {t b : Terms} {x : Stretch} {u v : List Packet} {y :
 StretchesRelated-flip h = record { there = h.back; back = h.there; told = h.told_back; told_back = h.told }
 
 pub StretchesRelated-fresh : (t b : Terms) → StretchesRelated t b fresh [] [] fresh
-StretchesRelated-fresh t b = record { there = none t; back = none b; told = record { acks = refl; ready = refl }; told_back = record { acks = refl; ready = refl } }
+StretchesRelated-fresh t b = record {
+  there = none t;
+  back = none b;
+  told = record { acks = refl; ready = refl };
+  told_back = record { acks = refl; ready = refl };
+}
   where
     none : (t : Terms) → Direction t fresh [] [] fresh
     none t = record {
@@ -26,7 +31,8 @@ StretchesRelated-fresh t b = record { there = none t; back = none b; told = reco
 -- ---- what one end does beside the other, which is a peer of it
 
 -- the other end as a peer
-kept : (t b : Terms) (x : Stretch) (u v : List Packet) (y : Stretch) → IsSound b → StretchesRelated t b x u v y → Kept t b.longest b.size x u v (as_peer_stretch y)
+kept : (t b : Terms) (x : Stretch) (u v : List Packet) (y : Stretch) → IsSound b → StretchesRelated t b x u v y
+    → Kept t b.longest b.size x u v (as_peer_stretch y)
 kept t b x u v y sound h =
     let room = h.back.acks.room in
     record {
@@ -40,7 +46,8 @@ kept t b x u v y sound h =
     }
 
 -- it stays as it was
-goes_on : {t b : Terms} {x : Stretch} {u v : List Packet} {y : Stretch} {s : Step Stretch Packet} {w : List Packet} → StretchesRelated t b x u v y → Good t b.longest b.size s u w (as_peer_stretch y) → Told s.next w y → Told y (u ++ s.out) s.next
+goes_on : {t b : Terms} {x : Stretch} {u v : List Packet} {y : Stretch} {s : Step Stretch Packet} {w : List Packet} → StretchesRelated t b x u v y
+    → Good t b.longest b.size s u w (as_peer_stretch y) → Told s.next w y → Told y (u ++ s.out) s.next
     → GoodStretch (StretchesRelated t b) s u w y
 goes_on h good told told_back =
     let there = good.kept.there in
@@ -49,18 +56,26 @@ goes_on h good told told_back =
       quiet = good.quiet;
       kept = record {
         there = record { line = there.line; acks = there.acks.acks; ints = there.ints; text = there.text; up = h.there.up };
-        back = record { line = back.line; acks = record { room = h.back.acks.room; acks = back.acks.acks }; ints = back.ints; text = h.back.text; up = back.text.up };
+        back = record {
+          line = back.line;
+          acks = record { room = h.back.acks.room; acks = back.acks.acks };
+          ints = back.ints;
+          text = h.back.text;
+          up = back.text.up;
+        };
         told = told;
         told_back = told_back;
       };
     }
 
-pub GoodStretch-acts : (t b : Terms) → IsSound t → IsSound b → (x : Stretch) (u v : List Packet) (y : Stretch) (a : StretchAct) → StretchesRelated t b x u v y → GoodStretch (StretchesRelated t b) (stretch_acts t x a) u v y
+pub GoodStretch-acts : (t b : Terms) → IsSound t → IsSound b → (x : Stretch) (u v : List Packet) (y : Stretch) (a : StretchAct) → StretchesRelated t b x u v y
+    → GoodStretch (StretchesRelated t b) (stretch_acts t x a) u v y
 GoodStretch-acts t b st sb x u v y a h =
     let told = tells_act t x u v y a h.told h.told_back in
     goes_on h (Good-acts t b.longest b.size st.size x u v (as_peer_stretch y) a (kept t b x u v y sb h)) told.0 told.1
 
-pub GoodStretch-takes : {t b : Terms} → IsSound b → {x : Stretch} {u : List Packet} (p : Packet) (v : List Packet) {y : Stretch} → StretchesRelated t b x u (p ∷ v) y → GoodStretch (StretchesRelated t b) (stretch_takes b.longest b.size x p) u v y
+pub GoodStretch-takes : {t b : Terms} → IsSound b → {x : Stretch} {u : List Packet} (p : Packet) (v : List Packet) {y : Stretch}
+    → StretchesRelated t b x u (p ∷ v) y → GoodStretch (StretchesRelated t b) (stretch_takes b.longest b.size x p) u v y
 GoodStretch-takes {t} {b} sound {x} {u} p v {y} h =
     let good = Good-takes p v (kept t b x u (p ∷ v) y sound h) in
     let told = tells_take b.longest b.size x u p v y good.quiet h.told h.told_back in
@@ -75,11 +90,16 @@ FollowsFrom-from_Dir {x} {u} {y} h =
     ∙ carried-append no_part y.taken (pieces u ++ x.rest)
     in
     record {
-      begins = (carried_from (joining no_part y.taken) (pieces u ++ x.rest), ap (λ l. l ++ carried_from (joining no_part y.taken) (pieces u ++ x.rest)) h.up ∙ sym down);
+      begins = (
+        carried_from (joining no_part y.taken) (pieces u ++ x.rest),
+        ap (λ l. l ++ carried_from (joining no_part y.taken) (pieces u ++ x.rest)) h.up
+            ∙ sym down,
+      );
       int_begins = (ints u, sym h.ints.flow);
       all = λ none idle.
           h.up ∙ sym (append-nil (carried y.taken))
-          ∙ ap (λ l. carried y.taken ++ l) (sym (ap (λ l. carried_from (joining no_part y.taken) (pieces l ++ x.rest)) none ∙ ap (λ l. carried_from (joining no_part y.taken) l) idle))
+          ∙ ap (λ l. carried y.taken ++ l) (sym
+          (ap (λ l. carried_from (joining no_part y.taken) (pieces l ++ x.rest)) none ∙ ap (λ l. carried_from (joining no_part y.taken) l) idle))
           ∙ sym down;
       int_all = λ none. sym (h.ints.flow ∙ ap (λ l. y.int_up ++ ints l) none ∙ append-nil y.int_up);
     }

@@ -93,7 +93,8 @@ pub record Acks (k acked sent : ℕ) (v : List Packet) (taken : ℕ) : Type 0 wh
   pub room : sent ≤ acked + k
   pub acks : heard acked v ≤ taken
 
--- at most one interrupt is out: it is on the way, or its confirmation is owed, or that is on the way; and those handed down are those handed up and those on the way
+-- at most one interrupt is out: it is on the way, or its confirmation is owed, or that is on the way; and those handed
+-- down are those handed up and those on the way
 pub record Ints (out : Bool) (down up : List (List ℕ)) (u v : List Packet) (owed : ℕ) : Type 0 where
   pub count : one_if out ≡ (length (ints u) + confs v) + owed
   pub flow : down ≡ up ++ ints u

@@ -1,8 +1,10 @@
 -- Laws of packets and messages.
-use Rattle.std.proofs.Common.{◌≡◌, ℕ, zero, suc, ◌+◌, ◌<◌, ◌≤◌, List, [], ◌∷◌, ◌++◌, length, Some, None, Bool, true, false, nat_le, refl, sym, ap, ◌∙◌, arith, append_assoc, length-append, take, drop}
+use Rattle.std.proofs.Common.{◌≡◌, ℕ, zero, suc, ◌+◌, ◌<◌, ◌≤◌, List, [], ◌∷◌, ◌++◌, length, Some, None, Bool, true, false, nat_le, refl, sym, ap, ◌∙◌, arith}
+use Rattle.std.proofs.Common.{append_assoc, length-append, take, drop}
 use Rattle.std.proofs.{lemmas.Grind.{common_steps}, lemmas.Bool.{le-leb, cond_both}, lemmas.Bool.Decides.{nat_tests}, lemmas.List.{take-append-drop}}
 use Rattle.x25_packet.specs.{declared.marks.Marks.{Marks}, Marks.{with_q}}
-use Rattle.x25_circuit.specs.Message.{Piece, More, Last, Partial, no_part, joined, joining, completed, carried_from, same_q, may_have_q, ground_of, AreSound, cut_from}
+use Rattle.x25_circuit.specs.Message.{Piece, More, Last, Partial, no_part, joined, joining, completed, carried_from, same_q, may_have_q, ground_of, AreSound}
+use Rattle.x25_circuit.specs.Message.{cut_from}
 
 pub joining-append : (j : Partial) (a b : List Piece) → joining j (a ++ b) ≡ joining (joining j a) b
 joining-append j [] b = refl
@@ -22,22 +24,26 @@ pub AreSound-back : (longest size : ℕ) (j : Partial) (a b : List Piece) → Ar
 AreSound-back longest size j [] b h = h
 AreSound-back longest size j (p ∷ a) b h = AreSound-back longest size (joined j p) a b h.1
 
-pub AreSound-append : (longest size : ℕ) (j : Partial) (a b : List Piece) → AreSound longest size j a → AreSound longest size (joining j a) b → AreSound longest size j (a ++ b)
+pub AreSound-append : (longest size : ℕ) (j : Partial) (a b : List Piece) → AreSound longest size j a → AreSound longest size (joining j a) b
+    → AreSound longest size j (a ++ b)
 AreSound-append longest size j [] b h g = g
 AreSound-append longest size j (p ∷ a) b h g = (h.0, AreSound-append longest size (joined j p) a b h.1 g)
 
-ground_none : (longest size : ℕ) (j : Partial) (n : ℕ) (q : Bool) → n ≤ size → length j.user + n ≤ longest → may_have_q j.begun q ≡ true → ground_of longest size j n q ≡ None
+ground_none : (longest size : ℕ) (j : Partial) (n : ℕ) (q : Bool) → n ≤ size → length j.user + n ≤ longest → may_have_q j.begun q ≡ true
+    → ground_of longest size j n q ≡ None
 ground_none longest size j n q small room same = rw (le-leb n size small) (rw (le-leb (length j.user + n) longest room) (rw same refl))
 
 same_q-refl : (q : Bool) → same_q q q ≡ true
 same_q-refl true = refl
 same_q-refl false = refl
 
-pub AreSound-cut : (n longest size : ℕ) (q : Marks) (xs : List ℕ) (j : Partial) → 1 ≤ size → length xs ≤ size + n → length j.user + length xs ≤ longest → may_have_q j.begun q.q ≡ true
+pub AreSound-cut : (n longest size : ℕ) (q : Marks) (xs : List ℕ) (j : Partial) → 1 ≤ size → length xs ≤ size + n → length j.user + length xs ≤ longest
+    → may_have_q j.begun q.q ≡ true
     → AreSound longest size j (cut_from n size q xs)
 AreSound-cut zero longest size q xs j one far room same = (ground_none longest size j (length xs) q.q (omega arith) room same, tt)
 AreSound-cut (suc n) longest size q xs j one far room same =
-    cond_both (nat_le (length xs) size) (Last q xs ∷ []) (More (with_q q.q) (take size xs) ∷ cut_from n size q (drop size xs)) (λ ps. AreSound longest size j ps)
+    cond_both (nat_le (length xs) size) (Last q xs ∷ []) (More (with_q q.q) (take size xs) ∷ cut_from n size q (drop size xs))
+    (λ ps. AreSound longest size j ps)
     (λ small. (ground_none longest size j (length xs) q.q (grind (arith, nat_tests)) room same, tt))
     (λ large.
     let over : size < length xs = grind (arith, nat_tests) in
@@ -45,7 +51,8 @@ AreSound-cut (suc n) longest size q xs j one far room same =
     let d : length (drop size xs) + size ≡ length xs = grind (arith, common_steps) in
     let a : length (j.user ++ take size xs) ≡ length j.user + length (take size xs) = length-append j.user (take size xs) in (
       ground_none longest size j (length (take size xs)) q.q (omega arith) (omega arith) same,
-      AreSound-cut n longest size q (drop size xs) (record { begun = Some q.q; user = j.user ++ take size xs }) one (omega arith) (omega arith) (same_q-refl q.q),
+      AreSound-cut n longest size q (drop size xs) (record { begun = Some q.q; user = j.user ++ take size xs }) one (omega arith) (omega arith)
+          (same_q-refl q.q),
     ))
 
 pub joining-cut : (n size : ℕ) (q : Marks) (xs : List ℕ) (j : Partial) → joining j (cut_from n size q xs) ≡ no_part
@@ -58,7 +65,8 @@ joining-cut (suc n) size q xs j =
 pub carried-cut : (n size : ℕ) (q : Marks) (xs : List ℕ) (j : Partial) → carried_from j (cut_from n size q xs) ≡ record { marks = q; user = j.user ++ xs } ∷ []
 carried-cut zero size q xs j = refl
 carried-cut (suc n) size q xs j =
-    cond_both (nat_le (length xs) size) (Last q xs ∷ []) (More (with_q q.q) (take size xs) ∷ cut_from n size q (drop size xs)) (λ ps. carried_from j ps ≡ record { marks = q; user = j.user ++ xs } ∷ [])
+    cond_both (nat_le (length xs) size) (Last q xs ∷ []) (More (with_q q.q) (take size xs) ∷ cut_from n size q (drop size xs))
+    (λ ps. carried_from j ps ≡ record { marks = q; user = j.user ++ xs } ∷ [])
     (λ _. refl)
     (λ _. carried-cut n size q (drop size xs) (record { begun = Some q.q; user = j.user ++ take size xs })
     ∙ ap (λ l. record { marks = q; user = l } ∷ []) (append_assoc j.user (take size xs) (drop size xs) ∙ ap (λ l. j.user ++ l) (take-append-drop size xs)))

@@ -1,9 +1,12 @@
 -- Each step in d1 tells how far this end has taken and whether it is ready, as soon as that changes; and what the other end told is heard in order.
-use Rattle.std.proofs.Common.{◌≡◌, ℕ, ◌+◌, ◌%◌, ◌<◌, List, [], ◌∷◌, ◌++◌, length, Option, Some, None, Bool, true, false, nat_lt, nat_le, if◌then◌else◌, refl, sym, ap, subst, ◌∙◌, arith}
+use Rattle.std.proofs.Common.{◌≡◌, ℕ, ◌+◌, ◌%◌, ◌<◌, List, [], ◌∷◌, ◌++◌, length, Option, Some, None, Bool, true, false, nat_lt, nat_le, if◌then◌else◌, refl}
+use Rattle.std.proofs.Common.{sym, ap, subst, ◌∙◌, arith}
 use Rattle.std.proofs.{lemmas.List.{length_push, append-nil}, lemmas.Bool.{cond_both}, lemmas.Option.{none-some}}
 use Rattle.x25_packet.specs.declared.marks.Marks.{Marks}
 use Rattle.x25_circuit.specs.{Message.{Piece, cut, wholes}}
-use Rattle.x25_handshakes.specs.laws.Stretch.{Packet, Data, Rr, Rnr, Int, IntConf, Stretch, stretch_does, stretch_fails, StretchAct, Send, Pull, Ready, NotReady, Interrupt, status, sends, pulls, interrupts, stretch_acts, ack_ground, data_ground, by_ground, takes_data, takes_status, stretch_takes}
+use Rattle.x25_handshakes.specs.laws.Stretch.{Packet, Data, Rr, Rnr, Int, IntConf, Stretch, stretch_does, stretch_fails, StretchAct, Send, Pull, Ready}
+use Rattle.x25_handshakes.specs.laws.Stretch.{NotReady, Interrupt, status, sends, pulls, interrupts, stretch_acts, ack_ground, data_ground, by_ground}
+use Rattle.x25_handshakes.specs.laws.Stretch.{takes_data, takes_status, stretch_takes}
 use Rattle.x25_handshakes.specs.laws.Handshake.{Step}
 use Rattle.x25_handshakes.proofs.{StretchRelation.{ack_in, hears, heard, readied, all_readied, Told}, LineLemmas.{resolved_is, heard_push}}
 use Rattle.x25_handshakes.specs.laws.Terms.{Terms}
@@ -28,7 +31,8 @@ told_pass {u} {y} q none same told = record {
 }
 
 -- a packet that tells the number of packets taken, at most one more than before
-told_number : (x₂ : Stretch) (u : List Packet) (y : Stretch) (q : Packet) (taken n : ℕ) → heard y.acked u ≡ taken → length x₂.taken ≡ taken + n → n < 8 → ack_in q ≡ Some (length x₂.taken % 8)
+told_number : (x₂ : Stretch) (u : List Packet) (y : Stretch) (q : Packet) (taken n : ℕ) → heard y.acked u ≡ taken → length x₂.taken ≡ taken + n → n < 8
+    → ack_in q ≡ Some (length x₂.taken % 8)
     → readied (all_readied y.peer_ready u) q ≡ x₂.own_ready → Told y (u ++ q ∷ []) x₂
 told_number x₂ u y q taken n before is few ack ready = record {
   acks = heard_push y.acked u q ∙ ap (λ r. hears (heard y.acked u) r) ack
@@ -36,7 +40,8 @@ told_number x₂ u y q taken n before is few ack ready = record {
   ready = readied_push y.peer_ready u q ∙ ready;
 }
 
-told_status : (x₂ : Stretch) (u : List Packet) (y : Stretch) (b : Bool) (m taken n : ℕ) → heard y.acked u ≡ taken → length x₂.taken ≡ taken + n → n < 8 → m ≡ length x₂.taken → b ≡ x₂.own_ready
+told_status : (x₂ : Stretch) (u : List Packet) (y : Stretch) (b : Bool) (m taken n : ℕ) → heard y.acked u ≡ taken → length x₂.taken ≡ taken + n → n < 8 → m
+    ≡ length x₂.taken → b ≡ x₂.own_ready
     → Told y (u ++ status b m ∷ []) x₂
 told_status x₂ u y true m taken n before is few same ready = told_number x₂ u y (Rr (m % 8)) taken n before is few (ap (λ k. Some (k % 8)) same) ready
 told_status x₂ u y false m taken n before is few same ready = told_number x₂ u y (Rnr (m % 8)) taken n before is few (ap (λ k. Some (k % 8)) same) ready
@@ -46,7 +51,8 @@ told_status x₂ u y false m taken n before is few same ready = told_number x₂
 told_sends : (t : Terms) (x : Stretch) (u v : List Packet) (y : Stretch) (q : Marks) (xs : List ℕ) → Told x v y → Told y u x → BothTold (sends t x q xs) u v y
 told_sends t x u v y q xs told told_back =
     let sent : Stretch = record x { rest = x.rest ++ cut t.size q xs; down = x.down ++ record { marks = q; user = xs } ∷ [] } in
-    cond_both (nat_le (length xs) t.longest) (if nat_lt (wholes x.rest) 8 then stretch_does sent [] else stretch_does x []) (stretch_does x []) (λ s. BothTold s u v y)
+    cond_both (nat_le (length xs) t.longest) (if nat_lt (wholes x.rest) 8 then stretch_does sent [] else stretch_does x []) (stretch_does x [])
+    (λ s. BothTold s u v y)
     (λ _. cond_both (nat_lt (wholes x.rest) 8) (stretch_does sent []) (stretch_does x []) (λ s. BothTold s u v y)
     (λ _. told_still (record { acks = told.acks; ready = told.ready }) (record { acks = told_back.acks; ready = told_back.ready }))
     (λ _. told_still told told_back))
@@ -57,7 +63,8 @@ told_pulls t x u v y [] told told_back = told_still told told_back
 told_pulls t x u v y (p ∷ ps) told told_back =
     let after : Stretch = record x { sent = x.sent ++ p ∷ []; rest = ps } in
     let d = Data (length x.sent % 8) (length x.taken % 8) p in
-    cond_both x.peer_ready (if nat_lt (length x.sent) (x.acked + t.window) then stretch_does after (d ∷ []) else stretch_does x []) (stretch_does x []) (λ s. BothTold s u v y)
+    cond_both x.peer_ready (if nat_lt (length x.sent) (x.acked + t.window) then stretch_does after (d ∷ []) else stretch_does x []) (stretch_does x [])
+    (λ s. BothTold s u v y)
     (λ _. cond_both (nat_lt (length x.sent) (x.acked + t.window)) (stretch_does after (d ∷ [])) (stretch_does x []) (λ s. BothTold s u v y)
     (λ _. (
       record { acks = told.acks; ready = told.ready },
@@ -70,7 +77,8 @@ told_interrupts : (x : Stretch) (u v : List Packet) (y : Stretch) (xs : List ℕ
 told_interrupts x u v y xs told told_back =
     let after : Stretch = record x { int_out = true; int_down = x.int_down ++ xs ∷ [] } in
     let next = stretch_does after (Int xs ∷ []) in
-    cond_both (nat_le 1 (length xs)) (if nat_le (length xs) 32 then (if x.int_out then stretch_does x [] else next) else stretch_does x []) (stretch_does x []) (λ s. BothTold s u v y)
+    cond_both (nat_le 1 (length xs)) (if nat_le (length xs) 32 then (if x.int_out then stretch_does x [] else next) else stretch_does x []) (stretch_does x [])
+    (λ s. BothTold s u v y)
     (λ _. cond_both (nat_le (length xs) 32) (if x.int_out then stretch_does x [] else next) (stretch_does x []) (λ s. BothTold s u v y)
     (λ _. cond_both x.int_out (stretch_does x []) next (λ s. BothTold s u v y)
     (λ _. told_still told told_back)
@@ -96,21 +104,26 @@ tells_act t x u v y (Interrupt xs) told told_back = told_interrupts x u v y xs t
 
 -- ---- takes: of a packet that is no error
 
-no_ground : (g : Option ℕ) (x : Stretch) (good : Step Stretch Packet) (P : Step Stretch Packet → Type 0) → (by_ground g x good).error ≡ None → P good → P (by_ground g x good)
+no_ground : (g : Option ℕ) (x : Stretch) (good : Step Stretch Packet) (P : Step Stretch Packet → Type 0) → (by_ground g x good).error ≡ None → P good
+    → P (by_ground g x good)
 no_ground None x good P quiet h = h
 no_ground (Some n) x good P quiet h = absurd (none-some n (sym quiet))
 
-told_take_conf : {x : Stretch} {u v : List Packet} {y : Stretch} (b : Bool) → (if b then stretch_does (record x { int_out = false }) [] else stretch_fails x 43).error ≡ None → Told x v y → Told y u x
+told_take_conf : {x : Stretch} {u v : List Packet} {y : Stretch} (b : Bool)
+    → (if b then stretch_does (record x { int_out = false }) [] else stretch_fails x 43).error ≡ None → Told x v y → Told y u x
     → BothTold (if b then stretch_does (record x { int_out = false }) [] else stretch_fails x 43) u v y
-told_take_conf {x} {u} {v} {y} true quiet told told_back = told_still (record { acks = told.acks; ready = told.ready }) (record { acks = told_back.acks; ready = told_back.ready })
+told_take_conf {x} {u} {v} {y} true quiet told told_back = told_still (record { acks = told.acks; ready = told.ready })
+    (record { acks = told_back.acks; ready = told_back.ready })
 told_take_conf false quiet told told_back = absurd (none-some 43 (sym quiet))
 
-pub tells_take : (longest size : ℕ) (x : Stretch) (u : List Packet) (p : Packet) (v : List Packet) (y : Stretch) → (stretch_takes longest size x p).error ≡ None → Told x (p ∷ v) y → Told y u x
+pub tells_take : (longest size : ℕ) (x : Stretch) (u : List Packet) (p : Packet) (v : List Packet) (y : Stretch) → (stretch_takes longest size x p).error
+    ≡ None → Told x (p ∷ v) y → Told y u x
     → BothTold (stretch_takes longest size x p) u v y
 tells_take longest size x u (Data s r p) v y quiet told told_back =
     no_ground (data_ground longest size x s r p) x (takes_data x r p) (λ g. BothTold g u v y) quiet (
       record { acks = told.acks; ready = told.ready },
-      told_status (takes_data x r p).next u y x.own_ready (length x.taken + 1) (length x.taken) 1 told_back.acks (length_push x.taken p) (omega arith) (sym (length_push x.taken p)) refl,
+      told_status (takes_data x r p).next u y x.own_ready (length x.taken + 1) (length x.taken) 1 told_back.acks (length_push x.taken p) (omega arith)
+          (sym (length_push x.taken p)) refl,
     )
 tells_take longest size x u (Rr r) v y quiet told told_back =
     no_ground (ack_ground x r) x (takes_status x true r) (λ g. BothTold g u v y) quiet

@@ -28,12 +28,14 @@ InTransfer other = Unit {0}
 abbrev pub AllInTransfer : List Packet → Type 0
 AllInTransfer u = Each InTransfer u
 
-pub record OwnTransfer {T : Type 0} (R : Stretch → List Packet → List Packet → T → Type 0) (y₀ : T) (x : At Stretch) (L K : List Packet) (y : At T) : Type 0 where
-  pub hand : Handshake (own_level R y₀) x.epoch y.epoch x.side y.side L K
-  pub there : AllInTransfer L
-  pub back : AllInTransfer K
+pub record OwnTransfer {T : Type 0} (R : Stretch → List Packet → List Packet → T → Type 0) (y₀ : T) (x : At Stretch) (L K : List Packet) (y : At T) : Type 0
+  where
+    pub hand : Handshake (own_level R y₀) x.epoch y.epoch x.side y.side L K
+    pub there : AllInTransfer L
+    pub back : AllInTransfer K
 
-pub record GoodOwnTransfer {T : Type 0} (R : Stretch → List Packet → List Packet → T → Type 0) (y₀ : T) (s : Step (At Stretch) Packet) (L K : List Packet) (y : At T) : Type 0 where
+pub record GoodOwnTransfer {T : Type 0} (R : Stretch → List Packet → List Packet → T → Type 0) (y₀ : T) (s : Step (At Stretch) Packet) (L K : List Packet)
+    (y : At T) : Type 0 where
   pub quiet : s.error ≡ None
   pub kept : OwnTransfer R y₀ s.next (L ++ s.out) K y
 

@@ -1,10 +1,12 @@
--- Each step of an end lets the names of its channels stay or grow, and what it hands up begins what the other end handed down: for any kind of thing of which this is known within a call.
+-- Each step of an end lets the names of its channels stay or grow, and what it hands up begins what the other end
+-- handed down: for any kind of thing of which this is known within a call.
 use Rattle.std.proofs.Common.{◌≡◌, inl, inr, ℕ, List, ◌∷◌, Option, Some, None, Bool, true, false, ◌==◌, if◌then◌else◌, refl, sym, ap, subst, ◌∙◌, arith}
 use Rattle.std.proofs.lemmas.Bool.{eqb-true}
 use Rattle.x25_bits.specs.declared.role.Role.{Role}
 use Rattle.x25_handshakes.specs.{laws.Handshake.{Inner, Side, Live, Left, At, state_of, Step, live}, laws.Stretch.{Packet, Clear, ClearConf}}
 use Rattle.x25_handshakes.specs.laws.Calls.{Phase, Unused, Connection, call_takes, CallAct, call_acts, fresh_call}
-use Rattle.x25_handshakes.specs.laws.Channel.{lifted_call, channel_side_takes, channel_takes, ChannelAct, Within, SendsClear, clears, channel_side_acts, channel_acts}
+use Rattle.x25_handshakes.specs.laws.Channel.{lifted_call, channel_side_takes, channel_takes, ChannelAct, Within, SendsClear, clears, channel_side_acts}
+use Rattle.x25_handshakes.specs.laws.Channel.{channel_acts}
 use Rattle.x25_handshakes.specs.laws.Layers.{LayerPacket, On, RestartConf, Channels, put, layer_side_takes, LayerAct, OnChannel, SendsRestart, layer_side_acts}
 use Rattle.x25_handshakes.specs.{laws.Names.{Name}, laws.Histories.{Lists, none, Kind, circuit_at, name_at, channel_view, IsPrefix}}
 use Rattle.x25_handshakes.proofs.{HandshakeLemmas.{meets}, ChannelRelation.{clear_mark, Seen, connection_level, ChannelRelated}}
@@ -21,24 +23,29 @@ WithinCall kind Allowed e c c₂ = Change Allowed e (kind.resets c) (kind.held c
 -- what has to be known of a kind: within a call, what a packet changes is allowed, and an act hands nothing up
 pub record IsHandled {M : Type 0} (kind : Kind M) : Type 0 where
   pub fresh : kind.held fresh_call ≡ none
-  pub takes : (r : Role) (e : ℕ) (c : Connection) (u : List Packet) (p : Packet) (v : List Packet) (y : Connection) → clear_mark p ≡ Inner → Seen r c u (p ∷ v) y
+  pub takes : (r : Role) (e : ℕ) (c : Connection) (u : List Packet) (p : Packet) (v : List Packet) (y : Connection) → clear_mark p ≡ Inner
+      → Seen r c u (p ∷ v) y
       → WithinCall kind (MayIndicate kind c y) e c (call_takes r c p).next
   pub acts : (c : Connection) (a : CallAct) →
-      (kind.resets (call_acts c a).next ≡ kind.resets c) × IsPrefix (kind.held c).down (kind.held (call_acts c a).next).down × ((kind.held (call_acts c a).next).up ≡ (kind.held c).up)
+      (kind.resets (call_acts c a).next ≡ kind.resets c) × IsPrefix (kind.held c).down (kind.held (call_acts c a).next).down
+      × ((kind.held (call_acts c a).next).up ≡ (kind.held c).up)
 
 abbrev ChannelChange : {M : Type 0} → Kind M → (List M → Type 0) → At Connection → At Connection → Type 0
-ChannelChange kind A x y = Change A x.epoch (kind.resets (state_of x.side)) (kind.held (state_of x.side)) y.epoch (kind.resets (state_of y.side)) (kind.held (state_of y.side))
+ChannelChange kind A x y = Change A x.epoch (kind.resets (state_of x.side)) (kind.held (state_of x.side)) y.epoch (kind.resets (state_of y.side))
+    (kind.held (state_of y.side))
 
 still : {M : Type 0} (kind : Kind M) (A : List M → Type 0) (z : At Connection) → ChannelChange kind A z z
 still kind A z = Stays refl refl (alike (kind.held (state_of z.side)).down) (inl refl)
 
-change_map : {M : Type 0} (A B : List M → Type 0) (c s : ℕ) (l : Lists M) (c₂ s₂ : ℕ) (l₂ : Lists M) → (A l₂.up → B l₂.up) → Change A c s l c₂ s₂ l₂ → Change B c s l c₂ s₂ l₂
+change_map : {M : Type 0} (A B : List M → Type 0) (c s : ℕ) (l : Lists M) (c₂ s₂ : ℕ) (l₂ : Lists M) → (A l₂.up → B l₂.up) → Change A c s l c₂ s₂ l₂
+    → Change B c s l c₂ s₂ l₂
 change_map A B c s l c₂ s₂ l₂ f (Stays p q down (inl same)) = Stays p q down (inl same)
 change_map A B c s l c₂ s₂ l₂ f (Stays p q down (inr new)) = Stays p q down (inr (f new))
 change_map A B c s l c₂ s₂ l₂ f (MoreResets p q empty) = MoreResets p q empty
 change_map A B c s l c₂ s₂ l₂ f (MoreClears p empty) = MoreClears p empty
 
-lifted : {M : Type 0} (kind : Kind M) {A : List M → Type 0} {e : ℕ} {c : Connection} (s : Step Connection Packet) (n : Option ℕ) → WithinCall kind A e c s.next → ChannelChange kind A (live e c) (lifted_call e s n).next
+lifted : {M : Type 0} (kind : Kind M) {A : List M → Type 0} {e : ℕ} {c : Connection} (s : Step Connection Packet) (n : Option ℕ) → WithinCall kind A e c s.next
+    → ChannelChange kind A (live e c) (lifted_call e s n).next
 lifted kind s None h = h
 lifted kind s (Some n) h = h
 
@@ -64,7 +71,8 @@ channel_acted kind h A e (Live c) (Within a) =
 channel_acted kind h A e (Live c) SendsClear = channel_cleared kind A e c c.phase
 channel_acted kind h A e (Left c) a = still kind A (live e c)
 
-put_changed : {M : Type 0} (kind : Kind M) (A : List M → Type 0) (x : Channels) (h : ℕ) (z : At Connection) (k : ℕ) → (k ≡ h → ChannelChange kind A (x h) z) → ChannelChange kind A (x k) (put x h z k)
+put_changed : {M : Type 0} (kind : Kind M) (A : List M → Type 0) (x : Channels) (h : ℕ) (z : At Connection) (k : ℕ) → (k ≡ h → ChannelChange kind A (x h) z)
+    → ChannelChange kind A (x k) (put x h z k)
 put_changed kind A x h z k f = test (k == h) refl
   where
     test : (b : Bool) → (k == h) ≡ b → ChannelChange kind A (x k) (if b then z else x k)
@@ -75,7 +83,8 @@ pub turn_still : {M : Type 0} (kind : Kind M) (A : List M → Type 0) (k : ℕ) 
 turn_still kind A k x = Remained refl (still kind A (circuit_at x k))
 
 pub turn_taken : {M : Type 0} (kind : Kind M) → IsHandled kind → (A : List M → Type 0) (k : ℕ) (r : Role) (e : ℕ) (x : Side Channels) (p : LayerPacket)
-    → ((y : Channels) (q : Packet) (c : Connection) → x ≡ Live y → p ≡ On k q → (y k).side ≡ Live c → clear_mark q ≡ Inner → WithinCall kind A (y k).epoch c (call_takes r c q).next)
+    → ((y : Channels) (q : Packet) (c : Connection) → x ≡ Live y → p ≡ On k q → (y k).side ≡ Live c → clear_mark q ≡ Inner
+    → WithinCall kind A (y k).epoch c (call_takes r c q).next)
     → Turn kind A k (record { epoch = e; side = x }) (layer_side_takes r e x p).next
 turn_taken kind handled A k r e (Live x) (On h q) f =
     Remained refl (put_changed kind A x h (channel_takes r (x h) q).next k
@@ -87,16 +96,20 @@ turn_taken kind handled A k r e x p f = Restarted (omega arith) handled.fresh
 
 pub turn_acted : {M : Type 0} (kind : Kind M) → IsHandled kind → (A : List M → Type 0) (k : ℕ) (e : ℕ) (x : Side Channels) (a : LayerAct)
     → Turn kind A k (record { epoch = e; side = x }) (layer_side_acts e x a).next
-turn_acted kind handled A k e (Live x) (OnChannel h a) = Remained refl (put_changed kind A x h (channel_acts (x h) a).next k (λ is. channel_acted kind handled A (x h).epoch (x h).side a))
+turn_acted kind handled A k e (Live x) (OnChannel h a) = Remained refl
+    (put_changed kind A x h (channel_acts (x h) a).next k (λ is. channel_acted kind handled A (x h).epoch (x h).side a))
 turn_acted kind handled A k e (Live x) SendsRestart = Remained refl (still kind A (x k))
 turn_acted kind handled A k e (Left x) a = Remained refl (still kind A (x k))
 
-pub Ends-meet : (r : Role) (x : At Channels) (L : List LayerPacket) {K : List LayerPacket} (y : Side (At Channels)) → EndsRelated r (Live x) L K y → (w : List LayerPacket) × LayersRelated r x w K (state_of y)
+pub Ends-meet : (r : Role) (x : At Channels) (L : List LayerPacket) {K : List LayerPacket} (y : Side (At Channels)) → EndsRelated r (Live x) L K y
+    → (w : List LayerPacket) × LayersRelated r x w K (state_of y)
 Ends-meet r x L (Live z) h = (L, h)
 Ends-meet r x L (Left z) h = (h.0, h.2)
 
--- A packet of a call is taken only in the epochs of the other end, live or stopped; so what it has this end hand up, the other end handed down under the same name.
-pub taken_in_its_epoch : {M : Type 0} (kind : Kind M) → IsHandled kind → (r : Role) (rs : ℕ) (x : Channels) (k : ℕ) (c : Connection) (p : Packet) (L K : List LayerPacket)
+-- A packet of a call is taken only in the epochs of the other end, live or stopped; so what it has this end hand up,
+-- the other end handed down under the same name.
+pub taken_in_its_epoch : {M : Type 0} (kind : Kind M) → IsHandled kind
+    → (r : Role) (rs : ℕ) (x : Channels) (k : ℕ) (c : Connection) (p : Packet) (L K : List LayerPacket)
     (far : Side (At Channels)) (history : Name → Lists M) → clear_mark p ≡ Inner → (x k).side ≡ Live c → EndsRelated r (Live (live rs x)) L (On k p ∷ K) far
     → WithinCall kind (MayHandUp (name_at kind (live rs x) k) (channel_view kind (state_of far) k history)) (x k).epoch c (call_takes r c p).next
 taken_in_its_epoch kind handled r rs x k c p L K far history inner side top =

@@ -64,11 +64,14 @@ by_told true t f g = f refl
 by_told false t f g = g refl
 
 -- more goes behind
-pub told_on : (b : Bool) (s t : LinkStation) (out : List PlainFrame) → Told b s → Says s.said_busy t.said_busy (is_busy t) t.peer_busy out → (is_busy s ≡ false → is_busy t ≡ false) → Told (hears_busy b out) t
+pub told_on : (b : Bool) (s t : LinkStation) (out : List PlainFrame) → Told b s → Says s.said_busy t.said_busy (is_busy t) t.peer_busy out
+    → (is_busy s ≡ false → is_busy t ≡ false) → Told (hears_busy b out) t
 told_on true s t out told h stays = by_told (hears_busy true out) t (λ e. h.said ∙ busy_said true s.said_busy out (λ _. told) e) (λ e. h.free (free_said out e))
-told_on false s t out told h stays = by_told (hears_busy false out) t (λ e. h.said ∙ busy_said false s.said_busy out (λ g. not_both true refl (sym g)) e) (λ _. stays told)
+told_on false s t out told h stays = by_told (hears_busy false out) t (λ e. h.said ∙ busy_said false s.said_busy out (λ g. not_both true refl (sym g)) e)
+    (λ _. stays told)
 
 -- RR or RNR goes first
-pub told_first : (b : Bool) {before : Bool} (t : LinkStation) (n : ℕ) (next : List PlainFrame) → Says before t.said_busy (is_busy t) t.peer_busy (says b false n true ∷ next) → Told (hears_busy b next) t
+pub told_first : (b : Bool) {before : Bool} (t : LinkStation) (n : ℕ) (next : List PlainFrame)
+    → Says before t.said_busy (is_busy t) t.peer_busy (says b false n true ∷ next) → Told (hears_busy b next) t
 told_first true t n next h = by_told (hears_busy true next) t (λ e. h.said ∙ busy_said true true next (λ g. g) e) (λ e. h.free (free_said next e))
 told_first false t n next h = by_told (hears_busy false next) t (λ e. h.said ∙ busy_said false false next (λ g. g) e) (λ _. h.free refl)

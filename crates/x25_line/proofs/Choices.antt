@@ -22,7 +22,8 @@ if_both A true h k = k
 if_both A false h k = h
 
 -- so they do by the acts by which a station takes no octets and is given no packet
-pub own_both : {W X : Type 0} (A : W → X → Type 0) (c : Settings) (s : LinkStation) (w : W) (x : X) (done : Step → W) (goes : Step → X) → A w x → ((step : Step) → A (done step) (goes step)) → (a : Act)
+pub own_both : {W X : Type 0} (A : W → X → Type 0) (c : Settings) (s : LinkStation) (w : W) (x : X) (done : Step → W) (goes : Step → X) → A w x
+    → ((step : Step) → A (done step) (goes step)) → (a : Act)
     → A (own_act c s w done a) (own_act c s x goes a)
 own_both A c s w x done goes h k T1 = unless_both A (timer_refusal s) h (k _)
 own_both A c s w x done goes h k Connect = unless_both A (connect_refusal s.phase) h (k _)

@@ -1,5 +1,6 @@
 -- Deliveries alone drain each line: what comes makes the line and the stations weigh less, but for as many changes as the world bounds.
-use Rattle.std.proofs.Common.{◌≡◌, ℕ, suc, zero, ◌+◌, ◌*◌, ◌%◌, ◌≤◌, List, [], ◌∷◌, ◌++◌, ◌⊎◌, inl, inr, length, Bool, true, false, Result, Ok, refl, sym, ap, ◌∙◌, subst, arith}
+use Rattle.std.proofs.Common.{◌≡◌, ℕ, suc, zero, ◌+◌, ◌*◌, ◌%◌, ◌≤◌, List, [], ◌∷◌, ◌++◌, ◌⊎◌, inl, inr, length, Bool, true, false, Result, Ok, refl, sym, ap}
+use Rattle.std.proofs.Common.{◌∙◌, subst, arith}
 use Rattle.std.specs.Prelude.{◌==◌}
 use Rattle.x25_bits.specs.declared.role.Role.{Role}
 use Rattle.x25_frame.specs.{Frame.{PlainFrame, info}, Spelling.{spelling_of}, Reading.{frame_of}, laws.ReadingLaw.{ReadsSpelled}}
@@ -23,7 +24,8 @@ abbrev asks_on : Role → ℕ → List Entry → ℕ
 asks_on from n1 [] = 0
 asks_on from n1 (e ∷ es) = asks_in (frame_of from n1 e.octets) + asks_on from n1 es
 
-line_more : (back low : ℕ) (from : Role) (n1 : ℕ) (xs ys : List Entry) → line_weight back low from n1 (xs ++ ys) ≡ line_weight back low from n1 xs + line_weight back low from n1 ys
+line_more : (back low : ℕ) (from : Role) (n1 : ℕ) (xs ys : List Entry) → line_weight back low from n1 (xs ++ ys) ≡ line_weight back low from n1 xs
+    + line_weight back low from n1 ys
 line_more back low from n1 [] ys = omega arith
 line_more back low from n1 (x ∷ xs) ys = omega (arith, line_more back low from n1 xs ys)
 
@@ -37,7 +39,8 @@ spelled_weight : ReadsSpelled → (back low : ℕ) (from : Role) (n1 session : �
 spelled_weight reads back low from n1 session [] h = (refl, refl)
 spelled_weight reads back low from n1 session (f ∷ fs) h =
     let s = h.0 in
-    let is : frame_of from n1 (spelling_of from f) ≡ Ok f = reads from n1 f (spelling_of from f) (record { in_range = s.in_range; carries = s.carries; within = s.within; spelling = refl }) in
+    let is : frame_of from n1 (spelling_of from f) ≡ Ok f = reads from n1 f (spelling_of from f)
+    (record { in_range = s.in_range; carries = s.carries; within = s.within; spelling = refl }) in
     let more = spelled_weight reads back low from n1 session fs h.1 in
     (omega (arith, ap (read_weight back low) is, more.0), omega (arith, ap asks_in is, s.asks_not, more.1))
 
@@ -50,11 +53,18 @@ read_other : (back low now : ℕ) (r : Result PlainFrame FrameError) → read_we
 read_other back low now (Ok (info ns nr p x)) = omega (arith, more_high (8 * back) (ns == (now + 7) % 8))
 read_other back low now r = omega arith
 
-line_other : (back low now : ℕ) → 2 ≤ back → (from : Role) (n1 : ℕ) (es : List Entry) → line_weight back now from n1 es ≤ line_weight back low from n1 es + times (8 * back) (line_weight back low from n1 es)
+line_other : (back low now : ℕ) → 2 ≤ back → (from : Role) (n1 : ℕ) (es : List Entry) → line_weight back now from n1 es ≤ line_weight back low from n1 es
+    + times (8 * back) (line_weight back low from n1 es)
 line_other back low now some from n1 [] = omega arith
 line_other back low now some from n1 (e ∷ es) =
     let l = line_weight back low from n1 es in
-    omega (arith, read_other back low now (frame_of from n1 e.octets), line_other back low now some from n1 es, times_more (8 * back) (suc l) ((read_weight back low (frame_of from n1 e.octets)) + l) (omega (arith, read_weight_some back low some (frame_of from n1 e.octets))))
+    omega (
+      arith,
+      read_other back low now (frame_of from n1 e.octets),
+      line_other back low now some from n1 es,
+      times_more (8 * back) (suc l) ((read_weight back low (frame_of from n1 e.octets)) + l)
+          (omega (arith, read_weight_some back low some (frame_of from n1 e.octets))),
+    )
 
 station_other : (back low now : ℕ) (s : LinkStation) → station_weight back now s ≤ station_weight back low s + 7 * back
 station_other back low now s =
@@ -82,7 +92,11 @@ most_more back (suc j) (suc i) n h = omega (arith, most_more back j i (grown bac
 
 heavier : (back i n m : ℕ) → m + 1 ≤ n → most back i m + 1 ≤ most back i n
 heavier back zero n m h = h
-heavier back (suc i) n m h = omega (arith, h, most_heavier back i (grown back m) (grown back n) (omega (arith, h, times_more (8 * back) m n (omega (arith, h)))))
+heavier back (suc i) n m h = omega (
+  arith,
+  h,
+  most_heavier back i (grown back m) (grown back n) (omega (arith, h, times_more (8 * back) m n (omega (arith, h)))),
+)
 
 -- as long as nothing changes
 falls_on : (back j i n m : ℕ) → j ≤ i → m + 1 ≤ n → most back j m + 1 ≤ most back i n
@@ -112,7 +126,8 @@ pub record Enough (back : ℕ) (w : Sessions) : Type 0 where
 
 abbrev heap : ℕ → Settings → Settings → Sessions → ℕ
 heap back c d w =
-    line_weight back w.near.station.outgoing.acked (other d.role) d.longest w.out + line_weight back w.far.station.outgoing.acked (other c.role) c.longest w.back
+    line_weight back w.near.station.outgoing.acked (other d.role) d.longest w.out
+    + line_weight back w.far.station.outgoing.acked (other c.role) c.longest w.back
     + station_weight back w.far.station.outgoing.acked w.near.station + station_weight back w.near.station.outgoing.acked w.far.station
 
 abbrev to_change : Settings → Settings → Sessions → ℕ
@@ -140,10 +155,16 @@ enough_of back old new (inr none) h = omega (arith, h, ap length none)
 
 module _ (reads : ReadsSpelled) {c d : Settings} (joined : AreJoined c d) (back : ℕ) where
   -- the front octets are taken
-  takes_front : (w : Sessions) → Fit c d w → Enough back w → (e : Entry) (es : List Entry) (met : List Meeting) → w.back ≡ e ∷ es → Falls back c d w (after_step c w es met [] (take_step c e.octets w.near.station))
+  takes_front : (w : Sessions) → Fit c d w → Enough back w → (e : Entry) (es : List Entry) (met : List Meeting) → w.back ≡ e ∷ es
+      → Falls back c d w (after_step c w es met [] (take_step c e.octets w.near.station))
   takes_front w fit enough e es met is =
       record {
-        fit = record { near_place = t.place; far_place = fit.far_place; near_within = within_of d.longest v.near.station.outgoing.given t.given fit.near_within; far_within = fit.far_within };
+        fit = record {
+          near_place = t.place;
+          far_place = fit.far_place;
+          near_within = within_of d.longest v.near.station.outgoing.given t.given fit.near_within;
+          far_within = fit.far_within;
+        };
         enough = record { near = enough_of back s.outgoing.given v.near.station.outgoing.given t.given enough.near; far = enough.far };
         less = by t.by;
       }
@@ -175,9 +196,11 @@ module _ (reads : ReadsSpelled) {c d : Settings} (joined : AreJoined c d) (back 
       now : ℕ
       now = v.near.station.outgoing.acked
 
-      wrote : (line_weight back now (other d.role) d.longest (sent_in session c.role put) ≡ weights back now put) × (asks_on (other d.role) d.longest (sent_in session c.role put) ≡ 0)
+      wrote : (line_weight back now (other d.role) d.longest (sent_in session c.role put) ≡ weights back now put)
+          × (asks_on (other d.role) d.longest (sent_in session c.role put) ≡ 0)
       wrote =
-          subst (λ from. (line_weight back now (other d.role) d.longest (sent_in session from put) ≡ weights back now put) × (asks_on (other d.role) d.longest (sent_in session from put) ≡ 0)) joined.near_role
+          subst (λ from. (line_weight back now (other d.role) d.longest (sent_in session from put) ≡ weights back now put)
+          × (asks_on (other d.role) d.longest (sent_in session from put) ≡ 0)) joined.near_role
           (spelled_weight reads back now (other d.role) d.longest session put t.spelled)
 
       out_is : line_weight back now (other d.role) d.longest v.out ≡ line_weight back now (other d.role) d.longest w.out + weights back now put
@@ -192,12 +215,30 @@ module _ (reads : ReadsSpelled) {c d : Settings} (joined : AreJoined c d) (back 
       asked : asks_on (other c.role) c.longest w.back ≡ asks_in read + asks_on (other c.role) c.longest es
       asked = ap (asks_on (other c.role) c.longest) is
 
-      by : GoesOn back low (read_weight back low read) s (take_step c o s).side ⊎ Changes back low (read_weight back low read) (asks_in read) s (take_step c o s).side → at_most back c d v + 1 ≤ at_most back c d w
+      by : GoesOn back low (read_weight back low read) s (take_step c o s).side
+          ⊎ Changes back low (read_weight back low read) (asks_in read) s (take_step c o s).side → at_most back c d v + 1 ≤ at_most back c d w
       by (inl g) =
-          falls_on back (to_change c d v) (to_change c d w) (heap back c d w) (heap back c d v) (omega (arith, g.changes, asks_is, asked)) (omega (arith, g.load, out_is, came, (ap (λ m. line_weight back m (other d.role) d.longest w.out) g.acked), ap (λ m. station_weight back m w.far.station) g.acked))
+          falls_on back (to_change c d v) (to_change c d w) (heap back c d w) (heap back c d v) (omega (arith, g.changes, asks_is, asked))
+          (omega (
+            arith,
+            g.load,
+            out_is,
+            came,
+            (ap (λ m. line_weight back m (other d.role) d.longest w.out) g.acked),
+            ap (λ m. station_weight back m w.far.station) g.acked,
+          ))
       by (inr g) =
           let some : 2 ≤ back = omega (arith, enough.near) in
-          falls_by back (to_change c d v) (to_change c d w) (heap back c d w) (heap back c d v) (omega (arith, g.fewer, asks_is, asked)) (omega (arith, g.load, out_is, came, line_other back s.outgoing.acked now some (other d.role) d.longest w.out, station_other back s.outgoing.acked now w.far.station, times_more (8 * back) (line_weight back s.outgoing.acked (other d.role) d.longest w.out) (heap back c d w) (omega arith)))
+          falls_by back (to_change c d v) (to_change c d w) (heap back c d w) (heap back c d v) (omega (arith, g.fewer, asks_is, asked))
+          (omega (
+            arith,
+            g.load,
+            out_is,
+            came,
+            line_other back s.outgoing.acked now some (other d.role) d.longest w.out,
+            station_other back s.outgoing.acked now w.far.station,
+            times_more (8 * back) (line_weight back s.outgoing.acked (other d.role) d.longest w.out) (heap back c d w) (omega arith),
+          ))
 
   pub near_falls : {w : Sessions} → Fit c d w → Enough back w → (w.back ≡ [] → ⊥) → Falls back c d w (acts c Deliver w)
   near_falls {w} fit enough finds = by w.back refl

@@ -1,6 +1,7 @@
 -- What octets that come make of a station: it weighs less with what it sends; or it changes its session or hears a new number, of
 -- which there are only so many.
-use Rattle.std.proofs.Common.{◌≡◌, ℕ, suc, zero, ◌+◌, ◌-◌, ◌*◌, ◌%◌, ◌<◌, ◌≤◌, List, [], ◌∷◌, ◌⊎◌, inl, inr, length, max, Bool, true, false, if◌then◌else◌, Result, Ok, Err, refl, sym, ap, subst, arith}
+use Rattle.std.proofs.Common.{◌≡◌, ℕ, suc, zero, ◌+◌, ◌-◌, ◌*◌, ◌%◌, ◌<◌, ◌≤◌, List, [], ◌∷◌, ◌⊎◌, inl, inr, length, max, Bool, true, false, if◌then◌else◌}
+use Rattle.std.proofs.Common.{Result, Ok, Err, refl, sym, ap, subst, arith}
 use Rattle.std.proofs.lemmas.Bool.{leb-true, eqb-true, eqb-false}
 use Rattle.std.specs.Prelude.{◌==◌, ◌&&◌}
 use Rattle.x25_link.proofs.EndLemmas.{true_false}
@@ -8,10 +9,12 @@ use Rattle.x25_frame.specs.{Frame.{PlainFrame, info, rr, rnr, rej, sabm, disc, u
 use Rattle.x25_frame.specs.{declared.error.FrameError.{FrameError}, declared.error.FrameError.TheVariants.{Undefined, NoInfoAllowed, TooLong}}
 use Rattle.x25_link.specs.{declared.phase.Phase.{Phase}, declared.phase.Phase.TheVariants.{Down, Waiting, Up, Closed}}
 use Rattle.x25_link.specs.Station.{Settings, LinkStation, Side, with_nothing, sends, ended}
-use Rattle.x25_link.specs.Hearing.{Step, quiet, other, is_valid, acknowledged, hears_info, peer_is, goes_back, polls, numbered, rejects, reject_of, row_of_frame, row_of}
+use Rattle.x25_link.specs.Hearing.{Step, quiet, other, is_valid, acknowledged, hears_info, peer_is, goes_back, polls, numbered, rejects, reject_of}
+use Rattle.x25_link.specs.Hearing.{row_of_frame, row_of}
 use Rattle.x25_link.specs.{Link.{alone, hears, declines, when_down, when_waiting, take_step}, laws.AnswerLaw.{heard}}
 use Rattle.x25_line.proofs.StationSends.{AllWithin}
-use Rattle.x25_line.proofs.DrainWeights.{more_if, times_more, seven_times, ready_weight, rej_weight, weight, read_weight, weights, to_take, station_weight, asks_set_up, IsSpelled, AreSpelled, Weighs, W-sends, W-ended, W-info, W-peer, W-polls, W-rej}
+use Rattle.x25_line.proofs.DrainWeights.{more_if, times_more, seven_times, ready_weight, rej_weight, weight, read_weight, weights, to_take, station_weight}
+use Rattle.x25_line.proofs.DrainWeights.{asks_set_up, IsSpelled, AreSpelled, Weighs, W-sends, W-ended, W-info, W-peer, W-polls, W-rej}
 
 -- ---- how many changes may come yet
 
@@ -80,7 +83,8 @@ asking_weight back low some (sabm p) e = omega arith
 asking_weight back low some (disc p) e = omega arith
 asking_weight back low some f e = true_false (sym e)
 
-module _ (c : Settings) (n1 back low : ℕ) (s : LinkStation) (small : c.window ≤ 7) (within : AllWithin n1 s.outgoing.given) (heavy : 4 * length s.outgoing.given + 2 ≤ back) (low_place : s.outgoing.acked ≤ s.outgoing.place) where
+module _ (c : Settings) (n1 back low : ℕ) (s : LinkStation) (small : c.window ≤ 7) (within : AllWithin n1 s.outgoing.given)
+    (heavy : 4 * length s.outgoing.given + 2 ≤ back) (low_place : s.outgoing.acked ≤ s.outgoing.place) where
   some : 2 ≤ back
   some = omega (arith, heavy)
 
@@ -134,13 +138,22 @@ module _ (c : Settings) (n1 back low : ℕ) (s : LinkStation) (small : c.window 
 
   -- ---- another session, or none
 
-  anew : (cost asks tries : ℕ) (p : Phase) (out : List PlainFrame) → weights back 0 out ≤ cost → AreSpelled n1 out → phase_weight p + 1 ≤ phase_weight s.phase + 2 * asks
+  anew : (cost asks tries : ℕ) (p : Phase) (out : List PlainFrame) → weights back 0 out ≤ cost → AreSpelled n1 out → phase_weight p + 1 ≤ phase_weight s.phase
+      + 2 * asks
       → T cost asks (record { near = with_nothing p tries; out = out })
   anew cost asks tries p out le spelled fewer =
       let t : Side = record { near = with_nothing p tries; out = out } in
       let first : to_take low 0 ≤ 7 = omega arith in
       let e = W-ended n1 c.window back low 0 0 [] p small tt (omega arith) some (cost + 8 * back)
-      (record { load = omega (arith, le, times_more back (to_take low 0) 7 first, seven_times back); acked = refl; place = omega arith; given = refl; sent = omega arith; phase = refl; spelled = spelled }) in
+      (record {
+        load = omega (arith, le, times_more back (to_take low 0) 7 first, seven_times back);
+        acked = refl;
+        place = omega arith;
+        given = refl;
+        sent = omega arith;
+        phase = refl;
+        spelled = spelled;
+      }) in
       let u : Side = ended c.window t in
       record {
         place = omega (arith, e.acked, e.place);
@@ -176,7 +189,8 @@ module _ (c : Settings) (n1 back low : ℕ) (s : LinkStation) (small : c.window 
 
   left_with : (octets : List ℕ) (why cost : ℕ) → 1 ≤ cost → s.phase ≡ Up → T cost 0 (rejects c octets why (alone s)).side
   left_with octets why cost le up =
-      anew cost 0 s.tries Down (reject_of c octets why s ∷ []) (omega (arith, le)) (record { in_range = tt; carries = refl; within = tt; asks_not = refl }, tt) (omega (arith, ap phase_weight up))
+      anew cost 0 s.tries Down (reject_of c octets why s ∷ []) (omega (arith, le)) (record { in_range = tt; carries = refl; within = tt; asks_not = refl }, tt)
+      (omega (arith, ap phase_weight up))
 
   numbered_took : (octets : List ℕ) (nr cost : ℕ) (row : Side → Step) → 1 ≤ cost → s.phase ≡ Up
       → ((t : Side) → W (heard nr s) before t → (n : ℕ) × (n + 1 ≤ cost + before) × W (heard nr s) n (row t).side)
@@ -195,7 +209,11 @@ module _ (c : Settings) (n1 back low : ℕ) (s : LinkStation) (small : c.window 
   frame_took : (octets : List ℕ) (f : PlainFrame) → s.phase ≡ Up → T (cost_of f) (asks_set_up f) (row_of_frame c octets f (alone s)).side
   frame_took octets (info ns nr p x) up =
       numbered_took octets nr (cost_of (info ns nr p x)) (hears_info c.window ns p x) (weight_some back low some (info ns nr p x)) up
-      (λ t h. (before + more_if back p + more_if (8 * back) (ns == (low + 7) % 8) + 2, omega arith, W-info n1 c.window back low (heard nr s) (top_of s) s.outgoing.given s.phase small within many heavy before ns p x t h))
+      (λ t h. (
+        before + more_if back p + more_if (8 * back) (ns == (low + 7) % 8) + 2,
+        omega arith,
+        W-info n1 c.window back low (heard nr s) (top_of s) s.outgoing.given s.phase small within many heavy before ns p x t h,
+      ))
   frame_took octets (rr command nr pf) up =
       let w = ready_weight back command pf in
       let le = ready_some back some command pf in
@@ -220,12 +238,18 @@ module _ (c : Settings) (n1 back low : ℕ) (s : LinkStation) (small : c.window 
       let w = rej_weight back command pf in
       let le = rej_some back some command pf in
       numbered_took octets nr w (λ u. quiet (polls command pf (goes_back (peer_is false u)))) le up
-      (λ t h. (before + (w - 1), omega (arith, le), W-rej n1 c.window back low (heard nr s) (top_of s) s.outgoing.given s.phase small within many heavy before (before + (w - 1)) command pf t (omega (arith, le)) h))
+      (λ t h. (
+        before + (w - 1),
+        omega (arith, le),
+        W-rej n1 c.window back low (heard nr s) (top_of s) s.outgoing.given s.phase small within many heavy before (before + (w - 1)) command pf t
+            (omega (arith, le)) h,
+      ))
   frame_took octets (sabm p) up = anew 2 1 0 Up (ua p ∷ []) (omega arith) (said, tt) (omega (arith, ap phase_weight up))
     where
       said : IsSpelled n1 (ua p)
       said = record { in_range = tt; carries = refl; within = tt; asks_not = refl }
-  frame_took octets (disc p) up = anew 2 0 s.tries Down (ua p ∷ []) (omega arith) (record { in_range = tt; carries = refl; within = tt; asks_not = refl }, tt) (omega (arith, ap phase_weight up))
+  frame_took octets (disc p) up = anew 2 0 s.tries Down (ua p ∷ []) (omega arith) (record { in_range = tt; carries = refl; within = tt; asks_not = refl }, tt)
+      (omega (arith, ap phase_weight up))
   frame_took octets (ua f) up = goes_on 1 0 (omega arith) begins
   frame_took octets f up = anew 1 0 s.tries Down [] (omega arith) tt (omega (arith, ap phase_weight up))
 
@@ -251,7 +275,8 @@ module _ (c : Settings) (n1 back low : ℕ) (s : LinkStation) (small : c.window 
   declined f = by (is_command f && poll_or_final f) refl
     where
       by : (b : Bool) → (is_command f && poll_or_final f) ≡ b → T (cost_of f) (asks_set_up f) (if b then sends (dm true) (alone s) else alone s)
-      by true e = says_one (cost_of f) (asks_set_up f) (asking_weight back low some f e) refl (record { in_range = tt; carries = refl; within = tt; asks_not = refl })
+      by true e = says_one (cost_of f) (asks_set_up f) (asking_weight back low some f e) refl
+          (record { in_range = tt; carries = refl; within = tt; asks_not = refl })
       by false e = silent f (asks_set_up f)
 
   down_took : (f : PlainFrame) → s.phase ≡ Down → T (cost_of f) (asks_set_up f) (when_down f (alone s)).side
@@ -277,16 +302,15 @@ module _ (c : Settings) (n1 back low : ℕ) (s : LinkStation) (small : c.window 
   waiting_took (dm f) is = silent (dm f) 0
   waiting_took (frmr f why) is = silent (frmr f why) 0
 
-  not_read : (asks : ℕ) → T 1 asks (alone s)
-  not_read asks = goes_on 1 asks (omega arith) begins
-
-  hears_took : (octets : List ℕ) (r : Result PlainFrame FrameError) (p : Phase) → s.phase ≡ p → T (read_weight back low r) (asks_in r) (hears c octets r p (alone s)).side
+  hears_took : (octets : List ℕ) (r : Result PlainFrame FrameError) (p : Phase) → s.phase ≡ p
+      → T (read_weight back low r) (asks_in r) (hears c octets r p (alone s)).side
   hears_took octets r Up is = read_took octets r is
   hears_took octets (Ok f) Down is = down_took f is
   hears_took octets (Ok f) Waiting is = waiting_took f is
   hears_took octets (Ok f) Closed is = declined f
-  hears_took octets (Err e) p is = not_read 0
+  hears_took octets (Err e) p is = (goes_on 1 0 (omega arith) begins)
 
-  pub took : (octets : List ℕ) (r : Result PlainFrame FrameError) → frame_of (other c.role) c.longest octets ≡ r → Took n1 back low (read_weight back low r) (asks_in r) s (take_step c octets s).side
+  pub took : (octets : List ℕ) (r : Result PlainFrame FrameError) → frame_of (other c.role) c.longest octets ≡ r
+      → Took n1 back low (read_weight back low r) (asks_in r) s (take_step c octets s).side
   took octets r is =
       rw (sym is) (hears_took octets (frame_of (other c.role) c.longest octets) s.phase refl)

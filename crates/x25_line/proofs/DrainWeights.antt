@@ -1,11 +1,13 @@
 -- What comes to a station weighs more than what it brings, as long as the station stays in its phase and hears no new number.
-use Rattle.std.proofs.Common.{◌≡◌, ℕ, suc, zero, ◌+◌, ◌-◌, ◌*◌, ◌%◌, ◌<◌, ◌≤◌, List, [], ◌∷◌, ◌++◌, length, Bool, true, false, not, if◌then◌else◌, Result, Ok, Err, refl, sym, ap, subst, arith, length-append}
+use Rattle.std.proofs.Common.{◌≡◌, ℕ, suc, zero, ◌+◌, ◌-◌, ◌*◌, ◌%◌, ◌<◌, ◌≤◌, List, [], ◌∷◌, ◌++◌, length, Bool, true, false, not, if◌then◌else◌, Result, Ok}
+use Rattle.std.proofs.Common.{Err, refl, sym, ap, subst, arith, length-append}
 use Rattle.std.proofs.lemmas.Bool.{eqb-true, eqb-false, and_parts, not-true}
 use Rattle.std.specs.Prelude.{◌==◌, slice_index_or}
 use Rattle.x25_frame.specs.{Frame.{PlainFrame, info, rr, rnr, rej, sabm, disc}, Spelling.{information_of, IsInRange, MayCarry, IsWithin}}
 use Rattle.x25_frame.specs.declared.error.FrameError.{FrameError}
 use Rattle.x25_link.specs.declared.phase.Phase.{Phase}
-use Rattle.x25_link.specs.Station.{LinkStation, Side, is_up, is_busy, wanted, with_near, sends, ready, next_frame, send_next, may_send, pumped, owes_ready, finished, ended}
+use Rattle.x25_link.specs.Station.{LinkStation, Side, is_up, is_busy, wanted, with_near, sends, ready, next_frame, send_next, may_send, pumped, owes_ready}
+use Rattle.x25_link.specs.Station.{finished, ended}
 use Rattle.x25_link.specs.Hearing.{Step, is_taken, takes, answers, rejects_gap, passes_over, hears_info, peer_is, goes_back, polls}
 use Rattle.x25_link.proofs.EndLemmas.{open_is}
 use Rattle.x25_line.specs.laws.StationClaims.{Each}
@@ -100,12 +102,6 @@ below_eight n = omega arith
 pub rr_spelled : (n1 n : ℕ) (command pf : Bool) → IsSpelled n1 (rr command (n % 8) pf)
 rr_spelled n1 n command pf = record { in_range = below_eight n; carries = refl; within = tt; asks_not = refl }
 
-rnr_spelled : (n1 n : ℕ) (command pf : Bool) → IsSpelled n1 (rnr command (n % 8) pf)
-rnr_spelled n1 n command pf = record { in_range = below_eight n; carries = refl; within = tt; asks_not = refl }
-
-rej_spelled : (n1 n : ℕ) (command pf : Bool) → IsSpelled n1 (rej command (n % 8) pf)
-rej_spelled n1 n command pf = record { in_range = below_eight n; carries = refl; within = tt; asks_not = refl }
-
 -- a number that may be sent isn't the eighth
 not_eighth : (a n : ℕ) → a ≤ n → n < a + 7 → (b : Bool) → (n % 8 == (a + 7) % 8) ≡ b → b ≡ false
 not_eighth a n low high true e = absurd (omega (arith, low, high, eqb-true _ _ e))
@@ -116,7 +112,8 @@ not_none low n zero e apart = absurd (apart (omega (arith, e)))
 not_none low n (suc t) e apart = omega arith
 
 -- a packet of the eighth number lets seven more be taken, and any other lets one less
-once_more : (back low n : ℕ) (b : Bool) → (n % 8 == (low + 7) % 8) ≡ b → times back (to_take low (n + 1)) + back ≤ times back (to_take low n) + more_if (8 * back) b
+once_more : (back low n : ℕ) (b : Bool) → (n % 8 == (low + 7) % 8) ≡ b → times back (to_take low (n + 1)) + back ≤ times back (to_take low n)
+    + more_if (8 * back) b
 once_more back low n true e = omega (arith, seven_times back, times_more back (to_take low (n + 1)) 7 (omega arith))
 once_more back low n false e =
     let fewer : to_take low n ≡ suc (to_take low (n + 1)) = omega (arith, not_none low n (to_take low n) refl (eqb-false _ _ e)) in
@@ -124,7 +121,8 @@ once_more back low n false e =
 
 -- ---- a side of a step that weighs at most so much
 
-module _ (n1 k back low a top : ℕ) (gs : List (List ℕ)) (p : Phase) (small : k ≤ 7) (within : AllWithin n1 gs) (high : length gs ≤ top) (heavy : 4 * length gs + 2 ≤ back) where
+module _ (n1 k back low a top : ℕ) (gs : List (List ℕ)) (p : Phase) (small : k ≤ 7) (within : AllWithin n1 gs) (high : length gs ≤ top)
+    (heavy : 4 * length gs + 2 ≤ back) where
   pub record Weighs (n : ℕ) (t : Side) : Type 0 where
     pub load : weights back a t.out + station_weight back low t.near ≤ n
     pub acked : t.near.outgoing.acked ≡ a
@@ -135,7 +133,15 @@ module _ (n1 k back low a top : ℕ) (gs : List (List ℕ)) (p : Phase) (small :
     pub spelled : AreSpelled n1 t.out
 
   pub W-more : {n : ℕ} (m : ℕ) {t : Side} → n ≤ m → Weighs n t → Weighs m t
-  W-more m le h = record { load = omega (arith, le, h.load); acked = h.acked; place = h.place; given = h.given; sent = h.sent; phase = h.phase; spelled = h.spelled }
+  W-more m le h = record {
+    load = omega (arith, le, h.load);
+    acked = h.acked;
+    place = h.place;
+    given = h.given;
+    sent = h.sent;
+    phase = h.phase;
+    spelled = h.spelled;
+  }
 
   by_if : (n : ℕ) (b : Bool) (u v : Side) → (b ≡ true → Weighs n u) → (b ≡ false → Weighs n v) → Weighs n (if b then u else v)
   by_if n true u v f g = f refl
@@ -155,18 +161,43 @@ module _ (n1 k back low a top : ℕ) (gs : List (List ℕ)) (p : Phase) (small :
 
   -- RNR was said last, or not
   W-said : {n : ℕ} (b : Bool) {t : Side} → Weighs n t → Weighs (n + 1) (with_near t (record t.near { said_busy = b }))
-  W-said true h = record { load = omega (arith, h.load); acked = h.acked; place = h.place; given = h.given; sent = h.sent; phase = h.phase; spelled = h.spelled }
-  W-said false h = record { load = omega (arith, h.load); acked = h.acked; place = h.place; given = h.given; sent = h.sent; phase = h.phase; spelled = h.spelled }
+  W-said true h = record {
+    load = omega (arith, h.load);
+    acked = h.acked;
+    place = h.place;
+    given = h.given;
+    sent = h.sent;
+    phase = h.phase;
+    spelled = h.spelled;
+  }
+  W-said false h = record {
+    load = omega (arith, h.load);
+    acked = h.acked;
+    place = h.place;
+    given = h.given;
+    sent = h.sent;
+    phase = h.phase;
+    spelled = h.spelled;
+  }
 
   W-ended_busy : (n : ℕ) {t : Side} → t.near.said_busy ≡ true → Weighs (n + 1) t → Weighs n (with_near t (record t.near { said_busy = false }))
   W-ended_busy n said h =
-      record { load = omega (arith, h.load, ap (more_if 1) said); acked = h.acked; place = h.place; given = h.given; sent = h.sent; phase = h.phase; spelled = h.spelled }
+      record {
+        load = omega (arith, h.load, ap (more_if 1) said);
+        acked = h.acked;
+        place = h.place;
+        given = h.given;
+        sent = h.sent;
+        phase = h.phase;
+        spelled = h.spelled;
+      }
 
   W-ready : {n : ℕ} (command pf : Bool) {t : Side} → Weighs n t → Weighs (n + ready_weight back command pf + 1) (ready command pf t)
   W-ready {n} command pf {t} h =
       let r = ready_weight back command pf in
       by_if (n + r + 1) (is_busy t.near) _ _
-      (λ _. W-more (n + r + 1) (omega arith) (W-sends (rnr_spelled n1 (length t.near.taken) command pf) (W-said true h)))
+      (λ _. W-more (n + r + 1) (omega arith)
+      (W-sends (record { in_range = below_eight (length t.near.taken); carries = refl; within = tt; asks_not = refl }) (W-said true h)))
       (λ _. W-more (n + r + 1) (omega arith) (W-sends (rr_spelled n1 (length t.near.taken) command pf) (W-said false h)))
 
   -- the RR that ends an RNR
@@ -183,7 +214,8 @@ module _ (n1 k back low a top : ℕ) (gs : List (List ℕ)) (p : Phase) (small :
   W-send_next : {n : ℕ} {t : Side} → may_send k t.near ≡ true → Weighs n t → Weighs n (send_next t)
   W-send_next {t = t} may h =
       let o = open_is k t.near may in
-      let number : (t.near.outgoing.place % 8 == (a + 7) % 8) ≡ false = not_eighth a t.near.outgoing.place h.place (omega (arith, small, o.room, h.acked)) _ refl in
+      let number : (t.near.outgoing.place % 8 == (a + 7) % 8) ≡ false =
+      not_eighth a t.near.outgoing.place h.place (omega (arith, small, o.room, h.acked)) _ refl in
       record {
         load = omega (arith, weights_more back a t.out ((next_frame t.near) ∷ []), ap (more_if (8 * back)) number, o.packet, h.load);
         acked = h.acked;
@@ -202,7 +234,8 @@ module _ (n1 k back low a top : ℕ) (gs : List (List ℕ)) (p : Phase) (small :
   W-pumped : (i : ℕ) {n : ℕ} {t : Side} → Weighs n t → Weighs n (pumped i k t)
   unfolding pumped
   W-pumped zero h = h
-  W-pumped (suc i) {n} {t} h = by_if n (may_send k (pumped i k t).near) (send_next (pumped i k t)) (pumped i k t) (λ may. W-send_next may (W-pumped i h)) (λ _. W-pumped i h)
+  W-pumped (suc i) {n} {t} h = by_if n (may_send k (pumped i k t).near) (send_next (pumped i k t)) (pumped i k t) (λ may. W-send_next may (W-pumped i h))
+      (λ _. W-pumped i h)
 
   pub W-ended : (n : ℕ) {t : Side} → Weighs n t → Weighs n (ended k t)
   W-ended n {t} h = W-finished (W-pumped 7 h)
@@ -225,7 +258,7 @@ module _ (n1 k back low a top : ℕ) (gs : List (List ℕ)) (p : Phase) (small :
         given = h.given;
         sent = h.sent;
         phase = h.phase;
-        spelled = spelled_more t.out h.spelled (rej_spelled n1 (length t.near.taken) false q);
+        spelled = spelled_more t.out h.spelled (record { in_range = below_eight (length t.near.taken); carries = refl; within = tt; asks_not = refl });
       }
     where
       rej_is : (q : Bool) → rej_weight back false q ≡ back + more_if back q
@@ -254,17 +287,28 @@ module _ (n1 k back low a top : ℕ) (gs : List (List ℕ)) (p : Phase) (small :
       let grown : length (t.near.taken ++ x ∷ []) ≡ r + 1 = length-append t.near.taken (x ∷ []) in
       let more = once_more back low r (ns == (low + 7) % 8) (ap (λ m. m == (low + 7) % 8) (sym is)) in
       let same : times back (to_take low (length (t.near.taken ++ x ∷ []))) ≡ times back (to_take low (r + 1)) = ap (λ m. times back (to_take low m)) grown in
-      record { load = omega (arith, h.load, more, same); acked = h.acked; place = h.place; given = h.given; sent = h.sent; phase = h.phase; spelled = h.spelled }
+      record {
+        load = omega (arith, h.load, more, same);
+        acked = h.acked;
+        place = h.place;
+        given = h.given;
+        sent = h.sent;
+        phase = h.phase;
+        spelled = h.spelled;
+      }
 
-  side_if : (n : ℕ) (b : Bool) (x y : Step) → (b ≡ true → Weighs n x.side) → (b ≡ false → Weighs n y.side) → (let z : Step = if b then x else y in Weighs n z.side)
+  side_if : (n : ℕ) (b : Bool) (x y : Step) → (b ≡ true → Weighs n x.side) → (b ≡ false → Weighs n y.side)
+      → (let z : Step = if b then x else y in Weighs n z.side)
   side_if n true x y f g = f refl
   side_if n false x y f g = g refl
 
-  pub W-info : (n ns : ℕ) (q : Bool) (x : List ℕ) (t : Side) → Weighs n t → Weighs (n + more_if back q + more_if (8 * back) (ns == (low + 7) % 8) + 2) (hears_info k ns q x t).side
+  pub W-info : (n ns : ℕ) (q : Bool) (x : List ℕ) (t : Side) → Weighs n t
+      → Weighs (n + more_if back q + more_if (8 * back) (ns == (low + 7) % 8) + 2) (hears_info k ns q x t).side
   W-info n ns q x t h =
       let extra = more_if (8 * back) (ns == (low + 7) % 8) in
       side_if (n + more_if back q + extra + 2) (is_taken ns t.near) _ _
-      (λ is. (W-more (n + more_if back q + extra + 2) (omega arith) (W-answers q (W-takes n ns x t (eqb-true ns (wanted t.near) (and_parts (not (is_busy t.near)) _ is).1) h))))
+      (λ is. (W-more (n + more_if back q + extra + 2) (omega arith)
+      (W-answers q (W-takes n ns x t (eqb-true ns (wanted t.near) (and_parts (not (is_busy t.near)) _ is).1) h))))
       (λ _. W-more (n + more_if back q + extra + 2) (omega arith) (W-passes_over n q t h))
 
   -- ---- RR, RNR and REJ
@@ -275,7 +319,15 @@ module _ (n1 k back low a top : ℕ) (gs : List (List ℕ)) (p : Phase) (small :
   pub W-goes_back : {n : ℕ} {t : Side} → Weighs n t → Weighs (n + 4 * length gs) (goes_back t)
   W-goes_back h =
       let many = ap length h.given in
-      record { load = omega (arith, h.load, many); acked = h.acked; place = omega (arith, h.acked); given = h.given; sent = h.sent; phase = h.phase; spelled = h.spelled }
+      record {
+        load = omega (arith, h.load, many);
+        acked = h.acked;
+        place = omega (arith, h.acked);
+        given = h.given;
+        sent = h.sent;
+        phase = h.phase;
+        spelled = h.spelled;
+      }
 
   -- with one to spare
   pub W-polls : {n : ℕ} (m : ℕ) (command pf : Bool) {t : Side} → n + ready_weight back command pf ≤ m + 1 → Weighs n t → Weighs m (polls command pf t)
@@ -287,7 +339,8 @@ module _ (n1 k back low a top : ℕ) (gs : List (List ℕ)) (p : Phase) (small :
       (record { load = h.load; acked = h.acked; place = h.place; given = h.given; sent = h.sent; phase = h.phase; spelled = h.spelled }))
   W-polls {n} m false false le h = W-more m (omega (arith, le)) h
 
-  pub W-rej : (n m : ℕ) (command pf : Bool) (t : Side) → n + rej_weight back command pf ≤ m + 1 → Weighs n t → Weighs m (polls command pf (goes_back (peer_is false t)))
+  pub W-rej : (n m : ℕ) (command pf : Bool) (t : Side) → n + rej_weight back command pf ≤ m + 1 → Weighs n t
+      → Weighs m (polls command pf (goes_back (peer_is false t)))
   W-rej n m command pf t le h =
       W-polls m command pf (by command pf le) (W-goes_back (W-peer false h))
     where

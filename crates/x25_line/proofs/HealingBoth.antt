@@ -11,7 +11,8 @@ use Rattle.x25_line.specs.laws.Stations.{Deliver, T1, LinkEvent, Near, Far}
 use Rattle.x25_line.specs.laws.Sessions.{Entry, Sessions, begun_by, delivered, acts, swapped, after_step, unless, run}
 use Rattle.x25_line.specs.{laws.StationClaims.{AreJoined}, Healing.{IsDelivery, HasTries, OneIsFree}, laws.LawsBelow.{HealingLaws}, laws.SessionClaims.{Each}}
 use Rattle.x25_line.proofs.{StationSteps.{not_both}, StationRuns.{joined_swapped}, HealingLines.{Reads, reads_none, Reports, NoFinal}}
-use Rattle.x25_line.proofs.HealingSteps.{Reached, then_happens, timely_up, Sound, sound_swapped, sound_at, in_order_at, SentWhole, whole_at, IsDrained, counted, all_heard, hears_well, deliveries_keep, reads_put}
+use Rattle.x25_line.proofs.HealingSteps.{Reached, then_happens, timely_up, Sound, sound_swapped, sound_at, in_order_at, SentWhole, whole_at, IsDrained, counted}
+use Rattle.x25_line.proofs.HealingSteps.{all_heard, hears_well, deliveries_keep, reads_put}
 use Rattle.x25_line.proofs.HealingEnds.{after_firings, GoesOn, polls, stays, Fired, BothFired, both_fire}
 use Rattle.x25_line.proofs.{HealingPhases.{AsksFirst, Phases, Beside, near_hears, far_hears, stays_free}, sessions.SessionSteps.{whole_behind}}
 
@@ -47,9 +48,11 @@ record HasAll (s t : LinkStation) : Type 0 where
 resent_first : {s t : LinkStation} {gs : List PlainFrame} → HasAll s t → Reports (length t.taken) s.outgoing.acked gs → is_busy t ≡ false → Phases s t [] gs
 resent_first a reports free = inr (inr (inl (record { recovery = a.recovery; peer_busy = a.peer_busy; ahead = sym a.place; reports = reports; free = free })))
 
-polled_first : {s t : LinkStation} → HasAll s t → t.said_busy ≡ is_busy t → (busy : Bool) → is_busy t ≡ busy → Phases s t [] (says busy true (wanted t) true ∷ [])
+polled_first : {s t : LinkStation} → HasAll s t → t.said_busy ≡ is_busy t → (busy : Bool) → is_busy t ≡ busy
+    → Phases s t [] (says busy true (wanted t) true ∷ [])
 polled_first {s} {t} a said false free = resent_first a (refl, refl) free
-polled_first a said true busy = inr (inr (inr (inr (record { recovery = a.recovery; none = tt; polls = (refl, tt); place = a.place; acked = a.acked; told = said ∙ busy }))))
+polled_first a said true busy = inr (inr
+    (inr (inr (record { recovery = a.recovery; none = tt; polls = (refl, tt); place = a.place; acked = a.acked; told = said ∙ busy }))))
 
 begins_near : {s t : LinkStation} {fs gs : List PlainFrame} → (IsAtRest s → HasAll s t) → GoesOn s fs → GoesOn t gs → Phases s t fs gs
 begins_near {s} {t} all (polls up recovery said) (polls far_up far_recovery far_said) =
@@ -94,7 +97,8 @@ abbrev pub HealsAt : ℕ → ℕ → Settings → Settings → Sessions → Type
 HealsAt n m c d w = Reached c d w × HealsBoth n m c d w
 
 module _ (reads : ReadsSpelled) (laws : HealingLaws) (busy_laws : BusyLaws) where
-  both_comes : {n m : ℕ} {c d : Settings} → AreJoined c d → {w : Sessions} → Sound c d w → SentWhole d.longest (acts c Deliver w).sent → HealsBoth n m c d w → HealsBoth n m c d (acts c Deliver w)
+  both_comes : {n m : ℕ} {c d : Settings} → AreJoined c d → {w : Sessions} → Sound c d w → SentWhole d.longest (acts c Deliver w).sent → HealsBoth n m c d w
+      → HealsBoth n m c d (acts c Deliver w)
   both_comes {n} {m} {c} {d} joined {w} sound whole h = by w.back refl whole h.behind h.back h.near h.far
     where
       s : LinkStation
@@ -103,7 +107,8 @@ module _ (reads : ReadsSpelled) (laws : HealingLaws) (busy_laws : BusyLaws) wher
       t : LinkStation
       t = w.far.station
 
-      by : (es : List Entry) → w.back ≡ es → SentWhole d.longest (delivered c es w).sent → (gs : List PlainFrame) → Reads (other c.role) c.longest es gs → Phases s t h.there gs → Phases t s gs h.there
+      by : (es : List Entry) → w.back ≡ es → SentWhole d.longest (delivered c es w).sent → (gs : List PlainFrame) → Reads (other c.role) c.longest es gs
+          → Phases s t h.there gs → Phases t s gs h.there
           → HealsBoth n m c d (delivered c es w)
       by [] is whole gs back near far = h
       by (e ∷ es) is whole [] back near far = absurd back
@@ -126,7 +131,8 @@ module _ (reads : ReadsSpelled) (laws : HealingLaws) (busy_laws : BusyLaws) wher
             one_free = elim h.one_free [ inl free ↦ inl (stays_free c laws busy_laws o s t q free) | inr free ↦ inr free ];
             there = h.there ++ step.side.out;
             behind = gs;
-            out = reads_put reads joined whole.0 (begun_by step.notes.up w.near.begun) w.out h.there step.side.out (whole_behind d.longest whole.0 w.sent step.side.out whole.1) h.out;
+            out = reads_put reads joined whole.0 (begun_by step.notes.up w.near.begun) w.out h.there step.side.out
+                (whole_behind d.longest whole.0 w.sent step.side.out whole.1) h.out;
             back = back.1;
             near = a.phase;
             far = (far_hears c laws busy_laws o s t h.there gs g k far).phase;
@@ -162,7 +168,8 @@ module _ (reads : ReadsSpelled) (laws : HealingLaws) (busy_laws : BusyLaws) wher
   far_stays None w v same = same
 
   -- both fire
-  pub begins : {c d : Settings} → AreJoined c d → {w : Sessions} → Reached c d w → IsDrained w → HasTries c.retries w.near.station → HasTries d.retries w.far.station → OneIsFree w.near.station w.far.station
+  pub begins : {c d : Settings} → AreJoined c d → {w : Sessions} → Reached c d w → IsDrained w → HasTries c.retries w.near.station
+      → HasTries d.retries w.far.station → OneIsFree w.near.station w.far.station
       → HealsAt w.near.begun w.far.begun c d (after_firings c d w)
   begins {c} {d} joined {w} r drained near_may far_may free = (after, by k.near k.far)
     where
@@ -182,7 +189,8 @@ module _ (reads : ReadsSpelled) (laws : HealingLaws) (busy_laws : BusyLaws) wher
       far_same = far_stays (timer_refusal w.near.station) w (after_step c w w.back w.met [] (timer_step c w.near.station)) refl
 
       after : Reached c d v
-      after = then_happens (Far T1) (timely_up d c (swapped x) (ap (λ e. is_up e.station.phase) far_same ∙ far_may.up)) (then_happens (Near T1) (timely_up c d w near_may.up) r)
+      after = then_happens (Far T1) (timely_up d c (swapped x) (ap (λ e. is_up e.station.phase) far_same ∙ far_may.up))
+          (then_happens (Near T1) (timely_up c d w near_may.up) r)
 
       k : BothFired c d w v
       k = (let orders = in_order_at reads laws c d joined w r in both_fire reads laws joined orders.0 orders.1 drained)
@@ -211,11 +219,13 @@ module _ (reads : ReadsSpelled) (laws : HealingLaws) (busy_laws : BusyLaws) wher
   -- ---- once nothing is on the line any more
 
   -- an end is at rest, or the other is busy
-  rests_near : {c d : Settings} → AreJoined c d → {v : Sessions} → Sound c d v → Phases v.near.station v.far.station [] [] → IsAtRest v.near.station ⊎ (is_busy v.far.station ≡ true)
+  rests_near : {c d : Settings} → AreJoined c d → {v : Sessions} → Sound c d v → Phases v.near.station v.far.station [] [] → IsAtRest v.near.station
+      ⊎ (is_busy v.far.station ≡ true)
   rests_near joined b (inl h) = absurd h.asks
   rests_near joined b (inr (inl h)) = absurd h.brings
   rests_near {c} joined {v} b (inr (inr (inl h))) =
-      inl (laws.rest.all_heard c.window v.near.station joined.near_low b.near.sound b.near_said b.near.up h.recovery h.peer_busy (omega (arith, h.ahead, h.reports)))
+      inl (laws.rest.all_heard c.window v.near.station joined.near_low b.near.sound b.near_said b.near.up h.recovery h.peer_busy
+      (omega (arith, h.ahead, h.reports)))
   rests_near joined {v} b (inr (inr (inr (inl h)))) = inr (busy_is v.far.station b.far_said.calm b.far.up h.told)
   rests_near joined b (inr (inr (inr (inr h)))) = absurd h.polls
 
@@ -226,7 +236,8 @@ module _ (reads : ReadsSpelled) (laws : HealingLaws) (busy_laws : BusyLaws) wher
   both_rest s t (inl free) (inr busy) (inr near_busy) = not_both (is_busy s) near_busy free
   both_rest s t (inr free) (inr busy) (inr near_busy) = not_both (is_busy t) busy free
 
-  pub both_settle : {n m : ℕ} {c d : Settings} → AreJoined c d → {v : Sessions} → HealsAt n m c d v → IsDrained v → IsAtRest v.near.station × IsAtRest v.far.station
+  pub both_settle : {n m : ℕ} {c d : Settings} → AreJoined c d → {v : Sessions} → HealsAt n m c d v → IsDrained v → IsAtRest v.near.station
+      × IsAtRest v.far.station
   both_settle {c = c} {d} joined {v} (r, h) after =
       let s = v.near.station in
       let t = v.far.station in
@@ -237,5 +248,6 @@ module _ (reads : ReadsSpelled) (laws : HealingLaws) (busy_laws : BusyLaws) wher
       let sound = sound_at reads laws c d joined v r h.near_on h.far_on in
       both_rest s t h.one_free (rests_near joined sound near) (rests_near (joined_swapped joined) (sound_swapped sound) far)
 
-  pub deliveries_heal : (n m : ℕ) (c d : Settings) → AreJoined c d → (es : List LinkEvent) (w : Sessions) → Each IsDelivery es → HealsAt n m c d w → HealsAt n m c d (run c d es w)
+  pub deliveries_heal : (n m : ℕ) (c d : Settings) → AreJoined c d → (es : List LinkEvent) (w : Sessions) → Each IsDelivery es → HealsAt n m c d w
+      → HealsAt n m c d (run c d es w)
   deliveries_heal n m c d joined = deliveries_keep (HealsAt n m c d) c d (both_near n m c d joined) (both_far n m c d joined)

@@ -1,5 +1,6 @@
 -- Whatever the two ends are at a quiet moment, once both have fired and all has come each is at rest or not Up.
-use Rattle.std.proofs.Common.{◌≡◌, List, [], ◌∷◌, ◌⊎◌, inl, inr, length, Bool, true, false, if◌then◌else◌, ℕ, suc, ◌<◌, Some, None, refl, sym, ap, ◌∙◌, subst, arith}
+use Rattle.std.proofs.Common.{◌≡◌, List, [], ◌∷◌, ◌⊎◌, inl, inr, length, Bool, true, false, if◌then◌else◌, ℕ, suc, ◌<◌, Some, None, refl, sym, ap, ◌∙◌, subst}
+use Rattle.std.proofs.Common.{arith}
 use Rattle.std.proofs.lemmas.Bool.{ltb-true, ltb-false}
 use Rattle.std.specs.Prelude.{nat_lt}
 use Rattle.x25_frame.specs.{Frame.{PlainFrame, sabm}, laws.ReadingLaw.{ReadsSpelled}}
@@ -7,7 +8,8 @@ use Rattle.x25_link.specs.{declared.phase.Phase.{Phase}, declared.phase.Phase.Th
 use Rattle.x25_link.specs.{Station.{Settings, LinkStation, is_up, is_busy, wanted, with_nothing}, Hearing.{Step, other}, Link.{timer_step, timer_runs}}
 use Rattle.x25_link.specs.{laws.SetUp.{Is}, laws.WindowMachine.{nothing}, laws.WindowLaw.{Follows, IsOut}, laws.RestLaw.{IsAtRest}, laws.AnswerLaw.{says}}
 use Rattle.x25_line.specs.{laws.Stations.{T1, LinkEvent}, laws.Sessions.{SessionEnd, Sessions, begun_by, acts, swapped, run}}
-use Rattle.x25_line.specs.{laws.StationClaims.{AreJoined, IsWhole, AreWhole}, Healing.{IsDelivery, HasTries}, laws.SessionClaims.{Each}, laws.LawsBelow.{HealingLaws}}
+use Rattle.x25_line.specs.{laws.StationClaims.{AreJoined, IsWhole, AreWhole}, Healing.{IsDelivery, HasTries}, laws.SessionClaims.{Each}}
+use Rattle.x25_line.specs.laws.LawsBelow.{HealingLaws}
 use Rattle.x25_line.proofs.{DrainWeights.{below_eight}, StationSteps.{not_both, out_not_up}, StationRuns.{joined_swapped}, HealingLines.{Reads}}
 use Rattle.x25_line.proofs.{StationEvents.{timer_up}, HealingSteps.{IsDrained, IsInOrderIfUp, refused, fires_is, reads_put}}
 use Rattle.x25_line.proofs.{HealingSetUp.{RestsOrOut, AreOfSetUp, Parts, asked, asked_polling, polled, rests, Settles, settle}, StationAway.{is_up_phase}}
@@ -73,7 +75,8 @@ module _ (c d : Settings) (joined : AreJoined c d) (reads : ReadsSpelled) (laws 
     stands stopped is = subst (HasFired c d w) (sym (refused c w stopped)) (record { frames = []; is = is; out = none; back = refl; far = refl; begun = refl })
 
     -- the end becomes so and sends so
-    fires : timer_runs s.phase s ≡ true → {t : LinkStation} {fs : List PlainFrame} → step.side.near ≡ t → step.side.out ≡ fs → AreWhole d.longest [] fs → Fired c w.near t fs
+    fires : timer_runs s.phase s ≡ true → {t : LinkStation} {fs : List PlainFrame} → step.side.near ≡ t → step.side.out ≡ fs → AreWhole d.longest [] fs
+        → Fired c w.near t fs
         → HasFired c d w (acts c T1 w)
     fires running {fs = fs} near sent whole is =
         subst (HasFired c d w) (sym (fires_is c w running)) (record {
@@ -90,7 +93,8 @@ module _ (c d : Settings) (joined : AreJoined c d) (reads : ReadsSpelled) (laws 
     waiting waits b few = by b (rw (sym few) (laws.sessions.laws.set_up.timer c s waits))
       where
         After : Bool → Type 0
-        After b = Is (if b then record s { tries = suc s.tries } else with_nothing Down s.tries) (if b then sabm true ∷ [] else []) (if b then None else Some Retries) false step
+        After b = Is (if b then record s { tries = suc s.tries } else with_nothing Down s.tries) (if b then sabm true ∷ [] else [])
+            (if b then None else Some Retries) false step
 
         running : timer_runs s.phase s ≡ true
         running = ap (λ p. timer_runs p s) waits
@@ -105,16 +109,20 @@ module _ (c d : Settings) (joined : AreJoined c d) (reads : ReadsSpelled) (laws 
         by false a = fires running a.near a.out tt (inr (record { had_none = not_up; is = out tt }))
 
     -- an end that is Up
-    up_runs : IsInOrderIfUp c w.near → is_up s.phase ≡ true → timer_runs s.phase s ≡ true → (b : Bool) → nat_lt s.tries c.retries ≡ b → HasFired c d w (acts c T1 w)
+    up_runs : IsInOrderIfUp c w.near → is_up s.phase ≡ true → timer_runs s.phase s ≡ true → (b : Bool) → nat_lt s.tries c.retries ≡ b
+        → HasFired c d w (acts c T1 w)
     up_runs h up running true few =
         let left = ltb-true _ _ few in
         let a = laws.answers.timer c s (is_up_phase s.phase up) left in
         fires running a.near a.out
-        (poll_whole d.longest (is_busy s) (wanted s) (below_eight (length s.taken)), tt) (inl (record { tries = record { up = up; tries = λ _. left }; busy = refl; is = polls up refl refl }))
+        (poll_whole d.longest (is_busy s) (wanted s) (below_eight (length s.taken)), tt)
+        (inl (record { tries = record { up = up; tries = λ _. left }; busy = refl; is = polls up refl refl }))
     up_runs h up running false over =
-        let follows = subst (λ b. Follows (if b then None else Some Retries) c.window nothing s step) over (laws.sessions.laws.window.timer c s (record { up = up; sound = h.sound up })) in
+        let follows = subst (λ b. Follows (if b then None else Some Retries) c.window nothing s step) over
+        (laws.sessions.laws.window.timer c s (record { up = up; sound = h.sound up })) in
         let none_left = ltb-false _ _ over in
-        fires running refl follows.frames tt (inr (record { had_none = λ has. (omega (arith, has.tries running, none_left)); is = out (subst IsOut (sym follows.phase) tt) }))
+        fires running refl follows.frames tt
+        (inr (record { had_none = λ has. (omega (arith, has.tries running, none_left)); is = out (subst IsOut (sym follows.phase) tt) }))
 
     up_fires : IsInOrderIfUp c w.near → is_up s.phase ≡ true → (b : Bool) → timer_runs s.phase s ≡ b → HasFired c d w (acts c T1 w)
     up_fires h up true running = up_runs h up running (nat_lt s.tries c.retries) refl
@@ -154,7 +162,8 @@ pub record BothFired (c d : Settings) (w v : Sessions) : Type 0 where
   pub far_begun : v.far.begun ≡ w.far.begun
 
 module _ (reads : ReadsSpelled) (laws : HealingLaws) where
-  pub both_fire : {c d : Settings} → AreJoined c d → {w : Sessions} → IsInOrderIfUp c w.near → IsInOrderIfUp d w.far → IsDrained w → BothFired c d w (after_firings c d w)
+  pub both_fire : {c d : Settings} → AreJoined c d → {w : Sessions} → IsInOrderIfUp c w.near → IsInOrderIfUp d w.far → IsDrained w
+      → BothFired c d w (after_firings c d w)
   both_fire {c} {d} joined {w} near_in far_in was =
       let x : Sessions = acts c T1 w in
       let f = has_fired c d joined reads laws w was.out near_in in
@@ -178,8 +187,11 @@ module _ (reads : ReadsSpelled) (laws : HealingLaws) where
   parts (stays rest) (out gone) = rests rest gone
 
   -- from any two ends, where two that are Up and have tries left come to rest
-  pub rest_or_out : (c d : Settings) → AreJoined c d → (w : Sessions) → IsInOrderIfUp c w.near → IsInOrderIfUp d w.far → IsDrained w → (es : List LinkEvent) → Each IsDelivery es
-      → IsDrained (run c d es (after_firings c d w)) → (HasTries c.retries w.near.station → HasTries d.retries w.far.station → RestOrOut c d es (after_firings c d w)) → RestOrOut c d es (after_firings c d w)
+  pub rest_or_out : (c d : Settings) → AreJoined c d → (w : Sessions) → IsInOrderIfUp c w.near → IsInOrderIfUp d w.far → IsDrained w → (es : List LinkEvent)
+      → Each IsDelivery es
+      → IsDrained (run c d es (after_firings c d w))
+      → (HasTries c.retries w.near.station → HasTries d.retries w.far.station → RestOrOut c d es (after_firings c d w))
+      → RestOrOut c d es (after_firings c d w)
   rest_or_out c d joined w near_in far_in was es are after heals = by b.near b.far
     where
       v : Sessions

@@ -15,7 +15,8 @@ Reads from n1 (e ∷ es) (f ∷ fs) = (frame_of from n1 e.octets ≡ Ok f) × Re
 Reads from n1 [] (f ∷ fs) = ⊥
 Reads from n1 (e ∷ es) [] = ⊥
 
-pub reads_more : ReadsSpelled → (from : Role) (n1 : ℕ) (given : List (List ℕ)) (session : ℕ) (es : List Entry) (fs gs : List PlainFrame) → Reads from n1 es fs → AreWhole n1 given gs
+pub reads_more : ReadsSpelled → (from : Role) (n1 : ℕ) (given : List (List ℕ)) (session : ℕ) (es : List Entry) (fs gs : List PlainFrame) → Reads from n1 es fs
+    → AreWhole n1 given gs
     → Reads from n1 (es ++ sent_in session from gs) (fs ++ gs)
 reads_more reads from n1 given session [] [] gs h whole = spelled gs whole
   where
@@ -156,7 +157,8 @@ first_reports a (info ns k p x ∷ es) none h = h
 first_reports a (rr command k pf ∷ es) none h = h
 first_reports a (frame ∷ es) none h = absurd h
 
-reports_behind : (s r a : ℕ) (gs es : List PlainFrame) → Reports s a gs → ((k : ℕ) → (k ≡ s % 8) → LastTells r k es) → (a ≡ s → Reports r a es) → Reports r a (gs ++ es)
+reports_behind : (s r a : ℕ) (gs es : List PlainFrame) → Reports s a gs → ((k : ℕ) → (k ≡ s % 8) → LastTells r k es) → (a ≡ s → Reports r a es)
+    → Reports r a (gs ++ es)
 reports_behind s r a [] es h more alone = alone h
 reports_behind s r a (info ns k p x ∷ gs) es h more alone = (h.0, tells_behind s r k gs es h.1 more)
 reports_behind s r a (rr command k pf ∷ gs) es h more alone = (h.0, tells_behind s r k gs es h.1 more)
@@ -170,7 +172,8 @@ reports_more r a n m gs es h next =
 -- a new number: at least one frame goes with it
 pub reports_new : (s r a n m : ℕ) (gs es : List PlainFrame) → Reports s a gs → AreNext r n es m → (es ≡ [] → ⊥) → Reports r a (gs ++ es)
 reports_new s r a n m gs es h next some =
-    reports_behind s r a gs es h (λ k is. some_tells r k n m es some next) (λ same. first_reports a es (λ none. absurd (some none)) (next_tells r (r % 8) n m es refl next))
+    reports_behind s r a gs es h (λ k is. some_tells r k n m es some next)
+    (λ same. first_reports a es (λ none. absurd (some none)) (next_tells r (r % 8) n m es refl next))
 
 -- once the first was heard, by which all up to `a` is acknowledged
 pub reports_heard : {r : ℕ} (a : ℕ) {nr : ℕ} (gs : List PlainFrame) → LastTells r nr gs → (nr ≡ r % 8 → a ≡ r) → Reports r a gs

@@ -1,6 +1,7 @@
 -- How an end heals after its firing, where one of the two may be busy, told of two stations and the frames between them. Its poll is on the line, then
 -- the answer; then what isn't acknowledged goes again, or waits until the other end is heard to be busy no more.
-use Rattle.std.proofs.Common.{◌≡◌, ℕ, ◌+◌, ◌%◌, ◌≤◌, List, [], ◌∷◌, ◌++◌, ◌⊎◌, inl, inr, length, max, Bool, true, false, if◌then◌else◌, Ok, None, refl, sym, ap, ◌∙◌, subst, arith, length-append}
+use Rattle.std.proofs.Common.{◌≡◌, ℕ, ◌+◌, ◌%◌, ◌≤◌, List, [], ◌∷◌, ◌++◌, ◌⊎◌, inl, inr, length, max, Bool, true, false, if◌then◌else◌, Ok, None, refl, sym, ap}
+use Rattle.std.proofs.Common.{◌∙◌, subst, arith, length-append}
 use Rattle.std.proofs.lemmas.Bool.{ltb-false, le-ltb, eq-eqb}
 use Rattle.std.specs.Prelude.{not}
 use Rattle.x25_frame.specs.{Frame.{PlainFrame, info, rr, rnr, rej}, Reading.{frame_of}}
@@ -9,7 +10,8 @@ use Rattle.x25_link.specs.laws.AnswerLaw.{says, AreNext, Outcome, Answers, heard
 use Rattle.x25_link.specs.laws.BusyLaw.{Says, BusyLaws, NoInfo}
 use Rattle.x25_line.specs.laws.LawsBelow.{HealingLaws}
 use Rattle.x25_line.proofs.StationSteps.{not_both}
-use Rattle.x25_line.proofs.HealingLines.{LastTells, next_tells, tells_behind, Reports, reports_more, reports_new, reports_heard, Ahead, ahead_low, ahead_more, next_ahead, IsMild, Mild, mild_ahead, mild_more, held_mild, IsNoFinal, NoFinal}
+use Rattle.x25_line.proofs.HealingLines.{LastTells, next_tells, tells_behind, Reports, reports_more, reports_new, reports_heard, Ahead, ahead_low, ahead_more}
+use Rattle.x25_line.proofs.HealingLines.{next_ahead, IsMild, Mild, mild_ahead, mild_more, held_mild, IsNoFinal, NoFinal}
 use Rattle.x25_line.proofs.HealingSteps.{IsNumbered, number_of, HearsWell}
 use Rattle.x25_line.proofs.{BusyLines.{silent_stays, none_behind, hears_busy, hears_more, tells_free, Told, told_on, told_first}, StationAway.{is_up_phase}}
 
@@ -182,7 +184,8 @@ rejected nr s = record (goes_on_from nr s) { peer_busy = false; place = heard nr
 passed_mild : (s : LinkStation) → Mild (passed_over false s)
 passed_mild s = by (is_busy s) s.rejecting
   where
-    by : (busy rejecting : Bool) → Mild (if busy then rnr false (wanted s) false ∷ [] else if not rejecting then rej false (wanted s) false ∷ [] else if false then rr false (wanted s) true ∷ [] else [])
+    by : (busy rejecting : Bool) → Mild (if busy then rnr false (wanted s) false ∷ [] else if not rejecting then rej false (wanted s) false ∷ [] else if false
+        then rr false (wanted s) true ∷ [] else [])
     by true rejecting = (refl, tt)
     by false true = tt
     by false false = (refl, tt)
@@ -248,7 +251,13 @@ module _ (c : Settings) (laws : HealingLaws) (busy_laws : BusyLaws) (octets : Li
 
   hears_ready : (busy command : Bool) (nr : ℕ) → is_up s.phase ≡ true → IsRead (says busy command nr false) → is_valid nr s ≡ true → Hears nr busy
   hears_ready busy command nr up read valid =
-      record { said_busy = s.said_busy; taken = s.taken; first = []; answers = laws.answers.ready busy command nr c octets s (is_up_phase s.phase up) read valid; mild = tt }
+      record {
+        said_busy = s.said_busy;
+        taken = s.taken;
+        first = [];
+        answers = laws.answers.ready busy command nr c octets s (is_up_phase s.phase up) read valid;
+        mild = tt;
+      }
 
   hears_poll : (busy : Bool) (nr : ℕ) → is_up s.phase ≡ true → IsRead (says busy true nr true) → is_valid nr s ≡ true → Hears nr busy
   hears_poll busy nr up read valid = record {
@@ -266,7 +275,13 @@ module _ (c : Settings) (laws : HealingLaws) (busy_laws : BusyLaws) (octets : Li
       by true is =
           let a = laws.answers.wanted ns nr false x c octets s (is_up_phase s.phase up) read valid is in
           let taken = s.taken ++ x ∷ [] in
-          record { said_busy = if a.0 then s.said_busy else false; taken = taken; first = confirms a.0 false (length taken); answers = a.1.answers; mild = confirms_mild (length taken) a.0 }
+          record {
+            said_busy = if a.0 then s.said_busy else false;
+            taken = taken;
+            first = confirms a.0 false (length taken);
+            answers = a.1.answers;
+            mild = confirms_mild (length taken) a.0;
+          }
       by false is =
           let a = laws.answers.other ns nr false x c octets s (is_up_phase s.phase up) read valid is in
           record { said_busy = busy_after false s; taken = s.taken; first = passed_over false s; answers = a; mild = passed_mild s }
@@ -287,7 +302,12 @@ module _ (c : Settings) (laws : HealingLaws) (busy_laws : BusyLaws) (octets : Li
       let o = outcome nr busy h in
       let a = h.answers in
       let held = a.held recovery in
-      record { o = o; answers = a; recovery = a.recovery ∙ recovery; mild = subst Mild (sym a.out) (mild_more h.first a.next h.mild (held_mild (length o.taken) a.next a.sends (omega (arith, held)))) }
+      record {
+        o = o;
+        answers = a;
+        recovery = a.recovery ∙ recovery;
+        mild = subst Mild (sym a.out) (mild_more h.first a.next h.mild (held_mild (length o.taken) a.next a.sends (omega (arith, held))));
+      }
 
   replies : (g : PlainFrame) → Beside c s t g octets → s.recovery ≡ true → IsNoFinal g → Replies
   replies (info ns nr true x) k recovery is = not_both true refl is
@@ -300,7 +320,8 @@ module _ (c : Settings) (laws : HealingLaws) (busy_laws : BusyLaws) (octets : Li
 
   -- ---- what isn't acknowledged goes again
 
-  resends : {fs gs : List PlainFrame} {nr : ℕ} (n : ℕ) {o : Outcome} → Answers s o step → o.recovery ≡ false → o.peer_busy ≡ false → o.acked ≡ heard nr s → Ahead r fs n → Ahead n o.first o.place
+  resends : {fs gs : List PlainFrame} {nr : ℕ} (n : ℕ) {o : Outcome} → Answers s o step → o.recovery ≡ false → o.peer_busy ≡ false → o.acked ≡ heard nr s
+      → Ahead r fs n → Ahead n o.first o.place
       → LastTells r nr gs → (nr ≡ r % 8 → heard nr s ≡ r) → is_busy t ≡ false → IsNear fs gs
   resends {fs} {gs} {nr} n {o} a recovery peer_busy acked ahead first tells all free = record {
     o = o;
@@ -316,14 +337,16 @@ module _ (c : Settings) (laws : HealingLaws) (busy_laws : BusyLaws) (octets : Li
   }
 
   -- where it was in order before, V(S) stays
-  goes_on : {fs gs : List PlainFrame} {nr : ℕ} → Hears nr false → s.recovery ≡ false → Ahead r fs s.outgoing.place → heard nr s ≤ r → LastTells r nr gs → (nr ≡ r % 8 → heard nr s ≡ r)
+  goes_on : {fs gs : List PlainFrame} {nr : ℕ} → Hears nr false → s.recovery ≡ false → Ahead r fs s.outgoing.place → heard nr s ≤ r → LastTells r nr gs
+      → (nr ≡ r % 8 → heard nr s ≡ r)
       → is_busy t ≡ false → IsNear fs gs
   goes_on {fs} {gs} {nr} h recovery ahead high tells all free =
       let n = s.outgoing.place in
       let stays : max n (heard nr s) ≡ n = omega (arith, ahead_low r fs ahead, high) in
       resends n h.answers recovery refl refl ahead (subst (Ahead n h.first) (sym stays) (mild_ahead n h.first h.mild)) tells all free
 
-  resent_hears : (fs gs : List PlainFrame) (g : PlainFrame) → Beside c s t g octets → s.recovery ≡ false → s.peer_busy ≡ false → Ahead r fs s.outgoing.place → is_busy t ≡ false
+  resent_hears : (fs gs : List PlainFrame) (g : PlainFrame) → Beside c s t g octets → s.recovery ≡ false → s.peer_busy ≡ false → Ahead r fs s.outgoing.place
+      → is_busy t ≡ false
       → Reports r s.outgoing.acked (g ∷ gs) → IsNear fs gs
   resent_hears fs gs (info ns nr true x) k recovery peer_busy ahead free reports = not_both true refl reports.0
   resent_hears fs gs (info ns nr false x) k recovery peer_busy ahead free reports =
@@ -337,7 +360,8 @@ module _ (c : Settings) (laws : HealingLaws) (busy_laws : BusyLaws) (octets : Li
 
   -- ---- nothing but what neither asks nor carries goes to a busy peer
 
-  withholds : {fs gs : List PlainFrame} (nr : ℕ) {o : Outcome} → is_up s.phase ≡ true → Answers s o step → o.recovery ≡ false → o.peer_busy ≡ true → o.acked ≡ r → o.place ≡ r → Mild fs → Mild o.first
+  withholds : {fs gs : List PlainFrame} (nr : ℕ) {o : Outcome} → is_up s.phase ≡ true → Answers s o step → o.recovery ≡ false → o.peer_busy ≡ true → o.acked
+      ≡ r → o.place ≡ r → Mild fs → Mild o.first
       → LastTells r nr gs → Told (hears_busy true gs) t → IsNear fs gs
   withholds {fs} nr {o} up a recovery peer_busy acked place mild first tells told =
       let busy : z.peer_busy ≡ true = a.peer_busy ∙ peer_busy in
@@ -359,7 +383,8 @@ module _ (c : Settings) (laws : HealingLaws) (busy_laws : BusyLaws) (octets : Li
         }))));
       }
 
-  withholds_on : {fs gs : List PlainFrame} {nr : ℕ} → is_up s.phase ≡ true → Hears nr true → HearsWell s t nr → s.recovery ≡ false → s.outgoing.place ≡ r → s.outgoing.acked ≡ r → Mild fs
+  withholds_on : {fs gs : List PlainFrame} {nr : ℕ} → is_up s.phase ≡ true → Hears nr true → HearsWell s t nr → s.recovery ≡ false → s.outgoing.place ≡ r
+      → s.outgoing.acked ≡ r → Mild fs
       → LastTells r nr gs → Told (hears_busy true gs) t → IsNear fs gs
   withholds_on {fs} {gs} {nr} up h well recovery place acked mild tells told =
       let all : heard nr s ≡ r = omega (arith, acked, well.low, well.high) in
@@ -370,15 +395,19 @@ module _ (c : Settings) (laws : HealingLaws) (busy_laws : BusyLaws) (octets : Li
   free_again : (nr : ℕ) (gs : List PlainFrame) → LastTells r nr gs → Told (hears_busy false gs) t → is_busy t ≡ false
   free_again nr gs tells told = subst (λ b. Told b t) (tells_free r nr gs tells) told
 
-  withheld_hears : (fs gs hs : List PlainFrame) (g : PlainFrame) → Beside c s t g octets → (h : Withheld s t fs hs) → LastTells r h.number (g ∷ gs) → Told (hears_busy true (g ∷ gs)) t → IsNear fs gs
+  withheld_hears : (fs gs hs : List PlainFrame) (g : PlainFrame) → Beside c s t g octets → (h : Withheld s t fs hs) → LastTells r h.number (g ∷ gs)
+      → Told (hears_busy true (g ∷ gs)) t → IsNear fs gs
   withheld_hears fs gs hs (info ns nr true x) k h tells told = not_both true refl tells.0
   withheld_hears fs gs hs (info ns nr false x) k h tells told =
-      withholds_on k.up (subst (Hears nr) h.peer_busy (hears_info ns nr x k.up k.read (k.well tt).valid)) (k.well tt) h.recovery h.place h.acked h.mild tells.1 told
+      withholds_on k.up (subst (Hears nr) h.peer_busy (hears_info ns nr x k.up k.read (k.well tt).valid)) (k.well tt) h.recovery h.place h.acked h.mild tells.1
+      told
   withheld_hears fs gs hs (rr true nr true) k h tells told =
-      goes_on (hears_poll false nr k.up k.read (k.well tt).valid) h.recovery (subst (Ahead r fs) (sym h.place) (mild_ahead r fs h.mild)) (k.well tt).high tells.1 (k.all nr) (free_again nr gs tells.1 told)
+      goes_on (hears_poll false nr k.up k.read (k.well tt).valid) h.recovery (subst (Ahead r fs) (sym h.place) (mild_ahead r fs h.mild)) (k.well tt).high
+      tells.1 (k.all nr) (free_again nr gs tells.1 told)
   withheld_hears fs gs hs (rr false nr true) k h tells told = not_both true refl tells.0
   withheld_hears fs gs hs (rr command nr false) k h tells told =
-      goes_on (hears_ready false command nr k.up k.read (k.well tt).valid) h.recovery (subst (Ahead r fs) (sym h.place) (mild_ahead r fs h.mild)) (k.well tt).high tells.1 (k.all nr) (free_again nr gs tells.1 told)
+      goes_on (hears_ready false command nr k.up k.read (k.well tt).valid) h.recovery (subst (Ahead r fs) (sym h.place) (mild_ahead r fs h.mild))
+      (k.well tt).high tells.1 (k.all nr) (free_again nr gs tells.1 told)
   withheld_hears fs gs hs g k h tells told = absurd tells
 
   -- the poll of the busy far end, which has all that there is
@@ -391,19 +420,29 @@ module _ (c : Settings) (laws : HealingLaws) (busy_laws : BusyLaws) (octets : Li
   -- F=1 comes: what isn't acknowledged goes again, or the far end is busy
   answered_hears : (fs gs : List PlainFrame) (g : PlainFrame) → Beside c s t g octets → s.recovery ≡ true → Mild fs → Brings t (g ∷ gs) → IsNear fs gs
   answered_hears fs gs (rr false nr true) k recovery mild brings =
-      resends r (laws.answers.recovery false nr c octets s (is_up_phase s.phase k.up) k.read (k.well tt).valid) refl refl refl (mild_ahead r fs mild) (sym (k.all nr brings.is))
+      resends r (laws.answers.recovery false nr c octets s (is_up_phase s.phase k.up) k.read (k.well tt).valid) refl refl refl (mild_ahead r fs mild)
+      (sym (k.all nr brings.is))
       brings.tells (k.all nr) (free_again nr gs brings.tells brings.told)
   answered_hears fs gs (rnr false nr true) k recovery mild brings =
       let all = k.all nr brings.is in
-      withholds nr k.up (laws.answers.recovery true nr c octets s (is_up_phase s.phase k.up) k.read (k.well tt).valid) refl refl all all mild tt brings.tells brings.told
+      withholds nr k.up (laws.answers.recovery true nr c octets s (is_up_phase s.phase k.up) k.read (k.well tt).valid) refl refl all all mild tt brings.tells
+      brings.told
   answered_hears fs gs g k recovery mild brings =
       let a = replies g k recovery brings.0 in
-      record { o = a.o; answers = a.answers; phase = inr (inl (record { recovery = a.recovery; mild = mild_more fs step.side.out mild a.mild; brings = brings.1 })) }
+      record {
+        o = a.o;
+        answers = a.answers;
+        phase = inr (inl (record { recovery = a.recovery; mild = mild_more fs step.side.out mild a.mild; brings = brings.1 }));
+      }
 
   pub near_hears : (fs gs : List PlainFrame) (g : PlainFrame) → Beside c s t g octets → Phases s t fs (g ∷ gs) → Went s t fs gs step
   near_hears fs gs g k (inl h) =
       let a = replies g k h.recovery h.heard.0 in
-      record { o = a.o; answers = a.answers; phase = inl (record { recovery = a.recovery; asks = asks_more fs step.side.out h.asks a.mild; heard = h.heard.1 }) }
+      record {
+        o = a.o;
+        answers = a.answers;
+        phase = inl (record { recovery = a.recovery; asks = asks_more fs step.side.out h.asks a.mild; heard = h.heard.1 });
+      }
   near_hears fs gs g k (inr (inl h)) = answered_hears fs gs g k h.recovery h.mild h.brings
   near_hears fs gs g k (inr (inr (inl h))) = resent_hears fs gs g k h.recovery h.peer_busy h.ahead h.free h.reports
   near_hears fs gs g k (inr (inr (inr (inl h)))) = withheld_hears fs gs (g ∷ gs) g k h h.tells h.told
@@ -454,7 +493,8 @@ module _ (c : Settings) (laws : HealingLaws) (busy_laws : BusyLaws) (octets : Li
   IsFar fs gs = OtherWent s t fs gs step
 
   -- the poll comes: F=1 goes first, as RR or RNR
-  poll_comes : (busy : Bool) (nr : ℕ) {fs gs : List PlainFrame} → is_up s.phase ≡ true → IsRead (says busy true nr true) → is_valid nr s ≡ true → t.recovery ≡ true → Mild gs → NoFinal fs → IsFar fs gs
+  poll_comes : (busy : Bool) (nr : ℕ) {fs gs : List PlainFrame} → is_up s.phase ≡ true → IsRead (says busy true nr true) → is_valid nr s ≡ true → t.recovery
+      ≡ true → Mild gs → NoFinal fs → IsFar fs gs
   poll_comes busy nr {fs} up read valid recovery mild heard =
       let o = polled busy nr s in
       let a : Answers s o step = laws.answers.poll busy nr c octets s (is_up_phase s.phase up) read valid in
@@ -482,7 +522,8 @@ module _ (c : Settings) (laws : HealingLaws) (busy_laws : BusyLaws) (octets : Li
   polling_heard fs gs f k recovery asks heard = absurd asks
 
   -- the I frame that is wanted comes: it is taken, and its number is told
-  info_comes : (ns nr : ℕ) (x : List ℕ) {fs gs hs : List PlainFrame} → is_up s.phase ≡ true → IsRead (info ns nr false x) → is_valid nr s ≡ true → Resent t s hs fs → ns ≡ length s.taken % 8
+  info_comes : (ns nr : ℕ) (x : List ℕ) {fs gs hs : List PlainFrame} → is_up s.phase ≡ true → IsRead (info ns nr false x) → is_valid nr s ≡ true
+      → Resent t s hs fs → ns ≡ length s.taken % 8
       → Ahead (length s.taken + 1) gs t.outgoing.place → IsFar fs gs
   info_comes ns nr x {fs} up read valid h wants ahead =
       let free = h.free in
@@ -513,7 +554,8 @@ module _ (c : Settings) (laws : HealingLaws) (busy_laws : BusyLaws) (octets : Li
     phase = inr (inr (inl (resent_more p.more (record { recovery = h.recovery; peer_busy = h.peer_busy; ahead = ahead; reports = h.reports; free = h.free }))));
   }
 
-  resent_heard : {fs : List PlainFrame} (gs : List PlainFrame) {hs : List PlainFrame} (f : PlainFrame) → Beside c s t f octets → Resent t s hs fs → Ahead (length s.taken) (f ∷ gs) t.outgoing.place → IsFar fs gs
+  resent_heard : {fs : List PlainFrame} (gs : List PlainFrame) {hs : List PlainFrame} (f : PlainFrame) → Beside c s t f octets → Resent t s hs fs
+      → Ahead (length s.taken) (f ∷ gs) t.outgoing.place → IsFar fs gs
   resent_heard gs (info ns nr true x) k h ahead = not_both true refl ahead.1
   resent_heard gs (info ns nr false x) k h ahead = info_comes ns nr x k.up k.read (k.well tt).valid h ahead.0 ahead.2
   resent_heard gs (rr command nr pf) k h ahead = resent_plain (plain (rr command nr pf) k ahead.0) h ahead.1
@@ -533,6 +575,15 @@ module _ (c : Settings) (laws : HealingLaws) (busy_laws : BusyLaws) (octets : Li
         o = p.o;
         answers = p.answers;
         phase = inr (inr (inr (inl (withheld_more p.more
-            (record { recovery = h.recovery; peer_busy = h.peer_busy; mild = h.mild.1; place = h.place; acked = h.acked; number = h.number; tells = h.tells; told = h.told })))));
+            (record {
+              recovery = h.recovery;
+              peer_busy = h.peer_busy;
+              mild = h.mild.1;
+              place = h.place;
+              acked = h.acked;
+              number = h.number;
+              tells = h.tells;
+              told = h.told;
+            })))));
       }
   far_hears fs gs f k (inr (inr (inr (inr h)))) = absurd h.none

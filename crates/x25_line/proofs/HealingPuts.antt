@@ -1,10 +1,11 @@
 -- Packets are put while an end heals: in recovery they wait, and behind it each goes in order, as one I frame more at the end of the line.
-use Rattle.std.proofs.Common.{◌≡◌, ℕ, ◌+◌, ◌≤◌, List, [], ◌∷◌, ◌++◌, inl, inr, length, Bool, true, false, if◌then◌else◌, Option, Some, None, refl, sym, ap, ◌∙◌, subst, arith, length-append}
+use Rattle.std.proofs.Common.{◌≡◌, ℕ, ◌+◌, ◌≤◌, List, [], ◌∷◌, ◌++◌, inl, inr, length, Bool, true, false, if◌then◌else◌, Option, Some, None, refl, sym, ap, ◌∙◌}
+use Rattle.std.proofs.Common.{subst, arith, length-append}
 use Rattle.std.proofs.lemmas.Bool.{lt-ltb, le-ltb, ltb-false}
 use Rattle.std.specs.Prelude.{nat_le}
 use Rattle.x25_frame.specs.{Frame.{PlainFrame}, laws.ReadingLaw.{ReadsSpelled}}
 use Rattle.x25_link.specs.{declared.error.LinkError.{LinkError}, Outgoing.{waits, is_open}}
-use Rattle.x25_link.specs.{Station.{Settings, LinkStation, Side, is_up, is_busy, may_send, owes_ready, send_next}, Hearing.{Step, other}}
+use Rattle.x25_link.specs.{Station.{Settings, LinkStation, Side, is_up, is_busy, may_send, send_next}, Hearing.{Step, other}}
 use Rattle.x25_link.specs.{Link.{put_step, put_refusal}, laws.AnswerLaw.{AreNext}, laws.BusyLaw.{Says, BusyLaws}}
 use Rattle.x25_link.proofs.EndLemmas.{open_is, closed_is, with_packet, put_once, busy_is}
 use Rattle.x25_line.specs.{laws.Stations.{Put, Deliver, LinkEvent, Near, Far}, laws.Sessions.{Sessions, after_step, unless, acts, swapped, run}}
@@ -29,15 +30,8 @@ record TakesDown (s : LinkStation) (t : Side) : Type 0 where
   pub held : s.recovery ≡ true → t.near.outgoing.place ≡ s.outgoing.place
   pub grows : waits s.outgoing ≤ waits t.near.outgoing
 
--- nothing waited where the window is open now
-all_were_sent : (k : ℕ) (packet : List ℕ) (s : LinkStation) → may_send k s ≡ false → may_send k (with_packet packet s).near ≡ true → length s.outgoing.given ≤ s.outgoing.place
-all_were_sent k packet s settled may =
-    let o = open_is k (with_packet packet s).near may in
-    let shut : is_open k s.outgoing ≡ false = sym (closed_is k s o.up o.recovery o.peer_busy) ∙ settled in
-    let test = rw (lt-ltb s.outgoing.place (s.outgoing.acked + k) o.room) at shut in
-    ltb-false _ _ test
-
-takes_by : (b : Bool) (k : ℕ) (packet : List ℕ) (s : LinkStation) → s.outgoing.place ≤ s.outgoing.sent → s.outgoing.sent ≤ length s.outgoing.given → may_send k s ≡ false → may_send k (with_packet packet s).near ≡ b
+takes_by : (b : Bool) (k : ℕ) (packet : List ℕ) (s : LinkStation) → s.outgoing.place ≤ s.outgoing.sent → s.outgoing.sent ≤ length s.outgoing.given
+    → may_send k s ≡ false → may_send k (with_packet packet s).near ≡ b
     → TakesDown s (if b then send_next (with_packet packet s) else with_packet packet s)
 takes_by true k packet s low high settled may =
     let o = open_is k (with_packet packet s).near may in
@@ -50,7 +44,15 @@ takes_by true k packet s low high settled may =
       acked = refl;
       sends = (refl, refl, refl, refl);
       held = λ recovers. not_both s.recovery recovers o.recovery;
-      grows = omega (arith, more, all_were_sent k packet s settled may, low, high);
+      grows = omega (
+        arith,
+        more,
+        (let o = open_is k (with_packet packet s).near may in
+            let shut : is_open k s.outgoing ≡ false = sym (closed_is k s o.up o.recovery o.peer_busy) ∙ settled in
+            let test = rw (lt-ltb s.outgoing.place (s.outgoing.acked + k) o.room) at shut in ltb-false _ _ test),
+        low,
+        high,
+      );
     }
 takes_by false k packet s low high settled may = record {
   phase = refl;
@@ -63,19 +65,11 @@ takes_by false k packet s low high settled may = record {
   grows = omega (arith, length-append s.outgoing.given (packet ∷ []));
 }
 
-takes_down : (c : Settings) (packet : List ℕ) (s : LinkStation) → s.outgoing.place ≤ s.outgoing.sent → s.outgoing.sent ≤ length s.outgoing.given → may_send c.window s ≡ false → owes_ready s ≡ false
-    → TakesDown s (put_step c packet s).side
-takes_down c packet s low high settled calm =
-    subst (TakesDown s) (sym (put_once c.window s packet low settled calm)) (takes_by (may_send c.window (with_packet packet s).near) c.window packet s low high settled refl)
-
 -- ---- two stations, to one of which a packet is put
 
--- an end is no less busy for a packet that is put
-free_before : (s z : LinkStation) → waits s.outgoing ≤ waits z.outgoing → is_busy z ≡ false → is_busy s ≡ false
-free_before s z grows free = (le-ltb _ _ (omega (arith, ltb-false _ _ free, grows)))
-
 -- a station that was handed a packet, or refused it
-module _ (s z : LinkStation) (es : List PlainFrame) (p : TakesDown s (record { near = z; out = es })) (said : Says s.said_busy z.said_busy (is_busy z) z.peer_busy es) where
+module _ (s z : LinkStation) (es : List PlainFrame) (p : TakesDown s (record { near = z; out = es }))
+    (said : Says s.said_busy z.said_busy (is_busy z) z.peer_busy es) where
   abbrev r : ℕ
   r = length s.taken
 
@@ -85,8 +79,10 @@ module _ (s z : LinkStation) (es : List PlainFrame) (p : TakesDown s (record { n
 
   -- in the phases of this end, beside one that isn't busy
   near_puts : {t : LinkStation} {fs gs : List PlainFrame} → (t.said_busy ≡ true → ⊥) → Phases s t fs gs → Phases z t (fs ++ es) gs
-  near_puts {fs = fs} free (inl h) = inl (record { recovery = p.recovery ∙ h.recovery; asks = asks_more fs es h.asks (recovers_mild h.recovery); heard = h.heard })
-  near_puts {fs = fs} free (inr (inl h)) = inr (inl (record { recovery = p.recovery ∙ h.recovery; mild = mild_more fs es h.mild (recovers_mild h.recovery); brings = h.brings }))
+  near_puts {fs = fs} free (inl h) = inl
+      (record { recovery = p.recovery ∙ h.recovery; asks = asks_more fs es h.asks (recovers_mild h.recovery); heard = h.heard })
+  near_puts {fs = fs} free (inr (inl h)) = inr
+      (inl (record { recovery = p.recovery ∙ h.recovery; mild = mild_more fs es h.mild (recovers_mild h.recovery); brings = h.brings }))
   near_puts {t} {fs} free (inr (inr (inl h))) =
       inr (inr (inl (record {
         recovery = p.recovery ∙ h.recovery;
@@ -117,7 +113,11 @@ module _ (s z : LinkStation) (es : List PlainFrame) (p : TakesDown s (record { n
       more = record { taken = p.taken; place = s.outgoing.place; next = p.sends; says = said; free = λ _. free }
 
       by : Phases t s gs fs → Phases t z gs (fs ++ es)
-      by (inl h) = inl (record { recovery = h.recovery; asks = h.asks; heard = no_final_more fs es h.heard (next_no_final r s.outgoing.place es z.outgoing.place p.sends) })
+      by (inl h) = inl (record {
+        recovery = h.recovery;
+        asks = h.asks;
+        heard = no_final_more fs es h.heard (next_no_final r s.outgoing.place es z.outgoing.place p.sends);
+      })
       by (inr (inl h)) = inr (inl (answered_more more h))
       by (inr (inr (inl h))) = inr (inr (inl (resent_more more h)))
       by (inr (inr (inr (inl h)))) = inr (inr (inr (inl (withheld_more more h))))
@@ -165,7 +165,9 @@ module _ (reads : ReadsSpelled) (busy_laws : BusyLaws) {c d : Settings} (joined 
       by : (short : Bool) (refusal : Option LinkError) → (let z : Sessions = if short then unless refusal w v else w in SentWhole d.longest z.sent → WasPut w z)
       by true None whole = record {
         next = step.side.out;
-        given = takes_down c packet s h.near.sound.place_high h.near.sound.sent_high h.near_said.settled h.near_said.calm;
+        given = (subst (TakesDown s) (sym (put_once c.window s packet h.near.sound.place_high h.near_said.settled h.near_said.calm))
+            (takes_by (may_send c.window (with_packet packet s).near) c.window packet s h.near.sound.place_high h.near.sound.sent_high h.near_said.settled
+            refl));
         says = busy_laws.put c packet s;
         out = λ fs read. reads_put reads joined whole.0 w.near.begun w.out fs step.side.out (whole_behind d.longest whole.0 w.sent step.side.out whole.1) read;
         back = refl;
@@ -185,7 +187,8 @@ module _ (reads : ReadsSpelled) (laws : HealingLaws) (busy_laws : BusyLaws) wher
     pub before : AreFree v.near.station v.far.station → AreFree w.near.station w.far.station
     pub heals : (n m : ℕ) → HealsBoth n m c d w → AreFree v.near.station v.far.station → HealsBoth n m c d v
 
-  put_at : {c d : Settings} → AreJoined c d → (packet : List ℕ) {w : Sessions} → Sound c d w → SentWhole d.longest (acts c (Put packet) w).sent → PutAt c d w (acts c (Put packet) w)
+  put_at : {c d : Settings} → AreJoined c d → (packet : List ℕ) {w : Sessions} → Sound c d w → SentWhole d.longest (acts c (Put packet) w).sent
+      → PutAt c d w (acts c (Put packet) w)
   put_at {c} {d} joined packet {w} h whole = record { near_on = near_on; far_on = far_on; before = before; heals = heals }
     where
       v : Sessions
@@ -201,7 +204,7 @@ module _ (reads : ReadsSpelled) (laws : HealingLaws) (busy_laws : BusyLaws) wher
       far_on = ap (λ e. is_up e.station.phase) p.far ∙ h.far.up
 
       before : AreFree v.near.station v.far.station → AreFree w.near.station w.far.station
-      before free = (free_before w.near.station v.near.station p.given.grows free.0, ap (λ e. is_busy e.station) (sym p.far) ∙ free.1)
+      before free = (((le-ltb _ _ (omega (arith, ltb-false _ _ free.0, p.given.grows)))), ap (λ e. is_busy e.station) (sym p.far) ∙ free.1)
 
       heals : (n m : ℕ) → HealsBoth n m c d w → AreFree v.near.station v.far.station → HealsBoth n m c d v
       heals n m b free =
@@ -209,7 +212,8 @@ module _ (reads : ReadsSpelled) (laws : HealingLaws) (busy_laws : BusyLaws) wher
           let t = w.far.station in
           let old = before free in
           let near = near_puts s v.near.station p.next p.given p.says (λ said. not_both (is_busy t) (busy_is t h.far_said.calm h.far.up said) old.1) b.near in
-          let far = far_puts s v.near.station p.next p.given p.says free.0 (λ said. not_both (is_busy s) (busy_is s h.near_said.calm h.near.up said) old.0) b.far in
+          let far = far_puts s v.near.station p.next p.given p.says free.0 (λ said. not_both (is_busy s) (busy_is s h.near_said.calm h.near.up said) old.0)
+          b.far in
           record {
             near_on = near_on;
             far_on = far_on;
@@ -230,12 +234,18 @@ module _ (reads : ReadsSpelled) (laws : HealingLaws) (busy_laws : BusyLaws) wher
       pub reached : Reached c d v
       pub put : PutAt c d w v
 
-    goes_near : (packet : List ℕ) (w : Sessions) → Reached c d w → is_up w.near.station.phase ≡ true → is_up w.far.station.phase ≡ true → WentOn w (acts c (Put packet) w)
+    goes_near : (packet : List ℕ) (w : Sessions) → Reached c d w → is_up w.near.station.phase ≡ true → is_up w.far.station.phase ≡ true
+        → WentOn w (acts c (Put packet) w)
     goes_near packet w r up far_up =
         let after = then_happens (Near (Put packet)) tt r in
-        record { reached = after; put = put_at joined packet (sound_at reads laws c d joined w r up far_up) (whole_at reads laws c d joined (acts c (Put packet) w) after) }
+        record {
+          reached = after;
+          put = put_at joined packet (sound_at reads laws c d joined w r up far_up)
+              (whole_at reads laws c d joined (acts c (Put packet) w) after);
+        }
 
-    goes_far : (packet : List ℕ) (w : Sessions) → Reached c d w → is_up w.near.station.phase ≡ true → is_up w.far.station.phase ≡ true → WentOn w (swapped (acts d (Put packet) (swapped w)))
+    goes_far : (packet : List ℕ) (w : Sessions) → Reached c d w → is_up w.near.station.phase ≡ true → is_up w.far.station.phase ≡ true
+        → WentOn w (swapped (acts d (Put packet) (swapped w)))
     goes_far packet w r up far_up =
         let after = then_happens (Far (Put packet)) tt r in
         let v : Sessions = acts d (Put packet) (swapped w) in
@@ -252,7 +262,8 @@ module _ (reads : ReadsSpelled) (laws : HealingLaws) (busy_laws : BusyLaws) wher
         }
 
     -- so none is busy at any moment before one in which none is, as long as nothing comes between
-    free_now : (es : List LinkEvent) {w : Sessions} → Each IsDeliveryOrPut es → Reached c d w → is_up w.near.station.phase ≡ true → is_up w.far.station.phase ≡ true → SessionsFreeThroughout c d es w
+    free_now : (es : List LinkEvent) {w : Sessions} → Each IsDeliveryOrPut es → Reached c d w → is_up w.near.station.phase ≡ true → is_up w.far.station.phase
+        ≡ true → SessionsFreeThroughout c d es w
         → AreFree w.near.station w.far.station
     free_now [] are r up far_up free = free
     free_now (Near (Put packet) ∷ es) {w} are r up far_up free =
@@ -263,7 +274,8 @@ module _ (reads : ReadsSpelled) (laws : HealingLaws) (busy_laws : BusyLaws) wher
     free_now (Far Deliver ∷ es) are r up far_up free = free.0
     free_now (event ∷ es) are r up far_up free = absurd are.0
 
-    pub puts_run : {n m : ℕ} (es : List LinkEvent) {w : Sessions} → Each IsDeliveryOrPut es → HealsAt n m c d w → SessionsFreeThroughout c d es w → HealsAt n m c d (run c d es w)
+    pub puts_run : {n m : ℕ} (es : List LinkEvent) {w : Sessions} → Each IsDeliveryOrPut es → HealsAt n m c d w → SessionsFreeThroughout c d es w
+        → HealsAt n m c d (run c d es w)
     puts_run [] are h free = h
     puts_run {n} {m} (Near (Put packet) ∷ es) {w} are (r, h) free =
         let v : Sessions = acts c (Put packet) w in

@@ -31,7 +31,8 @@ pub within_of : (n1 : ℕ) {old : List (List ℕ)} (new : List (List ℕ)) → (
 within_of n1 new (inl same) h = subst (AllWithin n1) (sym same) h
 within_of n1 new (inr none) h = subst (AllWithin n1) (sym none) tt
 
-side_if : (n1 : ℕ) (b : Bool) (u v : Side) → AllWithin n1 u.near.outgoing.given → AllWithin n1 v.near.outgoing.given → (let t : Side = if b then u else v in AllWithin n1 t.near.outgoing.given)
+side_if : (n1 : ℕ) (b : Bool) (u v : Side) → AllWithin n1 u.near.outgoing.given → AllWithin n1 v.near.outgoing.given
+    → (let t : Side = if b then u else v in AllWithin n1 t.near.outgoing.given)
 side_if n1 true u v f g = f
 side_if n1 false u v f g = g
 
@@ -43,7 +44,8 @@ asks_within n1 Up t h = side_if n1 (is_busy t.near) _ _ h h
 asks_within n1 p t h = h
 
 fires_within : (n1 : ℕ) (b : Bool) (s : LinkStation) → AllWithin n1 s.outgoing.given
-    → (let z : Step = if b then quiet (asks_again s.phase (with_near (alone s) (record s { tries = s.tries + 1 }))) else leaves Retries (alone s) in AllWithin n1 z.side.near.outgoing.given)
+    → (let z : Step = if b then quiet (asks_again s.phase (with_near (alone s) (record s { tries = s.tries + 1 }))) else leaves Retries (alone s) in
+    AllWithin n1 z.side.near.outgoing.given)
 fires_within n1 true s h = asks_within n1 s.phase (with_near (alone s) (record s { tries = s.tries + 1 })) h
 fires_within n1 false s h = tt
 
@@ -57,7 +59,10 @@ module _ (laws : HealingLaws) where
       said = laws.rest.put c packet s small h.said.low;
       within = ended_within n1 c.window (puts packet (alone s)).side (within_push n1 s.outgoing.given packet h.within (omega (arith, short, longest)));
     };
-    fires = λ s h. record { said = laws.rest.timer c s small h.said.low; within = ended_within n1 c.window (fires c (alone s)).side (fires_within n1 (nat_lt s.tries c.retries) s h.within) };
+    fires = λ s h. record {
+      said = laws.rest.timer c s small h.said.low;
+      within = ended_within n1 c.window (fires c (alone s)).side (fires_within n1 (nat_lt s.tries c.retries) s h.within);
+    };
     connects = λ s h. record { said = laws.rest.connect c s h.said.low; within = ended_within n1 c.window (connects (alone s)).side h.within };
     disconnects = λ s h. record { said = laws.rest.disconnect c s; within = ended_within n1 c.window (disconnects (alone s)).side tt };
     abandons = λ s h. record { said = laws.rest.abandon c s; within = ended_within n1 c.window _ tt };

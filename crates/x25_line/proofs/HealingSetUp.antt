@@ -6,14 +6,16 @@ use Rattle.x25_bits.specs.declared.role.Role.{Role}
 use Rattle.x25_frame.specs.{Frame.{PlainFrame, info, rr, rnr, rej, sabm, disc, ua, dm, frmr}, Spelling.{is_command, poll_or_final}, Reading.{frame_of}}
 use Rattle.x25_frame.specs.laws.ReadingLaw.{ReadsSpelled}
 use Rattle.x25_link.specs.{declared.phase.Phase.{Phase}, declared.phase.Phase.TheVariants.{Down, Waiting, Up, Closed}, Outgoing.{waits}}
-use Rattle.x25_link.specs.Station.{Settings, LinkStation, Side, is_up, is_busy, wanted, with_nothing, fresh, sends, ready, may_send, owes_ready, finished, ended}
+use Rattle.x25_link.specs.Station.{Settings, LinkStation, Side, is_up, is_busy, wanted, with_nothing, fresh, sends, ready, may_send, owes_ready, finished}
+use Rattle.x25_link.specs.Station.{ended}
 use Rattle.x25_link.specs.Hearing.{Step, quiet, other, is_valid, acknowledged, peer_is, polls, rejects, row_of_frame}
 use Rattle.x25_link.specs.{Link.{alone, hears, declines, when_down, when_waiting, take_step, timer_runs}, laws.SetUp.{waiting_after, waiting_sends}}
 use Rattle.x25_link.specs.{laws.WindowLaw.{IsOut}, laws.RestLaw.{IsAtRest}, laws.AnswerLaw.{says, asks}}
 use Rattle.x25_link.proofs.EndLemmas.{none_open, not_open, pumped_stays}
 use Rattle.x25_line.specs.{laws.Stations.{Deliver, LinkEvent}, laws.Sessions.{Entry, Meeting, Sessions, begun_by, after_step, delivered, acts, swapped, run}}
 use Rattle.x25_line.specs.{laws.StationClaims.{AreJoined, IsWhole, AreWhole}, Healing.{IsDelivery}, laws.SessionClaims.{Each}, laws.LawsBelow.{HealingLaws}}
-use Rattle.x25_line.proofs.{Lists.{each_append}, DrainWeights.{below_eight}, StationSteps.{not_both, out_not_up}, StationRuns.{joined_swapped}, HealingLines.{Reads}}
+use Rattle.x25_line.proofs.{Lists.{each_append}, DrainWeights.{below_eight}, StationSteps.{not_both, out_not_up}, StationRuns.{joined_swapped}}
+use Rattle.x25_line.proofs.HealingLines.{Reads}
 use Rattle.x25_line.proofs.{HealingSteps.{IsDrained, deliveries_keep, reads_put}, StationAway.{up_takes_part, is_up_phase}}
 
 -- an end is at rest, or not Up
@@ -92,16 +94,20 @@ calm_if false u v f g = g refl
 calm_sends : (f : PlainFrame) {t : Side} → IsOfSetUp f → IsCalm t → IsCalm (sends f t)
 calm_sends f {t} is h = record { near = h.near; out = set_up_more t.out (f ∷ []) h.out (is, tt) }
 
-blank_free : {s : LinkStation} → IsBlank s → is_busy s ≡ false
-blank_free h = le-ltb 254 _ (omega (arith, ap length h.given))
-
-blank_said : {s : LinkStation} (b : Bool) → IsBlank s → IsBlank (record s { said_busy = b })
-blank_said b h = record { up = h.up; given = h.given; acked = h.acked; sent = h.sent; recovery = h.recovery; peer_busy = h.peer_busy }
-
 calm_ready : (command pf : Bool) (t : Side) → IsBlank t.near → AreOfSetUp t.out → IsCalm (ready command pf t)
 calm_ready command pf t blank out =
-    calm_if (is_busy t.near) _ _ (λ busy. not_both (is_busy t.near) busy (blank_free blank))
-    (λ _. record { near = inl (blank_said false blank); out = set_up_more t.out (rr command (wanted t.near) pf ∷ []) out (below_eight (length t.near.taken), tt) })
+    calm_if (is_busy t.near) _ _ (λ busy. not_both (is_busy t.near) busy (le-ltb 254 _ (omega (arith, ap length blank.given))))
+    (λ _. record {
+      near = inl (record {
+        up = blank.up;
+        given = blank.given;
+        acked = blank.acked;
+        sent = blank.sent;
+        recovery = blank.recovery;
+        peer_busy = blank.peer_busy;
+      });
+      out = set_up_more t.out (rr command (wanted t.near) pf ∷ []) out (below_eight (length t.near.taken), tt);
+    })
 
 never_sends : (k : ℕ) {s : LinkStation} → IsBlankOrOff s → may_send k s ≡ false
 never_sends k {s} (inl h) = not_open k s (none_open k s.outgoing (omega (arith, ap length h.given)))
@@ -112,7 +118,8 @@ calm_finished t h = by h.near
   where
     by : IsBlankOrOff t.near → IsCalm (finished t)
     by (inl blank) = calm_if (owes_ready t.near) (ready false false t) t (λ _. calm_ready false false t blank h.out) (λ _. h)
-    by (inr off) = calm_if (owes_ready t.near) (ready false false t) t (λ owes. not_both (is_up t.near.phase) (and_parts (is_up t.near.phase) _ owes).0 off) (λ _. h)
+    by (inr off) = calm_if (owes_ready t.near) (ready false false t) t (λ owes. not_both (is_up t.near.phase) (and_parts (is_up t.near.phase) _ owes).0 off)
+        (λ _. h)
 
 calm_ended : (k : ℕ) {t : Side} → IsCalm t → IsCalm (ended k t)
 calm_ended k {t} h = rw (pumped_stays 7 k t (never_sends k h.near)) (calm_finished t h)
@@ -145,17 +152,23 @@ calm_waiting f s off is = calm_off s off
 blank_polls : (command pf : Bool) (t : Side) → IsBlank t.near → AreOfSetUp t.out → IsCalm (polls command pf t)
 blank_polls true true t h out = calm_ready false true t h out
 blank_polls true false t h out = record { near = inl h; out = out }
-blank_polls false true t h out = record { near = inl (record { up = h.up; given = h.given; acked = h.acked; sent = h.sent; recovery = refl; peer_busy = h.peer_busy }); out = out }
+blank_polls false true t h out = record {
+  near = inl
+      (record { up = h.up; given = h.given; acked = h.acked; sent = h.sent; recovery = refl; peer_busy = h.peer_busy });
+  out = out;
+}
 blank_polls false false t h out = record { near = inl h; out = out }
 
-blank_row : (c : Settings) (octets : List ℕ) (command pf : Bool) (nr : ℕ) (s : LinkStation) → IsBlank s → IsCalm (row_of_frame c octets (rr command nr pf) (alone s)).side
+blank_row : (c : Settings) (octets : List ℕ) (command pf : Bool) (nr : ℕ) (s : LinkStation) → IsBlank s
+    → IsCalm (row_of_frame c octets (rr command nr pf) (alone s)).side
 blank_row c octets command pf nr s h = by (is_valid nr s) refl
   where
     by : (b : Bool) → is_valid nr s ≡ b
         → IsCalm (let z : Step = if b then quiet (polls command pf (peer_is false (acknowledged nr (alone s)))) else rejects c octets 8 (alone s) in z.side)
     by true valid =
         let high = leb-true _ _ valid in
-        blank_polls command pf (peer_is false (acknowledged nr (alone s))) (record { up = h.up; given = h.given; acked = omega (arith, high, h.sent); sent = h.sent; recovery = h.recovery; peer_busy = refl }) tt
+        blank_polls command pf (peer_is false (acknowledged nr (alone s)))
+        (record { up = h.up; given = h.given; acked = omega (arith, high, h.sent); sent = h.sent; recovery = h.recovery; peer_busy = refl }) tt
     by false invalid = record { near = inr refl; out = (refl, tt) }
 
 calm_up : (c : Settings) (octets : List ℕ) (f : PlainFrame) {s : LinkStation} → IsBlank s → IsOfSetUp f → IsCalm (row_of_frame c octets f (alone s)).side
@@ -170,13 +183,15 @@ blank_of : (s : LinkStation) → is_up s.phase ≡ true → IsBlankOrOff s → I
 blank_of s up (inl h) = h
 blank_of s up (inr off) = not_both (is_up s.phase) up off
 
-calm_hears : (c : Settings) (octets : List ℕ) (f : PlainFrame) (s : LinkStation) → IsBlankOrOff s → IsOfSetUp f → (p : Phase) → s.phase ≡ p → IsCalm (hears c octets (Ok f) p (alone s)).side
+calm_hears : (c : Settings) (octets : List ℕ) (f : PlainFrame) (s : LinkStation) → IsBlankOrOff s → IsOfSetUp f → (p : Phase) → s.phase ≡ p
+    → IsCalm (hears c octets (Ok f) p (alone s)).side
 calm_hears c octets f s h is Down phase = calm_down f s (ap is_up phase) is
 calm_hears c octets f s h is Waiting phase = calm_waiting f s (ap is_up phase) is
 calm_hears c octets f s h is Up phase = calm_up c octets f (blank_of s (ap is_up phase) h) is
 calm_hears c octets f s h is Closed phase = calm_declines f s (ap is_up phase)
 
-calm_takes : (c : Settings) (octets : List ℕ) (f : PlainFrame) (s : LinkStation) → frame_of (other c.role) c.longest octets ≡ Ok f → IsOfSetUp f → IsBlankOrOff s → IsCalm (take_step c octets s).side
+calm_takes : (c : Settings) (octets : List ℕ) (f : PlainFrame) (s : LinkStation) → frame_of (other c.role) c.longest octets ≡ Ok f → IsOfSetUp f
+    → IsBlankOrOff s → IsCalm (take_step c octets s).side
 calm_takes c octets f s read is h =
     calm_ended c.window
     (rw read (calm_hears c octets f s h is s.phase refl))
@@ -187,7 +202,8 @@ calm_takes c octets f s read is h =
 pub data Parts (s t : LinkStation) : List PlainFrame → List PlainFrame → Type 0 where
   -- the far end asks for set-up, and the near end polls or has nothing to send
   asked : is_up s.phase ≡ true → t.phase ≡ Waiting → Parts s t [] (sabm true ∷ [])
-  asked_polling : (busy : Bool) (number : ℕ) → number < 8 → is_up s.phase ≡ true → t.phase ≡ Waiting → Parts s t (says busy true number true ∷ []) (sabm true ∷ [])
+  asked_polling : (busy : Bool) (number : ℕ) → number < 8 → is_up s.phase ≡ true → t.phase ≡ Waiting
+      → Parts s t (says busy true number true ∷ []) (sabm true ∷ [])
   -- SABM came to an end that was busy: its UA follows its RNR, which an end that awaits UA passes over
   granted : (number : ℕ) → IsBlank s → t.phase ≡ Waiting → Parts s t (rnr true number true ∷ ua true ∷ []) []
   -- the far end is out: a poll is answered by DM, at which the near end leaves too
@@ -211,13 +227,15 @@ settles_turned (inr (inl h)) = inl h
 settles_turned (inr (inr h)) = inr (inr (record { near = h.far; far = h.near; there = h.back; back = h.there }))
 
 -- once nothing is on the way
-parted : (from to : Role) (n m : ℕ) {s t : LinkStation} {fs gs : List PlainFrame} → Reads from n [] fs → Reads to m [] gs → Parts s t fs gs → RestsOrOut s × RestsOrOut t
+parted : (from to : Role) (n m : ℕ) {s t : LinkStation} {fs gs : List PlainFrame} → Reads from n [] fs → Reads to m [] gs → Parts s t fs gs → RestsOrOut s
+    × RestsOrOut t
 parted from to n m {t = t} out back (rests rest gone) = (inl rest, inr (out_not_up t.phase gone))
 parted from to n m out back (asked up is) = absurd back
 parted from to n m out back (declined up gone) = absurd back
 parted from to n m out back p = absurd out
 
-settled : (from to : Role) (n m : ℕ) {s t : LinkStation} {fs gs : List PlainFrame} → Reads from n [] fs → Reads to m [] gs → Settles s t fs gs → RestsOrOut s × RestsOrOut t
+settled : (from to : Role) (n m : ℕ) {s t : LinkStation} {fs gs : List PlainFrame} → Reads from n [] fs → Reads to m [] gs → Settles s t fs gs → RestsOrOut s
+    × RestsOrOut t
 settled from to n m {s} {t} {fs} {gs} out back (inl h) = parted from to n m out back h
 settled from to n m {s} {t} {fs} {gs} out back (inr (inl h)) = (let both = parted to from m n back out h in (both.1, both.0))
 settled from to n m {s} {t} out back (inr (inr h)) = (rests_or_out h.near, rests_or_out h.far)
@@ -256,8 +274,10 @@ module _ (c d : Settings) (joined : AreJoined c d) (reads : ReadsSpelled) (laws 
     t = w.far.station
 
     -- octets come to the near end, which becomes so and sends so
-    goes : (e : Entry) {es : List Entry} (met : List Meeting) {gs : List PlainFrame} (sent fs : List PlainFrame) (z : LinkStation) → Reads (other d.role) d.longest w.out fs → Reads (other c.role) c.longest es gs
-        → (let step = take_step c e.octets s in step.side.near ≡ z → step.side.out ≡ sent → AreOfSetUp sent → Settles z t (fs ++ sent) gs → Settling c d (after_step c w es met [] step))
+    goes : (e : Entry) {es : List Entry} (met : List Meeting) {gs : List PlainFrame} (sent fs : List PlainFrame) (z : LinkStation)
+        → Reads (other d.role) d.longest w.out fs → Reads (other c.role) c.longest es gs
+        → (let step = take_step c e.octets s in step.side.near ≡ z → step.side.out ≡ sent → AreOfSetUp sent → Settles z t (fs ++ sent) gs
+        → Settling c d (after_step c w es met [] step))
     goes e met {gs} sent fs z out back near is_sent are is =
         let step = take_step c e.octets s in
         record {
@@ -276,24 +296,29 @@ module _ (c d : Settings) (joined : AreJoined c d) (reads : ReadsSpelled) (laws 
         goes e _ [] fs s out back.1 (a.near ∙ poll_passed busy n s) (a.out ∙ poll_unanswered busy n) tt is
 
     -- an end that is Up hears
-    up_hears : (es : List Entry) {fs gs : List PlainFrame} → Reads (other d.role) d.longest w.out fs → Reads (other c.role) c.longest es gs → Parts s t fs gs → Settling c d (delivered c es w)
+    up_hears : (es : List Entry) {fs gs : List PlainFrame} → Reads (other d.role) d.longest w.out fs → Reads (other c.role) c.longest es gs → Parts s t fs gs
+        → Settling c d (delivered c es w)
     up_hears [] out back p = h
     up_hears (e ∷ es) out back (asked up is) =
         let a = laws.sessions.laws.set_up.sets_up c e.octets s (up_takes_part s.phase up) true back.0 in
-        goes e _ (ua true ∷ []) [] fresh out back.1 a.near a.out (tt, tt) (inr (inr (record { near = inl fresh_blank; far = inr (ap is_up is); there = (tt, tt); back = tt })))
+        goes e _ (ua true ∷ []) [] fresh out back.1 a.near a.out (tt, tt)
+        (inr (inr (record { near = inl fresh_blank; far = inr (ap is_up is); there = (tt, tt); back = tt })))
     up_hears (e ∷ es) out back (asked_polling false n small up is) =
         let a = laws.sessions.laws.set_up.sets_up c e.octets s (up_takes_part s.phase up) true back.0 in
-        goes e _ (ua true ∷ []) (rr true n true ∷ []) fresh out back.1 a.near a.out (tt, tt) (inr (inr (record { near = inl fresh_blank; far = inr (ap is_up is); there = (small, (tt, tt)); back = tt })))
+        goes e _ (ua true ∷ []) (rr true n true ∷ []) fresh out back.1 a.near a.out (tt, tt)
+        (inr (inr (record { near = inl fresh_blank; far = inr (ap is_up is); there = (small, (tt, tt)); back = tt })))
     up_hears (e ∷ es) out back (asked_polling true n small up is) =
         let a = laws.sessions.laws.set_up.sets_up c e.octets s (up_takes_part s.phase up) true back.0 in
         goes e _ (ua true ∷ []) (rnr true n true ∷ []) fresh out back.1 a.near a.out (tt, tt) (inl (granted n fresh_blank is))
     up_hears (e ∷ es) out back (declined up gone) =
         let a = laws.answers.dm c e.octets s (is_up_phase s.phase up) true back.0 in
-        goes e _ [] [] (with_nothing Down s.tries) out back.1 a.0 a.1 tt (inr (inr (record { near = inr refl; far = inr (out_not_up t.phase gone); there = tt; back = tt })))
+        goes e _ [] [] (with_nothing Down s.tries) out back.1 a.0 a.1 tt
+        (inr (inr (record { near = inr refl; far = inr (out_not_up t.phase gone); there = tt; back = tt })))
     up_hears (e ∷ es) out back p = absurd back
 
     -- the other end hears
-    off_hears : (es : List Entry) {fs gs : List PlainFrame} → Reads (other d.role) d.longest w.out fs → Reads (other c.role) c.longest es gs → Parts t s gs fs → Settling c d (delivered c es w)
+    off_hears : (es : List Entry) {fs gs : List PlainFrame} → Reads (other d.role) d.longest w.out fs → Reads (other c.role) c.longest es gs → Parts t s gs fs
+        → Settling c d (delivered c es w)
     off_hears [] out back p = h
     off_hears (e ∷ es) out back (asked_polling busy n small up is) = passes e es busy n [] (sabm true ∷ []) is out back (inr (inl (asked up is)))
     off_hears (e ∷ es) out back (granted n blank is) =
@@ -303,13 +328,15 @@ module _ (c d : Settings) (joined : AreJoined c d) (reads : ReadsSpelled) (laws 
         goes e _ (dm true ∷ []) [] s out back.1 a.near a.out (tt, tt) (inr (inl (declined up gone)))
     off_hears (e ∷ es) out back p = absurd back
 
-    calm_hears_more : (es : List Entry) (fs gs : List PlainFrame) → Reads (other d.role) d.longest w.out fs → Reads (other c.role) c.longest es gs → Calm s t fs gs → Settling c d (delivered c es w)
+    calm_hears_more : (es : List Entry) (fs gs : List PlainFrame) → Reads (other d.role) d.longest w.out fs → Reads (other c.role) c.longest es gs
+        → Calm s t fs gs → Settling c d (delivered c es w)
     calm_hears_more [] fs gs out back p = h
     calm_hears_more (e ∷ es) fs [] out back p = absurd back
     calm_hears_more (e ∷ es) fs (g ∷ gs) out back p =
         let step = take_step c e.octets s in
         let k = calm_takes c e.octets g s back.0 p.back.0 p.near in
-        goes e _ step.side.out fs step.side.near out back.1 refl refl k.out (inr (inr (record { near = k.near; far = p.far; there = set_up_more fs step.side.out p.there k.out; back = p.back.1 })))
+        goes e _ step.side.out fs step.side.near out back.1 refl refl k.out
+        (inr (inr (record { near = k.near; far = p.far; there = set_up_more fs step.side.out p.there k.out; back = p.back.1 })))
 
   near_settles : (w : Sessions) → Settling c d w → Settling c d (acts c Deliver w)
   near_settles w h = elim h.is [

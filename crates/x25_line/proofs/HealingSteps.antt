@@ -6,7 +6,8 @@ use Rattle.x25_window.specs.{code.Modulo.{resolved}, laws.Window.{Frame}}
 use Rattle.x25_link.specs.{Station.{Settings, LinkStation, is_up}, Hearing.{other, is_valid}, Link.{timer_runs, timer_step}}
 use Rattle.x25_link.specs.{laws.WindowMachine.{Shows, ShowAll}, laws.WindowLaw.{IsSound}, laws.RestLaw.{HasSaidAll}, laws.AnswerLaw.{heard}}
 use Rattle.x25_line.specs.laws.StationClaims.{AreJoined, number_in, AreWhole}
-use Rattle.x25_line.specs.laws.Sessions.{Entry, SessionEnd, Sessions, sent_in, IsStart, after_step, acts, swapped, happens, run, IsTimely, IsTimelyAt, AreTimely}
+use Rattle.x25_line.specs.laws.Sessions.{Entry, SessionEnd, Sessions, sent_in, IsStart, after_step, acts, swapped, happens, run, IsTimely, IsTimelyAt}
+use Rattle.x25_line.specs.laws.Sessions.{AreTimely}
 use Rattle.x25_line.specs.{laws.SessionClaims.{Each, Throughout}, Healing.{IsDelivery}, laws.LawsBelow.{HealingLaws}, laws.Line.{Line, line_swapped}}
 use Rattle.x25_line.specs.laws.Stations.{Deliver, T1, LinkEvent, Near, Far}
 use Rattle.x25_line.proofs.{Kept.{Kept, Kept-swapped, Way, hears_valid, Way-acked, resolved_is}, Frames.{Acks-le}, StationLines.{front_of, consed}}
@@ -43,7 +44,8 @@ then_happens {c} {d} e timely r = record {
 pub timely_up : (c d : Settings) (w : Sessions) → is_up w.near.station.phase ≡ true → IsTimely c d T1 w
 timely_up c d w up = λ waits. not_both (is_up w.near.station.phase) up (ap is_up waits)
 
-pub at_reached : (Holds : Settings → Settings → Sessions → Type 0) → Throughout Holds → {c d : Settings} → AreJoined c d → {w : Sessions} → Reached c d w → Holds c d w
+pub at_reached : (Holds : Settings → Settings → Sessions → Type 0) → Throughout Holds → {c d : Settings} → AreJoined c d → {w : Sessions} → Reached c d w
+    → Holds c d w
 at_reached Holds always {c} {d} joined r = subst (Holds c d) r.is (always c d joined r.begin r.start r.events r.timely)
 
 -- ---- both ends are Up
@@ -60,7 +62,16 @@ pub record Sound (c d : Settings) (w : Sessions) : Type 0 where
   pub far_said : HasSaidAll d.window w.far.station
 
 pub sound_swapped : {c d : Settings} {w : Sessions} → Sound c d w → Sound d c (swapped w)
-sound_swapped h = record { line = line_swapped h.line; kept = Kept-swapped h.kept; near = h.far; far = h.near; out = h.back; back = h.out; near_said = h.far_said; far_said = h.near_said }
+sound_swapped h = record {
+  line = line_swapped h.line;
+  kept = Kept-swapped h.kept;
+  near = h.far;
+  far = h.near;
+  out = h.back;
+  back = h.out;
+  near_said = h.far_said;
+  far_said = h.near_said;
+}
 
 -- an end that is Up has numbers in order, and has said all that it may
 pub record IsInOrderIfUp (c : Settings) (e : SessionEnd) : Type 0 where
@@ -124,7 +135,8 @@ counted h =
     record { acked = omega (arith, bounds.0, acked, taken); taken = omega (arith, bounds.1, sent, taken); room = u.sound.room }
 
 -- the number that stands for all that the far end has taken
-pub all_heard : {c d : Settings} → AreJoined c d → {near far : LinkStation} → Counted c.window near far → (nr : ℕ) → nr ≡ length far.taken % 8 → heard nr near ≡ length far.taken
+pub all_heard : {c d : Settings} → AreJoined c d → {near far : LinkStation} → Counted c.window near far → (nr : ℕ) → nr ≡ length far.taken % 8 → heard nr near
+    ≡ length far.taken
 all_heard joined {near} {far} n nr is =
     ap (resolved near.outgoing.acked) is ∙ resolved_is near.outgoing.acked (length far.taken) n.acked (omega (arith, joined.near_high, n.taken, n.room))
 
@@ -180,7 +192,8 @@ hears_well c d w h f front_entry es is read is_numbered =
     let valid = hears_valid front.others g way in
     let acked = ap (λ z. z.acked) u.same in
     let high = Acks-le g.ack front.others way.acks.1 in
-    let heard_is : heard (number_of f) w.near.station ≡ g.ack = ap (resolved w.near.station.outgoing.acked) (shows_number f g is_numbered front.shows) ∙ ap (λ a. resolved a (g.ack % 8)) acked ∙ valid.0 in
+    let heard_is : heard (number_of f) w.near.station ≡ g.ack =
+    ap (resolved w.near.station.outgoing.acked) (shows_number f g is_numbered front.shows) ∙ ap (λ a. resolved a (g.ack % 8)) acked ∙ valid.0 in
     record {
       valid = le-leb (heard (number_of f) w.near.station) w.near.station.outgoing.sent (omega (arith, heard_is, (ap (λ z. z.sent) u.same), valid.2));
       low = omega (arith, heard_is, acked, valid.1);
@@ -195,7 +208,8 @@ pub record IsDrained (w : Sessions) : Type 0 where
   pub back : w.back ≡ []
 
 -- what each delivery keeps stays through all
-pub deliveries_keep : (P : Sessions → Type 0) (c d : Settings) → ((w : Sessions) → P w → P (acts c Deliver w)) → ((w : Sessions) → P w → P (swapped (acts d Deliver (swapped w))))
+pub deliveries_keep : (P : Sessions → Type 0) (c d : Settings) → ((w : Sessions) → P w → P (acts c Deliver w))
+    → ((w : Sessions) → P w → P (swapped (acts d Deliver (swapped w))))
     → (es : List LinkEvent) (w : Sessions) → Each IsDelivery es → P w → P (run c d es w)
 deliveries_keep P c d near far [] w are h = h
 deliveries_keep P c d near far (Near Deliver ∷ es) w are h = deliveries_keep P c d near far es (acts c Deliver w) are.1 (near w h)
@@ -204,7 +218,8 @@ deliveries_keep P c d near far (Near a ∷ es) w are h = absurd are.0
 deliveries_keep P c d near far (Far a ∷ es) w are h = absurd are.0
 
 -- what is put may be read at the other end
-pub reads_put : ReadsSpelled → {c d : Settings} → AreJoined c d → (given : List (List ℕ)) (session : ℕ) (es : List Entry) (fs gs : List PlainFrame) → AreWhole d.longest given gs
+pub reads_put : ReadsSpelled → {c d : Settings} → AreJoined c d → (given : List (List ℕ)) (session : ℕ) (es : List Entry) (fs gs : List PlainFrame)
+    → AreWhole d.longest given gs
     → Reads (other d.role) d.longest es fs → Reads (other d.role) d.longest (es ++ sent_in session c.role gs) (fs ++ gs)
 reads_put reads {d = d} joined given session es fs gs whole read =
     rw (sym joined.near_role) (reads_more reads (other d.role) d.longest given session es fs gs read whole)
@@ -213,5 +228,6 @@ reads_put reads {d = d} joined given session es fs gs whole read =
 pub refused : (c : Settings) (w : Sessions) → timer_runs w.near.station.phase w.near.station ≡ false → acts c T1 w ≡ w
 refused c w stopped = rw stopped refl
 
-pub fires_is : (c : Settings) (w : Sessions) → timer_runs w.near.station.phase w.near.station ≡ true → acts c T1 w ≡ after_step c w w.back w.met [] (timer_step c w.near.station)
+pub fires_is : (c : Settings) (w : Sessions) → timer_runs w.near.station.phase w.near.station ≡ true → acts c T1 w
+    ≡ after_step c w w.back w.met [] (timer_step c w.near.station)
 fires_is c w running = rw running refl

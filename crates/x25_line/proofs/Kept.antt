@@ -1,5 +1,6 @@
 -- What each move of the window machine keeps, and so each list of moves.
-use Rattle.std.proofs.Common.{◌≡◌, ℕ, ◌+◌, ◌%◌, ◌<◌, ◌≤◌, List, [], ◌∷◌, ◌++◌, length, take, drop, remove, max, Option, Some, None, Bool, true, false, arith, ◌∙◌, sym, ap}
+use Rattle.std.proofs.Common.{◌≡◌, ℕ, ◌+◌, ◌%◌, ◌<◌, ◌≤◌, List, [], ◌∷◌, ◌++◌, length, take, drop, remove, max, Option, Some, None, Bool, true, false, arith}
+use Rattle.std.proofs.Common.{◌∙◌, sym, ap}
 use Rattle.std.proofs.{lemmas.Grind.{common_steps}, lemmas.List.{take-append-drop, take_all, take_more, length_push, append-nil}}
 use Rattle.std.proofs.lemmas.Option.{slice_get_within, get_or_from_slice_get}
 use Rattle.std.specs.List.{slice_get}
@@ -8,7 +9,8 @@ use Rattle.x25_window.specs.laws.Window.Step.{HandDown, Send, Tell, Hear, Take}
 use Rattle.x25_line.specs.laws.Line.{Line, Move, MayTake, FrontMayBeTaken, AllowsMove, line_swapped, takes_item, front_arrived, moved}
 use Rattle.x25_line.specs.laws.Line.Move.{HandsDown, Sends, Tells, Arrives, Loses}
 use Rattle.x25_line.specs.laws.InWindow.{IsSentInWindow, IsNear, AllInWindow, Rising, WayInWindow, InWindow}
-use Rattle.x25_line.proofs.Frames.{Carries, Tops, Acks, slice_get-is, Tops-le, Tops-weaken, Tops-higher, Tops-grow, Tops-push, Tops-remove, Acks-le, Acks-higher, Acks-push, Acks-remove}
+use Rattle.x25_line.proofs.Frames.{Carries, Tops, Acks, slice_get-is, Tops-le, Tops-weaken, Tops-higher, Tops-grow, Tops-push, Tops-remove, Acks-le}
+use Rattle.x25_line.proofs.Frames.{Acks-higher, Acks-push, Acks-remove}
 
 -- the number stands for itself
 pub resolved_is : (a n : ℕ) → a ≤ n → n < a + 8 → resolved a (n % 8) ≡ n
@@ -42,16 +44,8 @@ module _ {T : Type 0} where
   pub Kept-swapped : {w : Line T} → Kept w → Kept (line_swapped w)
   Kept-swapped h = record { from_near = h.from_far; from_far = h.from_near }
 
-  -- a beginning stays one where the list grows
-  take-grown : (n : ℕ) (xs ys : List T) → n ≤ length xs → take n (xs ++ ys) ≡ take n xs
-  take-grown n xs ys le = grind (arith, common_steps)
-
-  -- the next item is the one at the end of the beginning
-  take-next : (xs : List T) (n : ℕ) (x : T) → slice_get xs n ≡ Some x → take (n + 1) xs ≡ take n xs ++ x ∷ []
-  take-next xs n x e =
-      take_more xs n x (slice_get_within xs n x e) ∙ ap (λ y. take n xs ++ y ∷ []) (get_or_from_slice_get xs n x x e)
-
-  pub Way-hand : {g : End T} {taken : List T} {told : ℕ} {there back : List (Frame T)} (x : T) → Way g taken told there back → Way (after g (HandDown x)) taken told there back
+  pub Way-hand : {g : End T} {taken : List T} {told : ℕ} {there back : List (Frame T)} (x : T) → Way g taken told there back
+      → Way (after g (HandDown x)) taken told there back
   Way-hand {g} {taken} {there = there} x h =
       let le = Tops-le g.given (length taken) there h.tops in
       let n = length_push g.given x in
@@ -63,11 +57,12 @@ module _ {T : Type 0} where
         acks = h.acks;
         late = h.late;
         tops = Tops-grow g.given (x ∷ []) (length taken) there h.held h.tops;
-        begins = h.begins ∙ sym (take-grown (length taken) g.given (x ∷ []) (omega arith));
+        begins = h.begins ∙ sym (grind (arith, common_steps));
       }
 
   -- the giver sends an item: one that it was handed down, in its window
-  pub Way-send : {g : End T} {taken : List T} {told : ℕ} {there back : List (Frame T)} (n ack : ℕ) (c : Option (Numbered T)) → n < length g.given → n < g.acked + g.window
+  pub Way-send : {g : End T} {taken : List T} {told : ℕ} {there back : List (Frame T)} (n ack : ℕ) (c : Option (Numbered T)) → n < length g.given → n < g.acked
+      + g.window
       → Carries g.given (max g.sent (n + 1)) c → Way g taken told there back
       → Way (after g (Send n)) taken told (there ++ record { carried = c; ack = ack; top = max g.sent (n + 1) } ∷ []) back
   Way-send {g} {taken} {there = there} n ack c within inside carries h =
@@ -85,12 +80,6 @@ module _ {T : Type 0} where
         begins = h.begins;
       }
 
-  -- as the window machine allows
-  Carries-numbered : (g : End T) (n : ℕ) → Allows g (Send n) → g.window ≤ 7 → g.sent ≤ g.acked + g.window → Carries g.given (max g.sent (n + 1)) (numbered n (slice_get g.given n))
-  Carries-numbered g n ok high room =
-      let item = slice_get-is g.given n ok.3 in
-      rw item.1 (omega arith, omega arith, item.1)
-
   pub Way-tell : {g : End T} {taken : List T} {told : ℕ} {there back : List (Frame T)} (ack : ℕ) → Way g taken told there back
       → Way g taken told (there ++ record { carried = None; ack = ack; top = g.sent } ∷ []) back
   Way-tell {g} {taken} {there = there} ack h =
@@ -105,7 +94,8 @@ module _ {T : Type 0} where
       }
 
   -- the taker sends a frame, by which it acknowledges so many
-  pub Way-told : {g : End T} {taken : List T} {told : ℕ} {there back : List (Frame T)} (t : ℕ) (c : Option (Numbered T)) (top : ℕ) → told ≤ t → t ≤ length taken → Way g taken told there back
+  pub Way-told : {g : End T} {taken : List T} {told : ℕ} {there back : List (Frame T)} (t : ℕ) (c : Option (Numbered T)) (top : ℕ) → told ≤ t → t
+      ≤ length taken → Way g taken told there back
       → Way g taken t there (back ++ record { carried = c; ack = t; top = top } ∷ [])
   Way-told {g} {told = told} {back = back} t c top rising few h =
       record {
@@ -119,7 +109,8 @@ module _ {T : Type 0} where
       }
 
   -- it may acknowledge more
-  pub Way-raise : {g : End T} {taken : List T} {told : ℕ} (t : ℕ) {there back : List (Frame T)} → told ≤ t → t ≤ length taken → Way g taken told there back → Way g taken t there back
+  pub Way-raise : {g : End T} {taken : List T} {told : ℕ} (t : ℕ) {there back : List (Frame T)} → told ≤ t → t ≤ length taken → Way g taken told there back
+      → Way g taken t there back
   Way-raise {g} {told = told} t {back = back} rising few h =
       record { high = h.high; room = h.room; held = h.held; acks = Acks-higher g.acked back t rising h.acks; late = few; tops = h.tops; begins = h.begins }
 
@@ -135,23 +126,35 @@ module _ {T : Type 0} where
       let high = h.high in
       (resolved_is g.acked f.ack low (omega arith), low, omega arith)
 
-  pub Way-hears : {g : End T} {taken : List T} {told : ℕ} {there : List (Frame T)} (back : List (Frame T)) (f : Frame T) → Way g taken told there (f ∷ back) → Way (after g (Hear (f.ack % 8))) taken told there back
+  pub Way-hears : {g : End T} {taken : List T} {told : ℕ} {there : List (Frame T)} (back : List (Frame T)) (f : Frame T) → Way g taken told there (f ∷ back)
+      → Way (after g (Hear (f.ack % 8))) taken told there back
   Way-hears {g} {taken} {told} {there} back f h =
       let valid = hears_valid back f h in
       rw valid.0 (record { high = h.high; room = omega arith; held = h.held; acks = h.acks.1; late = h.late; tops = h.tops; begins = h.begins })
 
   -- a frame of the taker is lost, or passed over
-  pub Way-unheard : {g : End T} {taken : List T} {told : ℕ} {there back : List (Frame T)} (i : ℕ) → Way g taken told there back → Way g taken told there (remove back i)
+  pub Way-unheard : {g : End T} {taken : List T} {told : ℕ} {there back : List (Frame T)} (i : ℕ) → Way g taken told there back
+      → Way g taken told there (remove back i)
   Way-unheard {g} {told = told} {back = back} i h =
       record { high = h.high; room = h.room; held = h.held; acks = Acks-remove g.acked back told i h.acks; late = h.late; tops = h.tops; begins = h.begins }
 
   -- one of the giver is
-  pub Way-passed : {g : End T} {taken : List T} {told : ℕ} {there back : List (Frame T)} (i : ℕ) → Way g taken told there back → Way g taken told (remove there i) back
+  pub Way-passed : {g : End T} {taken : List T} {told : ℕ} {there back : List (Frame T)} (i : ℕ) → Way g taken told there back
+      → Way g taken told (remove there i) back
   Way-passed {g} {taken} {there = there} i h =
-      record { high = h.high; room = h.room; held = h.held; acks = h.acks; late = h.late; tops = Tops-remove g.given (length taken) there i g.sent h.tops; begins = h.begins }
+      record {
+        high = h.high;
+        room = h.room;
+        held = h.held;
+        acks = h.acks;
+        late = h.late;
+        tops = Tops-remove g.given (length taken) there i g.sent h.tops;
+        begins = h.begins;
+      }
 
   -- the item of the front frame is taken: it is the next
-  pub Way-takes : {g : End T} {taken : List T} {told : ℕ} (there : List (Frame T)) {back : List (Frame T)} (f : Frame T) (c : Numbered T) → Carries g.given f.top (Some c) → c.number % 8 ≡ length taken % 8
+  pub Way-takes : {g : End T} {taken : List T} {told : ℕ} (there : List (Frame T)) {back : List (Frame T)} (f : Frame T) (c : Numbered T)
+      → Carries g.given f.top (Some c) → c.number % 8 ≡ length taken % 8
       → Way g taken told (f ∷ there) back → Way g (taken ++ c.item ∷ []) told there back
   Way-takes {g} {taken} {told} there {back} f c good same h =
       let n = length_push taken c.item in
@@ -169,7 +172,9 @@ module _ {T : Type 0} where
         acks = h.acks;
         late = omega arith;
         tops = Tops-weaken g.given (length (taken ++ c.item ∷ [])) there g.sent (omega arith) h.tops.2;
-        begins = rw n (ap (λ xs. xs ++ c.item ∷ []) h.begins ∙ sym (take-next g.given (length taken) c.item (rw is at good.2)));
+        begins = rw n (ap (λ xs. xs ++ c.item ∷ []) h.begins
+            ∙ sym (take_more g.given (length taken) c.item (slice_get_within g.given (length taken) c.item (rw is at good.2))
+            ∙ ap (λ y. take (length taken) g.given ++ y ∷ []) (get_or_from_slice_get g.given (length taken) c.item c.item (rw is at good.2))));
       }
 
   -- what arrives is taken only where it is the next, and all that is taken may be acknowledged
@@ -177,7 +182,8 @@ module _ {T : Type 0} where
       → Way g e.taken (length e.taken) (f ∷ there) back → Way g (takes_item takes f.carried e).taken (length (takes_item takes f.carried e).taken) there back
   Way-arrives g e f there back takes ok h = go takes f.carried ok h.tops.1
     where
-      go : (b : Bool) (c : Option (Numbered T)) → MayTake b (length e.taken) c → Carries g.given f.top c → Way g (takes_item b c e).taken (length (takes_item b c e).taken) there back
+      go : (b : Bool) (c : Option (Numbered T)) → MayTake b (length e.taken) c → Carries g.given f.top c
+          → Way g (takes_item b c e).taken (length (takes_item b c e).taken) there back
       go true (Some c) same good =
           let n = length_push e.taken c.item in
           Way-raise (length (e.taken ++ c.item ∷ [])) (omega arith) (omega arith)
@@ -186,10 +192,12 @@ module _ {T : Type 0} where
       go false c same good = Way-passed 0 h
 
   -- what an end takes changes nothing of what it gives
-  pub Way-giver : {g : End T} {taken : List T} {told : ℕ} {there back : List (Frame T)} (n : ℕ) (x : T) → Way g taken told there back → Way (after g (Take n x)) taken told there back
+  pub Way-giver : {g : End T} {taken : List T} {told : ℕ} {there back : List (Frame T)} (n : ℕ) (x : T) → Way g taken told there back
+      → Way (after g (Take n x)) taken told there back
   Way-giver n x h = record { high = h.high; room = h.room; held = h.held; acks = h.acks; late = h.late; tops = h.tops; begins = h.begins }
 
-  Way-taker : (takes : Bool) (c : Option (Numbered T)) {g : End T} {taken : List T} {told : ℕ} {there back : List (Frame T)} → Way g taken told there back → Way (takes_item takes c g) taken told there back
+  Way-taker : (takes : Bool) (c : Option (Numbered T)) {g : End T} {taken : List T} {told : ℕ} {there back : List (Frame T)} → Way g taken told there back
+      → Way (takes_item takes c g) taken told there back
   Way-taker true (Some c) {g} {taken} {told} {there} {back} h = Way-giver (c.number % 8) c.item h
   Way-taker true None h = h
   Way-taker false c h = h
@@ -210,11 +218,12 @@ module _ {T : Type 0} where
       let way = h.from_near in
       let c : Option (Numbered T) = numbered n (slice_get g.given n) in
       record {
-        from_near = Way-send n (length g.taken) c ok.3 ok.2 (Carries-numbered g n ok way.high way.room) way;
+        from_near = Way-send n (length g.taken) c ok.3 ok.2 (let item = slice_get-is g.given n ok.3 in rw item.1 (omega arith, omega arith, item.1)) way;
         from_far = Way-told (length g.taken) c (max g.sent (n + 1)) (omega arith) (omega arith) h.from_far;
       }
 
-  pub told-sent : {g far : End T} {told : ℕ} {out back : List (Frame T)} → BothWays g far (length g.taken) told out back → BothWays g far (length g.taken) told (out ++ frames_of g Tell) back
+  pub told-sent : {g far : End T} {told : ℕ} {out back : List (Frame T)} → BothWays g far (length g.taken) told out back
+      → BothWays g far (length g.taken) told (out ++ frames_of g Tell) back
   told-sent {g} {far} {told} {out} {back} h =
       record {
         from_near = Way-tell (length g.taken) h.from_near;
@@ -235,7 +244,8 @@ module _ {T : Type 0} where
 
   -- ---- what is kept says that the window holds
 
-  pub Way-acked : {g : End T} {taken : List T} {told : ℕ} {there back : List (Frame T)} → Way g taken told there back → (g.acked ≤ length taken) × (length taken ≤ g.sent)
+  pub Way-acked : {g : End T} {taken : List T} {told : ℕ} {there back : List (Frame T)} → Way g taken told there back → (g.acked ≤ length taken)
+      × (length taken ≤ g.sent)
   Way-acked {g} {taken} {told} {there} {back} h =
       let low = Acks-le g.acked back h.acks in
       let late = h.late in

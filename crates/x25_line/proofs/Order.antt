@@ -1,6 +1,7 @@
 -- Two ends of one link that is set up once keep the way in both directions, whatever they send, hear and lose within the rules of a peer; and that
 -- says what holds of their order.
-use Rattle.std.proofs.Common.{◌≡◌, ℕ, zero, suc, ◌+◌, ◌%◌, ◌≤◌, arith, max, List, [], ◌∷◌, ◌++◌, length, drop, remove, Bool, true, false, if◌then◌else◌, Option, Some, None, Result, Ok, Err, refl, sym, ap, ◌∙◌, subst, append-nil}
+use Rattle.std.proofs.Common.{◌≡◌, ℕ, zero, suc, ◌+◌, ◌%◌, ◌≤◌, arith, max, List, [], ◌∷◌, ◌++◌, length, drop, remove, Bool, true, false, if◌then◌else◌, Option}
+use Rattle.std.proofs.Common.{Some, None, Result, Ok, Err, refl, sym, ap, ◌∙◌, subst, append-nil}
 use Rattle.std.proofs.{lemmas.Bool.{le-leb}, lemmas.List.{take-append-drop, take_all}, lemmas.Option.{slice_get_within}}
 use Rattle.std.specs.Prelude.{nat_le}
 use Rattle.x25_frame.specs.{Frame.{PlainFrame, info, rr, rnr, rej}, declared.error.FrameError.{FrameError}}
@@ -10,7 +11,8 @@ use Rattle.x25_link.specs.{declared.phase.Reason.{Reason}, declared.phase.Reason
 use Rattle.x25_link.specs.laws.WindowLaw.{ending_of}
 use Rattle.x25_line.specs.{laws.Peer.{Peer, fresh_peer, numbered_to, told_to, hearing, IsWanted, taking, MaySay, MayMake}, laws.InWindow.{IsPrefix}}
 use Rattle.x25_line.specs.{laws.WholeNumbers.{taken_out}, laws.Said.{Said, Carried, Tells, Odd as OddSaid, said}}
-use Rattle.x25_line.proofs.Kept.{Way, BothWays, hears_valid, Way-hand, Way-send, Way-tell, Way-told, Way-hears, Way-takes, Way-giver, Way-unheard, Way-passed, Way-acked}
+use Rattle.x25_line.proofs.Kept.{Way, BothWays, hears_valid, Way-hand, Way-send, Way-tell, Way-told, Way-hears, Way-takes, Way-giver, Way-unheard, Way-passed}
+use Rattle.x25_line.proofs.Kept.{Way-acked}
 
 -- ---- what is told on a line, and the frames of the window machine that it stands for
 
@@ -47,9 +49,11 @@ Shows c n = ⊥
 
 pub data Bear : List Told → List (Frame (List ℕ)) → Type 0 where
   none : Bear [] []
-  here : (t : Told) (ts : List Told) (g : Frame (List ℕ)) (gs : List (Frame (List ℕ))) → Shows t.carried g.carried → t.nr ≡ g.ack % 8 → Bear ts gs → Bear (t ∷ ts) (g ∷ gs)
+  here : (t : Told) (ts : List Told) (g : Frame (List ℕ)) (gs : List (Frame (List ℕ))) → Shows t.carried g.carried → t.nr ≡ g.ack % 8 → Bear ts gs
+      → Bear (t ∷ ts) (g ∷ gs)
 
-bear_push : {ts : List Told} {gs : List (Frame (List ℕ))} (t : Told) (g : Frame (List ℕ)) → Bear ts gs → Shows t.carried g.carried → t.nr ≡ g.ack % 8 → Bear (ts ++ t ∷ []) (gs ++ g ∷ [])
+bear_push : {ts : List Told} {gs : List (Frame (List ℕ))} (t : Told) (g : Frame (List ℕ)) → Bear ts gs → Shows t.carried g.carried → t.nr ≡ g.ack % 8
+    → Bear (ts ++ t ∷ []) (gs ++ g ∷ [])
 bear_push t g none shows number = here t [] g [] shows number none
 bear_push t g (here x xs y ys same ack h) shows number = here x (xs ++ t ∷ []) y (ys ++ g ∷ []) same ack (bear_push t g h shows number)
 
@@ -103,12 +107,26 @@ pub record Hold (p q : Peer) (out back : List Told) : Type 0 where
 
 pub starts : Hold fresh_peer fresh_peer [] []
 starts =
-    let way : Way (end_of fresh_peer) [] 0 [] [] = record { high = omega arith; room = omega arith; held = omega arith; acks = omega arith; late = omega arith; tops = omega arith; begins = refl } in
+    let way : Way (end_of fresh_peer) [] 0 [] [] = record {
+      high = omega arith;
+      room = omega arith;
+      held = omega arith;
+      acks = omega arith;
+      late = omega arith;
+      tops = omega arith;
+      begins = refl;
+    } in
     record { there = []; here = []; ways = record { from_near = way; from_far = way }; out_bears = none; back_bears = none }
 
 pub hold_turned : {p q : Peer} {out back : List Told} → Hold p q out back → Hold q p back out
 hold_turned h =
-    record { there = h.here; here = h.there; ways = record { from_near = h.ways.from_far; from_far = h.ways.from_near }; out_bears = h.back_bears; back_bears = h.out_bears }
+    record {
+      there = h.here;
+      here = h.there;
+      ways = record { from_near = h.ways.from_far; from_far = h.ways.from_near };
+      out_bears = h.back_bears;
+      back_bears = h.out_bears;
+    }
 
 module _ (p q : Peer) (out back : List Told) where
   pub handed : (packet : List ℕ) → Hold p q out back → Hold (record p { given = p.given ++ packet ∷ [] }) q out back
@@ -123,11 +141,13 @@ module _ (p q : Peer) (out back : List Told) where
 
   -- ---- what it sends
 
-  sent_one : (h : Hold p q out back) {r : Peer} (t : Told) (g : Frame (List ℕ)) → Shows t.carried g.carried → t.nr ≡ g.ack % 8 → Ways r q (h.there ++ g ∷ []) h.here → Hold r q (out ++ t ∷ []) back
+  sent_one : (h : Hold p q out back) {r : Peer} (t : Told) (g : Frame (List ℕ)) → Shows t.carried g.carried → t.nr ≡ g.ack % 8
+      → Ways r q (h.there ++ g ∷ []) h.here → Hold r q (out ++ t ∷ []) back
   sent_one h t g shows number ways =
       record { there = h.there ++ g ∷ []; here = h.here; ways = ways; out_bears = bear_push t g h.out_bears shows number; back_bears = h.back_bears }
 
-  sent : (Odd : Type 0) (h : Hold p q out back) (carried : Option Carried) (nr : ℕ) (r : Peer) → MaySay Odd p (Tells carried nr) r → Hold r q (out ++ told carried nr ∷ []) back
+  sent : (Odd : Type 0) (h : Hold p q out back) (carried : Option Carried) (nr : ℕ) (r : Peer) → MaySay Odd p (Tells carried nr) r
+      → Hold r q (out ++ told carried nr ∷ []) back
   sent Odd h None nr r may =
       let t = may.0 in
       let ack = may.1 in
@@ -146,7 +166,8 @@ module _ (p q : Peer) (out back : List Told) where
       let item : Numbered (List ℕ) = record { number = i; item = c.packet } in
       let g : Frame (List ℕ) = record { carried = Some item; ack = t; top = max p.sent (i + 1) } in
       let ways : Ways (told_to t (numbered_to i p)) q (h.there ++ g ∷ []) h.here = record {
-        from_near = Way-send i t (Some item) (slice_get_within p.given i c.packet number.same) number.window (omega arith, omega arith, number.same) h.ways.from_near;
+        from_near = Way-send i t (Some item) (slice_get_within p.given i c.packet number.same) number.window (omega arith, omega arith, number.same)
+            h.ways.from_near;
         from_far = Way-told t (Some item) (max p.sent (i + 1)) ack.rising ack.taken h.ways.from_far;
       } in
       subst (λ z. Hold z q (out ++ told (Some c) nr ∷ []) back) (sym may.4)
@@ -175,7 +196,8 @@ module _ (p q : Peer) (out back : List Told) where
 -- ---- what comes to it
 
 module _ (p q : Peer) (out : List Told) where
-  heard_way : (g : Frame (List ℕ)) (gs hs : List (Frame (List ℕ))) (b : Bool) (n : ℕ) → n ≡ g.ack % 8 → Ways p q gs (g ∷ hs) → Way (end_of (hearing b n p)) q.taken q.told gs hs
+  heard_way : (g : Frame (List ℕ)) (gs hs : List (Frame (List ℕ))) (b : Bool) (n : ℕ) → n ≡ g.ack % 8 → Ways p q gs (g ∷ hs)
+      → Way (end_of (hearing b n p)) q.taken q.told gs hs
   heard_way g gs hs true n is k = rw is (Way-hears hs g k.from_near)
   heard_way g gs hs false n is k = Way-unheard 0 k.from_near
 
@@ -183,22 +205,26 @@ module _ (p q : Peer) (out : List Told) where
   passed true n g gs hs is k = record { from_near = heard_way g gs hs true n is k; from_far = Way-passed 0 k.from_far }
   passed false n g gs hs is k = record { from_near = heard_way g gs hs false n is k; from_far = Way-passed 0 k.from_far }
 
-  took : (b : Bool) (n : ℕ) (g : Frame (List ℕ)) (gs hs : List (Frame (List ℕ))) (c : Carried) (i : Numbered (List ℕ)) → n ≡ g.ack % 8 → g.carried ≡ Some i → c.ns ≡ i.number % 8 → c.packet ≡ i.item
+  took : (b : Bool) (n : ℕ) (g : Frame (List ℕ)) (gs hs : List (Frame (List ℕ))) (c : Carried) (i : Numbered (List ℕ)) → n ≡ g.ack % 8 → g.carried ≡ Some i
+      → c.ns ≡ i.number % 8 → c.packet ≡ i.item
       → c.ns ≡ length p.taken % 8 → Ways p q gs (g ∷ hs) → Ways (taking true c.packet (hearing b n p)) q gs hs
   took b n g gs hs c i is carried number same wanted k =
       let item = subst (λ y. Way (end_of q) (p.taken ++ y ∷ []) p.told hs gs) (sym same)
       (Way-takes hs g i (rw carried at k.from_far.tops.1) (sym number ∙ wanted) k.from_far) in
       go b (heard_way g gs hs b n is k) item
     where
-      go : (b : Bool) → Way (end_of (hearing b n p)) q.taken q.told gs hs → Way (end_of q) (p.taken ++ c.packet ∷ []) p.told hs gs → Ways (taking true c.packet (hearing b n p)) q gs hs
+      go : (b : Bool) → Way (end_of (hearing b n p)) q.taken q.told gs hs → Way (end_of q) (p.taken ++ c.packet ∷ []) p.told hs gs
+          → Ways (taking true c.packet (hearing b n p)) q gs hs
       go true a z = record { from_near = Way-giver 0 c.packet a; from_far = z }
       go false a z = record { from_near = Way-giver 0 c.packet a; from_far = z }
 
-  carried_shown : (c : Carried) (o : Option (Numbered (List ℕ))) → Shows (Some c) o → (i : Numbered (List ℕ)) × (o ≡ Some i) × (c.ns ≡ i.number % 8) × (c.packet ≡ i.item)
+  carried_shown : (c : Carried) (o : Option (Numbered (List ℕ))) → Shows (Some c) o → (i : Numbered (List ℕ)) × (o ≡ Some i) × (c.ns ≡ i.number % 8)
+      × (c.packet ≡ i.item)
   carried_shown c None h = absurd h
   carried_shown c (Some i) h = (i, refl, h.0, h.1)
 
-  comes : (g : Frame (List ℕ)) (gs hs : List (Frame (List ℕ))) (carried : Option Carried) (n : ℕ) (r : Peer) → Shows carried g.carried → n ≡ g.ack % 8 → MayMake p (Tells carried n) r
+  comes : (g : Frame (List ℕ)) (gs hs : List (Frame (List ℕ))) (carried : Option Carried) (n : ℕ) (r : Peer) → Shows carried g.carried → n ≡ g.ack % 8
+      → MayMake p (Tells carried n) r
       → Ways p q gs (g ∷ hs) → Ways r q gs hs
   comes g gs hs None n r shows is may k = rw may.1 (passed may.0 n g gs hs is k)
   comes g gs hs (Some c) n r shows is may k = go may.0 may.1 may.2 may.3
@@ -209,7 +235,8 @@ module _ (p q : Peer) (out : List Told) where
           subst (λ z. Ways z q gs hs) (sym to) (took b n g gs hs c s.0 is s.1 s.2 s.3 wanted k)
       go b false wanted to = rw to (passed b n g gs hs is k)
 
-  front : (t : Told) (rest : List Told) {r : Peer} {gs hs : List (Frame (List ℕ))} → Bear out gs → Bear (t ∷ rest) hs → Ways p q gs hs → MayMake p (Tells t.carried t.nr) r → Hold r q out rest
+  front : (t : Told) (rest : List Told) {r : Peer} {gs hs : List (Frame (List ℕ))} → Bear out gs → Bear (t ∷ rest) hs → Ways p q gs hs
+      → MayMake p (Tells t.carried t.nr) r → Hold r q out rest
   front t rest {r} {gs} shows (here x xs g ys carried number h) k may =
       record { there = gs; here = ys; ways = comes g gs ys x.carried x.nr r carried number may k; out_bears = shows; back_bears = h }
 
@@ -249,7 +276,8 @@ valid_none : (b : Bool) → b ≡ true → by_frmr (if b then None else Some Frm
 valid_none true is = refl
 valid_none false is = cc
 
-pub no_fault : (r : Result PlainFrame FrameError) (v : Window) → (said r ≡ OddSaid → ⊥) → ((carried : Option Carried) (nr : ℕ) → said r ≡ Tells carried nr → resolved v.acked nr ≤ v.sent) → by_frmr (ending_of r v) ≡ 0
+pub no_fault : (r : Result PlainFrame FrameError) (v : Window) → (said r ≡ OddSaid → ⊥)
+    → ((carried : Option Carried) (nr : ℕ) → said r ≡ Tells carried nr → resolved v.acked nr ≤ v.sent) → by_frmr (ending_of r v) ≡ 0
 no_fault (Ok (info ns nr p x)) v never valid = valid_none (nat_le (resolved v.acked nr) v.sent) (le-leb _ _ (valid _ nr refl))
 no_fault (Ok (rr command nr pf)) v never valid = valid_none (nat_le (resolved v.acked nr) v.sent) (le-leb _ _ (valid None nr refl))
 no_fault (Ok (rnr command nr pf)) v never valid = valid_none (nat_le (resolved v.acked nr) v.sent) (le-leb _ _ (valid None nr refl))

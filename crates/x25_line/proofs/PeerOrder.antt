@@ -6,11 +6,13 @@ use Rattle.x25_window.specs.code.Modulo.{resolved}
 use Rattle.x25_link.specs.{Station.{Settings, fresh}, Hearing.{other}}
 use Rattle.x25_line.specs.laws.Stations.{StationEnd, Act, Near, replaced, is_visible, acts}
 use Rattle.x25_line.specs.{laws.StationClaims.{Each, InOrder, HandsOne}, laws.LawsBelow.{Laws}}
-use Rattle.x25_line.specs.laws.PeerJoined.{JoinedOnce, our_end, with_peer, HappensOnce, Ours, HandsDown, Sends, Hears, Loses, Damages, ReachedOnce, at_start, goes_on}
+use Rattle.x25_line.specs.laws.PeerJoined.{JoinedOnce, our_end, with_peer, HappensOnce, Ours, HandsDown, Sends, Hears, Loses, Damages, ReachedOnce, at_start}
+use Rattle.x25_line.specs.laws.PeerJoined.{goes_on}
 use Rattle.x25_line.specs.laws.PeerClaims.{WithAnyPeer, WithAnyLapbPeer, KeepsOrder, FindsNoFault}
 use Rattle.x25_line.specs.{laws.Said.{Said, Carried, Tells, Odd as OddSaid, said}, laws.Peer.{Peer, fresh_peer, MaySay}}
 use Rattle.x25_line.proofs.{Lists.{each_append, each_removed, each_replaced}, sessions.Letters.{visible_said, visible_fine}, Kept.{Way}}
-use Rattle.x25_line.proofs.Order.{Told, only, only_append, Left, left_front, left_deeper, Hold, starts, hold_turned, handed, says, left, makes, in_order as peers_in_order, valid_front, by_frmr, no_fault}
+use Rattle.x25_line.proofs.Order.{Told, only, only_append, Left, left_front, left_deeper, Hold, starts, hold_turned, handed, says, left, makes}
+use Rattle.x25_line.proofs.Order.{in_order as peers_in_order, valid_front, by_frmr, no_fault}
 use Rattle.x25_line.proofs.{StationRuns.{noted_before}, StationEvents.{each_hands_one}, StationClaimLemmas.{in_order}}
 use Rattle.x25_line.proofs.{StationSays.{machine_of, MayDo}, StationActs.{MayAsk}, StationPeers.{Seen, peer_acts}}
 use Rattle.x25_line.specs.laws.PeerJoined as joined
@@ -28,7 +30,8 @@ module _ (from : Role) (n1 : ℕ) where
 
   tolds_push : (os : List (List ℕ)) (o : List ℕ) → tolds (os ++ o ∷ []) ≡ tolds os ++ only (said (frame_of from n1 o)) []
   tolds_push [] o = refl
-  tolds_push (x ∷ os) o = ap (only (said (frame_of from n1 x))) (tolds_push os o) ∙ sym (only_append (said (frame_of from n1 x)) (tolds os) (only (said (frame_of from n1 o)) []))
+  tolds_push (x ∷ os) o = ap (only (said (frame_of from n1 x))) (tolds_push os o)
+      ∙ sym (only_append (said (frame_of from n1 x)) (tolds os) (only (said (frame_of from n1 o)) []))
 
   tolds_removed : (os : List (List ℕ)) (i : ℕ) → Left (tolds os) (tolds (remove os i))
   tolds_removed [] zero = (None, refl)
@@ -51,9 +54,13 @@ module _ (Odd : Type 0) (c : Settings) (q : Peer) where
 
   station_may : MayDo c (Odd → ⊥) IsWith
   station_may = record {
-    handed = λ os p out packet short h. record { hold = handed p q (tolds c.role c.longest out) (tolds (other c.role) c.longest os) packet h.hold; lapb = h.lapb };
+    handed = λ os p out packet short h. record {
+      hold = handed p q (tolds c.role c.longest out) (tolds (other c.role) c.longest os) packet h.hold;
+      lapb = h.lapb;
+    };
     sends = λ os p r out octets may next h. record {
-      hold = rw (tolds_push c.role c.longest out octets) (says p q (tolds c.role c.longest out) (tolds (other c.role) c.longest os) ⊥ (said (frame_of c.role c.longest octets)) r may h.hold);
+      hold = rw (tolds_push c.role c.longest out octets)
+          (says p q (tolds c.role c.longest out) (tolds (other c.role) c.longest os) ⊥ (said (frame_of c.role c.longest octets)) r may h.hold);
       lapb = h.lapb;
     };
     hears = λ o os p r out may h. record {
@@ -69,11 +76,13 @@ module _ (Odd : Type 0) (c : Settings) (q : Peer) where
       lapb = λ lapb. each_replaced (IsFine (other c.role) c.longest) os i octets (visible_fine (other c.role) c.longest octets visible) (h.lapb lapb);
     };
     faultless = λ o os p out ending h lapb.
-        (let none = no_fault (frame_of (other c.role) c.longest o) (machine_of c.window p) (h.lapb lapb).0 (λ carried nr is. valid o os p out h carried nr is) in
+        (let none = no_fault (frame_of (other c.role) c.longest o) (machine_of c.window p) (h.lapb lapb).0 (λ carried nr is. valid o os p out h carried nr is)
+        in
         omega (arith, none, ap by_frmr ending));
   }
     where
-      valid : (o : List ℕ) (os : List (List ℕ)) (p : Peer) (out : List (List ℕ)) → IsWith (o ∷ os) p out → (carried : Option Carried) (nr : ℕ) → said (frame_of (other c.role) c.longest o) ≡ Tells carried nr
+      valid : (o : List ℕ) (os : List (List ℕ)) (p : Peer) (out : List (List ℕ)) → IsWith (o ∷ os) p out → (carried : Option Carried) (nr : ℕ)
+          → said (frame_of (other c.role) c.longest o) ≡ Tells carried nr
           → resolved p.acked nr ≤ p.sent
       valid o os p out h carried nr is =
           valid_front p q (tolds c.role c.longest out) (tolds (other c.role) c.longest os) (record { carried = carried; nr = nr })
@@ -85,7 +94,8 @@ abbrev JoinedHolds : Type 0 → Settings → JoinedOnce → Type 0
 JoinedHolds Odd c w = Seen c (Odd → ⊥) (IsWith Odd c w.peer) (our_end w)
 
 -- once the peer is q, with these lines
-after : (Odd : Type 0) {c : Settings} {w : JoinedOnce} (h : JoinedHolds Odd c w) {q : Peer} (out back : List (List ℕ)) → Hold q h.peer (tolds (other c.role) c.longest back) (tolds c.role c.longest out)
+after : (Odd : Type 0) {c : Settings} {w : JoinedOnce} (h : JoinedHolds Odd c w) {q : Peer} (out back : List (List ℕ))
+    → Hold q h.peer (tolds (other c.role) c.longest back) (tolds c.role c.longest out)
     → ((Odd → ⊥) → Each (IsFine (other c.role) c.longest) back) → JoinedHolds Odd c (record { near = w.near; peer = q; out = out; back = back })
 after Odd {c} h {q} out back hold lapb =
     record {
@@ -120,17 +130,20 @@ module _ (Odd : Type 0) (c : Settings) (w : JoinedOnce) (h : JoinedHolds Odd c w
   turned : Hold w.peer h.peer backs outs
   turned = hold_turned h.reached.hold
 
-  theirs : (v : JoinedOnce) → HappensOnce Odd c w v → v.near.came_up ≡ false → ((act : Act) → (acts c act (our_end w)).near.came_up ≡ false → JoinedHolds Odd c (with_peer w.peer (acts c act (our_end w)))) → JoinedHolds Odd c v
+  theirs : (v : JoinedOnce) → HappensOnce Odd c w v → v.near.came_up ≡ false
+      → ((act : Act) → (acts c act (our_end w)).near.came_up ≡ false → JoinedHolds Odd c (with_peer w.peer (acts c act (our_end w)))) → JoinedHolds Odd c v
   theirs v (Ours act) once ours = ours act once
   theirs v (HandsDown packet) once ours =
       after Odd h w.out w.back (handed w.peer h.peer backs outs packet turned) h.reached.lapb
   theirs v (Sends octets q may) once ours =
       after Odd h w.out (w.back ++ octets ∷ [])
-      (rw (tolds_push (other c.role) c.longest w.back octets) (says w.peer h.peer backs outs Odd (said (frame_of (other c.role) c.longest octets)) q may turned))
+      (rw (tolds_push (other c.role) c.longest w.back octets)
+      (says w.peer h.peer backs outs Odd (said (frame_of (other c.role) c.longest octets)) q may turned))
       (λ lapb. each_append (IsFine (other c.role) c.longest) w.back (octets ∷ []) (h.reached.lapb lapb) (sends_odd Odd w.peer q may lapb, tt))
   theirs v (Hears octets rest q is may) once ours =
       after Odd h rest w.back
-      (makes w.peer h.peer backs (said (frame_of c.role c.longest octets)) (tolds c.role c.longest rest) may (subst (λ os. Hold w.peer h.peer backs (tolds c.role c.longest os)) is turned)) h.reached.lapb
+      (makes w.peer h.peer backs (said (frame_of c.role c.longest octets)) (tolds c.role c.longest rest) may
+      (subst (λ os. Hold w.peer h.peer backs (tolds c.role c.longest os)) is turned)) h.reached.lapb
   theirs v (Loses i) once ours =
       after Odd h (remove w.out i) w.back (left w.peer h.peer backs outs (tolds_removed c.role c.longest w.out i) turned) h.reached.lapb
   theirs v (Damages i octets visible) once ours =
@@ -145,7 +158,11 @@ start_holds : (Odd : Type 0) (c : Settings) → JoinedHolds Odd c joined.start
 start_holds Odd c = record {
   peer = fresh_peer;
   reached = record { hold = starts; lapb = λ lapb. tt };
-  fits = inl (record { up = refl; sound = record { place_low = omega arith; place_high = omega arith; sent_high = omega arith; room = omega arith }; same = refl });
+  fits = inl (record {
+    up = refl;
+    sound = record { place_low = omega arith; place_high = omega arith; sent_high = omega arith; room = omega arith };
+    same = refl;
+  });
   room = omega arith;
   told = omega arith;
   within = tt;
@@ -155,7 +172,8 @@ start_holds Odd c = record {
 }
 
 module _ (reads : ReadsSpelled) (laws : Laws) where
-  ours : (Odd : Type 0) (c : Settings) → c.window ≤ 7 → (w : JoinedOnce) → JoinedHolds Odd c w → (act : Act) → (acts c act (our_end w)).near.came_up ≡ false → JoinedHolds Odd c (with_peer w.peer (acts c act (our_end w)))
+  ours : (Odd : Type 0) (c : Settings) → c.window ≤ 7 → (w : JoinedOnce) → JoinedHolds Odd c w → (act : Act) → (acts c act (our_end w)).near.came_up ≡ false
+      → JoinedHolds Odd c (with_peer w.peer (acts c act (our_end w)))
   ours Odd c high w h act once =
       let k = peer_acts c high reads laws (Odd → ⊥) (IsWith Odd c w.peer) (station_may Odd c w.peer) act (our_end w) h once in
       record { peer = k.peer; reached = k.reached; fits = k.fits; room = k.room; told = k.told; within = k.within; down = k.down; up = k.up; fine = k.fine }
@@ -174,8 +192,10 @@ module _ (reads : ReadsSpelled) (laws : Laws) where
       let q = w.peer in
       let hold = h.reached.hold in
       let k = hold.ways.from_near in
-      let way : Way (machine_of c.window p) q.taken q.told hold.there hold.here = record { high = high; room = h.room; held = k.held; acks = k.acks; late = k.late; tops = k.tops; begins = k.begins } in
-      let own : InOrder w.near (taker q) = in_order MayAsk c w.near (taker q) (machine_of c.window p) q.taken q.told hold.there hold.here h.fits way (sym h.down) refl in
+      let way : Way (machine_of c.window p) q.taken q.told hold.there hold.here =
+      record { high = high; room = h.room; held = k.held; acks = k.acks; late = k.late; tops = k.tops; begins = k.begins } in
+      let own : InOrder w.near (taker q) = in_order MayAsk c w.near (taker q) (machine_of c.window p) q.taken q.told hold.there hold.here h.fits way
+      (sym h.down) refl in
       let other_way = peers_in_order q p hold.here hold.there hold.ways.from_far in
       record {
         up = rw (sym h.up) other_way.0;

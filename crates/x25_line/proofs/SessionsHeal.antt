@@ -3,10 +3,10 @@ use Rattle.std.proofs.Common.{◌≡◌, ℕ, List, [], ◌∷◌, inl, Option, 
 use Rattle.x25_frame.specs.laws.ReadingLaw.{ReadsSpelled}
 use Rattle.x25_link.specs.{declared.error.LinkError.{LinkError}, Station.{Settings}, Hearing.{Step}, Link.{take_step, timer_step, timer_refusal}}
 use Rattle.x25_link.specs.{laws.RestLaw.{IsAtRest}, laws.BusyLaw.{BusyLaws}}
-use Rattle.x25_line.specs.laws.Stations.{Deliver, T1, LinkEvent}
+use Rattle.x25_line.specs.laws.Stations.{Deliver, T1}
 use Rattle.x25_line.specs.laws.Sessions.{Entry, Meeting, Sessions, begun_by, after_step, unless, delivered, acts, swapped, run}
-use Rattle.x25_line.specs.{laws.StationClaims.{AreJoined}, laws.SessionClaims.{Each, Throughout, IdleHasArrived}}
-use Rattle.x25_line.specs.{Healing.{EachRestShows, IsDelivery, SessionsHealUnlessBothBusy}, laws.LawsBelow.{HealingLaws}}
+use Rattle.x25_line.specs.{laws.StationClaims.{AreJoined}, laws.SessionClaims.{Throughout, IdleHasArrived}}
+use Rattle.x25_line.specs.{Healing.{EachRestShows, SessionsHealUnlessBothBusy}, laws.LawsBelow.{HealingLaws}}
 use Rattle.x25_line.specs.laws.HealingPuts.{SessionsHaveArrived, PutsHealSessions}
 use Rattle.x25_line.proofs.{sessions.SessionHeld.{extended_nil}, sessions.TwoSessions.{idle_has_arrived}}
 use Rattle.x25_line.proofs.{HealingSteps.{IsDrained, Reached, at_reached, in_order_at, deliveries_keep}, HealingEnds.{after_firings, rest_or_out}}
@@ -41,13 +41,6 @@ deliver_hands c w = by w.back
     by [] = record { near = λ _. refl; far = λ _. refl }
     by (e ∷ es) = step_hands c w es _ (take_step c e.octets w.near.station)
 
-healing_hands : (c d : Settings) (es : List LinkEvent) (w : Sessions) → Each IsDelivery es → HandNothingDown w (run c d es (after_firings c d w))
-healing_hands c d es w are =
-    let x : Sessions = acts c T1 w in
-    deliveries_keep (HandNothingDown w) c d (λ u h. then_hand h (deliver_hands c u))
-    (λ u h. then_hand h (hand_turned u (deliver_hands d (swapped u)))) es (after_firings c d w) are
-    (then_hand (fire_hands c w) (hand_turned x (fire_hands d (swapped x))))
-
 pub each_rest_shows : ReadsSpelled → HealingLaws → Throughout EachRestShows
 each_rest_shows reads laws c d joined begin is events timely =
     let w : Sessions = run c d events begin in
@@ -55,16 +48,25 @@ each_rest_shows reads laws c d joined begin is events timely =
     let arrived = idle_has_arrived reads laws.sessions c d joined begin is events timely in
     record {
       near = λ up stopped.
-          let rest : IsAtRest w.near.station = record { idle = laws.rest.no_timer c.window w.near.station joined.near_low (orders.0.sound up) orders.0.said up stopped; no_timer = stopped } in
+          let rest : IsAtRest w.near.station = record {
+            idle = laws.rest.no_timer c.window w.near.station joined.near_low (orders.0.sound up) orders.0.said up
+                stopped;
+            no_timer = stopped;
+          } in
           (rest, arrived.near rest.idle);
       far = λ up stopped.
-          let rest : IsAtRest w.far.station = record { idle = laws.rest.no_timer d.window w.far.station joined.far_low (orders.1.sound up) orders.1.said up stopped; no_timer = stopped } in
+          let rest : IsAtRest w.far.station = record {
+            idle = laws.rest.no_timer d.window w.far.station joined.far_low (orders.1.sound up) orders.1.said up
+                stopped;
+            no_timer = stopped;
+          } in
           (rest, arrived.far rest.idle);
     }
 
 module _ (reads : ReadsSpelled) (laws : HealingLaws) (busy_laws : BusyLaws) where
   -- two ends that have come to rest in their sessions have handed up all
-  arrive : (c d : Settings) → AreJoined c d → (w v : Sessions) → HealsAt w.near.begun w.far.begun c d v → IsAtRest v.near.station × IsAtRest v.far.station → SessionsHaveArrived w v
+  arrive : (c d : Settings) → AreJoined c d → (w v : Sessions) → HealsAt w.near.begun w.far.begun c d v → IsAtRest v.near.station × IsAtRest v.far.station
+      → SessionsHaveArrived w v
   arrive c d joined w v (r, h) rest =
       let arrived = at_reached IdleHasArrived (idle_has_arrived reads laws.sessions) joined r in
       let near = h.near_begun in
@@ -89,7 +91,8 @@ module _ (reads : ReadsSpelled) (laws : HealingLaws) (busy_laws : BusyLaws) wher
       let n = w.near.begun in
       let m = w.far.begun in
       let orders = in_order_at reads laws c d joined w r in
-      let heals = λ (near : _). λ (far : _). deliveries_heal reads laws busy_laws n m c d joined es (after_firings c d w) are (begins reads laws busy_laws joined r drained near far free) in
+      let heals = λ (near : _). λ (far : _). deliveries_heal reads laws busy_laws n m c d joined es (after_firings c d w) are
+      (begins reads laws busy_laws joined r drained near far free) in
       let each = rest_or_out reads laws c d joined w orders.0 orders.1 drained es are after (λ near far.
       let rest = both_settle reads laws busy_laws joined (heals near far) after in
       (inl rest.0, inl rest.1)) in
@@ -99,8 +102,19 @@ module _ (reads : ReadsSpelled) (laws : HealingLaws) (busy_laws : BusyLaws) wher
         healed = λ near far.
             let k = heals near far in
             let h = arrive c d joined w v k (both_settle reads laws busy_laws joined k after) in
-            let hands = healing_hands c d es w are in
-            record { near_rest = h.near_rest; far_rest = h.far_rest; near_session = h.near_session; far_session = h.far_session; there = h.there ∙ hands.near n; back = h.back ∙ hands.far m };
+            let hands = (let x : Sessions = acts c T1 w in
+            deliveries_keep (HandNothingDown w) c d (λ u h. then_hand h (deliver_hands c u))
+            (λ u h. then_hand h (hand_turned u (deliver_hands d (swapped u)))) es (after_firings c d w) are
+            (then_hand (fire_hands c w) (hand_turned x (fire_hands d (swapped x))))) in
+            record {
+              near_rest = h.near_rest;
+              far_rest = h.far_rest;
+              near_session = h.near_session;
+              far_session = h.far_session;
+              there = h.there
+                  ∙ hands.near n;
+              back = h.back ∙ hands.far m;
+            };
       }
 
   -- packets are put while two ends heal
@@ -111,6 +125,7 @@ module _ (reads : ReadsSpelled) (laws : HealingLaws) (busy_laws : BusyLaws) wher
       let r : Reached c d w = record { begin = begin; start = is; events = events; timely = timely; is = refl } in
       let n = w.near.begun in
       let m = w.far.begun in
-      let first = begins reads laws busy_laws joined r (record { out = no_out; back = no_back }) (record { up = near_may.up; tries = near_may.tries }) (record { up = far_may.up; tries = far_may.tries }) (inl near_may.free) in
+      let first = begins reads laws busy_laws joined r (record { out = no_out; back = no_back }) (record { up = near_may.up; tries = near_may.tries })
+      (record { up = far_may.up; tries = far_may.tries }) (inl near_may.free) in
       let k = puts_run reads laws busy_laws joined es are first free in
       arrive c d joined w v k (both_settle reads laws busy_laws joined k (record { out = out_after; back = back_after }))

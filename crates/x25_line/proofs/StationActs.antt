@@ -1,17 +1,22 @@
 -- What follows of each act of a station that was set up once, where it is known of a few kinds of steps.
-use Rattle.std.proofs.Common.{◌≡◌, ℕ, suc, ◌≤◌, List, [], ◌∷◌, inl, inr, length, remove, Bool, true, false, if◌then◌else◌, Some, None, Result, refl, sym, ap, ◌∙◌, subst}
+use Rattle.std.proofs.Common.{◌≡◌, ℕ, suc, ◌≤◌, List, [], ◌∷◌, inl, inr, length, remove, Bool, true, false, if◌then◌else◌, Some, None, Result, refl, sym, ap}
+use Rattle.std.proofs.Common.{◌∙◌, subst}
 use Rattle.std.proofs.lemmas.Bool.{leb-true}
 use Rattle.std.specs.Prelude.{nat_le, nat_lt}
 use Rattle.x25_frame.specs.{Frame.{PlainFrame, sabm}, Reading.{frame_of}, declared.error.FrameError.{FrameError}}
-use Rattle.x25_link.specs.{declared.phase.Phase.{Phase}, declared.phase.Phase.TheVariants.{Down, Waiting, Up, Closed}, declared.phase.Reason.TheVariants.{Retries}}
+use Rattle.x25_link.specs.{declared.phase.Phase.{Phase}, declared.phase.Phase.TheVariants.{Down, Waiting, Up, Closed}}
+use Rattle.x25_link.specs.declared.phase.Reason.TheVariants.{Retries}
 use Rattle.x25_link.specs.{Station.{Settings, LinkStation, is_up, with_nothing}, Hearing.{Step, other}}
-use Rattle.x25_link.specs.Link.{take_step, put_step, put_refusal, timer_step, timer_refusal, timer_runs, connect_step, connect_refusal, disconnect_step, disconnect_refusal, abandon_step}
+use Rattle.x25_link.specs.Link.{take_step, put_step, put_refusal, timer_step, timer_refusal, timer_runs, connect_step, connect_refusal, disconnect_step}
+use Rattle.x25_link.specs.Link.{disconnect_refusal, abandon_step}
 use Rattle.x25_link.specs.{laws.WindowMachine.{Window, nothing}, laws.SetUp.{Is, TakesPart}}
 use Rattle.x25_link.specs.laws.WindowLaw.{Stays, Follows, IsOut, StaysOut}
-use Rattle.x25_line.specs.laws.Stations.{Stations, Act, Put, Deliver, T1, Connect, Disconnect, Abandon, Probe, Lose, Damage, after_step, unless, delivered, replaced, is_visible, acts}
+use Rattle.x25_line.specs.laws.Stations.{Stations, Act, Put, Deliver, T1, Connect, Disconnect, Abandon, Probe, Lose, Damage, after_step, unless, delivered}
+use Rattle.x25_line.specs.laws.Stations.{replaced, is_visible, acts}
 use Rattle.x25_line.specs.{laws.Sessions.{sabm_in}, laws.LawsBelow.{Laws}}
 use Rattle.x25_line.proofs.{Choices.{unless_by, if_by}, StationLines.{AreParting}}
-use Rattle.x25_line.proofs.StationSteps.{MayBeAway, away_is_not_up, out_is_away, AsUp, IsAway, FitsEnd, up_of, not_both, stays_out, in_vain, Parts, ends_parts, declining_parting}
+use Rattle.x25_line.proofs.StationSteps.{MayBeAway, away_is_not_up, out_is_away, AsUp, IsAway, FitsEnd, up_of, not_both, stays_out, in_vain, Parts, ends_parts}
+use Rattle.x25_line.proofs.StationSteps.{declining_parting}
 use Rattle.x25_line.proofs.StationHears.{sabm_or_not, sets_none_up}
 use Rattle.x25_line.proofs.StationAway.{closed_takes, waits_on, waiting_parting, quiet_by, up_takes_part, connects_from, second_false}
 
@@ -25,8 +30,10 @@ MayAsk = Unit {0}
 pub record OfSteps (c : Settings) (w : Stations) (e : Window) (Q : Stations → Type 0) : Type 0 where
   pub fits : FitsEnd MayAsk c w.near.station e
   pub still : Q w
-  pub takes : (o : List ℕ) (os : List (List ℕ)) → w.back ≡ o ∷ os → AsUp c w.near.station e → sabm_in (frame_of (other c.role) c.longest o) ≡ 0 → Q (after_step c w os [] (take_step c o w.near.station))
-  pub puts : (packet : List ℕ) → AsUp c w.near.station e → length packet ≤ c.longest → Q (after_step c w w.back (packet ∷ []) (put_step c packet w.near.station))
+  pub takes : (o : List ℕ) (os : List (List ℕ)) → w.back ≡ o ∷ os → AsUp c w.near.station e → sabm_in (frame_of (other c.role) c.longest o) ≡ 0
+      → Q (after_step c w os [] (take_step c o w.near.station))
+  pub puts : (packet : List ℕ) → AsUp c w.near.station e → length packet ≤ c.longest
+      → Q (after_step c w w.back (packet ∷ []) (put_step c packet w.near.station))
   pub rests : (step : Step) → AsUp c w.near.station e → Stays c.window nothing w.near.station step → Q (after_step c w w.back [] step)
   pub parts : (step : Step) → Parts MayAsk w.near.station step → Q (after_step c w w.back [] step)
   pub passes : (o : List ℕ) (os : List (List ℕ)) → w.back ≡ o ∷ os → (step : Step) → Parts MayAsk w.near.station step → Q (after_step c w os [] step)
@@ -80,7 +87,8 @@ module _ {c : Settings} (laws : Laws) {w : Stations} {e : Window} {Q : Stations 
           })
 
       by_phase : (q : Phase) → s.phase ≡ q → IsAway MayAsk s → MayBeAway MayAsk q → Q (after_step c w os [] step)
-      by_phase Down phase away may = stays away (laws.window.take_out c o s (subst IsOut (sym phase) tt) (sets_none_up r (no_sabm (subst TakesPart (sym phase) tt))))
+      by_phase Down phase away may = stays away
+          (laws.window.take_out c o s (subst IsOut (sym phase) tt) (sets_none_up r (no_sabm (subst TakesPart (sym phase) tt))))
       by_phase Waiting phase away may = waits away phase
       by_phase Up phase away may = absurd may
       by_phase Closed phase away may = stays away (closed_takes c o s phase)
@@ -97,9 +105,15 @@ module _ {c : Settings} (laws : Laws) {w : Stations} {e : Window} {Q : Stations 
       go (inr away) = rw (away_is_not_up MayAsk s.phase away.away) k.still
 
   -- a station that isn't Up sends SABM or DISC, and notes nothing
-  asks_parts : {near : LinkStation} {frames : List PlainFrame} {step : Step} → is_up s.phase ≡ false → Is near frames None false step → AreParting MayAsk frames → IsAway MayAsk near → Parts MayAsk s step
+  asks_parts : {near : LinkStation} {frames : List PlainFrame} {step : Step} → is_up s.phase ≡ false → Is near frames None false step
+      → AreParting MayAsk frames → IsAway MayAsk near → Parts MayAsk s step
   asks_parts {frames = frames} {step} off i parting away =
-      record { frames = subst (AreParting MayAsk) (sym i.out) parting; away = subst (IsAway MayAsk) (sym i.near) away; packet = i.packet; noted = stays_out off (quiet_by step i.down i.up) }
+      record {
+        frames = subst (AreParting MayAsk) (sym i.out) parting;
+        away = subst (IsAway MayAsk) (sym i.near) away;
+        packet = i.packet;
+        noted = stays_out off (quiet_by step i.down i.up);
+      }
 
   -- timer T1 runs out, in Up
   timer_up : AsUp c s e → Q (after_step c w w.back [] (timer_step c s))
@@ -110,18 +124,25 @@ module _ {c : Settings} (laws : Laws) {w : Stations} {e : Window} {Q : Stations 
       by false ends = k.parts (timer_step c s) (ends_parts MayAsk u.up tt (laws.timer_tells c s) ends)
 
   waiting_timer : IsAway MayAsk s → s.phase ≡ Waiting → (b : Bool) {step : Step}
-      → Is (if b then record s { tries = suc s.tries } else with_nothing Down s.tries) (if b then sabm true ∷ [] else []) (if b then None else Some Retries) false step → Parts MayAsk s step
+      → Is (if b then record s { tries = suc s.tries } else with_nothing Down s.tries) (if b then sabm true ∷ [] else []) (if b then None else Some Retries)
+      false step → Parts MayAsk s step
   waiting_timer away phase true {step} i =
       asks_parts (ap is_up phase) i (tt, tt) (record { away = away.away; empty = away.empty })
   waiting_timer away phase false i =
-      record { frames = subst (AreParting MayAsk) (sym i.out) tt; away = subst (IsAway MayAsk) (sym i.near) (record { away = tt; empty = refl }); packet = i.packet; noted = in_vain (ap is_up phase) i.down i.up }
+      record {
+        frames = subst (AreParting MayAsk) (sym i.out) tt;
+        away = subst (IsAway MayAsk) (sym i.near) (record { away = tt; empty = refl });
+        packet = i.packet;
+        noted = in_vain (ap is_up phase) i.down i.up;
+      }
 
   timer_by : Q (unless (timer_refusal s) w (after_step c w w.back [] (timer_step c s)))
   timer_by = go k.fits
     where
       by_phase : (q : Phase) → s.phase ≡ q → IsAway MayAsk s → MayBeAway MayAsk q → Q (unless (timer_refusal s) w (after_step c w w.back [] (timer_step c s)))
       by_phase Waiting phase away may =
-          unless_by Q (timer_refusal s) k.still (λ _. k.parts (timer_step c s) (waiting_timer away phase (nat_lt s.tries c.retries) (laws.set_up.timer c s phase)))
+          unless_by Q (timer_refusal s) k.still
+          (λ _. k.parts (timer_step c s) (waiting_timer away phase (nat_lt s.tries c.retries) (laws.set_up.timer c s phase)))
       by_phase Up phase away may = absurd may
       by_phase q phase away may = rw (ap (λ q. timer_runs q s) phase) k.still
 

@@ -1,9 +1,10 @@
 -- What a station does that is Closed, that awaits UA or that sends FRMR, as far as the laws of a link don't say it in these words.
-use Rattle.std.proofs.Common.{◌≡◌, ℕ, zero, suc, List, [], ◌∷◌, length, Bool, true, false, if◌then◌else◌, Option, Some, None, Result, Ok, Err, refl, sym, ap, ◌∙◌, subst}
+use Rattle.std.proofs.Common.{◌≡◌, ℕ, zero, suc, List, [], ◌∷◌, length, Bool, true, false, if◌then◌else◌, Some, None, Result, Ok, Err, refl, sym, ap}
+use Rattle.std.proofs.Common.{◌∙◌, subst}
 use Rattle.std.specs.Prelude.{◌&&◌, ◌||◌}
 use Rattle.x25_frame.specs.{Frame.{PlainFrame, info, rr, rnr, rej, ua, dm, frmr}, Spelling.{is_command, poll_or_final}, Reading.{frame_of}}
 use Rattle.x25_frame.specs.{declared.error.FrameError.{FrameError}, declared.error.FrameError.TheVariants.{Undefined, NoInfoAllowed, TooLong}}
-use Rattle.x25_link.specs.{declared.phase.Phase.{Phase}, declared.phase.Phase.TheVariants.{Down, Up, Closed}, declared.phase.Reason.{Reason}}
+use Rattle.x25_link.specs.{declared.phase.Phase.{Phase}, declared.phase.Phase.TheVariants.{Down, Up, Closed}}
 use Rattle.x25_link.specs.{declared.phase.Reason.TheVariants.{FrmrSent}, declared.phase.Notes.{Notes}, laws.NoteLaw.{IsQuiet}}
 use Rattle.x25_link.specs.Station.{Settings, LinkStation, Side, is_up, sends, pumped, pumped_once, ended}
 use Rattle.x25_link.specs.Hearing.{Step, quiet, other, rejects, is_valid, acknowledged, hears_info, peer_is, goes_back, polls}
@@ -32,7 +33,8 @@ declines_out : (b : Bool) (s : LinkStation) → IsOut s.phase → StaysOut (quie
 declines_out true s out = record { out = out; frames = tt; packet = refl; quiet = refl }
 declines_out false s out = record { out = out; frames = tt; packet = refl; quiet = refl }
 
-closed_row : (c : Settings) (octets : List ℕ) (s : LinkStation) → IsOut s.phase → (read : Result PlainFrame FrameError) → StaysOut (hears c octets read Closed (alone s))
+closed_row : (c : Settings) (octets : List ℕ) (s : LinkStation) → IsOut s.phase → (read : Result PlainFrame FrameError)
+    → StaysOut (hears c octets read Closed (alone s))
 closed_row c octets s out (Ok frame) = declines_out (is_command frame && poll_or_final frame) s out
 closed_row c octets s out (Err e) = record { out = out; frames = tt; packet = refl; quiet = refl }
 
@@ -88,16 +90,14 @@ module _ (c : Settings) (octets : List ℕ) (s : LinkStation) (f : Bool) (why : 
   rejected ground out =
       sym (same_length _ f _ why (sym (ap (λ z. z.side.out) (closed_still c.window (rejects c octets ground (alone s)) refl)) ∙ out))
 
-  no_reason : {A : Type 0} (o : Option Reason) → o ≡ None → o ≡ Some FrmrSent → A
-  no_reason o none is = absurd (cc)
-
   -- a frame whose N(R) is invalid
   invalid : (nr : ℕ) (row : Side → Step) (b : Bool) → is_valid nr s ≡ b → (if b then None else Some FrmrSent) ≡ Some FrmrSent
       → (closed_by c.window (if b then row (acknowledged nr (alone s)) else rejects c octets 8 (alone s))).side.out ≡ frmr f why ∷ [] → length why ≡ 3
-  invalid nr row true test is out = no_reason None refl is
+  invalid nr row true test is out = (absurd (cc))
   invalid nr row false test is out = rejected 8 out
 
-  frmr_row : (r : Result PlainFrame FrameError) → ending_of r (window_of c.window s) ≡ Some FrmrSent → (closed_by c.window (hears c octets r Up (alone s))).side.out ≡ frmr f why ∷ [] → length why ≡ 3
+  frmr_row : (r : Result PlainFrame FrameError) → ending_of r (window_of c.window s) ≡ Some FrmrSent
+      → (closed_by c.window (hears c octets r Up (alone s))).side.out ≡ frmr f why ∷ [] → length why ≡ 3
   frmr_row (Ok (info ns nr p packet)) is out = invalid nr (hears_info c.window ns p packet) (is_valid nr s) refl is out
   frmr_row (Ok (rr command nr pf)) is out = invalid nr (λ u. quiet (polls command pf (peer_is false u))) (is_valid nr s) refl is out
   frmr_row (Ok (rnr command nr pf)) is out = invalid nr (λ u. quiet (polls command pf (peer_is true u))) (is_valid nr s) refl is out
@@ -107,7 +107,8 @@ module _ (c : Settings) (octets : List ℕ) (s : LinkStation) (f : Bool) (why : 
   frmr_row (Err TooLong) is out = rejected 4 out
   frmr_row r is out = cc
 
-pub frmr_three : (c : Settings) (octets : List ℕ) (s : LinkStation) → s.phase ≡ Up → (r : Result PlainFrame FrameError) → r ≡ frame_of (other c.role) c.longest octets → (f : Bool) (why : List ℕ)
+pub frmr_three : (c : Settings) (octets : List ℕ) (s : LinkStation) → s.phase ≡ Up → (r : Result PlainFrame FrameError) → r
+    ≡ frame_of (other c.role) c.longest octets → (f : Bool) (why : List ℕ)
     → ending_of r (window_of c.window s) ≡ Some FrmrSent → (take_step c octets s).side.out ≡ frmr f why ∷ [] → length why ≡ 3
 frmr_three c octets s up r read f why is out =
     frmr_row c octets s f why r is

@@ -8,7 +8,8 @@ use Rattle.x25_link.specs.{Outgoing.{waits}}
 use Rattle.x25_link.specs.{Station.{Settings, LinkStation, is_up, lists_of, no_packets}, Link.{is_idle}}
 use Rattle.x25_line.specs.{laws.InWindow.{IsPrefix}, laws.Line.{Line}, laws.Stations.{StationEnd, Stations}}
 use Rattle.x25_line.specs.laws.WholeNumbers.{machine_at_start}
-use Rattle.x25_line.specs.laws.StationClaims.{AreJoined, Always, InOrder, BothInOrder, HasItsLists, BothHaveTheirLists, BothNoteTheirEnds, IsBehind, AreInWindow, NoFrmrSent, AllSentAreWhole}
+use Rattle.x25_line.specs.laws.StationClaims.{AreJoined, Always, InOrder, BothInOrder, HasItsLists, BothHaveTheirLists, BothNoteTheirEnds, IsBehind}
+use Rattle.x25_line.specs.laws.StationClaims.{AreInWindow, NoFrmrSent, AllSentAreWhole}
 use Rattle.x25_line.specs.laws.LawsBelow.{Laws}
 use Rattle.x25_line.proofs.{Kept.{Way, Way-acked, InWindow-from_Kept}, StationSteps.{FitsEnd, up_of, Joint, Holds, not_both}}
 use Rattle.x25_line.proofs.StationRuns.{run_once, start_machine}
@@ -33,7 +34,8 @@ idle_all s idle high =
     let all : s.outgoing.acked ≡ s.outgoing.sent = eqb-true s.outgoing.acked s.outgoing.sent inner.1 in
     omega (arith, none, all, high)
 
-pub in_order : (MayAsk : Type 0) (c : Settings) (giver taker : StationEnd) (e : End (List ℕ)) (taken : List (List ℕ)) (told : ℕ) (there back : List (Frame (List ℕ)))
+pub in_order : (MayAsk : Type 0) (c : Settings) (giver taker : StationEnd) (e : End (List ℕ)) (taken : List (List ℕ)) (told : ℕ)
+    (there back : List (Frame (List ℕ)))
     → FitsEnd MayAsk c giver.station e → Way e taken told there back → giver.down ≡ e.given → taker.up ≡ taken → InOrder giver taker
 in_order MayAsk c giver taker e taken told there back fits way is_down is_up_list =
     let down = giver.down in
@@ -58,9 +60,11 @@ in_order MayAsk c giver taker e taken told there back fits way is_down is_up_lis
     all idle =
         let u = up_of MayAsk fits (and_parts _ _ idle).0 in
         let bounds = Way-acked way in
-        is_up_list ∙ way.begins ∙ take_all (length taken) e.given (omega (arith, bounds.0, idle_all giver.station idle u.sound.sent_high, (ap (λ z. z.acked) u.same), ap (λ z. length z.given) u.same)) ∙ sym is_down
+        is_up_list ∙ way.begins ∙ take_all (length taken) e.given
+        (omega (arith, bounds.0, idle_all giver.station idle u.sound.sent_high, (ap (λ z. z.acked) u.same), ap (λ z. length z.given) u.same)) ∙ sym is_down
 
-has_lists : (MayAsk : Type 0) {c : Settings} (giver : StationEnd) {e : End (List ℕ)} → FitsEnd MayAsk c giver.station e → giver.down ≡ e.given → giver.up ≡ e.taken → HasItsLists giver
+has_lists : (MayAsk : Type 0) {c : Settings} (giver : StationEnd) {e : End (List ℕ)} → FitsEnd MayAsk c giver.station e → giver.down ≡ e.given → giver.up
+    ≡ e.taken → HasItsLists giver
 has_lists MayAsk {c} giver {e} fits is_down is_up_list =
     record {
       given = λ is_on. ap (λ z. z.given) (up_of MayAsk fits is_on).same ∙ sym is_down;

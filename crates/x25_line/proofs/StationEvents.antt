@@ -2,8 +2,10 @@
 use Rattle.std.proofs.Common.{◌≡◌, ℕ, List, [], ◌∷◌, length, Bool, true, false, if◌then◌else◌, Option, Some, None, refl, sym, ap, ◌∙◌, append-nil}
 use Rattle.std.specs.Prelude.{nat_le, nat_lt, ◌||◌}
 use Rattle.x25_link.specs.{declared.error.LinkError.{LinkError}, Station.{Settings, LinkStation, is_up}, Hearing.{Step}}
-use Rattle.x25_link.specs.Link.{put_step, put_refusal, timer_step, timer_refusal, connect_step, connect_refusal, disconnect_step, disconnect_refusal, abandon_step}
-use Rattle.x25_line.specs.laws.Stations.{Stations, Act, Put, Deliver, T1, Connect, Disconnect, Abandon, Probe, Lose, Damage, Near, Far, after_step, unless, own_act, delivered, is_visible, acts, stations_swapped}
+use Rattle.x25_link.specs.Link.{put_step, put_refusal, timer_step, timer_refusal, connect_step, connect_refusal, disconnect_step, disconnect_refusal}
+use Rattle.x25_link.specs.Link.{abandon_step}
+use Rattle.x25_line.specs.laws.Stations.{Stations, Act, Put, Deliver, T1, Connect, Disconnect, Abandon, Probe, Lose, Damage, Near, Far, after_step, unless}
+use Rattle.x25_line.specs.laws.Stations.{own_act, delivered, is_visible, acts, stations_swapped}
 use Rattle.x25_line.specs.laws.StationClaims.{HandsOne, EachEventHandsOne}
 use Rattle.x25_line.proofs.Choices.{unless_by, if_by}
 
@@ -21,9 +23,15 @@ or_false : (b : Bool) → (b || false) ≡ b
 or_false true = refl
 or_false false = refl
 
-step_hands_nothing : (c : Settings) (w : Stations) (back : List (List ℕ)) (step : Step) → step.packet ≡ None → step.notes.up ≡ false → HandsNothing w (after_step c w back [] step)
+step_hands_nothing : (c : Settings) (w : Stations) (back : List (List ℕ)) (step : Step) → step.packet ≡ None → step.notes.up ≡ false
+    → HandsNothing w (after_step c w back [] step)
 step_hands_nothing c w back step none low =
-    record { up = rw none (append-nil w.near.up); down = append-nil w.near.down; came_up = ap (λ b. w.near.came_up || b) low ∙ or_false w.near.came_up; far = refl }
+    record {
+      up = rw none (append-nil w.near.up);
+      down = append-nil w.near.down;
+      came_up = ap (λ b. w.near.came_up || b) low ∙ or_false w.near.came_up;
+      far = refl;
+    }
 
 packet_if : (b : Bool) (x y : Step) → x.packet ≡ None → y.packet ≡ None → (if b then x else y).packet ≡ None
 packet_if true x y e f = e
@@ -41,7 +49,8 @@ timer_up c s = up_if (nat_lt s.tries c.retries) _ _ refl refl
 
 -- ---- acts that take no octets and are given no packet, in any world
 
-pub own_by : {W : Type 0} (Q : W → Type 0) (c : Settings) (s : LinkStation) (w : W) (done : Step → W) → Q w → ((step : Step) → step.packet ≡ None → step.notes.up ≡ false → Q (done step)) → (a : Act) → Q (own_act c s w done a)
+pub own_by : {W : Type 0} (Q : W → Type 0) (c : Settings) (s : LinkStation) (w : W) (done : Step → W) → Q w
+    → ((step : Step) → step.packet ≡ None → step.notes.up ≡ false → Q (done step)) → (a : Act) → Q (own_act c s w done a)
 own_by Q c s w done still goes T1 = unless_by Q (timer_refusal s) still (λ _. goes (timer_step c s) (timer_packet c s) (timer_up c s))
 own_by Q c s w done still goes Connect = unless_by Q (connect_refusal s.phase) still (λ _. goes (connect_step c s) refl refl)
 own_by Q c s w done still goes Disconnect = unless_by Q (disconnect_refusal s.phase) still (λ _. goes (disconnect_step c s) refl refl)
@@ -51,7 +60,8 @@ own_by Q c s w done still goes act = still
 
 -- ---- what one event hands up and down
 
-put_hands : (o : Option LinkError) (c : Settings) (packet : List ℕ) (w : Stations) → HandsOne (Put packet) w (unless o w (after_step c w w.back (packet ∷ []) (put_step c packet w.near.station)))
+put_hands : (o : Option LinkError) (c : Settings) (packet : List ℕ) (w : Stations)
+    → HandsOne (Put packet) w (unless o w (after_step c w w.back (packet ∷ []) (put_step c packet w.near.station)))
 put_hands (Some e) c packet w = record { up = refl; down = (false, refl); came_up = refl; far = refl }
 put_hands None c packet w = record { up = append-nil w.near.up; down = (true, refl); came_up = or_false w.near.came_up; far = refl }
 
@@ -65,7 +75,8 @@ deliver_hands c (o ∷ os) w = record { up = (_, refl); down = append-nil w.near
 
 acts_hands : (c : Settings) (a : Act) (w : Stations) → HandsOne a w (acts c a w)
 acts_hands c (Put packet) w =
-    put_by (nat_le (length packet) c.longest) c packet w (unless (put_refusal w.near.station) w (after_step c w w.back (packet ∷ []) (put_step c packet w.near.station)))
+    put_by (nat_le (length packet) c.longest) c packet w
+    (unless (put_refusal w.near.station) w (after_step c w w.back (packet ∷ []) (put_step c packet w.near.station)))
     (put_hands (put_refusal w.near.station) c packet w)
 acts_hands c Deliver w = deliver_hands c w.back w
 acts_hands c (Lose i) w = record { up = refl; down = refl; came_up = refl; far = refl }
@@ -73,7 +84,8 @@ acts_hands c (Damage i octets) w =
     let h = if_by (HandsNothing w) (is_visible octets) (nothing_changes w) (λ _. record { up = refl; down = refl; came_up = refl; far = refl }) in
     record { up = h.up; down = h.down; came_up = h.came_up; far = h.far }
 acts_hands c act w =
-    let h = own_by (HandsNothing w) c w.near.station w (after_step c w w.back []) (nothing_changes w) (λ step none low. step_hands_nothing c w w.back step none low) act in
+    let h = own_by (HandsNothing w) c w.near.station w (after_step c w w.back []) (nothing_changes w)
+    (λ step none low. step_hands_nothing c w w.back step none low) act in
     record { up = h.up; down = h.down; came_up = h.came_up; far = h.far }
 
 pub each_hands_one : EachEventHandsOne

@@ -1,8 +1,10 @@
 -- What a station that is Up makes of what comes, as an end that keeps the rules may: of the station and that end alone, with no line.
-use Rattle.std.proofs.Common.{◌≡◌, ◌≤◌, ◌%◌, ℕ, List, [], ◌∷◌, ◌++◌, ◌+◌, ◌⊎◌, inl, inr, length, Bool, true, false, if◌then◌else◌, Option, Some, None, Result, Ok, Err, refl, sym, ap, ◌∙◌, arith, append-nil}
+use Rattle.std.proofs.Common.{◌≡◌, ◌≤◌, ◌%◌, ℕ, List, [], ◌∷◌, ◌++◌, ◌+◌, ◌⊎◌, inl, inr, length, Bool, true, false, if◌then◌else◌, Option, Some, None, Result}
+use Rattle.std.proofs.Common.{Ok, Err, refl, sym, ap, ◌∙◌, arith, append-nil}
 use Rattle.std.proofs.lemmas.List.{length_push}
 use Rattle.std.specs.Prelude.{option_to_list}
-use Rattle.x25_frame.specs.{Frame.{PlainFrame, info, rr, rnr, rej, sabm, disc, ua, dm, frmr}, declared.error.FrameError.{FrameError}, declared.error.FrameError.TheVariants.{Short}}
+use Rattle.x25_frame.specs.{Frame.{PlainFrame, info, rr, rnr, rej, sabm, disc, ua, dm, frmr}, declared.error.FrameError.{FrameError}}
+use Rattle.x25_frame.specs.declared.error.FrameError.TheVariants.{Short}
 use Rattle.x25_window.specs.{code.Modulo.{resolved}, laws.Window.{after}, laws.Window.Step.{Hear, Take}}
 use Rattle.x25_link.specs.{declared.phase.Reason.{Reason}, declared.phase.Reason.TheVariants.{Disc, FrmrSent, Reset, Local}}
 use Rattle.x25_link.specs.{Station.{Settings, LinkStation}, Hearing.{Step}, laws.WindowMachine.{Window, Input, receives}}
@@ -87,7 +89,8 @@ module _ {d : Settings} {s : LinkStation} {p : Peer} (facts : UpFacts d s p) (st
   none_taken packet none = sym (ap (λ o. p.taken ++ option_to_list o) none ∙ append-nil p.taken)
 
   -- nothing of it is taken
-  passed_over : (r : Result PlainFrame FrameError) {input : Input} → after_input input step.packet (window_of k s) ≡ window_of k s → ((y : List ℕ) → MayHandUp input (Some y) (window_of k s) → ⊥) → Stays k input s step → Hears d r s p step
+  passed_over : (r : Result PlainFrame FrameError) {input : Input} → after_input input step.packet (window_of k s) ≡ window_of k s
+      → ((y : List ℕ) → MayHandUp input (Some y) (window_of k s) → ⊥) → Stays k input s step → Hears d r s p step
   passed_over r {input} same never stays = record {
     input = input;
     stays = stays;
@@ -101,7 +104,8 @@ module _ {d : Settings} {s : LinkStation} {p : Peer} (facts : UpFacts d s p) (st
   }
 
   -- an N(R) is heard
-  hears_number : {r : Result PlainFrame FrameError} (f : PlainFrame) (nr : ℕ) → after_input (receives f) step.packet (window_of k s) ≡ after (window_of k s) (Hear nr) → step.packet ≡ None → MayHear p r (hearing true nr p)
+  hears_number : {r : Result PlainFrame FrameError} (f : PlainFrame) (nr : ℕ) → after_input (receives f) step.packet (window_of k s)
+      ≡ after (window_of k s) (Hear nr) → step.packet ≡ None → MayHear p r (hearing true nr p)
       → Stays k (receives f) s step → Hears d r s p step
   hears_number f nr same none may stays =
       let low = low_resolved p.acked nr in
@@ -118,7 +122,8 @@ module _ {d : Settings} {s : LinkStation} {p : Peer} (facts : UpFacts d s p) (st
         taken = none_taken step.packet none;
       }
 
-  tells : (f : PlainFrame) (nr : ℕ) → ((packet : Option (List ℕ)) → after_input (receives f) packet (window_of k s) ≡ after (window_of k s) (Hear nr)) → ((y : List ℕ) → MayHandUp (receives f) (Some y) (window_of k s) → ⊥)
+  tells : (f : PlainFrame) (nr : ℕ) → ((packet : Option (List ℕ)) → after_input (receives f) packet (window_of k s) ≡ after (window_of k s) (Hear nr))
+      → ((y : List ℕ) → MayHandUp (receives f) (Some y) (window_of k s) → ⊥)
       → MayHear p (Ok f) (hearing true nr p) → Stays k (receives f) s step → Hears d (Ok f) s p step
   tells f nr same never may stays =
       hears_number f nr (same step.packet) (no_packet_of (receives f) step.packet (window_of k s) never stays.hands_up) may stays

@@ -1,5 +1,6 @@
 -- The octets on a line, and the frames of the window machine that they show.
-use Rattle.std.proofs.Common.{◌≡◌, ℕ, zero, suc, ◌%◌, List, [], ◌∷◌, ◌++◌, ◌⊎◌, inl, inr, length, map, remove, Bool, true, false, not, if◌then◌else◌, Option, Some, None, Result, Ok, Err, refl, sym, ap, ◌∙◌, subst}
+use Rattle.std.proofs.Common.{◌≡◌, ℕ, zero, suc, ◌%◌, List, [], ◌∷◌, ◌++◌, ◌⊎◌, inl, inr, length, map, remove, Bool, true, false, not, if◌then◌else◌, Option}
+use Rattle.std.proofs.Common.{Some, None, Result, Ok, Err, refl, sym, ap, ◌∙◌, subst}
 use Rattle.std.proofs.lemmas.List.Elements.{Contains-append_left, Contains-append_right, Contains-append_cases}
 use Rattle.std.specs.{Prelude.{◌||◌, nat_lt, option_to_list}, List.{Contains}}
 use Rattle.x25_bits.specs.{FrameCheck.Sealed.{is_sealed}, declared.role.Role.{Role}}
@@ -110,10 +111,22 @@ pub record IsPart (MayAsk : Type 0) (f : PlainFrame) : Type 0 where
 
 pub parts_of : (MayAsk : Type 0) (fs : List PlainFrame) → AreParting MayAsk fs → Each (IsPart MayAsk) fs
 parts_of MayAsk [] h = tt
-parts_of MayAsk (sabm p ∷ fs) h = (record { in_range = tt; carries = refl; within = λ n1. tt; none = refl; orderly = h.0; packet = λ given. tt }, parts_of MayAsk fs h.1)
-parts_of MayAsk (disc p ∷ fs) h = (record { in_range = tt; carries = refl; within = λ n1. tt; none = refl; orderly = tt; packet = λ given. tt }, parts_of MayAsk fs h)
-parts_of MayAsk (ua f ∷ fs) h = (record { in_range = tt; carries = refl; within = λ n1. tt; none = refl; orderly = tt; packet = λ given. tt }, parts_of MayAsk fs h)
-parts_of MayAsk (dm f ∷ fs) h = (record { in_range = tt; carries = refl; within = λ n1. tt; none = refl; orderly = tt; packet = λ given. tt }, parts_of MayAsk fs h)
+parts_of MayAsk (sabm p ∷ fs) h = (
+  record { in_range = tt; carries = refl; within = λ n1. tt; none = refl; orderly = h.0; packet = λ given. tt },
+  parts_of MayAsk fs h.1,
+)
+parts_of MayAsk (disc p ∷ fs) h = (
+  record { in_range = tt; carries = refl; within = λ n1. tt; none = refl; orderly = tt; packet = λ given. tt },
+  parts_of MayAsk fs h,
+)
+parts_of MayAsk (ua f ∷ fs) h = (
+  record { in_range = tt; carries = refl; within = λ n1. tt; none = refl; orderly = tt; packet = λ given. tt },
+  parts_of MayAsk fs h,
+)
+parts_of MayAsk (dm f ∷ fs) h = (
+  record { in_range = tt; carries = refl; within = λ n1. tt; none = refl; orderly = tt; packet = λ given. tt },
+  parts_of MayAsk fs h,
+)
 parts_of MayAsk (frame ∷ fs) h = absurd h
 
 pub no_frmr_append : (fs es : List PlainFrame) → NoFrmr fs → NoFrmr es → NoFrmr (fs ++ es)
@@ -140,15 +153,23 @@ handed_more xs ys more (info ns nr p x) h = more x h
 handed_more xs ys more f h = tt
 
 -- where more was handed down
-pub whole_more : (n1 : ℕ) (xs ys : List (List ℕ)) → ((x : List ℕ) → Contains xs x → Contains ys x) → (fs : List PlainFrame) → AreWhole n1 xs fs → AreWhole n1 ys fs
+pub whole_more : (n1 : ℕ) (xs ys : List (List ℕ)) → ((x : List ℕ) → Contains xs x → Contains ys x) → (fs : List PlainFrame) → AreWhole n1 xs fs
+    → AreWhole n1 ys fs
 whole_more n1 xs ys more [] h = tt
-whole_more n1 xs ys more (f ∷ fs) h =
-    (record { in_range = h.0.in_range; carries = h.0.carries; within = h.0.within; packet = handed_more xs ys more f h.0.packet }, whole_more n1 xs ys more fs h.1)
+whole_more n1 xs ys more (f ∷ fs) h = (
+  record { in_range = h.0.in_range; carries = h.0.carries; within = h.0.within; packet = handed_more xs ys more f h.0.packet },
+  whole_more n1 xs ys more fs h.1,
+)
 
 pub good_whole : (n1 : ℕ) (given more : List (List ℕ)) (fs : List PlainFrame) → AllGood n1 fs → AllHandedDown given fs → AreWhole n1 (given ++ more) fs
 good_whole n1 given more [] g h = tt
 good_whole n1 given more (f ∷ fs) g h = (
-  record { in_range = g.0.in_range; carries = g.0.carries; within = g.0.within; packet = handed_more given (given ++ more) (λ x k. Contains-append_left given more x k) f h.0 },
+  record {
+    in_range = g.0.in_range;
+    carries = g.0.carries;
+    within = g.0.within;
+    packet = handed_more given (given ++ more) (λ x k. Contains-append_left given more x k) f h.0;
+  },
   good_whole n1 given more fs g.1 h.1,
 )
 
@@ -204,13 +225,15 @@ pub taken_out_behind : (p : Option ℕ) (g : Frame (List ℕ)) (gs : List (Frame
 taken_out_behind None g gs = refl
 taken_out_behind (Some n) g gs = refl
 
-pub shows_first : (m : Option PlainFrame) (fs : List PlainFrame) (gs : List (Frame (List ℕ))) → ShowAll (consed m fs) gs → ShowAll fs (taken_out (first_of m) gs)
+pub shows_first : (m : Option PlainFrame) (fs : List PlainFrame) (gs : List (Frame (List ℕ))) → ShowAll (consed m fs) gs
+    → ShowAll fs (taken_out (first_of m) gs)
 shows_first None fs gs h = h
 shows_first (Some f) fs [] h = absurd h
 shows_first (Some f) fs (g ∷ gs) h = h.1
 
 pub shows_behind : (m : Option PlainFrame) (fs es : List PlainFrame) (p : Option ℕ) (gs : List (Frame (List ℕ)))
-    → ((hs : List (Frame (List ℕ))) → ShowAll fs hs → ShowAll es (taken_out p hs)) → ShowAll (consed m fs) gs → ShowAll (consed m es) (taken_out (behind m p) gs)
+    → ((hs : List (Frame (List ℕ))) → ShowAll fs hs → ShowAll es (taken_out p hs)) → ShowAll (consed m fs) gs
+    → ShowAll (consed m es) (taken_out (behind m p) gs)
 shows_behind None fs es p gs f h = f gs h
 shows_behind (Some x) fs es p [] f h = absurd h
 shows_behind (Some x) fs es p (g ∷ gs) f h = subst (ShowAll (x ∷ es)) (sym (taken_out_behind p g gs)) (h.0, f gs h.1)
@@ -224,7 +247,8 @@ shows_lost from n1 (o ∷ os) (suc i) gs h =
     shows_behind (number_in (frame_of from n1 o)) (numbered_on from n1 os) (numbered_on from n1 (remove os i)) (place_of from n1 os i) gs
     (λ hs k. shows_lost from n1 os i hs k) h
 
-pub shows_damaged : (from : Role) (n1 : ℕ) (octets : List ℕ) → number_in (frame_of from n1 octets) ≡ None → (os : List (List ℕ)) (i : ℕ) (gs : List (Frame (List ℕ)))
+pub shows_damaged : (from : Role) (n1 : ℕ) (octets : List ℕ) → number_in (frame_of from n1 octets) ≡ None
+    → (os : List (List ℕ)) (i : ℕ) (gs : List (Frame (List ℕ)))
     → ShowAll (numbered_on from n1 os) gs → ShowAll (numbered_on from n1 (replaced os i octets)) (taken_out (place_of from n1 os i) gs)
 shows_damaged from n1 octets none [] i gs h = h
 shows_damaged from n1 octets none (o ∷ os) zero gs h = rw none (shows_first (number_in (frame_of from n1 o)) (numbered_on from n1 os) gs h)
@@ -233,12 +257,14 @@ shows_damaged from n1 octets none (o ∷ os) (suc i) gs h =
     (λ hs k. shows_damaged from n1 octets none os i hs k) h
 
 -- octets that are visibly damaged read as no frame
-pub visible_reads : (from : Role) (n1 : ℕ) (octets : List ℕ) → is_visible octets ≡ true → (frame_of from n1 octets ≡ Err Short) ⊎ (frame_of from n1 octets ≡ Err BadFcs)
+pub visible_reads : (from : Role) (n1 : ℕ) (octets : List ℕ) → is_visible octets ≡ true → (frame_of from n1 octets ≡ Err Short)
+    ⊎ (frame_of from n1 octets ≡ Err BadFcs)
 unfolding frame_of
 visible_reads from n1 octets e = go (nat_lt (length octets) 4) (is_sealed octets) e
   where
     go : (b s : Bool) → (b || not s) ≡ true
-        → (let r : Result PlainFrame FrameError = if b then Err Short else if not s then Err BadFcs else addressed_frame from n1 octets in (r ≡ Err Short) ⊎ (r ≡ Err BadFcs))
+        → (let r : Result PlainFrame FrameError = if b then Err Short else if not s then Err BadFcs else addressed_frame from n1 octets in (r ≡ Err Short)
+        ⊎ (r ≡ Err BadFcs))
     go true s e = inl refl
     go false false e = inr refl
     go false true e = absurd (never e)
@@ -246,5 +272,6 @@ visible_reads from n1 octets e = go (nat_lt (length octets) 4) (is_sealed octets
         never : false ≡ true → ⊥
         never e = cc
 
-pub visible_is : (P : Result PlainFrame FrameError → Type 0) (from : Role) (n1 : ℕ) (octets : List ℕ) → is_visible octets ≡ true → P (Err Short) → P (Err BadFcs) → P (frame_of from n1 octets)
+pub visible_is : (P : Result PlainFrame FrameError → Type 0) (from : Role) (n1 : ℕ) (octets : List ℕ) → is_visible octets ≡ true → P (Err Short)
+    → P (Err BadFcs) → P (frame_of from n1 octets)
 visible_is P from n1 octets visible short bad = elim (visible_reads from n1 octets visible) [ inl is ↦ subst P (sym is) short | inr is ↦ subst P (sym is) bad ]

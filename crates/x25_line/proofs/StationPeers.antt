@@ -1,5 +1,6 @@
 -- Each act of a station, as long as it does not note LinkUp, is what a peer may do.
-use Rattle.std.proofs.Common.{◌≡◌, ℕ, ◌+◌, ◌≤◌, List, [], ◌∷◌, ◌++◌, inl, inr, length, false, Option, Some, None, Result, refl, sym, ap, ◌∙◌, subst, arith, append-nil}
+use Rattle.std.proofs.Common.{◌≡◌, ℕ, ◌+◌, ◌≤◌, List, [], ◌∷◌, ◌++◌, inl, inr, length, false, Option, Some, None, Result, refl, sym, ap, ◌∙◌, subst, arith}
+use Rattle.std.proofs.Common.{append-nil}
 use Rattle.std.specs.Prelude.{option_to_list}
 use Rattle.x25_frame.specs.{Frame.{PlainFrame}, Reading.{frame_of}, laws.ReadingLaw.{ReadsSpelled}}
 use Rattle.x25_frame.specs.{declared.error.FrameError.{FrameError}}
@@ -13,7 +14,9 @@ use Rattle.x25_line.specs.laws.Stations.{Stations, Act, after_step, acts}
 use Rattle.x25_line.specs.{laws.LawsBelow.{Laws}, laws.Said.{said}}
 use Rattle.x25_line.specs.{laws.Peer.{Peer, MayHear}, laws.PeerClaims.{IsNoFrmr}}
 use Rattle.x25_line.specs.{laws.SessionClaims.{Each}, laws.Sessions.{sabm_in}}
-use Rattle.x25_line.proofs.{Lists.{each_append}, StationLines.{parts_of}, StationSends.{AllWithin, within_push}, StationSteps.{MayBeAway, AsUp, IsAway, FitsEnd, no_packet_of, Leaves, Noted, left_up, stays_out, in_vain, Parts, ends_parts, empty_lists}}
+use Rattle.x25_line.proofs.{Lists.{each_append}, StationLines.{parts_of}, StationSends.{AllWithin, within_push}}
+use Rattle.x25_line.proofs.StationSteps.{MayBeAway, AsUp, IsAway, FitsEnd, no_packet_of, Leaves, Noted, left_up, stays_out, in_vain, Parts, ends_parts}
+use Rattle.x25_line.proofs.StationSteps.{empty_lists}
 use Rattle.x25_line.proofs.StationAway.{is_up_phase, frmr_three}
 use Rattle.x25_line.proofs.StationSays.{machine_of, MayDo, AllFree, parting_free, frmr_free, free_all, runs_said}
 use Rattle.x25_line.proofs.{StationActs.{MayAsk, OfSteps, of_act}, StationHears.{passes, Hears, stays_hears, left_by, by_reset}}
@@ -40,7 +43,8 @@ no_frmr_noted (left_up reason leaves up down not_up) = rw down (leaves_no_frmr r
 no_frmr_noted (stays_out out quiet) = rw quiet tt
 no_frmr_noted (in_vain out down not_up) = rw down (tt, tt)
 
-module _ (d : Settings) (high : d.window ≤ 7) (reads : ReadsSpelled) (laws : Laws) (Fine : Type 0) (R : List (List ℕ) → Peer → List (List ℕ) → Type 0) (does : MayDo d Fine R) where
+module _ (d : Settings) (high : d.window ≤ 7) (reads : ReadsSpelled) (laws : Laws) (Fine : Type 0) (R : List (List ℕ) → Peer → List (List ℕ) → Type 0)
+    (does : MayDo d Fine R) where
   abbrev S : Stations → Type 0
   S w = Seen d Fine R w
 
@@ -56,10 +60,12 @@ module _ (d : Settings) (high : d.window ≤ 7) (reads : ReadsSpelled) (laws : L
     pub up_is : peer.taken ≡ w.near.up ++ option_to_list packet
 
   -- the station stays Up, and sends
-  stays_seen : {w : Stations} (h : S w) {os down : List (List ℕ)} {input : Input} {step : Step} → Ready w os down step.packet (after_input input step.packet (window_of d.window w.near.station))
+  stays_seen : {w : Stations} (h : S w) {os down : List (List ℕ)} {input : Input} {step : Step}
+      → Ready w os down step.packet (after_input input step.packet (window_of d.window w.near.station))
       → Stays d.window input w.near.station step → S (after_step d w os down step)
   stays_seen {w} h {os} {down} {input} {step} r stays =
-      let said = runs_said d high reads Fine R does os w.out r.peer (after_input input step.packet (window_of d.window w.near.station)) r.reached r.is r.room r.told r.within
+      let said = runs_said d high reads Fine R does os w.out r.peer (after_input input step.packet (window_of d.window w.near.station)) r.reached r.is r.room
+      r.told r.within
       (window_of d.window step.side.near) step.side.out stays.sends
       in
       record {
@@ -75,7 +81,8 @@ module _ (d : Settings) (high : d.window ≤ 7) (reads : ReadsSpelled) (laws : L
       }
 
   -- it leaves Up or is out, and sends nothing that has a number
-  parts_seen : {w : Stations} {os : List (List ℕ)} (step : Step) {v : Window} → Ready w os [] None v → AllFree d.role d.longest step.side.out → IsAway MayAsk step.side.near → step.packet ≡ None
+  parts_seen : {w : Stations} {os : List (List ℕ)} (step : Step) {v : Window} → Ready w os [] None v → AllFree d.role d.longest step.side.out
+      → IsAway MayAsk step.side.near → step.packet ≡ None
       → (Fine → Each IsNoFrmr (w.near.reasons ++ option_to_list step.notes.down)) → S (after_step d w os [] step)
   parts_seen {w} {os} step r free away none fine =
       record {
@@ -90,7 +97,8 @@ module _ (d : Settings) (high : d.window ≤ 7) (reads : ReadsSpelled) (laws : L
         fine = fine;
       }
 
-  parting_seen : {w : Stations} (h : S w) {os : List (List ℕ)} {step : Step} {v : Window} → Ready w os [] None v → Parts MayAsk w.near.station step → S (after_step d w os [] step)
+  parting_seen : {w : Stations} (h : S w) {os : List (List ℕ)} {step : Step} {v : Window} → Ready w os [] None v → Parts MayAsk w.near.station step
+      → S (after_step d w os [] step)
   parting_seen {w} h {os} {step} {v} r parts =
       parts_seen step r (parting_free reads d.role d.longest MayAsk step.side.out (parts_of MayAsk step.side.out parts.frames)) parts.away parts.packet
       (λ f. each_append IsNoFrmr w.near.reasons (option_to_list step.notes.down) (h.fine f) (no_frmr_noted parts.noted))
@@ -148,8 +156,12 @@ module _ (d : Settings) (high : d.window ≤ 7) (reads : ReadsSpelled) (laws : L
       ends_seen FrmrSent ending no_sabm ends =
           let f = ends.frames.0 in
           let why = ends.frames.1 in
-          parts_seen step passed (subst (AllFree d.role d.longest) (sym ends.frames.2) (frmr_free reads d.role d.longest f why (frmr_three d o s (is_up_phase s.phase u.up) r refl f why ending ends.frames.2)))
-          (record { away = subst (MayBeAway MayAsk) (sym ends.phase) tt; empty = empty_lists step.side.near.outgoing step.side.near.taken ends.outgoing ends.taken }) ends.packet
+          parts_seen step passed (subst (AllFree d.role d.longest) (sym ends.frames.2)
+          (frmr_free reads d.role d.longest f why (frmr_three d o s (is_up_phase s.phase u.up) r refl f why ending ends.frames.2)))
+          (record {
+            away = subst (MayBeAway MayAsk) (sym ends.phase) tt;
+            empty = empty_lists step.side.near.outgoing step.side.near.taken ends.outgoing ends.taken;
+          }) ends.packet
           (λ fine. absurd (does.faultless o os h.peer w.out (ap (ending_of r) (sym u.same) ∙ ending) came fine))
       ends_seen Reset ending no_sabm ends = (absurd (omega (arith, (left_by r (window_of d.window s)).1, ap by_reset ending, no_sabm)))
       ends_seen reason ending no_sabm ends =
@@ -159,13 +171,15 @@ module _ (d : Settings) (high : d.window ≤ 7) (reads : ReadsSpelled) (laws : L
       up_seen no_sabm = go (ending_of r (window_of d.window s)) refl (laws.window.take d o s (record { up = u.up; sound = u.sound }) r refl)
         where
           go : (end : Option Reason) → ending_of r (window_of d.window s) ≡ end → Follows end d.window (brought_by r) s step → S (after_step d w os [] step)
-          go None ending stays = stays_up (stays_hears (record { same = sym u.same; sound = u.sound; room = h.room; told = h.told; within = h.within }) step r no_sabm stays)
+          go None ending stays = stays_up (stays_hears (record { same = sym u.same; sound = u.sound; room = h.room; told = h.told; within = h.within }) step r
+              no_sabm stays)
           go (Some reason) ending ends = ends_seen reason ending no_sabm ends
 
   -- ---- each act
 
   -- a packet is handed down
-  put_up : (w : Stations) (h : S w) (packet : List ℕ) → AsUp d w.near.station (machine_of d.window h.peer) → length packet ≤ d.longest → S (after_step d w w.back (packet ∷ []) (put_step d packet w.near.station))
+  put_up : (w : Stations) (h : S w) (packet : List ℕ) → AsUp d w.near.station (machine_of d.window h.peer) → length packet ≤ d.longest
+      → S (after_step d w w.back (packet ∷ []) (put_step d packet w.near.station))
   put_up w h packet u short =
       let stays = laws.window.put d packet w.near.station (record { up = u.up; sound = u.sound }) in
       let step = put_step d packet w.near.station in
@@ -184,15 +198,19 @@ module _ (d : Settings) (high : d.window ≤ 7) (reads : ReadsSpelled) (laws : L
       }))
       stays
 
-  -- nothing is brought
-  rests_seen : (w : Stations) (h : S w) (step : Step) → AsUp d w.near.station (machine_of d.window h.peer) → Stays d.window nothing w.near.station step → S (after_step d w w.back [] step)
-  rests_seen w h step u stays =
-      stays_seen h
-      (rw (no_packet_of nothing step.packet (window_of d.window w.near.station) (λ y never. never) stays.hands_up) (subst (Ready w w.back [] None) (sym u.same) (left_so h h.reached))) stays
-
   -- the line to it
   line_seen : {w : Stations} {os : List (List ℕ)} (h : S w) → R os h.peer w.out → S (record w { back = os })
-  line_seen h reached = record { peer = h.peer; reached = reached; fits = h.fits; room = h.room; told = h.told; within = h.within; down = h.down; up = h.up; fine = h.fine }
+  line_seen h reached = record {
+    peer = h.peer;
+    reached = reached;
+    fits = h.fits;
+    room = h.room;
+    told = h.told;
+    within = h.within;
+    down = h.down;
+    up = h.up;
+    fine = h.fine;
+  }
 
   of_steps : (w : Stations) (h : S w) → OfSteps d w (machine_of d.window h.peer) S
   of_steps w h = record {
@@ -200,7 +218,9 @@ module _ (d : Settings) (high : d.window ≤ 7) (reads : ReadsSpelled) (laws : L
     still = h;
     takes = λ o os is u no_sabm. up_seen w h o os is u no_sabm;
     puts = λ packet u short. put_up w h packet u short;
-    rests = λ step u stays. rests_seen w h step u stays;
+    rests = λ step u stays. (stays_seen h
+        (rw (no_packet_of nothing step.packet (window_of d.window w.near.station) (λ y never. never) stays.hands_up)
+        (subst (Ready w w.back [] None) (sym u.same) (left_so h h.reached))) stays);
     parts = λ step parts. parting_seen h (left_so h h.reached) parts;
     passes = λ o os is step parts. parting_seen h (passed w h o os is) parts;
     loses = λ i. line_seen h (does.loses w.back h.peer w.out i h.reached);

@@ -1,5 +1,6 @@
 -- Each event keeps what holds of two stations, so each run does.
-use Rattle.std.proofs.Common.{◌≡◌, ℕ, ◌≤◌, List, [], ◌∷◌, ◌++◌, inl, length, Bool, true, false, if◌then◌else◌, Option, Some, None, refl, sym, ap, ◌∙◌, subst, arith, append-nil}
+use Rattle.std.proofs.Common.{◌≡◌, ℕ, ◌≤◌, List, [], ◌∷◌, ◌++◌, inl, length, Bool, true, false, if◌then◌else◌, Option, Some, None, refl, sym, ap, ◌∙◌, subst}
+use Rattle.std.proofs.Common.{arith, append-nil}
 use Rattle.x25_frame.specs.{Reading.{frame_of}, laws.ReadingLaw.{ReadsSpelled}}
 use Rattle.x25_window.specs.{laws.Window.{Frame, after}, laws.Window.Step.{HandDown}}
 use Rattle.x25_link.specs.{declared.phase.Reason.TheVariants.{Retries}, laws.NoteLaw.{Tells}}
@@ -10,12 +11,14 @@ use Rattle.x25_link.specs.laws.WindowLaw.{Follows}
 use Rattle.x25_line.specs.laws.Stations.{Stations, Act, Deliver, LinkEvent, Near, Far, after_step, acts, stations_swapped, happens, run, fresh_station, start}
 use Rattle.x25_line.specs.laws.WholeNumbers.{place_of, taken_out, machine_at_start}
 use Rattle.x25_line.specs.{laws.LawsBelow.{Laws}, laws.Sessions.{sabm_in}}
-use Rattle.x25_line.specs.laws.StationClaims.{AreJoined, IsSetUpOnce, number_in, numbered_on, MachineReaches, at_start, near_moves, far_moves, NotesUp, HandsOne}
+use Rattle.x25_line.specs.laws.StationClaims.{AreJoined, IsSetUpOnce, number_in, numbered_on, MachineReaches, at_start, near_moves, far_moves, NotesUp}
+use Rattle.x25_line.specs.laws.StationClaims.{HandsOne}
 use Rattle.x25_line.specs.{laws.Line.{Line, moved, line_swapped}, laws.Line.Move.{HandsDown, Loses}}
 use Rattle.x25_line.proofs.{Kept.{Kept, Kept-moved, Kept-swapped}}
 use Rattle.x25_line.proofs.StationLines.{IsOrderly, orderly_where, AreOrderly, shows_lost, shows_damaged, visible_is, whole_more, either_way}
 use Rattle.x25_line.proofs.{Lists.{each_removed, each_replaced}, StationSends.{AllWithin, within_push}}
-use Rattle.x25_line.proofs.StationSteps.{AsUp, NotesOnce, Joint, Holds, Leads, left_alone, stays_joint, not_both, quiet_joint, parts_joint, ends_joint, read_joint, away_joint}
+use Rattle.x25_line.proofs.StationSteps.{AsUp, NotesOnce, Joint, Holds, Leads, left_alone, stays_joint, not_both, quiet_joint, parts_joint, ends_joint}
+use Rattle.x25_line.proofs.StationSteps.{read_joint, away_joint}
 use Rattle.x25_line.proofs.{StationActs.{MayAsk, OfSteps, of_act}, StationAway.{first_false}, StationEvents.{each_hands_one}}
 
 reached_swapped : {k j : ℕ} {l : Line (List ℕ)} → MachineReaches k j l → MachineReaches j k (line_swapped l)
@@ -41,7 +44,8 @@ module _ (MayAsk : Type 0) {c d : Settings} (joined : AreJoined c d) (reads : Re
         orderly = h.back_orderly;
         given = ap (λ xs. xs ++ packet ∷ []) (h.near_has.down ∙ sym (ap (λ z. z.given) u.same));
         taken = append-nil w.near.up ∙ h.near_has.up ∙ sym (ap (λ z. z.taken) u.same);
-        within = within_push d.longest w.near.station.outgoing.given packet (subst (AllWithin d.longest) (sym (ap (λ z. z.given) u.same)) h.near_has.within) (omega arith);
+        within = within_push d.longest w.near.station.outgoing.given packet (subst (AllWithin d.longest) (sym (ap (λ z. z.given) u.same)) h.near_has.within)
+            (omega arith);
         same_sent = ap (λ z. z.sent) u.same;
       })
       (laws.window.put c packet w.near.station (record { up = u.up; sound = u.sound }))
@@ -56,7 +60,8 @@ module _ (MayAsk : Type 0) {c d : Settings} (joined : AreJoined c d) (reads : Re
   -- ---- the line
 
   left_joint : {w : Stations} {l : Line (List ℕ)} {gs : List (Frame (List ℕ))} {os : List (List ℕ)} → Joint MayAsk c d w l
-      → MachineReaches c.window d.window (record { near = l.near; far = l.far; out = l.out; back = gs }) → Kept (record { near = l.near; far = l.far; out = l.out; back = gs })
+      → MachineReaches c.window d.window (record { near = l.near; far = l.far; out = l.out; back = gs })
+      → Kept (record { near = l.near; far = l.far; out = l.out; back = gs })
       → ShowAll (numbered_on (other c.role) c.longest os) gs → AreOrderly MayAsk (other c.role) c.longest os → Leads MayAsk c d w l gs (record w { back = os })
   left_joint {w} {l} {gs} {os} h reached kept shows orderly = (
     record { near = l.near; far = l.far; out = l.out; back = gs },
@@ -78,7 +83,8 @@ module _ (MayAsk : Type 0) {c d : Settings} (joined : AreJoined c d) (reads : Re
   )
 
   -- the machine loses the frame at this place, where one stands there
-  pub taken_off : {w : Stations} {l : Line (List ℕ)} (p : Option ℕ) {os : List (List ℕ)} → Joint MayAsk c d w l → ShowAll (numbered_on (other c.role) c.longest os) (taken_out p l.back)
+  pub taken_off : {w : Stations} {l : Line (List ℕ)} (p : Option ℕ) {os : List (List ℕ)} → Joint MayAsk c d w l
+      → ShowAll (numbered_on (other c.role) c.longest os) (taken_out p l.back)
       → AreOrderly MayAsk (other c.role) c.longest os → Leads MayAsk c d w l (taken_out p l.back) (record w { back = os })
   taken_off {w} {l} None {os} h shows orderly = left_joint h h.reached h.kept shows orderly
   taken_off {w} {l} (Some n) {os} h shows orderly = left_joint h (near_moves l (Loses n) h.reached tt) (Kept-moved (Loses n) tt h.kept) shows orderly
@@ -95,18 +101,23 @@ module _ {c d : Settings} (joined : AreJoined c d) (reads : ReadsSpelled) (laws 
     takes = λ o os is u no_sabm.
         (let good = orderly (o ∷ os) is in
         led (read_joint MayAsk joined reads h u (frame_of (other c.role) c.longest o)
-        (orderly_where ⊥ (frame_of (other c.role) c.longest o) (λ p sabm ask. (absurd (omega (arith, no_sabm, ap sabm_in sabm)))) good.0) good.1 (shows (o ∷ os) is) (laws.take_tells c o w.near.station)
+        (orderly_where ⊥ (frame_of (other c.role) c.longest o) (λ p sabm ask. (absurd (omega (arith, no_sabm, ap sabm_in sabm)))) good.0) good.1
+        (shows (o ∷ os) is) (laws.take_tells c o w.near.station)
         (laws.window.take c o w.near.station (record { up = u.up; sound = u.sound }) (frame_of (other c.role) c.longest o) refl)));
     puts = λ packet u short. led (put_up MayAsk joined reads laws packet h u short);
     rests = λ step u stays. led (quiet_joint MayAsk joined reads h u h.back_orderly h.back refl (λ y k. k) stays);
     parts = λ step parts. led (parts_joint MayAsk joined reads h h.kept h.reached h.back h.back_orderly parts);
-    passes = λ o os is step parts. led (away_joint MayAsk joined reads h (number_in (frame_of (other c.role) c.longest o)) (orderly (o ∷ os) is).1 (shows (o ∷ os) is) parts);
-    loses = λ i. led (taken_off MayAsk joined reads laws (place_of (other c.role) c.longest w.back i) h (shows_lost (other c.role) c.longest w.back i l.back h.back)
+    passes = λ o os is step parts. led (away_joint MayAsk joined reads h (number_in (frame_of (other c.role) c.longest o)) (orderly (o ∷ os) is).1
+        (shows (o ∷ os) is) parts);
+    loses = λ i. led (taken_off MayAsk joined reads laws (place_of (other c.role) c.longest w.back i) h
+        (shows_lost (other c.role) c.longest w.back i l.back h.back)
         (each_removed (λ o. IsOrderly MayAsk (frame_of (other c.role) c.longest o)) w.back i h.back_orderly));
     damages = λ i octets visible.
         led (taken_off MayAsk joined reads laws (place_of (other c.role) c.longest w.back i) h
-        (shows_damaged (other c.role) c.longest octets (visible_is (λ r. number_in r ≡ None) (other c.role) c.longest octets visible refl refl) w.back i l.back h.back)
-        (each_replaced (λ o. IsOrderly MayAsk (frame_of (other c.role) c.longest o)) w.back i octets (visible_is (IsOrderly MayAsk) (other c.role) c.longest octets visible tt tt) h.back_orderly));
+        (shows_damaged (other c.role) c.longest octets (visible_is (λ r. number_in r ≡ None) (other c.role) c.longest octets visible refl refl) w.back i l.back
+        h.back)
+        (each_replaced (λ o. IsOrderly MayAsk (frame_of (other c.role) c.longest o)) w.back i octets
+        (visible_is (IsOrderly MayAsk) (other c.role) c.longest octets visible tt tt) h.back_orderly));
   }
     where
       orderly : (os : List (List ℕ)) → w.back ≡ os → AreOrderly MayAsk (other c.role) c.longest os
@@ -122,9 +133,18 @@ module _ {c d : Settings} (joined : AreJoined c d) (reads : ReadsSpelled) (laws 
 
 pub joined_swapped : {c d : Settings} → AreJoined c d → AreJoined d c
 joined_swapped j =
-    record { near_role = j.far_role; far_role = j.near_role; longest = sym j.longest; near_low = j.far_low; near_high = j.far_high; far_low = j.near_low; far_high = j.near_high }
+    record {
+      near_role = j.far_role;
+      far_role = j.near_role;
+      longest = sym j.longest;
+      near_low = j.far_low;
+      near_high = j.far_high;
+      far_low = j.near_low;
+      far_high = j.near_high;
+    }
 
-pub joint_swapped : (MayAsk : Type 0) {c d : Settings} → c.longest ≡ d.longest → {w : Stations} {l : Line (List ℕ)} → Joint MayAsk c d w l → Joint MayAsk d c (stations_swapped w) (line_swapped l)
+pub joint_swapped : (MayAsk : Type 0) {c d : Settings} → c.longest ≡ d.longest → {w : Stations} {l : Line (List ℕ)} → Joint MayAsk c d w l
+    → Joint MayAsk d c (stations_swapped w) (line_swapped l)
 joint_swapped MayAsk {c} {d} same {w} {l} h =
     record {
       reached = reached_swapped h.reached;
@@ -144,9 +164,11 @@ joint_swapped MayAsk {c} {d} same {w} {l} h =
 holds_swapped : {c d : Settings} → c.longest ≡ d.longest → {w : Stations} → Holds MayAsk c d w → Holds MayAsk d c (stations_swapped w)
 holds_swapped same h = (line_swapped h.0, joint_swapped MayAsk same h.1)
 
-event_holds : {c d : Settings} → AreJoined c d → ReadsSpelled → Laws → (e : LinkEvent) {w : Stations} → IsSetUpOnce (happens c d e w) → Holds MayAsk c d w → Holds MayAsk c d (happens c d e w)
+event_holds : {c d : Settings} → AreJoined c d → ReadsSpelled → Laws → (e : LinkEvent) {w : Stations} → IsSetUpOnce (happens c d e w) → Holds MayAsk c d w
+    → Holds MayAsk c d (happens c d e w)
 event_holds joined reads laws (Near act) once h = act_holds joined reads laws act once.near h
-event_holds joined reads laws (Far act) once h = holds_swapped (sym joined.longest) (act_holds (joined_swapped joined) reads laws act once.far (holds_swapped joined.longest h))
+event_holds joined reads laws (Far act) once h = holds_swapped (sym joined.longest)
+    (act_holds (joined_swapped joined) reads laws act once.far (holds_swapped joined.longest h))
 
 -- ---- LinkUp that was noted stays so
 
@@ -172,9 +194,11 @@ once_before c d (e ∷ es) w h = event_before c d e w (once_before c d es (happe
 
 -- ---- runs
 
-pub run_once : {c d : Settings} → AreJoined c d → ReadsSpelled → Laws → (es : List LinkEvent) {w : Stations} → Holds MayAsk c d w → IsSetUpOnce (run c d es w) → Holds MayAsk c d (run c d es w)
+pub run_once : {c d : Settings} → AreJoined c d → ReadsSpelled → Laws → (es : List LinkEvent) {w : Stations} → Holds MayAsk c d w → IsSetUpOnce (run c d es w)
+    → Holds MayAsk c d (run c d es w)
 run_once joined reads laws [] h once = h
-run_once {c} {d} joined reads laws (e ∷ es) {w} h once = run_once joined reads laws es (event_holds joined reads laws e (once_before c d es (happens c d e w) once) h) once
+run_once {c} {d} joined reads laws (e ∷ es) {w} h once = run_once joined reads laws es
+    (event_holds joined reads laws e (once_before c d es (happens c d e w) once) h) once
 
 fresh_notes : NotesOnce fresh_station
 fresh_notes = record { notes = record { still_up = λ on. refl; left = λ off. not_both true refl off }; once = refl }
@@ -186,11 +210,35 @@ start_machine MayAsk joined =
     record {
       reached = at_start;
       kept = record {
-        from_near = record { high = joined.near_high; room = omega arith; held = omega arith; acks = omega arith; late = omega arith; tops = omega arith; begins = refl };
-        from_far = record { high = joined.far_high; room = omega arith; held = omega arith; acks = omega arith; late = omega arith; tops = omega arith; begins = refl };
+        from_near = record {
+          high = joined.near_high;
+          room = omega arith;
+          held = omega arith;
+          acks = omega arith;
+          late = omega arith;
+          tops = omega arith;
+          begins = refl;
+        };
+        from_far = record {
+          high = joined.far_high;
+          room = omega arith;
+          held = omega arith;
+          acks = omega arith;
+          late = omega arith;
+          tops = omega arith;
+          begins = refl;
+        };
       };
-      near = inl (record { up = refl; sound = record { place_low = omega arith; place_high = omega arith; sent_high = omega arith; room = omega arith }; same = refl });
-      far = inl (record { up = refl; sound = record { place_low = omega arith; place_high = omega arith; sent_high = omega arith; room = omega arith }; same = refl });
+      near = inl (record {
+        up = refl;
+        sound = record { place_low = omega arith; place_high = omega arith; sent_high = omega arith; room = omega arith };
+        same = refl;
+      });
+      far = inl (record {
+        up = refl;
+        sound = record { place_low = omega arith; place_high = omega arith; sent_high = omega arith; room = omega arith };
+        same = refl;
+      });
       out = tt;
       back = tt;
       out_orderly = tt;

@@ -1,5 +1,6 @@
 -- What an end may do that keeps the rules of a peer; and what a station sends, which is that.
-use Rattle.std.proofs.Common.{◌≡◌, ℕ, ◌+◌, ◌≤◌, List, [], ◌∷◌, ◌++◌, length, map, remove, Bool, true, Some, None, Ok, refl, sym, ap, ◌∙◌, subst, arith, append_assoc, append-nil}
+use Rattle.std.proofs.Common.{◌≡◌, ℕ, ◌+◌, ◌≤◌, List, [], ◌∷◌, ◌++◌, length, map, remove, Bool, true, Some, None, Ok, refl, sym, ap, ◌∙◌, subst, arith}
+use Rattle.std.proofs.Common.{append_assoc, append-nil}
 use Rattle.std.proofs.lemmas.List.{map-append}
 use Rattle.std.specs.List.{slice_get}
 use Rattle.x25_bits.specs.declared.role.Role.{Role}
@@ -8,7 +9,8 @@ use Rattle.x25_frame.specs.laws.ReadingLaw.{ReadsSpelled}
 use Rattle.x25_link.specs.{Station.{Settings}, Hearing.{other}, declared.phase.Reason.TheVariants.{FrmrSent}, laws.WindowLaw.{ending_of}}
 use Rattle.x25_link.specs.laws.WindowMachine.{Window, ShowsItem, Shows, ShowAll, IsSent, Runs, rests, goes_on}
 use Rattle.x25_line.specs.{laws.Stations.{replaced, is_visible}, laws.StationClaims.{Each, number_in}, laws.Peer.{Peer, MaySend, MayHear, numbered_to, told_to}}
-use Rattle.x25_line.proofs.{StationLines.{IsGood, IsPart, good_reads, part_reads}, StationSends.{AllWithin, Item, item_at, single_of, tell_good, send_good, not_none}}
+use Rattle.x25_line.proofs.StationLines.{IsGood, IsPart, good_reads, part_reads}
+use Rattle.x25_line.proofs.StationSends.{AllWithin, Item, item_at, single_of, tell_good, send_good, not_none}
 use Rattle.x25_window.specs.{laws.Window.{Step, Allows, after, frame_of as machine_frame, frames_of, numbered}, laws.Window.Step.{Send, Tell}}
 
 -- the peer as an end of the window machine, with a station's k
@@ -17,15 +19,18 @@ machine_of k p = record { window = k; given = p.given; acked = p.acked; sent = p
 
 -- ---- frames with an N(R)
 
-pub tell_sent : (k : ℕ) (p : Peer) → p.told ≤ length p.taken → (f : PlainFrame) → Shows f (machine_frame (machine_of k p) None) → MaySend ⊥ p (Ok f) (told_to (length p.taken) p)
+pub tell_sent : (k : ℕ) (p : Peer) → p.told ≤ length p.taken → (f : PlainFrame) → Shows f (machine_frame (machine_of k p) None)
+    → MaySend ⊥ p (Ok f) (told_to (length p.taken) p)
 tell_sent k p told (info ns nr pf x) h = absurd h.0
 tell_sent k p told (rr command nr pf) h = (length p.taken, record { number = h.1; rising = told; taken = omega arith }, refl)
 tell_sent k p told (rnr command nr pf) h = (length p.taken, record { number = h.1; rising = told; taken = omega arith }, refl)
 tell_sent k p told (rej command nr pf) h = (length p.taken, record { number = h.1; rising = told; taken = omega arith }, refl)
 tell_sent k p told f h = absurd h
 
-pub item_sent : (k : ℕ) {n : ℕ} (p : Peer) → k ≤ 7 → p.sent ≤ p.acked + k → p.told ≤ length p.taken → Allows (machine_of k p) (Send n) → {n1 : ℕ} → Item n1 p.given n
-    → (f : PlainFrame) → Shows f (machine_frame (after (machine_of k p) (Send n)) (numbered n (slice_get p.given n))) → MaySend ⊥ p (Ok f) (told_to (length p.taken) (numbered_to n p))
+pub item_sent : (k : ℕ) {n : ℕ} (p : Peer) → k ≤ 7 → p.sent ≤ p.acked + k → p.told ≤ length p.taken → Allows (machine_of k p) (Send n) → {n1 : ℕ}
+    → Item n1 p.given n
+    → (f : PlainFrame) → Shows f (machine_frame (after (machine_of k p) (Send n)) (numbered n (slice_get p.given n)))
+    → MaySend ⊥ p (Ok f) (told_to (length p.taken) (numbered_to n p))
 item_sent k {n} p high room told may i (info ns nr pf x) h =
     let shown : ShowsItem (numbered n (Some i.item)) ns x = subst (λ o. ShowsItem (numbered n o) ns x) i.is h.0 in
     let low = may.0 in
@@ -55,10 +60,12 @@ pub record Said (d : Settings) (P : Peer → List PlainFrame → Type 0) (p : Pe
 
 -- that it says one frame more
 abbrev pub MaySay : Settings → (Peer → List PlainFrame → Type 0) → Type 0
-MaySay d P = (p q : Peer) (before : List PlainFrame) (f : PlainFrame) → IsGood d.longest f → MaySend ⊥ p (Ok f) q → q.sent ≤ p.sent + 1 → q.given ≡ p.given → q.taken ≡ p.taken → P p before → P q (before ++ f ∷ [])
+MaySay d P = (p q : Peer) (before : List PlainFrame) (f : PlainFrame) → IsGood d.longest f → MaySend ⊥ p (Ok f) q → q.sent ≤ p.sent + 1 → q.given ≡ p.given
+    → q.taken ≡ p.taken → P p before → P q (before ++ f ∷ [])
 
 module _ {d : Settings} (high : d.window ≤ 7) {P : Peer → List PlainFrame → Type 0} (says : MaySay d P) (p : Peer) (within : AllWithin d.longest p.given) where
-  one : (w : Window) (before : List PlainFrame) (h : Said d P p w before) (s : Step (List ℕ)) (fs : List PlainFrame) → IsSent s → Allows (machine_of d.window h.peer) s → ShowAll fs (frames_of (machine_of d.window h.peer) s)
+  one : (w : Window) (before : List PlainFrame) (h : Said d P p w before) (s : Step (List ℕ)) (fs : List PlainFrame) → IsSent s
+      → Allows (machine_of d.window h.peer) s → ShowAll fs (frames_of (machine_of d.window h.peer) s)
       → Said d P p (after (machine_of d.window h.peer) s) (before ++ fs)
   one w before h Tell fs sends may shows =
       let q = h.peer in
@@ -66,7 +73,8 @@ module _ {d : Settings} (high : d.window ≤ 7) {P : Peer → List PlainFrame �
       let single = single_of fs (machine_frame m None) shows in
       subst (λ es. Said d P p m (before ++ es)) (sym single.is) (record {
         peer = told_to (length q.taken) q;
-        reached = says q (told_to (length q.taken) q) before single.frame (tell_good d.longest m single.frame single.shows) (tell_sent d.window q h.told single.frame single.shows) (omega arith) refl refl h.reached;
+        reached = says q (told_to (length q.taken) q) before single.frame (tell_good d.longest m single.frame single.shows)
+            (tell_sent d.window q h.told single.frame single.shows) (omega arith) refl refl h.reached;
         is = refl;
         room = h.room;
         told = omega arith;
@@ -92,7 +100,8 @@ module _ {d : Settings} (high : d.window ≤ 7) {P : Peer → List PlainFrame �
       })
   one w before h s fs sends may shows = absurd sends
 
-  pub said_run : {from : Window} → P p [] → machine_of d.window p ≡ from → p.sent ≤ p.acked + d.window → p.told ≤ length p.taken → {w : Window} {frames : List PlainFrame} → Runs from w frames → Said d P p w frames
+  pub said_run : {from : Window} → P p [] → machine_of d.window p ≡ from → p.sent ≤ p.acked + d.window → p.told ≤ length p.taken
+      → {w : Window} {frames : List PlainFrame} → Runs from w frames → Said d P p w frames
   said_run reached is room told rests = record { peer = p; reached = reached; is = is; room = room; told = told; given = refl; taken = refl }
   said_run {from} reached is room told (goes_on v fs s gs run sends may shows) =
       let h = said_run reached is room told run in
@@ -117,41 +126,54 @@ free_sent p f none = refl
 
 pub parting_free : ReadsSpelled → (from : Role) (n1 : ℕ) (MayAsk : Type 0) (fs : List PlainFrame) → Each (IsPart MayAsk) fs → AllFree from n1 fs
 parting_free reads from n1 MayAsk [] h = tt
-parting_free reads from n1 MayAsk (f ∷ fs) h = (record { reads = part_reads reads from n1 MayAsk h.0; none = h.0.none }, parting_free reads from n1 MayAsk fs h.1)
+parting_free reads from n1 MayAsk (f ∷ fs) h =
+    (record { reads = part_reads reads from n1 MayAsk h.0; none = h.0.none }, parting_free reads from n1 MayAsk fs h.1)
 
 pub frmr_free : ReadsSpelled → (from : Role) (n1 : ℕ) (f : Bool) (why : List ℕ) → length why ≡ 3 → AllFree from n1 (frmr f why ∷ [])
-frmr_free reads from n1 f why three = (record { reads = reads from n1 (frmr f why) _ (record { in_range = tt; carries = three; within = tt; spelling = refl }); none = refl }, tt)
+frmr_free reads from n1 f why three =
+    (record { reads = reads from n1 (frmr f why) _ (record { in_range = tt; carries = three; within = tt; spelling = refl }); none = refl }, tt)
 
 -- ---- what an end may do, as what is known of it goes on
 
 -- What is known of it: the line to it, the peer that it is, and the line from it. It is handed down no packet that is too long, and sends
 -- numbers one by one where they go for the first time. `Fine` holds where no fault is to be found.
 pub record MayDo (d : Settings) (Fine : Type 0) (R : List (List ℕ) → Peer → List (List ℕ) → Type 0) : Type 0 where
-  pub handed : (os : List (List ℕ)) (p : Peer) (out : List (List ℕ)) (packet : List ℕ) → length packet ≤ d.longest → R os p out → R os (record p { given = p.given ++ packet ∷ [] }) out
-  pub sends : (os : List (List ℕ)) (p q : Peer) (out : List (List ℕ)) (octets : List ℕ) → MaySend ⊥ p (frame_of d.role d.longest octets) q → q.sent ≤ p.sent + 1 → R os p out → R os q (out ++ octets ∷ [])
-  pub hears : (o : List ℕ) (os : List (List ℕ)) (p q : Peer) (out : List (List ℕ)) → MayHear p (frame_of (other d.role) d.longest o) q → R (o ∷ os) p out → R os q out
+  pub handed : (os : List (List ℕ)) (p : Peer) (out : List (List ℕ)) (packet : List ℕ) → length packet ≤ d.longest → R os p out
+      → R os (record p { given = p.given ++ packet ∷ [] }) out
+  pub sends : (os : List (List ℕ)) (p q : Peer) (out : List (List ℕ)) (octets : List ℕ) → MaySend ⊥ p (frame_of d.role d.longest octets) q → q.sent ≤ p.sent
+      + 1 → R os p out → R os q (out ++ octets ∷ [])
+  pub hears : (o : List ℕ) (os : List (List ℕ)) (p q : Peer) (out : List (List ℕ)) → MayHear p (frame_of (other d.role) d.longest o) q → R (o ∷ os) p out
+      → R os q out
   pub loses : (os : List (List ℕ)) (p : Peer) (out : List (List ℕ)) (place : ℕ) → R os p out → R (remove os place) p out
-  pub damages : (os : List (List ℕ)) (p : Peer) (out : List (List ℕ)) (place : ℕ) (octets : List ℕ) → is_visible octets ≡ true → R os p out → R (replaced os place octets) p out
-  pub faultless : (o : List ℕ) (os : List (List ℕ)) (p : Peer) (out : List (List ℕ)) → ending_of (frame_of (other d.role) d.longest o) (machine_of d.window p) ≡ Some FrmrSent → R (o ∷ os) p out → Fine → ⊥
+  pub damages : (os : List (List ℕ)) (p : Peer) (out : List (List ℕ)) (place : ℕ) (octets : List ℕ) → is_visible octets ≡ true → R os p out
+      → R (replaced os place octets) p out
+  pub faultless : (o : List ℕ) (os : List (List ℕ)) (p : Peer) (out : List (List ℕ)) → ending_of (frame_of (other d.role) d.longest o) (machine_of d.window p)
+      ≡ Some FrmrSent → R (o ∷ os) p out → Fine → ⊥
 
 -- ---- all that is sent in a step
 
-module _ (d : Settings) (high : d.window ≤ 7) (reads : ReadsSpelled) (Fine : Type 0) (R : List (List ℕ) → Peer → List (List ℕ) → Type 0) (does : MayDo d Fine R) (os : List (List ℕ)) where
+module _ (d : Settings) (high : d.window ≤ 7) (reads : ReadsSpelled) (Fine : Type 0) (R : List (List ℕ) → Peer → List (List ℕ) → Type 0)
+    (does : MayDo d Fine R) (os : List (List ℕ)) where
   -- one frame more
-  sent : (out : List (List ℕ)) (p q : Peer) (f : PlainFrame) → frame_of d.role d.longest (spelling_of d.role f) ≡ Ok f → MaySend ⊥ p (Ok f) q → q.sent ≤ p.sent + 1 → R os p out → R os q (out ++ spelling_of d.role f ∷ [])
+  sent : (out : List (List ℕ)) (p q : Peer) (f : PlainFrame) → frame_of d.role d.longest (spelling_of d.role f) ≡ Ok f → MaySend ⊥ p (Ok f) q → q.sent ≤ p.sent
+      + 1 → R os p out → R os q (out ++ spelling_of d.role f ∷ [])
   sent out p q f read may next reached = does.sends os p q out (spelling_of d.role f) (rw read may) next reached
 
   pub free_all : (out : List (List ℕ)) {p : Peer} (fs : List PlainFrame) → AllFree d.role d.longest fs → R os p out
       → R os p (out ++ map (spelling_of d.role) fs)
   free_all out [] free reached = rw (append-nil out) reached
   free_all out {p} (f ∷ fs) free reached =
-      rw (sym (append_assoc out (spelling_of d.role f ∷ []) (map (spelling_of d.role) fs))) (free_all (out ++ spelling_of d.role f ∷ []) fs free.1 (sent out p p f free.0.reads (free_sent p f free.0.none) (omega arith) reached))
+      rw (sym (append_assoc out (spelling_of d.role f ∷ []) (map (spelling_of d.role) fs)))
+      (free_all (out ++ spelling_of d.role f ∷ []) fs free.1 (sent out p p f free.0.reads (free_sent p f free.0.none) (omega arith) reached))
 
   speaks : (out : List (List ℕ)) → MaySay d (λ q frames. R os q (out ++ map (spelling_of d.role) frames))
   speaks out p q before f good may next given taken h =
-      rw (sym (append_assoc out (map (spelling_of d.role) before) (spelling_of d.role f ∷ []) ∙ ap (λ xs. out ++ xs) (sym (map-append (spelling_of d.role) before (f ∷ []))))) (sent (out ++ map (spelling_of d.role) before) p q f (good_reads reads d.role d.longest good) may next h)
+      rw (sym (append_assoc out (map (spelling_of d.role) before) (spelling_of d.role f ∷ [])
+      ∙ ap (λ xs. out ++ xs) (sym (map-append (spelling_of d.role) before (f ∷ [])))))
+      (sent (out ++ map (spelling_of d.role) before) p q f (good_reads reads d.role d.longest good) may next h)
 
-  pub runs_said : (out : List (List ℕ)) (p : Peer) (from : Window) → R os p out → machine_of d.window p ≡ from → p.sent ≤ p.acked + d.window → p.told ≤ length p.taken → AllWithin d.longest p.given
+  pub runs_said : (out : List (List ℕ)) (p : Peer) (from : Window) → R os p out → machine_of d.window p ≡ from → p.sent ≤ p.acked + d.window → p.told
+      ≤ length p.taken → AllWithin d.longest p.given
       → (w : Window) (frames : List PlainFrame) → Runs from w frames → Said d (λ q frames. R os q (out ++ map (spelling_of d.role) frames)) p w frames
   runs_said out p from reached is room told within w frames runs =
       said_run high (speaks out) p within (rw (append-nil out) reached) is room told runs

@@ -1,5 +1,6 @@
 -- A run of a station that only sends is moves of the window machine that it allows, and its frames show those of the machine.
-use Rattle.std.proofs.Common.{◌≡◌, ℕ, zero, suc, ◌+◌, ◌%◌, ◌<◌, ◌≤◌, max, List, [], ◌∷◌, ◌++◌, length, Option, Some, None, refl, sym, ap, ◌∙◌, subst, arith, append_assoc, append-nil}
+use Rattle.std.proofs.Common.{◌≡◌, ℕ, zero, suc, ◌+◌, ◌%◌, ◌<◌, ◌≤◌, max, List, [], ◌∷◌, ◌++◌, length, Option, Some, None, refl, sym, ap, ◌∙◌, subst, arith}
+use Rattle.std.proofs.Common.{append_assoc, append-nil}
 use Rattle.std.proofs.lemmas.Option.{slice_get_within, get_or_from_slice_get}
 use Rattle.std.specs.List.{slice_get}
 use Rattle.x25_frame.specs.Frame.{PlainFrame, info, rr, rnr, rej}
@@ -61,7 +62,8 @@ not_none n xs x is none = absurd (never (sym (ap (numbered n) is) ∙ none))
     never : numbered n (Some x) ≡ None → ⊥
     never e = cc
 
-pub send_good : {n1 n : ℕ} (w : Window) → Item n1 w.given n → (f : PlainFrame) → Shows f (frame_of (after w (Send n)) (numbered n (slice_get w.given n))) → IsGood n1 f
+pub send_good : {n1 n : ℕ} (w : Window) → Item n1 w.given n → (f : PlainFrame) → Shows f (frame_of (after w (Send n)) (numbered n (slice_get w.given n)))
+    → IsGood n1 f
 send_good {n = n} w i (info ns nr p x) h =
     let shown : ShowsItem (numbered n (Some i.item)) ns x = subst (λ o. ShowsItem (numbered n o) ns x) i.is h.0 in
     let same = ap length shown.1 in
@@ -78,7 +80,8 @@ tell_handed : (given : List (List ℕ)) (w : Window) (f : PlainFrame) → Shows 
 tell_handed given w (info ns nr p x) h = absurd h.0
 tell_handed given w f h = tt
 
-send_handed : {n1 n : ℕ} (w : Window) → Item n1 w.given n → (f : PlainFrame) → Shows f (frame_of (after w (Send n)) (numbered n (slice_get w.given n))) → IsHandedDown w.given f
+send_handed : {n1 n : ℕ} (w : Window) → Item n1 w.given n → (f : PlainFrame) → Shows f (frame_of (after w (Send n)) (numbered n (slice_get w.given n)))
+    → IsHandedDown w.given f
 send_handed {n = n} w i (info ns nr p x) h =
     let shown : ShowsItem (numbered n (Some i.item)) ns x = subst (λ o. ShowsItem (numbered n o) ns x) i.is h.0 in
     (n, slice_get_within w.given n i.item i.is, get_or_from_slice_get w.given n i.item x i.is ∙ sym shown.1)
@@ -101,7 +104,8 @@ tell_given acked w f h es = absurd h
 abbrev with_number : ℕ → ℕ → ℕ → Option (Numbered (List ℕ)) → ℕ → List PlainFrame → List (Frame (List ℕ))
 with_number acked r m carried n es = record { carried = carried; ack = r; top = max m (n + 1) } ∷ given acked r (max m (n + 1)) es
 
-send_given : (n1 n : ℕ) (w : Window) → Item n1 w.given n → w.window ≤ 7 → Allows w (Send n) → (f : PlainFrame) → Shows f (frame_of (after w (Send n)) (numbered n (slice_get w.given n)))
+send_given : (n1 n : ℕ) (w : Window) → Item n1 w.given n → w.window ≤ 7 → Allows w (Send n) → (f : PlainFrame)
+    → Shows f (frame_of (after w (Send n)) (numbered n (slice_get w.given n)))
     → Gives w.acked (length w.taken) w.sent (after w (Send n)).sent f (frame_of (after w (Send n)) (numbered n (slice_get w.given n)))
 send_given n1 n w i high may (info ns nr p x) h es =
     let shown : ShowsItem (numbered n (Some i.item)) ns x = subst (λ o. ShowsItem (numbered n o) ns x) i.is h.0 in
@@ -127,7 +131,8 @@ pub record Sent (k j n1 : ℕ) (l : Line (List ℕ)) (from w : Window) (frames :
   pub behind : List (Frame (List ℕ))
   pub out : line.out ≡ l.out ++ behind
   pub shows : ShowAll frames behind
-  pub numbers : (es : List PlainFrame) → given from.acked (length from.taken) l.near.sent (frames ++ es) ≡ behind ++ given from.acked (length from.taken) line.near.sent es
+  pub numbers : (es : List PlainFrame) → given from.acked (length from.taken) l.near.sent (frames ++ es) ≡ behind
+      ++ given from.acked (length from.taken) line.near.sent es
   pub good : AllGood n1 frames
   pub handed : AllHandedDown from.given frames
   pub given : w.given ≡ from.given
@@ -135,15 +140,19 @@ pub record Sent (k j n1 : ℕ) (l : Line (List ℕ)) (from w : Window) (frames :
   pub acked : w.acked ≡ from.acked
 
 -- what such frames are given, by the end once they went
-pub sent_given : {k j n1 : ℕ} {l : Line (List ℕ)} {from w : Window} {frames : List PlainFrame} (h : Sent k j n1 l from w frames) → h.behind ≡ given w.acked (length w.taken) l.near.sent frames
+pub sent_given : {k j n1 : ℕ} {l : Line (List ℕ)} {from w : Window} {frames : List PlainFrame} (h : Sent k j n1 l from w frames) → h.behind
+    ≡ given w.acked (length w.taken) l.near.sent frames
 sent_given {l = l} {from} {w} {frames} h =
     sym (append-nil h.behind) ∙ sym (h.numbers []) ∙ ap (given from.acked (length from.taken) l.near.sent) (append-nil frames)
     ∙ ap (λ a. given a (length from.taken) l.near.sent frames) (sym h.acked) ∙ ap (λ xs. given w.acked (length xs) l.near.sent frames) (sym h.taken)
 
 -- one step more
-sent_more : {k j n1 : ℕ} {l : Line (List ℕ)} {from w : Window} {frames : List PlainFrame} (h : Sent k j n1 l from w frames) (s : Step (List ℕ)) (fs : List PlainFrame)
-    → MachineReaches k j (steps h.line s) → Kept (steps h.line s) → (after w s).given ≡ w.given → (after w s).taken ≡ w.taken → (after w s).acked ≡ w.acked → ShowAll fs (frames_of w s) → AllGood n1 fs
-    → AllHandedDown from.given fs → ((es : List PlainFrame) → given w.acked (length w.taken) w.sent (fs ++ es) ≡ frames_of w s ++ given w.acked (length w.taken) (after w s).sent es)
+sent_more : {k j n1 : ℕ} {l : Line (List ℕ)} {from w : Window} {frames : List PlainFrame} (h : Sent k j n1 l from w frames) (s : Step (List ℕ))
+    (fs : List PlainFrame)
+    → MachineReaches k j (steps h.line s) → Kept (steps h.line s) → (after w s).given ≡ w.given → (after w s).taken ≡ w.taken → (after w s).acked ≡ w.acked
+    → ShowAll fs (frames_of w s) → AllGood n1 fs
+    → AllHandedDown from.given fs → ((es : List PlainFrame) → given w.acked (length w.taken) w.sent (fs ++ es) ≡ frames_of w s
+    ++ given w.acked (length w.taken) (after w s).sent es)
     → Sent k j n1 l from (after w s) (frames ++ fs)
 sent_more {n1 = n1} {l} {from} {w} {frames} h s fs reached kept handed_down taken acked shows good handed gives =
     record {
@@ -168,9 +177,11 @@ sent_more {n1 = n1} {l} {from} {w} {frames} h s fs reached kept handed_down take
           ∙ sym (append_assoc h.behind (frames_of h.line.near s) (given from.acked (length from.taken) (steps h.line s).near.sent es));
     }
   where
-    here : (es : List PlainFrame) → given from.acked (length from.taken) h.line.near.sent (fs ++ es) ≡ frames_of h.line.near s ++ given from.acked (length from.taken) (steps h.line s).near.sent es
+    here : (es : List PlainFrame) → given from.acked (length from.taken) h.line.near.sent (fs ++ es) ≡ frames_of h.line.near s
+        ++ given from.acked (length from.taken) (steps h.line s).near.sent es
     here es =
-        rw h.near (rw (sym h.acked) (subst (λ xs. given w.acked (length xs) w.sent (fs ++ es) ≡ frames_of w s ++ given w.acked (length xs) (after w s).sent es) h.taken (gives es)))
+        rw h.near (rw (sym h.acked) (subst (λ xs. given w.acked (length xs) w.sent (fs ++ es) ≡ frames_of w s ++ given w.acked (length xs) (after w s).sent es)
+        h.taken (gives es)))
 
 more : {k j n1 : ℕ} {l : Line (List ℕ)} {from w : Window} {frames : List PlainFrame} → AllWithin n1 from.given → (s : Step (List ℕ)) (fs : List PlainFrame)
     → IsSent s → Allows w s → ShowAll fs (frames_of w s) → Sent k j n1 l from w frames → Sent k j n1 l from (after w s) (frames ++ fs)

@@ -1,5 +1,6 @@
 -- What holds of two stations and the window machine behind the line, and that a step of the near end keeps it.
-use Rattle.std.proofs.Common.{◌≡◌, ℕ, ◌+◌, ◌%◌, List, [], ◌∷◌, ◌++◌, ◌⊎◌, inl, inr, length, map, remove, Bool, true, false, Option, Some, None, Result, Ok, Err, refl, sym, ap, ◌∙◌, subst, append-nil}
+use Rattle.std.proofs.Common.{◌≡◌, ℕ, ◌+◌, ◌%◌, List, [], ◌∷◌, ◌++◌, ◌⊎◌, inl, inr, length, map, remove, Bool, true, false, Option, Some, None, Result, Ok, Err}
+use Rattle.std.proofs.Common.{refl, sym, ap, ◌∙◌, subst, append-nil}
 use Rattle.std.proofs.{lemmas.Bool.{le-leb}, lemmas.List.{replicate_more}}
 use Rattle.std.specs.Prelude.{option_to_list, drop, ◌||◌}
 use Rattle.x25_frame.specs.{Frame.{PlainFrame, info, rr, rnr, rej, disc, ua, dm}, Spelling.{spelling_of}, Reading.{frame_of}, laws.ReadingLaw.{ReadsSpelled}}
@@ -9,13 +10,16 @@ use Rattle.x25_link.specs.{declared.phase.Phase.{Phase}, declared.phase.Phase.Th
 use Rattle.x25_link.specs.{declared.phase.Reason.TheVariants.{Retries, Disc, FrmrSent, Reset}}
 use Rattle.x25_link.specs.{laws.NoteLaw.{IsQuiet, Tells}, Outgoing.{Outgoing, no_packet}, Station.{Settings, LinkStation, is_up, lists_of, no_packets}}
 use Rattle.x25_link.specs.{Hearing.{Step, other}, laws.WindowMachine.{Window, Input, receives, Shows, ShowAll}}
-use Rattle.x25_link.specs.laws.WindowLaw.{IsSound, window_of, brought_by, after_input, MayHandUp, if_valid, ending_of, ends_in, AreLast, Stays, Ends, Follows, IsOut, AreDeclining}
+use Rattle.x25_link.specs.laws.WindowLaw.{IsSound, window_of, brought_by, after_input, MayHandUp, if_valid, ending_of, ends_in, AreLast, Stays, Ends, Follows}
+use Rattle.x25_link.specs.laws.WindowLaw.{IsOut, AreDeclining}
 use Rattle.x25_line.specs.{laws.Line.{Line, MayTake, FrontMayBeTaken, arrived, front_arrived, takes_item}, laws.Line.Move.{Arrives, Loses}}
 use Rattle.x25_line.specs.laws.Stations.{StationEnd, Stations, after_step}
 use Rattle.x25_line.specs.laws.StationClaims.{AreJoined, NotesItsEnd, MachineReaches, near_moves, number_in, numbered_on, Each, NoFrmr, IsWhole, AreWhole}
 use Rattle.x25_line.specs.laws.WholeNumbers.{given, first_of, taken_out, counted, machine_after}
 use Rattle.x25_line.proofs.{Lists.{each_append}, Kept.{Kept, Way, Kept-moved, hears_valid}}
-use Rattle.x25_line.proofs.StationLines.{shows_append, Front, front_of, carried_of, IsOrderly, AreOrderly, consed, numbered_append, AreParting, IsPart, parts_of, no_frmr_append, good_no_frmr, parting_no_frmr, good_numbered, good_orderly, parting_numbered, parting_orderly, whole_more, good_whole, parting_whole, first_more}
+use Rattle.x25_line.proofs.StationLines.{shows_append, Front, front_of, carried_of, IsOrderly, AreOrderly, consed, numbered_append, AreParting, IsPart}
+use Rattle.x25_line.proofs.StationLines.{parts_of, no_frmr_append, good_no_frmr, parting_no_frmr, good_numbered, good_orderly, parting_numbered}
+use Rattle.x25_line.proofs.StationLines.{parting_orderly, whole_more, good_whole, parting_whole, first_more}
 use Rattle.x25_line.proofs.StationSends.{AllWithin, Sent, sent_given, runs_sent}
 
 -- Down or Closed, and Waiting where an end may ask for set-up
@@ -111,11 +115,14 @@ abbrev pub Leads : Type 0 → Settings → Settings → Stations → Line (List 
 Leads MayAsk c d w l left v = (m : Line (List ℕ)) × Joint MayAsk c d v m × Goes c w v l m left
 
 -- so it is the machine that the definition says
-pub machine_is : (c : Settings) (station : LinkStation) (put : List (List ℕ)) (place : Option ℕ) (l m : Line (List ℕ)) → m.near ≡ counted c.window station l.near → m.far ≡ l.far
-    → m.out ≡ l.out ++ given m.near.acked (length m.near.taken) l.near.sent (numbered_on c.role c.longest put) → m.back ≡ taken_out place l.back → m ≡ machine_after c station put place l
+pub machine_is : (c : Settings) (station : LinkStation) (put : List (List ℕ)) (place : Option ℕ) (l m : Line (List ℕ)) → m.near
+    ≡ counted c.window station l.near → m.far ≡ l.far
+    → m.out ≡ l.out ++ given m.near.acked (length m.near.taken) l.near.sent (numbered_on c.role c.longest put) → m.back ≡ taken_out place l.back → m
+    ≡ machine_after c station put place l
 machine_is c station put place l m near far out back =
     let frames : List PlainFrame = numbered_on c.role c.longest put in
-    let made : End (List ℕ) → End (List ℕ) → List (Frame (List ℕ)) → List (Frame (List ℕ)) → Line (List ℕ) = λ near far out back. record { near = near; far = far; out = out; back = back } in
+    let made : End (List ℕ) → End (List ℕ) → List (Frame (List ℕ)) → List (Frame (List ℕ)) → Line (List ℕ) =
+    λ near far out back. record { near = near; far = far; out = out; back = back } in
     ap (λ out. made m.near m.far out m.back) out
     ∙ ap (λ e. made e m.far (l.out ++ given e.acked (length e.taken) l.near.sent frames) m.back) near
     ∙ ap (λ far. (let e = counted c.window station l.near in made e far (l.out ++ given e.acked (length e.taken) l.near.sent frames) m.back)) far
@@ -144,12 +151,14 @@ nothing_put [] = refl
 nothing_put (x ∷ xs) = nothing_put xs
 
 -- the line is as it was, with these frames left on that to the near end
-pub left_alone : (MayAsk : Type 0) (c d : Settings) (w v : Stations) (l m : Line (List ℕ)) → Joint MayAsk c d w l → v.near.station ≡ w.near.station → v.out ≡ w.out → m.near ≡ l.near → m.far ≡ l.far
+pub left_alone : (MayAsk : Type 0) (c d : Settings) (w v : Stations) (l m : Line (List ℕ)) → Joint MayAsk c d w l → v.near.station ≡ w.near.station → v.out
+    ≡ w.out → m.near ≡ l.near → m.far ≡ l.far
     → m.out ≡ l.out → Goes c w v l m m.back
 left_alone MayAsk c d w v l m h station out near far frames = record {
   near = near ∙ sym (counted_fits MayAsk h.near) ∙ ap (λ s. counted c.window s l.near) (sym station);
   far = far;
-  out = frames ∙ none_put l m.near.acked (length m.near.taken) (numbered_on c.role c.longest (not_taken w.out v.out)) (ap (λ os. numbered_on c.role c.longest os) (ap (not_taken w.out) out ∙ nothing_put w.out));
+  out = frames ∙ none_put l m.near.acked (length m.near.taken) (numbered_on c.role c.longest (not_taken w.out v.out))
+      (ap (λ os. numbered_on c.role c.longest os) (ap (not_taken w.out) out ∙ nothing_put w.out));
   back = refl;
 }
 
@@ -159,12 +168,16 @@ stands_still MayAsk {c} {d} {w} {l} h = (l, h, left_alone MayAsk c d w w l l h r
 -- ---- what is noted
 
 -- a step that notes nothing, Up or out as before
-pub quiet_notes : (c : Settings) (w : Stations) (back down : List (List ℕ)) (step : Step) → NotesOnce w.near → IsQuiet step → is_up step.side.near.phase ≡ is_up w.near.station.phase
+pub quiet_notes : (c : Settings) (w : Stations) (back down : List (List ℕ)) (step : Step) → NotesOnce w.near → IsQuiet step → is_up step.side.near.phase
+    ≡ is_up w.near.station.phase
     → NotesOnce (after_step c w back down step).near
 quiet_notes c w back down step h quiet same =
     let reasons = ap (λ n. w.near.reasons ++ option_to_list n.down) quiet ∙ append-nil w.near.reasons in
     record {
-      notes = record { still_up = λ on. reasons ∙ h.notes.still_up (sym same ∙ on); left = λ off. (let l = h.notes.left (sym same ∙ off) in (l.0, l.1, reasons ∙ l.2)) };
+      notes = record {
+        still_up = λ on. reasons ∙ h.notes.still_up (sym same ∙ on);
+        left = λ off. (let l = h.notes.left (sym same ∙ off) in (l.0, l.1, reasons ∙ l.2));
+      };
       once = ap (λ n. w.near.came_up || n.up) quiet ∙ ap (λ b. b || false) h.once;
     }
 
@@ -179,7 +192,8 @@ not_afresh {step = step} tells off = go step.notes.up refl
 -- ---- steps that hand nothing up, and steps that leave
 
 -- nothing is handed up
-pub no_packet_of : (input : Input) (packet : Option (List ℕ)) (v : Window) → ((y : List ℕ) → MayHandUp input (Some y) v → ⊥) → MayHandUp input packet v → packet ≡ None
+pub no_packet_of : (input : Input) (packet : Option (List ℕ)) (v : Window) → ((y : List ℕ) → MayHandUp input (Some y) v → ⊥) → MayHandUp input packet v
+    → packet ≡ None
 no_packet_of input None v never up = refl
 no_packet_of input (Some y) v never up = absurd (never y up)
 
@@ -215,7 +229,8 @@ pub data Noted (s : LinkStation) (step : Step) : Type 0 where
   stays_out : is_up s.phase ≡ false → IsQuiet step → Noted s step
   in_vain : is_up s.phase ≡ false → step.notes.down ≡ Some Retries → step.notes.up ≡ false → Noted s step
 
-noted_once : (c : Settings) (w : Stations) (back : List (List ℕ)) (step : Step) → NotesOnce w.near → is_up step.side.near.phase ≡ false → Noted w.near.station step → NotesOnce (after_step c w back [] step).near
+noted_once : (c : Settings) (w : Stations) (back : List (List ℕ)) (step : Step) → NotesOnce w.near → is_up step.side.near.phase ≡ false
+    → Noted w.near.station step → NotesOnce (after_step c w back [] step).near
 noted_once c w back step h off (stays_out out quiet) = quiet_notes c w back [] step h quiet (off ∙ sym out)
 noted_once c w back step h off (left_up reason leaves up down not_up) = record {
   notes = record {
@@ -229,7 +244,12 @@ noted_once c w back step h off (in_vain out down not_up) =
     record {
       notes = record {
         still_up = λ on. not_both (is_up step.side.near.phase) on off;
-        left = λ _. (l.0, l.1 + 1, ap (λ r. w.near.reasons ++ option_to_list r) down ∙ ap (λ rs. rs ++ Retries ∷ []) l.2 ∙ ap (λ rs. l.0 ∷ rs) (replicate_more l.1 Retries));
+        left = λ _. (
+          l.0,
+          l.1 + 1,
+          ap (λ r. w.near.reasons ++ option_to_list r) down ∙ ap (λ rs. rs ++ Retries ∷ []) l.2
+              ∙ ap (λ rs. l.0 ∷ rs) (replicate_more l.1 Retries),
+        );
       };
       once = ap (λ b. w.near.came_up || b) not_up ∙ ap (λ b. b || false) h.once;
     }
@@ -241,7 +261,8 @@ pub record Parts (MayAsk : Type 0) (s : LinkStation) (step : Step) : Type 0 wher
   pub packet : step.packet ≡ None
   pub noted : Noted s step
 
-pub ends_parts : (MayAsk : Type 0) {s : LinkStation} {reason : Reason} {step : Step} → is_up s.phase ≡ true → Leaves reason → Tells s step → Ends reason step → Parts MayAsk s step
+pub ends_parts : (MayAsk : Type 0) {s : LinkStation} {reason : Reason} {step : Step} → is_up s.phase ≡ true → Leaves reason → Tells s step → Ends reason step
+    → Parts MayAsk s step
 ends_parts MayAsk {s} {reason} {step} up leaves tells ends =
     let away = last_away MayAsk reason step.side.near.phase leaves ends.phase in
     record {
@@ -253,7 +274,8 @@ ends_parts MayAsk {s} {reason} {step} up leaves tells ends =
 
 -- ---- a step of the near end, the machine's line being `l` once what comes has come
 
-pub record Stage (MayAsk : Type 0) (c d : Settings) (w : Stations) (start l : Line (List ℕ)) (back down : List (List ℕ)) (packet : Option (List ℕ)) (v : Window) : Type 0 where
+pub record Stage (MayAsk : Type 0) (c d : Settings) (w : Stations) (start l : Line (List ℕ)) (back down : List (List ℕ)) (packet : Option (List ℕ))
+    (v : Window) : Type 0 where
   pub reached : MachineReaches c.window d.window l
   pub kept : Kept l
   pub near : l.near ≡ v
@@ -268,7 +290,8 @@ pub record Stage (MayAsk : Type 0) (c d : Settings) (w : Stations) (start l : Li
 
 module _ (MayAsk : Type 0) {c d : Settings} (joined : AreJoined c d) (reads : ReadsSpelled) where
   -- what is put on the line, as the other end reads it
-  numbers_out : (out : List (List ℕ)) (fs es : List PlainFrame) (gs hs : List (Frame (List ℕ))) → numbered_on c.role d.longest (map (spelling_of c.role) fs) ≡ es → ShowAll (numbered_on (other d.role) d.longest out) gs → ShowAll es hs
+  numbers_out : (out : List (List ℕ)) (fs es : List PlainFrame) (gs hs : List (Frame (List ℕ))) → numbered_on c.role d.longest (map (spelling_of c.role) fs)
+      ≡ es → ShowAll (numbered_on (other d.role) d.longest out) gs → ShowAll es hs
       → ShowAll (numbered_on (other d.role) d.longest (out ++ map (spelling_of c.role) fs)) (gs ++ hs)
   numbers_out out fs es gs hs is f e =
       let same : numbered_on (other d.role) d.longest (map (spelling_of c.role) fs) ≡ es =
@@ -277,17 +300,22 @@ module _ (MayAsk : Type 0) {c d : Settings} (joined : AreJoined c d) (reads : Re
       (sym (numbered_append (other d.role) d.longest out (map (spelling_of c.role) fs) ∙ ap (λ ps. numbered_on (other d.role) d.longest out ++ ps) same))
       (shows_append (numbered_on (other d.role) d.longest out) es gs hs f e)
 
-  orderly_out : (out : List (List ℕ)) (fs : List PlainFrame) → AreOrderly MayAsk c.role d.longest (map (spelling_of c.role) fs) → AreOrderly MayAsk (other d.role) d.longest out
+  orderly_out : (out : List (List ℕ)) (fs : List PlainFrame) → AreOrderly MayAsk c.role d.longest (map (spelling_of c.role) fs)
+      → AreOrderly MayAsk (other d.role) d.longest out
       → AreOrderly MayAsk (other d.role) d.longest (out ++ map (spelling_of c.role) fs)
-  orderly_out out fs more f = each_append (λ o. IsOrderly MayAsk (frame_of (other d.role) d.longest o)) out (map (spelling_of c.role) fs) f (rw joined.near_role more)
+  orderly_out out fs more f = each_append (λ o. IsOrderly MayAsk (frame_of (other d.role) d.longest o)) out (map (spelling_of c.role) fs) f
+      (rw joined.near_role more)
 
   -- and as its own end does
-  put_is : (out : List (List ℕ)) (fs es : List PlainFrame) → numbered_on c.role c.longest (map (spelling_of c.role) fs) ≡ es → numbered_on c.role c.longest (not_taken out (out ++ map (spelling_of c.role) fs)) ≡ es
+  put_is : (out : List (List ℕ)) (fs es : List PlainFrame) → numbered_on c.role c.longest (map (spelling_of c.role) fs) ≡ es
+      → numbered_on c.role c.longest (not_taken out (out ++ map (spelling_of c.role) fs)) ≡ es
   put_is out fs es is = ap (numbered_on c.role c.longest) (put_behind out (map (spelling_of c.role) fs)) ∙ is
 
   -- a station that stays Up: what comes has come, and then it sends
-  pub stays_joint : {w : Stations} {l : Line (List ℕ)} (m : Line (List ℕ)) {back down : List (List ℕ)} {input : Input} {step : Step} → Joint MayAsk c d w l → is_up w.near.station.phase ≡ true
-      → Stage MayAsk c d w l m back down step.packet (after_input input step.packet (window_of c.window w.near.station)) → Stays c.window input w.near.station step
+  pub stays_joint : {w : Stations} {l : Line (List ℕ)} (m : Line (List ℕ)) {back down : List (List ℕ)} {input : Input} {step : Step} → Joint MayAsk c d w l
+      → is_up w.near.station.phase ≡ true
+      → Stage MayAsk c d w l m back down step.packet (after_input input step.packet (window_of c.window w.near.station))
+      → Stays c.window input w.near.station step
       → Leads MayAsk c d w l m.back (after_step c w back down step)
   stays_joint {w} {l} m {back} {down} {input} {step} h was_up g stays =
       let v : Window = after_input input step.packet (window_of c.window w.near.station) in
@@ -299,7 +327,8 @@ module _ (MayAsk : Type 0) {c d : Settings} (joined : AreJoined c d) (reads : Re
           kept = t.kept;
           near = inl (record { up = stays.up; sound = stays.sound; same = sym t.near });
           far = rw far h.far;
-          out = rw (t.out ∙ ap (λ gs. gs ++ t.behind) g.out) (numbers_out w.out step.side.out step.side.out l.out t.behind (good_numbered reads c.role d.longest step.side.out t.good) h.out t.shows);
+          out = rw (t.out ∙ ap (λ gs. gs ++ t.behind) g.out)
+              (numbers_out w.out step.side.out step.side.out l.out t.behind (good_numbered reads c.role d.longest step.side.out t.good) h.out t.shows);
           back = rw t.back g.left;
           out_orderly = orderly_out w.out step.side.out (good_orderly reads c.role d.longest MayAsk step.side.out t.good) h.out_orderly;
           back_orderly = g.orderly;
@@ -318,13 +347,16 @@ module _ (MayAsk : Type 0) {c d : Settings} (joined : AreJoined c d) (reads : Re
         record {
           near = t.near ∙ sym (counted_up c.window step.side.near l.near stays.up);
           far = far;
-          out = t.out ∙ ap (λ gs. gs ++ t.behind) g.out ∙ ap (λ gs. l.out ++ gs) (sends m v (window_of c.window step.side.near) step.side.out t (ap (λ z. z.sent) g.near ∙ g.same_sent) t.near)
-              ∙ ap (λ fs. l.out ++ given t.line.near.acked (length t.line.near.taken) l.near.sent fs) (sym (put_is w.out step.side.out step.side.out (good_numbered reads c.role c.longest step.side.out (rw joined.longest t.good))));
+          out = t.out ∙ ap (λ gs. gs ++ t.behind) g.out
+              ∙ ap (λ gs. l.out ++ gs) (sends m v (window_of c.window step.side.near) step.side.out t (ap (λ z. z.sent) g.near ∙ g.same_sent) t.near)
+              ∙ ap (λ fs. l.out ++ given t.line.near.acked (length t.line.near.taken) l.near.sent fs)
+              (sym (put_is w.out step.side.out step.side.out (good_numbered reads c.role c.longest step.side.out (rw joined.longest t.good))));
           back = t.back;
         },
       )
     where
-      sends : (m : Line (List ℕ)) (v z : Window) (fs : List PlainFrame) (t : Sent c.window d.window d.longest m v z fs) → m.near.sent ≡ l.near.sent → t.line.near ≡ z
+      sends : (m : Line (List ℕ)) (v z : Window) (fs : List PlainFrame) (t : Sent c.window d.window d.longest m v z fs) → m.near.sent ≡ l.near.sent
+          → t.line.near ≡ z
           → t.behind ≡ given t.line.near.acked (length t.line.near.taken) l.near.sent fs
       sends m v z fs t same is =
           sent_given t ∙ ap (λ top. given z.acked (length z.taken) top fs) same
@@ -340,7 +372,8 @@ module _ (MayAsk : Type 0) {c d : Settings} (joined : AreJoined c d) (reads : Re
   abbrev come : Line (List ℕ) → Bool → Frame (List ℕ) → List (Frame (List ℕ)) → Line (List ℕ)
   come l b g gs = record { near = arrived b g l.near; far = l.far; out = l.out; back = gs }
 
-  stage_arrives : {w : Stations} {l : Line (List ℕ)} → Joint MayAsk c d w l → {os : List (List ℕ)} → AreOrderly MayAsk (other c.role) c.longest os → (g : Frame (List ℕ)) {gs : List (Frame (List ℕ))} → l.back ≡ g ∷ gs
+  stage_arrives : {w : Stations} {l : Line (List ℕ)} → Joint MayAsk c d w l → {os : List (List ℕ)} → AreOrderly MayAsk (other c.role) c.longest os
+      → (g : Frame (List ℕ)) {gs : List (Frame (List ℕ))} → l.back ≡ g ∷ gs
       → ShowAll (numbered_on (other c.role) c.longest os) gs → (packet : Option (List ℕ)) (v : Window) → arrived (is_some packet) g l.near ≡ v
       → MayTake (is_some packet) (length l.near.taken) g.carried → v.given ≡ l.near.given → w.near.up ++ option_to_list packet ≡ v.taken
       → Stage MayAsk c d w l (come l (is_some packet) g gs) os [] packet v
@@ -366,17 +399,20 @@ module _ (MayAsk : Type 0) {c d : Settings} (joined : AreJoined c d) (reads : Re
       arrived_sent true None e = refl
       arrived_sent false o e = refl
 
-  hears_same : (s : LinkStation) (e : End (List ℕ)) (g : Frame (List ℕ)) (nr : ℕ) → window_of c.window s ≡ e → nr ≡ g.ack % 8 → after e (Hear (g.ack % 8)) ≡ after (window_of c.window s) (Hear nr)
+  hears_same : (s : LinkStation) (e : End (List ℕ)) (g : Frame (List ℕ)) (nr : ℕ) → window_of c.window s ≡ e → nr ≡ g.ack % 8 → after e (Hear (g.ack % 8))
+      ≡ after (window_of c.window s) (Hear nr)
   hears_same s e g nr same is = ap (λ n. after e (Hear n)) (sym is) ∙ ap (λ z. after z (Hear nr)) (sym same)
 
-  tell_stage : {w : Stations} {l : Line (List ℕ)} → Joint MayAsk c d w l → AsUp c w.near.station l.near → {os : List (List ℕ)} → AreOrderly MayAsk (other c.role) c.longest os → (g : Frame (List ℕ)) {gs : List (Frame (List ℕ))}
+  tell_stage : {w : Stations} {l : Line (List ℕ)} → Joint MayAsk c d w l → AsUp c w.near.station l.near → {os : List (List ℕ)}
+      → AreOrderly MayAsk (other c.role) c.longest os → (g : Frame (List ℕ)) {gs : List (Frame (List ℕ))}
       → l.back ≡ g ∷ gs → ShowAll (numbered_on (other c.role) c.longest os) gs → (nr : ℕ) → nr ≡ g.ack % 8
       → Stage MayAsk c d w l (come l false g gs) os [] None (after (window_of c.window w.near.station) (Hear nr))
   tell_stage {w} {l} h u {os} orderly g {gs} is shows nr number =
       stage_arrives h orderly g is shows None (after (window_of c.window w.near.station) (Hear nr)) (hears_same w.near.station l.near g nr u.same number) tt
       (ap (λ z. z.given) u.same) (append-nil w.near.up ∙ h.near_has.up ∙ sym (ap (λ z. z.taken) u.same))
 
-  info_stage : {w : Stations} {l : Line (List ℕ)} → Joint MayAsk c d w l → AsUp c w.near.station l.near → {os : List (List ℕ)} → AreOrderly MayAsk (other c.role) c.longest os → {g : Frame (List ℕ)} {gs : List (Frame (List ℕ))}
+  info_stage : {w : Stations} {l : Line (List ℕ)} → Joint MayAsk c d w l → AsUp c w.near.station l.near → {os : List (List ℕ)}
+      → AreOrderly MayAsk (other c.role) c.longest os → {g : Frame (List ℕ)} {gs : List (Frame (List ℕ))}
       → l.back ≡ g ∷ gs → ShowAll (numbered_on (other c.role) c.longest os) gs → (ns nr : ℕ) (p : Bool) (x : List ℕ) → Shows (info ns nr p x) g
       → (packet : Option (List ℕ)) → MayHandUp (receives (info ns nr p x)) packet (window_of c.window w.near.station)
       → Stage MayAsk c d w l (come l (is_some packet) g gs) os [] packet (after_input (receives (info ns nr p x)) packet (window_of c.window w.near.station))
@@ -394,7 +430,8 @@ module _ (MayAsk : Type 0) {c d : Settings} (joined : AreJoined c d) (reads : Re
       (ap (λ xs. xs ++ y ∷ []) (h.near_has.up ∙ sym (ap (λ z. z.taken) u.same)))
 
   -- an N(R) that comes is valid, so that no FRMR is due
-  valid_at : (w : Stations) (l : Line (List ℕ)) → Joint MayAsk c d w l → AsUp c w.near.station l.near → (g : Frame (List ℕ)) (gs : List (Frame (List ℕ))) → l.back ≡ g ∷ gs → (nr : ℕ) → nr ≡ g.ack % 8
+  valid_at : (w : Stations) (l : Line (List ℕ)) → Joint MayAsk c d w l → AsUp c w.near.station l.near → (g : Frame (List ℕ)) (gs : List (Frame (List ℕ)))
+      → l.back ≡ g ∷ gs → (nr : ℕ) → nr ≡ g.ack % 8
       → if_valid nr (window_of c.window w.near.station) ≡ None
   valid_at w l h u g gs is nr number =
       let e = l.near in
@@ -403,20 +440,24 @@ module _ (MayAsk : Type 0) {c d : Settings} (joined : AreJoined c d) (reads : Re
       let there : if_valid (g.ack % 8) e ≡ None = rw (valid.0, le-leb g.ack e.sent valid.2) refl in
       ap (λ n. if_valid n (window_of c.window w.near.station)) number ∙ ap (λ z. if_valid (g.ack % 8) z) u.same ∙ there
 
-  numbered_joint : {w : Stations} {l : Line (List ℕ)} → Joint MayAsk c d w l → AsUp c w.near.station l.near → (os : List (List ℕ)) {f : PlainFrame} (nr : ℕ) (step : Step)
+  numbered_joint : {w : Stations} {l : Line (List ℕ)} → Joint MayAsk c d w l → AsUp c w.near.station l.near
+      → (os : List (List ℕ)) {f : PlainFrame} (nr : ℕ) (step : Step)
       (front : Front f (numbered_on (other c.role) c.longest os) l.back)
       → nr ≡ front.frame.ack % 8 → Follows (if_valid nr (window_of c.window w.near.station)) c.window (receives f) w.near.station step
       → ((packet : Option (List ℕ)) → MayHandUp (receives f) packet (window_of c.window w.near.station)
-      → Stage MayAsk c d w l (come l (is_some packet) front.frame front.others) os [] packet (after_input (receives f) packet (window_of c.window w.near.station)))
+      → Stage MayAsk c d w l (come l (is_some packet) front.frame front.others) os [] packet
+      (after_input (receives f) packet (window_of c.window w.near.station)))
       → Leads MayAsk c d w l (remove l.back 0) (after_step c w os [] step)
   numbered_joint {w} {l} h u os {f} nr step front number follows stage =
-      let stays : Stays c.window (receives f) w.near.station step = subst (λ o. Follows o c.window (receives f) w.near.station step) (valid_at w l h u front.frame front.others front.is nr number) follows in
+      let stays : Stays c.window (receives f) w.near.station step =
+      subst (λ o. Follows o c.window (receives f) w.near.station step) (valid_at w l h u front.frame front.others front.is nr number) follows in
       subst (λ left. Leads MayAsk c d w l left (after_step c w os [] step)) (sym (ap (λ bs. remove bs 0) front.is))
       (stays_joint (come l (is_some step.packet) front.frame front.others) h u.up (stage step.packet stays.hands_up) stays)
 
   -- ---- steps that bring nothing, and steps that leave
 
-  quiet_stage : {w : Stations} {l : Line (List ℕ)} → Joint MayAsk c d w l → AsUp c w.near.station l.near → {os : List (List ℕ)} → AreOrderly MayAsk (other c.role) c.longest os → ShowAll (numbered_on (other c.role) c.longest os) l.back
+  quiet_stage : {w : Stations} {l : Line (List ℕ)} → Joint MayAsk c d w l → AsUp c w.near.station l.near → {os : List (List ℕ)}
+      → AreOrderly MayAsk (other c.role) c.longest os → ShowAll (numbered_on (other c.role) c.longest os) l.back
       → (packet : Option (List ℕ)) → packet ≡ None → Stage MayAsk c d w l l os [] packet (window_of c.window w.near.station)
   quiet_stage {w} h u orderly shows packet none =
       record {
@@ -433,7 +474,8 @@ module _ (MayAsk : Type 0) {c d : Settings} (joined : AreJoined c d) (reads : Re
         same_sent = ap (λ z. z.sent) u.same;
       }
 
-  pub quiet_joint : {w : Stations} {l : Line (List ℕ)} → Joint MayAsk c d w l → AsUp c w.near.station l.near → {os : List (List ℕ)} → AreOrderly MayAsk (other c.role) c.longest os → ShowAll (numbered_on (other c.role) c.longest os) l.back
+  pub quiet_joint : {w : Stations} {l : Line (List ℕ)} → Joint MayAsk c d w l → AsUp c w.near.station l.near → {os : List (List ℕ)}
+      → AreOrderly MayAsk (other c.role) c.longest os → ShowAll (numbered_on (other c.role) c.longest os) l.back
       → {input : Input} {step : Step} → after_input input step.packet (window_of c.window w.near.station) ≡ window_of c.window w.near.station
       → ((y : List ℕ) → MayHandUp input (Some y) (window_of c.window w.near.station) → ⊥)
       → Stays c.window input w.near.station step → Leads MayAsk c d w l l.back (after_step c w os [] step)
@@ -443,7 +485,8 @@ module _ (MayAsk : Type 0) {c d : Settings} (joined : AreJoined c d) (reads : Re
 
   -- a station that leaves or is out: a numbered frame that comes to it is lost to the machine
   pub parts_joint : {w : Stations} {l : Line (List ℕ)} → Joint MayAsk c d w l → {gs : List (Frame (List ℕ))} {os : List (List ℕ)} {step : Step}
-      → Kept (record { near = l.near; far = l.far; out = l.out; back = gs }) → MachineReaches c.window d.window (record { near = l.near; far = l.far; out = l.out; back = gs })
+      → Kept (record { near = l.near; far = l.far; out = l.out; back = gs })
+      → MachineReaches c.window d.window (record { near = l.near; far = l.far; out = l.out; back = gs })
       → ShowAll (numbered_on (other c.role) c.longest os) gs → AreOrderly MayAsk (other c.role) c.longest os
       → Parts MayAsk w.near.station step → Leads MayAsk c d w l gs (after_step c w os [] step)
   parts_joint {w} {l} h {gs} {os} {step} kept reached shows orderly parts = (
@@ -458,7 +501,12 @@ module _ (MayAsk : Type 0) {c d : Settings} (joined : AreJoined c d) (reads : Re
       back = shows;
       out_orderly = orderly_out w.out step.side.out (parting_orderly reads c.role d.longest MayAsk step.side.out each) h.out_orderly;
       back_orderly = orderly;
-      near_has = record { down = append-nil w.near.down ∙ h.near_has.down; up = rw parts.packet (append-nil w.near.up ∙ h.near_has.up); within = h.near_has.within; notes = noted_once c w os step h.near_has.notes off parts.noted };
+      near_has = record {
+        down = append-nil w.near.down ∙ h.near_has.down;
+        up = rw parts.packet (append-nil w.near.up ∙ h.near_has.up);
+        within = h.near_has.within;
+        notes = noted_once c w os step h.near_has.notes off parts.noted;
+      };
       far_has = h.far_has;
       no_frmr = no_frmr_append w.sent step.side.out h.no_frmr (parting_no_frmr MayAsk step.side.out each);
       whole = each_append (IsWhole d.longest ((w.near.down ++ []) ++ w.far.down)) w.sent step.side.out
@@ -468,7 +516,8 @@ module _ (MayAsk : Type 0) {c d : Settings} (joined : AreJoined c d) (reads : Re
     record {
       near = sym (counted_off c.window step.side.near l.near off);
       far = refl;
-      out = none_put l l.near.acked (length l.near.taken) (numbered_on c.role c.longest (not_taken w.out (w.out ++ map (spelling_of c.role) step.side.out))) (put_is w.out step.side.out [] (parting_numbered reads c.role c.longest MayAsk step.side.out each));
+      out = none_put l l.near.acked (length l.near.taken) (numbered_on c.role c.longest (not_taken w.out (w.out ++ map (spelling_of c.role) step.side.out)))
+          (put_is w.out step.side.out [] (parting_numbered reads c.role c.longest MayAsk step.side.out each));
       back = refl;
     },
   )
@@ -479,7 +528,8 @@ module _ (MayAsk : Type 0) {c d : Settings} (joined : AreJoined c d) (reads : Re
       each : Each (IsPart MayAsk) step.side.out
       each = parts_of MayAsk step.side.out parts.frames
 
-  pub ends_joint : {w : Stations} {l : Line (List ℕ)} → Joint MayAsk c d w l → is_up w.near.station.phase ≡ true → {os : List (List ℕ)} {step : Step} {reason : Reason} → Leaves reason
+  pub ends_joint : {w : Stations} {l : Line (List ℕ)} → Joint MayAsk c d w l → is_up w.near.station.phase ≡ true
+      → {os : List (List ℕ)} {step : Step} {reason : Reason} → Leaves reason
       → ShowAll (numbered_on (other c.role) c.longest os) l.back → AreOrderly MayAsk (other c.role) c.longest os
       → Tells w.near.station step → Ends reason step → Leads MayAsk c d w l l.back (after_step c w os [] step)
   ends_joint {w} {l} h up {os} {step} {reason} leaves shows orderly tells ends =
@@ -487,7 +537,8 @@ module _ (MayAsk : Type 0) {c d : Settings} (joined : AreJoined c d) (reads : Re
 
   -- ---- what comes, by what it reads as
 
-  told_joint : {w : Stations} {l : Line (List ℕ)} → Joint MayAsk c d w l → AsUp c w.near.station l.near → {os : List (List ℕ)} {f : PlainFrame} (nr : ℕ) (step : Step)
+  told_joint : {w : Stations} {l : Line (List ℕ)} → Joint MayAsk c d w l → AsUp c w.near.station l.near
+      → {os : List (List ℕ)} {f : PlainFrame} (nr : ℕ) (step : Step)
       → AreOrderly MayAsk (other c.role) c.longest os → (front : Front f (numbered_on (other c.role) c.longest os) l.back) → nr ≡ front.frame.ack % 8
       → Follows (if_valid nr (window_of c.window w.near.station)) c.window (receives f) w.near.station step
       → ((packet : Option (List ℕ)) → after_input (receives f) packet (window_of c.window w.near.station) ≡ after (window_of c.window w.near.station) (Hear nr))
@@ -497,10 +548,12 @@ module _ (MayAsk : Type 0) {c d : Settings} (joined : AreJoined c d) (reads : Re
       numbered_joint h u os nr step front number follows
       (λ packet up. rw (hears packet) (stage packet (no_packet_of (receives f) packet (window_of c.window w.near.station) never up)))
     where
-      stage : (packet : Option (List ℕ)) → packet ≡ None → Stage MayAsk c d w l (come l (is_some packet) front.frame front.others) os [] packet (after (window_of c.window w.near.station) (Hear nr))
+      stage : (packet : Option (List ℕ)) → packet ≡ None
+          → Stage MayAsk c d w l (come l (is_some packet) front.frame front.others) os [] packet (after (window_of c.window w.near.station) (Hear nr))
       stage packet none = rw none (tell_stage h u orderly front.frame front.is front.rest_shows nr number)
 
-  pub read_joint : {w : Stations} {l : Line (List ℕ)} → Joint MayAsk c d w l → AsUp c w.near.station l.near → (r : Result PlainFrame FrameError) {os : List (List ℕ)} {step : Step}
+  pub read_joint : {w : Stations} {l : Line (List ℕ)} → Joint MayAsk c d w l → AsUp c w.near.station l.near
+      → (r : Result PlainFrame FrameError) {os : List (List ℕ)} {step : Step}
       → IsOrderly ⊥ r → AreOrderly MayAsk (other c.role) c.longest os → ShowAll (consed (number_in r) (numbered_on (other c.role) c.longest os)) l.back
       → Tells w.near.station step → Follows (ending_of r (window_of c.window w.near.station)) c.window (brought_by r) w.near.station step
       → Leads MayAsk c d w l (taken_out (first_of (number_in r)) l.back) (after_step c w os [] step)
@@ -526,8 +579,10 @@ module _ (MayAsk : Type 0) {c d : Settings} (joined : AreJoined c d) (reads : Re
 
   -- ---- what comes to an end that isn't Up
 
-  pub away_joint : {w : Stations} {l : Line (List ℕ)} → Joint MayAsk c d w l → (m : Option PlainFrame) {os : List (List ℕ)} {step : Step} → AreOrderly MayAsk (other c.role) c.longest os
-      → ShowAll (consed m (numbered_on (other c.role) c.longest os)) l.back → Parts MayAsk w.near.station step → Leads MayAsk c d w l (taken_out (first_of m) l.back) (after_step c w os [] step)
+  pub away_joint : {w : Stations} {l : Line (List ℕ)} → Joint MayAsk c d w l → (m : Option PlainFrame) {os : List (List ℕ)} {step : Step}
+      → AreOrderly MayAsk (other c.role) c.longest os
+      → ShowAll (consed m (numbered_on (other c.role) c.longest os)) l.back → Parts MayAsk w.near.station step
+      → Leads MayAsk c d w l (taken_out (first_of m) l.back) (after_step c w os [] step)
   away_joint h None orderly shows parts = parts_joint h h.kept h.reached shows orderly parts
   away_joint {w} {l} h (Some f) {os} {step} orderly shows parts =
       let front = front_of f (numbered_on (other c.role) c.longest os) l.back shows in

@@ -1,13 +1,16 @@
 -- A tape of which nothing is told is one of a station and a peer that keeps the rules.
-use Rattle.std.proofs.Common.{◌≡◌, ◌==◌, ◌⊎◌, inl, inr, ℕ, ◌+◌, ◌-◌, ◌%◌, ◌<◌, ◌≤◌, arith, max, List, [], ◌∷◌, ◌++◌, length, Bool, true, false, if◌then◌else◌, Option, Some, None, refl, sym, ap, ◌∙◌, subst}
+use Rattle.std.proofs.Common.{◌≡◌, ◌==◌, ◌⊎◌, inl, inr, ℕ, ◌+◌, ◌-◌, ◌%◌, ◌<◌, ◌≤◌, arith, max, List, [], ◌∷◌, ◌++◌, length, Bool, true, false, if◌then◌else◌}
+use Rattle.std.proofs.Common.{Option, Some, None, refl, sym, ap, ◌∙◌, subst}
 use Rattle.std.proofs.{lemmas.Bool.{eqb-true, leb-true, ltb-true, and_parts}, lemmas.List.{length_push}}
 use Rattle.std.specs.{Prelude.{nat_le, nat_lt, ◌&&◌}, List.{slice_get}}
 use Rattle.x25_frame.specs.{Reading.{frame_of}, laws.ReadingLaw.{ReadsSpelled}}
 use Rattle.x25_window.specs.code.Modulo.{resolved}
 use Rattle.x25_link.specs.{Station.{Settings}, Hearing.{other}}
 use Rattle.x25_line.specs.{laws.LawsBelow.{Laws}, laws.Peer.{Peer, MayNumber, MayAcknowledge, numbered_to, told_to, MaySay, hearing, IsWanted, taking, MayMake}}
-use Rattle.x25_line.specs.{laws.PeerJoined.{JoinedOnce, Ours, HandsDown, Sends, Hears, ReachedOnce, at_start, goes_on}, laws.Said.{Said, Carried, Tells, Odd, said}}
-use Rattle.x25_line.specs.laws.Tape.{same_octets, is_item, judges_ack, then_ack, judges_item, judges_number, judges_said, notes, notes_said, IsSilent, Begins, Acts, Shows, Comes}
+use Rattle.x25_line.specs.laws.PeerJoined.{JoinedOnce, Ours, HandsDown, Sends, Hears, ReachedOnce, at_start, goes_on}
+use Rattle.x25_line.specs.laws.Said.{Said, Carried, Tells, Odd, said}
+use Rattle.x25_line.specs.laws.Tape.{same_octets, is_item, judges_ack, then_ack, judges_item, judges_number, judges_said, notes, notes_said, IsSilent, Begins}
+use Rattle.x25_line.specs.laws.Tape.{Acts, Shows, Comes}
 use Rattle.x25_line.specs.laws.PeerClaims.{KeepsOrder, OnAnySilentTape}
 use Rattle.x25_line.proofs.{StationHears.{low_resolved}, Frames.{slice_get-last}, PeerOrder.{keeps_order}}
 
@@ -32,9 +35,6 @@ none_some q h = absurd (cc)
 some_same : {A : Type 0} (x y : A) → Some x ≡ Some y → x ≡ y
 some_same x y e = cc
 
-not_below : (a b : ℕ) → a - 7 ≤ b → a ≤ b + 7
-not_below a b h = omega arith
-
 record Acked (nr : ℕ) (p q : Peer) : Type 0 where
   pub t : ℕ
   pub may : MayAcknowledge p nr t
@@ -43,12 +43,17 @@ record Acked (nr : ℕ) (p q : Peer) : Type 0 where
 ack_judged : (nr : ℕ) (p q : Peer) → judges_ack nr p ≡ Some q → Acked nr p q
 ack_judged nr p q h = go (nat_le (resolved p.told nr) (length p.taken) && resolved p.told nr % 8 == nr) refl h
   where
-    go : (b : Bool) → (nat_le (resolved p.told nr) (length p.taken) && resolved p.told nr % 8 == nr) ≡ b → (if b then Some (told_to (resolved p.told nr) p) else None) ≡ Some q → Acked nr p q
+    go : (b : Bool) → (nat_le (resolved p.told nr) (length p.taken) && resolved p.told nr % 8 == nr) ≡ b
+        → (if b then Some (told_to (resolved p.told nr) p) else None) ≡ Some q → Acked nr p q
     go true test is =
         let parts = and_parts (nat_le (resolved p.told nr) (length p.taken)) (resolved p.told nr % 8 == nr) test in
         record {
           t = resolved p.told nr;
-          may = record { number = sym (eqb-true (resolved p.told nr % 8) nr parts.1); rising = low_resolved p.told nr; taken = leb-true (resolved p.told nr) (length p.taken) parts.0 };
+          may = record {
+            number = sym (eqb-true (resolved p.told nr % 8) nr parts.1);
+            rising = low_resolved p.told nr;
+            taken = leb-true (resolved p.told nr) (length p.taken) parts.0;
+          };
           is = sym (some_same (told_to (resolved p.told nr) p) q is);
         }
     go false test is = none_some q is
@@ -70,10 +75,12 @@ record Numbered (ns : ℕ) (packet : List ℕ) (p u : Peer) : Type 0 where
   pub is : u ≡ numbered_to n base
   pub held : length u.given ≡ u.sent
 
-item_judged : (ns n : ℕ) (packet : List ℕ) (p u : Peer) → length p.given ≡ p.sent → n < p.acked + 7 → ns ≡ n % 8 → p.sent ≤ n + 7 → judges_item n packet p ≡ Some u → Numbered ns packet p u
+item_judged : (ns n : ℕ) (packet : List ℕ) (p u : Peer) → length p.given ≡ p.sent → n < p.acked + 7 → ns ≡ n % 8 → p.sent ≤ n + 7 → judges_item n packet p
+    ≡ Some u → Numbered ns packet p u
 item_judged ns n packet p u held window number again h = go (n == p.sent) refl h
   where
-    old : (b : Bool) → (nat_lt n p.sent && is_item (slice_get p.given n) packet) ≡ b → (if b then Some (numbered_to n p) else None) ≡ Some u → Numbered ns packet p u
+    old : (b : Bool) → (nat_lt n p.sent && is_item (slice_get p.given n) packet) ≡ b → (if b then Some (numbered_to n p) else None) ≡ Some u
+        → Numbered ns packet p u
     old true test is =
         let parts = and_parts (nat_lt n p.sent) (is_item (slice_get p.given n) packet) test in
         let below : n < p.sent = ltb-true n p.sent parts.0 in
@@ -90,7 +97,8 @@ item_judged ns n packet p u held window number again h = go (n == p.sent) refl h
     old false test is = none_some u is
 
     go : (b : Bool) → (n == p.sent) ≡ b
-        → (if b then Some (numbered_to n (grown packet p)) else if nat_lt n p.sent && is_item (slice_get p.given n) packet then Some (numbered_to n p) else None) ≡ Some u → Numbered ns packet p u
+        → (if b then Some (numbered_to n (grown packet p)) else if nat_lt n p.sent && is_item (slice_get p.given n) packet then Some (numbered_to n p)
+        else None) ≡ Some u → Numbered ns packet p u
     go true test is =
         let next : n ≡ p.sent = eqb-true n p.sent test in
         let same = some_same (numbered_to n (grown packet p)) u is in
@@ -114,7 +122,8 @@ number_judged ns packet p u held h = go (nat_lt n (p.acked + 7) && n % 8 == ns) 
     go : (b : Bool) → (nat_lt n (p.acked + 7) && n % 8 == ns) ≡ b → (if b then judges_item n packet p else None) ≡ Some u → Numbered ns packet p u
     go true test is =
         let parts = and_parts (nat_lt n (p.acked + 7)) (n % 8 == ns) test in
-        item_judged ns n packet p u held (ltb-true n (p.acked + 7) parts.0) (sym (eqb-true (n % 8) ns parts.1)) (not_below p.sent n (low_resolved (p.sent - 7) ns)) is
+        item_judged ns n packet p u held (ltb-true n (p.acked + 7) parts.0) (sym (eqb-true (n % 8) ns parts.1))
+        (omega arith) is
     go false test is = none_some u is
 
 -- ---- all that comes
@@ -131,7 +140,8 @@ same_judged p q held is s may =
     let same = some_same p q is in
     record { packet = []; base = p; from = inl refl; may = may (sym same); held = subst (λ z. length z.given ≡ z.sent) same held }
 
-info_judged : (nr : ℕ) (c : Carried) (p q : Peer) → length p.given ≡ p.sent → then_ack nr (judges_number c.ns c.packet p) ≡ Some q → Judged (Tells (Some c) nr) p q
+info_judged : (nr : ℕ) (c : Carried) (p q : Peer) → length p.given ≡ p.sent → then_ack nr (judges_number c.ns c.packet p) ≡ Some q
+    → Judged (Tells (Some c) nr) p q
 info_judged nr c p q held h = go (judges_number c.ns c.packet p) refl h
   where
     go : (o : Option Peer) → judges_number c.ns c.packet p ≡ o → then_ack nr o ≡ Some q → Judged (Tells (Some c) nr) p q
@@ -181,7 +191,8 @@ record Explained (c : Settings) (w : JoinedOnce) : Type 0 where
   pub reached : ReachedOnce (Unit {0}) c w
   pub held : length w.peer.given ≡ w.peer.sent
 
-base_reached : {c : Settings} {w : JoinedOnce} (packet : List ℕ) {base : Peer} → ReachedOnce (Unit {0}) c w → IsBase w.peer packet base → ReachedOnce (Unit {0}) c (record w { peer = base })
+base_reached : {c : Settings} {w : JoinedOnce} (packet : List ℕ) {base : Peer} → ReachedOnce (Unit {0}) c w → IsBase w.peer packet base
+    → ReachedOnce (Unit {0}) c (record w { peer = base })
 base_reached packet reached (inl is) = rw is reached
 base_reached {w = w} packet reached (inr is) =
     rw is (goes_on w (record w { peer = grown packet w.peer }) reached (HandsDown packet))
@@ -194,7 +205,8 @@ explained {c} {w} (Acts v act h) =
 explained {c} {w} (Shows v octets rest is h) =
     let before = explained h in
     record {
-      reached = goes_on v w before.reached (Hears octets rest (notes (frame_of c.role c.longest octets) v.peer) is (noted (said (frame_of c.role c.longest octets)) v.peer));
+      reached = goes_on v w before.reached
+          (Hears octets rest (notes (frame_of c.role c.longest octets) v.peer) is (noted (said (frame_of c.role c.longest octets)) v.peer));
       held = noted_held (said (frame_of c.role c.longest octets)) v.peer before.held;
     }
 explained {c} {w} (Comes v octets q is h) =

@@ -39,13 +39,18 @@ entries_did : (step next : Step) → Did next ≡ Did step → step.entries ≡ 
 entries_did step next is = ap (λ o. (step_in next o).entries) (sym is)
 
 pub did_granted : (c : Settings) (s : Station) (request : LayerRequest) (step : Step) → requests c s request ≡ Did step
-    → (let o = layer_outcome (layer_settings c) (waits s.link.outgoing == 256) s.layer request in IsGranted (is_up s.link.phase) (may_ask c.wide request) o (entries_of_outcome (layer_settings c) s.layer request o) step)
-did_granted c s request step is = by (is_up s.link.phase) (may_ask c.wide request) (layer_outcome (layer_settings c) (waits s.link.outgoing == 256) s.layer request) is
+    → (let o = layer_outcome (layer_settings c) (waits s.link.outgoing == 256) s.layer request in
+    IsGranted (is_up s.link.phase) (may_ask c.wide request) o (entries_of_outcome (layer_settings c) s.layer request o) step)
+did_granted c s request step is = by (is_up s.link.phase) (may_ask c.wide request)
+    (layer_outcome (layer_settings c) (waits s.link.outgoing == 256) s.layer request) is
   where
     entries : LayerOutcome → List StationEntry
     entries o = entries_of_outcome (layer_settings c) s.layer request o
 
-    by : (up may : Bool) (o : LayerOutcome) → where_asked may (did c (alone s.link) (entries o) (if up then went (view_of (link_settings c) s.link) (layer_settings c) o else Refuses layer_error.NotUp)) ≡ Did step → IsGranted up may o (entries o) step
+    by : (up may : Bool) (o : LayerOutcome)
+        → where_asked may (did c (alone s.link) (entries o)
+        (if up then went (view_of (link_settings c) s.link) (layer_settings c) o else Refuses layer_error.NotUp)) ≡ Did step
+        → IsGranted up may o (entries o) step
     by true true (Accepted next own) is = record { is_up = refl; is_taken = refl; next = next; own = own; accepted = refl; entries = entries_did step _ is }
     by false true o is = refused_did (error.Layer layer_error.NotUp) step is
     by true false (Accepted next own) is = refused_did not_taken step is
@@ -54,13 +59,18 @@ did_granted c s request step is = by (is_up s.link.phase) (may_ask c.wide reques
     by true false (Declined e) is = refused_did (error.Layer e) step is
 
 pub gave_granted : (c : Settings) (s : Station) (g : PlainGiven) (request : LayerRequest) (step : Step) → gives c s g request ≡ Did step
-    → (let o = layer_outcome (layer_settings c) (waits s.link.outgoing == 256) s.layer request in IsGranted (is_up s.link.phase) (is_taken c g request) o (entries_of_outcome (layer_settings c) s.layer request o) step)
-gave_granted c s g request step is = by (is_up s.link.phase) (is_taken c g request) (layer_outcome (layer_settings c) (waits s.link.outgoing == 256) s.layer request) is
+    → (let o = layer_outcome (layer_settings c) (waits s.link.outgoing == 256) s.layer request in
+    IsGranted (is_up s.link.phase) (is_taken c g request) o (entries_of_outcome (layer_settings c) s.layer request o) step)
+gave_granted c s g request step is = by (is_up s.link.phase) (is_taken c g request)
+    (layer_outcome (layer_settings c) (waits s.link.outgoing == 256) s.layer request) is
   where
     entries : LayerOutcome → List StationEntry
     entries o = entries_of_outcome (layer_settings c) s.layer request o
 
-    by : (up taken : Bool) (o : LayerOutcome) → gave c g taken (alone s.link) (entries o) (if up then went (view_given (link_settings c) g s.link) (layer_settings c) o else Refuses layer_error.NotUp) ≡ Did step → IsGranted up taken o (entries o) step
+    by : (up taken : Bool) (o : LayerOutcome)
+        → gave c g taken (alone s.link) (entries o)
+        (if up then went (view_given (link_settings c) g s.link) (layer_settings c) o else Refuses layer_error.NotUp) ≡ Did step
+        → IsGranted up taken o (entries o) step
     by true true (Accepted next own) is = record { is_up = refl; is_taken = refl; next = next; own = own; accepted = refl; entries = entries_did step _ is }
     by true false (Accepted next own) is = refused_did not_taken step is
     by true taken (Declined e) is = refused_did (error.Layer e) step is
@@ -82,6 +92,8 @@ relinks_in_up p is = absurd (cc)
 pub timer_silent : (c : LinkSettings) (s : LinkStation) → ((timer_step c s).packet ≡ None) × ((timer_step c s).notes.up ≡ false)
 timer_silent c s = by (nat_lt s.tries c.retries)
   where
-    by : (b : Bool) → let k = closed_by c.window (if b then quiet (asks_again s.phase (with_near (alone s) (record s { tries = s.tries + 1 }))) else leaves Retries (alone s)) in (k.packet ≡ None) × (k.notes.up ≡ false)
+    by : (b : Bool) → let k = closed_by c.window
+        (if b then quiet (asks_again s.phase (with_near (alone s) (record s { tries = s.tries + 1 }))) else leaves Retries (alone s)) in (k.packet ≡ None)
+        × (k.notes.up ≡ false)
     by true = (refl, refl)
     by false = (refl, refl)

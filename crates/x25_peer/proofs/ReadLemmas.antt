@@ -1,5 +1,6 @@
 -- What packets are read as, and what a link's peer sends and hears.
-use Rattle.std.proofs.Common.{◌≡◌, ℕ, ◌≤◌, List, [], ◌∷◌, ◌++◌, length, drop, Bool, true, false, Some, None, Result, Ok, refl, sym, ap, subst, ◌∙◌, append_assoc, arith}
+use Rattle.std.proofs.Common.{◌≡◌, ℕ, ◌≤◌, List, [], ◌∷◌, ◌++◌, length, drop, Bool, true, false, Some, None, Result, Ok, refl, sym, ap, subst, ◌∙◌}
+use Rattle.std.proofs.Common.{append_assoc, arith}
 use Rattle.std.proofs.lemmas.List.{length-append, drop_all}
 use Rattle.x25_packet.specs.Packet.{PlainPacket}
 use Rattle.x25_line.specs.{laws.Said.{Said, Tells, Odd}, laws.Peer.{Peer, MaySay, MayMake, hearing, taking}}
@@ -66,7 +67,8 @@ pub record Next (c : Settings) (o : List ℕ) (ahead behind : List PlainPacket) 
   pub front : ahead ≡ packet ∷ behind
   pub reads : read_by c o ≡ Ok packet
 
-pub next_read : {c : Settings} (up : List (List ℕ)) (o : List ℕ) (rest : List (List ℕ)) (ps : List PlainPacket) → ReadAs c ((up ++ o ∷ []) ++ rest) ps → Next c o (drop (length up) ps) (drop (length (up ++ o ∷ [])) ps)
+pub next_read : {c : Settings} (up : List (List ℕ)) (o : List ℕ) (rest : List (List ℕ)) (ps : List PlainPacket) → ReadAs c ((up ++ o ∷ []) ++ rest) ps
+    → Next c o (drop (length up) ps) (drop (length (up ++ o ∷ [])) ps)
 next_read [] o rest [] h = absurd h
 next_read [] o rest (p ∷ ps) h = record { packet = p; front = refl; reads = h.0 }
 next_read (u ∷ up) o rest [] h = absurd h

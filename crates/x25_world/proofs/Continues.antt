@@ -1,5 +1,6 @@
 -- What a step leaves of a stretch that is open after it: it goes on, or has just begun.
-use Rattle.std.proofs.Common.{◌≡◌, ◌⊎◌, inl, inr, ℕ, suc, ◌≤◌, List, [], ◌∷◌, ◌++◌, length, Option, Some, None, Bool, true, false, nat_lt, nat_le, ◌&&◌, if◌then◌else◌, refl, sym, ap, ◌∙◌, arith, append-nil}
+use Rattle.std.proofs.Common.{◌≡◌, ◌⊎◌, inl, inr, ℕ, suc, ◌≤◌, List, [], ◌∷◌, ◌++◌, length, Option, Some, None, Bool, true, false, nat_lt, nat_le, ◌&&◌}
+use Rattle.std.proofs.Common.{if◌then◌else◌, refl, sym, ap, ◌∙◌, arith, append-nil}
 use Rattle.x25_bits.specs.{declared.role.Role.{Role}, declared.role.Role.TheVariants.{Dte, Dce}}
 use Rattle.x25_packet.specs.Packet.{PlainPacket, call, accept, clear, clear_conf, user_data, rr, rnr, interrupt, interrupt_conf, reset, reset_conf}
 use Rattle.x25_packet.specs.declared.marks.Marks.{Marks}
@@ -9,8 +10,11 @@ use Rattle.x25_circuit.specs.{Params.{Proposal, default_params, may_answer, fiel
 use Rattle.x25_circuit.specs.Message.{Piece, piece_of, cut}
 use Rattle.x25_circuit.specs.Circuit.{Settings, Talk, silent, Circuit, talking, outgoing, incoming as terms_in, is_open, is_open_in, waits}
 use Rattle.x25_circuit.specs.Notice.{CallRequest, connected}
-use Rattle.x25_circuit.specs.Hearing.{Answer, answers, goes, clears_for, request_in, collides, connects, row_call, row_accept, row_clear, row_clear_conf, row_reset, row_reset_conf, unless, takes, hears_status, confirms, row_open, row_data, data_ground, number_ground}
-use Rattle.x25_circuit.specs.Calling.{Outcome, Done, Refused, Request, Calls, Accepts, Clears, Sends, Interrupts, Resets, SaysReady, SaysNotReady, does, keeps_on, call_sent, may_call, call_in, accept_with, accept_in, clear_with, clear_in, send_in, interrupt_in, reset_in, ready_in, outcome, Pulled, pulls_nothing, pull_open, pull_in, pulled}
+use Rattle.x25_circuit.specs.Hearing.{Answer, answers, goes, clears_for, request_in, collides, connects, row_call, row_accept, row_clear, row_clear_conf}
+use Rattle.x25_circuit.specs.Hearing.{row_reset, row_reset_conf, unless, takes, hears_status, confirms, row_open, row_data, data_ground, number_ground}
+use Rattle.x25_circuit.specs.Calling.{Outcome, Done, Refused, Request, Calls, Accepts, Clears, Sends, Interrupts, Resets, SaysReady, SaysNotReady, does}
+use Rattle.x25_circuit.specs.Calling.{keeps_on, call_sent, may_call, call_in, accept_with, accept_in, clear_with, clear_in, send_in, interrupt_in, reset_in}
+use Rattle.x25_circuit.specs.Calling.{ready_in, outcome, Pulled, pulls_nothing, pull_open, pull_in, pulled}
 use Rattle.x25_window.specs.code.Modulo.{resolved}
 
 pub never : {A : Type 0} → false ≡ true → A
@@ -115,10 +119,13 @@ module _ (c : Settings) (x : Circuit) where
       unless_heard (data_ground c.longest (terms_in x).size x.talk ps pr (piece_of q m user)) (takes x x.talk pr (piece_of q m user))
       (λ is. inr (record { same = record { opened = is; clears = refl; resets = refl }; acked = acked_more pr; sent = refl; rest = refl }))
   open_heard (rr channel pr) =
-      unless_heard (number_ground x.talk pr) (hears_status x x.talk true pr) (λ is. inr (record { same = record { opened = is; clears = refl; resets = refl }; acked = acked_more pr; sent = refl; rest = refl }))
+      unless_heard (number_ground x.talk pr) (hears_status x x.talk true pr)
+      (λ is. inr (record { same = record { opened = is; clears = refl; resets = refl }; acked = acked_more pr; sent = refl; rest = refl }))
   open_heard (rnr channel pr) =
-      unless_heard (number_ground x.talk pr) (hears_status x x.talk false pr) (λ is. inr (record { same = record { opened = is; clears = refl; resets = refl }; acked = acked_more pr; sent = refl; rest = refl }))
-  open_heard (interrupt channel user) = λ is. inr (record { same = record { opened = is; clears = refl; resets = refl }; acked = omega arith; sent = refl; rest = refl })
+      unless_heard (number_ground x.talk pr) (hears_status x x.talk false pr)
+      (λ is. inr (record { same = record { opened = is; clears = refl; resets = refl }; acked = acked_more pr; sent = refl; rest = refl }))
+  open_heard (interrupt channel user) = λ is. inr
+      (record { same = record { opened = is; clears = refl; resets = refl }; acked = omega arith; sent = refl; rest = refl })
   open_heard (interrupt_conf channel) = confirms_heard x.talk.int_out
   open_heard other = stays_heard x
 
@@ -154,27 +161,44 @@ called_if x false u v h g = g
 
 module _ (c : Settings) (x : Circuit) where
   abbrev more_sent : List Piece → Talk
-  more_sent rest = record { sent = x.talk.sent; taken = x.talk.taken; acked = x.talk.acked; rest = rest; int_out = x.talk.int_out; peer_ready = x.talk.peer_ready; own_ready = x.talk.own_ready }
+  more_sent rest = record {
+    sent = x.talk.sent;
+    taken = x.talk.taken;
+    acked = x.talk.acked;
+    rest = rest;
+    int_out = x.talk.int_out;
+    peer_ready = x.talk.peer_ready;
+    own_ready = x.talk.own_ready;
+  }
 
   talks_on : (t : Talk) → t.acked ≡ x.talk.acked → t.sent ≡ x.talk.sent → AfterCall x (talking x t)
-  talks_on t acked sent is = inr (record { same = record { opened = is; clears = refl; resets = refl }; acked = acked; more = []; sent = sent ∙ sym (append-nil x.talk.sent) })
+  talks_on t acked sent is = inr (record {
+    same = record { opened = is; clears = refl; resets = refl };
+    acked = acked;
+    more = [];
+    sent = sent
+        ∙ sym (append-nil x.talk.sent);
+  })
 
   call_called : (s : State) (called calling user : List ℕ) (proposal : Proposal) → AfterOutcome x (call_in c x s called calling user proposal)
   call_called Free called calling user proposal =
-      called_if x (may_call c.long_data called calling user proposal.params) (does x Calling proposal.params true (call_sent called calling user proposal)) (Refused BadParameter) (λ is. never is) tt
+      called_if x (may_call c.long_data called calling user proposal.params) (does x Calling proposal.params true (call_sent called calling user proposal))
+      (Refused BadParameter) (λ is. never is) tt
   call_called s called calling user params = tt
 
   answer_called : is_open x ≡ false → (answer : Option Proposal) → AfterOutcome x (accept_with x answer)
   answer_called not_open None = λ is. inl (record { silent = refl; new = inl not_open })
   answer_called not_open (Some answer) =
-      called_if x (may_answer x.params answer.params) (does x Open answer.params false (accept 1 (field_for x.params answer))) (Refused BadParameter) (λ is. inl (record { silent = refl; new = inl not_open })) tt
+      called_if x (may_answer x.params answer.params) (does x Open answer.params false (accept 1 (field_for x.params answer))) (Refused BadParameter)
+      (λ is. inl (record { silent = refl; new = inl not_open })) tt
 
   accept_called : (s : State) → x.state ≡ s → (answer : Option Proposal) → AfterOutcome x (accept_in x s answer)
   accept_called Arriving at answer = answer_called (ap is_open_in at) answer
   accept_called s at answer = tt
 
   clear_with_called : (cause diagnostic : ℕ) → AfterOutcome x (clear_with c x cause diagnostic)
-  clear_with_called cause diagnostic = called_if x (may_clear_for c.role cause) (does x Clearing default_params false (clear 1 cause diagnostic)) (Refused BadParameter) (λ is. never is) tt
+  clear_with_called cause diagnostic = called_if x (may_clear_for c.role cause) (does x Clearing default_params false (clear 1 cause diagnostic))
+      (Refused BadParameter) (λ is. never is) tt
 
   clear_called : (s : State) (cause diagnostic : ℕ) → AfterOutcome x (clear_in c x s cause diagnostic)
   clear_called Free cause diagnostic = tt
@@ -186,7 +210,15 @@ module _ (c : Settings) (x : Circuit) where
 
   abbrev interrupts : List ℕ → Outcome
   interrupts user =
-      keeps_on x (record { sent = x.talk.sent; taken = x.talk.taken; acked = x.talk.acked; rest = x.talk.rest; int_out = true; peer_ready = x.talk.peer_ready; own_ready = x.talk.own_ready }) (Some (interrupt 1 user))
+      keeps_on x (record {
+        sent = x.talk.sent;
+        taken = x.talk.taken;
+        acked = x.talk.acked;
+        rest = x.talk.rest;
+        int_out = true;
+        peer_ready = x.talk.peer_ready;
+        own_ready = x.talk.own_ready;
+      }) (Some (interrupt 1 user))
 
   send_called : (s : State) (q : Marks) (user : List ℕ) → AfterOutcome x (send_in c x s q user)
   send_called Open q user =
@@ -196,12 +228,14 @@ module _ (c : Settings) (x : Circuit) where
 
   interrupt_called : (s : State) (user : List ℕ) → AfterOutcome x (interrupt_in x s user)
   interrupt_called Open user =
-      called_if x (nat_le 1 (length user) && nat_le (length user) 32) (if x.talk.int_out then Refused InterruptOutstanding else interrupts user) (Refused BadParameter)
+      called_if x (nat_le 1 (length user) && nat_le (length user) 32) (if x.talk.int_out then Refused InterruptOutstanding else interrupts user)
+      (Refused BadParameter)
       (called_if x x.talk.int_out (Refused InterruptOutstanding) (interrupts user) tt (talks_on _ refl refl)) tt
   interrupt_called s user = tt
 
   reset_called : (s : State) (cause diagnostic : ℕ) → AfterOutcome x (reset_in c x s cause diagnostic)
-  reset_called Open cause diagnostic = called_if x (may_reset_for c.role cause) (does x Resetting x.params x.calls (reset 1 cause diagnostic)) (Refused BadParameter) (λ is. never is) tt
+  reset_called Open cause diagnostic = called_if x (may_reset_for c.role cause) (does x Resetting x.params x.calls (reset 1 cause diagnostic))
+      (Refused BadParameter) (λ is. never is) tt
   reset_called s cause diagnostic = tt
 
   ready_called : (s : State) (is_ready : Bool) → AfterOutcome x (ready_in x s is_ready)
@@ -225,7 +259,8 @@ module _ (c : Settings) (x : Circuit) where
   pull_open_called : (rest : List Piece) → AfterCall x (pull_open c x x.talk rest).next
   pull_open_called [] = stays_called x
   pull_open_called (piece ∷ rest) =
-      pull_if _ _ (pulls_nothing x) (λ is. inr (record { same = record { opened = is; clears = refl; resets = refl }; acked = refl; more = piece ∷ []; sent = refl })) (stays_called x)
+      pull_if _ _ (pulls_nothing x) (λ is. inr
+      (record { same = record { opened = is; clears = refl; resets = refl }; acked = refl; more = piece ∷ []; sent = refl })) (stays_called x)
 
   pull_in_called : (s : State) → AfterCall x (pull_in c x s).next
   pull_in_called Open = pull_open_called x.talk.rest

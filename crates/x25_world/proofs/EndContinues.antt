@@ -4,7 +4,8 @@ use Rattle.std.proofs.lemmas.Bool.{eqb-true, cond_both}
 use Rattle.x25_packet.specs.{Packet.{PlainPacket, restart, restart_conf}, Spelling.{channel_of}}
 use Rattle.x25_circuit.specs.{Circuit.{Circuit, is_open}, Hearing.{answers}, Calling.{Outcome, Done, Refused, Calls, outcome}, Cause.{may_restart_for}}
 use Rattle.x25_layer.specs.{Ranges.{is_channel}, Layer.{LayerSettings, Layer, put_at, answers_on, drops, answers_in, layer_answers, restarting_from}}
-use Rattle.x25_layer.specs.Calls.{LayerRequest, Asks, Dials, Restarts, PullsAll, LayerOutcome, Accepted, Declined, puts_at_once, where_room, if_at_once, outcome_on, dialled, free_channel, outcome_ready, outcome_in, layer_outcome, layer_pulled}
+use Rattle.x25_layer.specs.Calls.{LayerRequest, Asks, Dials, Restarts, PullsAll, LayerOutcome, Accepted, Declined, puts_at_once, where_room, if_at_once}
+use Rattle.x25_layer.specs.Calls.{outcome_on, dialled, free_channel, outcome_ready, outcome_in, layer_outcome, layer_pulled}
 use Rattle.x25_layer.specs.{declared.error.LayerError.{LayerError}, laws.Transcript.{Entry}}
 use Rattle.x25_layer.specs.laws.TwoLayers.{requested, pulled_in, moves_in, entries_asked, entries_told}
 use Rattle.x25_layer.specs.laws.Apart.{OwnMove, Requests, Pulls, Takes, GoesDown, as_move, coming, alone, own_moves}
@@ -19,7 +20,8 @@ pub record LayerGoes (R : Circuit → Circuit → Type 0) (l next : Layer) (k : 
   pub restarts : is_open (next.circuits k) ≡ true → next.restarts ≡ l.restarts
 
 -- the circuit of a channel alone goes on
-put_goes : (R : Circuit → Circuit → Type 0) → ((x : Circuit) → R x x) → (circuits : ℕ → Circuit) (h k : ℕ) {y : Circuit} → R (circuits h) y → R (circuits k) (put_at circuits h y k)
+put_goes : (R : Circuit → Circuit → Type 0) → ((x : Circuit) → R x x) → (circuits : ℕ → Circuit) (h k : ℕ) {y : Circuit} → R (circuits h) y
+    → R (circuits k) (put_at circuits h y k)
 put_goes R stays circuits h k {y} goes =
     cond_both (k == h) y (circuits k) (λ x. R (circuits k) x) (λ is. subst (λ j. R (circuits j) y) (sym (eqb-true k h is)) goes) (λ _. stays (circuits k))
 
@@ -32,7 +34,8 @@ module _ (c : LayerSettings) (l : Layer) (k : ℕ) where
 
   -- ---- a packet
 
-  packet_on : (h : ℕ) (p : PlainPacket) (b : Bool) → Heard (if b then answers_on l.restarts l.circuits h (answers c.circuit (l.circuits h) p) else drops false l.restarts l.circuits).next
+  packet_on : (h : ℕ) (p : PlainPacket) (b : Bool)
+      → Heard (if b then answers_on l.restarts l.circuits h (answers c.circuit (l.circuits h) p) else drops false l.restarts l.circuits).next
   packet_on h p true = record { circuit = put_goes AfterPacket stays_heard l.circuits h k (packet_heard c.circuit (l.circuits h) p); restarts = λ is. refl }
   packet_on h p false = record { circuit = stays_heard (l.circuits k); restarts = λ is. refl }
 
@@ -71,15 +74,21 @@ module _ (c : LayerSettings) (l : Layer) (k : ℕ) where
 
   request_called : (full : Bool) (request : LayerRequest) → AfterLayerOutcome (outcome_ready c full l.restarts l.circuits request)
   request_called full (Asks h request) =
-      layer_if (is_channel c.channels h) _ error.NoSuchChannel (at_once_called (puts_at_once request) full _ (on_called h (outcome c.circuit (l.circuits h) request) (outcome_called c.circuit (l.circuits h) request)))
+      layer_if (is_channel c.channels h) _ error.NoSuchChannel
+      (at_once_called (puts_at_once request) full
+      _ (on_called h (outcome c.circuit (l.circuits h) request) (outcome_called c.circuit (l.circuits h) request)))
   request_called full (Dials called calling user proposal) = free (free_channel c.circuit.role l.circuits c.channels)
     where
       free : (o : Option ℕ) → AfterLayerOutcome (dialled c full l.restarts l.circuits o called calling user proposal)
       free None = tt
-      free (Some h) = where_room_called full _ (on_called h (outcome c.circuit (l.circuits h) (Calls called calling user proposal)) (outcome_called c.circuit (l.circuits h) (Calls called calling user proposal)))
+      free (Some h) = where_room_called full
+          _ (on_called h (outcome c.circuit (l.circuits h) (Calls called calling user proposal))
+          (outcome_called c.circuit (l.circuits h) (Calls called calling user proposal)))
   request_called full (Restarts cause diagnostic) = where_room_called full _ (may (may_restart_for c.circuit.role cause))
     where
-      may : (b : Bool) → AfterLayerOutcome (if b then Accepted (restarting_from l.restarts l.circuits) (Some (restart cause diagnostic)) else Declined (error.Circuit circuit_error.BadParameter))
+      may : (b : Bool) → AfterLayerOutcome
+          (if b then Accepted (restarting_from l.restarts l.circuits) (Some (restart cause diagnostic))
+          else Declined (error.Circuit circuit_error.BadParameter))
       may true = record { circuit = λ is. never is; restarts = λ is. never is }
       may false = tt
   request_called full PullsAll = record { circuit = stays_called (l.circuits k); restarts = λ is. refl }
@@ -109,7 +118,8 @@ end_heard c e p k = by e.is_out
 pub end_called : (c : LayerSettings) (e : layer.End) (what : OwnMove) (k : ℕ) → TakesNone what → LayerGoes AfterCall e.layer (own_moves c e what).layer k
 end_called c e what k none = by e.is_out what none
   where
-    after : (request : LayerRequest) (o : LayerOutcome) → AfterLayerOutcome c e.layer k o → LayerGoes AfterCall e.layer (requested c (alone e []) request o).near.layer k
+    after : (request : LayerRequest) (o : LayerOutcome) → AfterLayerOutcome c e.layer k o
+        → LayerGoes AfterCall e.layer (requested c (alone e []) request o).near.layer k
     after request (Accepted next packet) h = h
     after request (Declined error) h = layer_stays c e.layer k
 
@@ -135,7 +145,8 @@ end_enters c e what = by e.is_out what
     after request (Accepted next packet) = (entries_asked c e.layer next request, refl)
     after request (Declined error) = none
 
-    pulls : (h : ℕ) (b : Bool) → (more : List Entry) × ((if b then pulled_in (alone e []) (layer_pulled c e.layer h) else alone e []).near.entries ≡ e.entries ++ more)
+    pulls : (h : ℕ) (b : Bool) → (more : List Entry)
+        × ((if b then pulled_in (alone e []) (layer_pulled c e.layer h) else alone e []).near.entries ≡ e.entries ++ more)
     pulls h true = ([], refl)
     pulls h false = none
 

@@ -7,7 +7,8 @@ use Rattle.x25_link.specs.{Station.{with_nothing, fresh, is_up, pumped}, Hearing
 use Rattle.x25_layer.specs.Layer.{at_rest, restart_cause}
 use Rattle.x25_station.specs.{declared.config.Cfg.{Cfg}, Config.{settings_from, longest_packet}, Entry.{link_up, entries_noted}}
 use Rattle.x25_station.specs.{Station.{Station, new_station}, Step.{Step, follows, receives}, laws.KeepLaw.{IsKept}}
-use Rattle.x25_world.specs.World.{World, mirrored, entered, tapped, after_step, delivered, after, Event, Receives, happens, refusal_of, AreAccepted, connected, established}
+use Rattle.x25_world.specs.World.{World, mirrored, entered, tapped, after_step, delivered, after, Event, Receives, happens, refusal_of, AreAccepted, connected}
+use Rattle.x25_world.specs.World.{established}
 use Rattle.x25_packet.specs.Packet.{restart}
 use Rattle.x25_world.specs.{laws.Claims.{link_of}, laws.LawsBelow.{Laws}}
 use Rattle.x25_peer.proofs.sessions.LinkSteps.{handed_up}
@@ -22,7 +23,8 @@ record ComesUpAt (sent : List PlainFrame) (step : Step) : Type 0 where
   pub entries : step.entries ≡ link_up ∷ []
   pub up : is_up step.near.link.phase ≡ true
 
-comes_up : (laws : Laws) (cfg : Cfg) (end : Role) {k : LinkStep} {sent : List PlainFrame} → Is fresh sent None true k → ComesUpAt sent (follows (settings_from end cfg) at_rest k)
+comes_up : (laws : Laws) (cfg : Cfg) (end : Role) {k : LinkStep} {sent : List PlainFrame} → Is fresh sent None true k
+    → ComesUpAt sent (follows (settings_from end cfg) at_rest k)
 comes_up laws cfg end {k} is =
     let c = link_of cfg end in
     let restarts = packet.spelling_of (restart (restart_cause end) 0) in
@@ -114,7 +116,8 @@ module _ (laws : Laws) (cfg : Cfg) where
   -- so neither is refused
   pub set_up_accepted : AreAccepted cfg (comes_to Dce ∷ comes_to Dte ∷ []) (connected cfg)
   set_up_accepted =
-      let ua_comes : refusal_of (happens cfg (at_dce cfg) (comes_to Dte)) ≡ None = ap (λ l. refusal_of (delivered (settings_from Dte cfg) (at_dce cfg) l)) back_is in
+      let ua_comes : refusal_of (happens cfg (at_dce cfg) (comes_to Dte)) ≡ None =
+      ap (λ l. refusal_of (delivered (settings_from Dte cfg) (at_dce cfg) l)) back_is in
       subst (λ w. AreAccepted cfg (comes_to Dce ∷ comes_to Dte ∷ []) w) (sym (connected_is cfg)) (refl, (ua_comes, tt))
 
   pub just_set_up : IsJustSetUp (established cfg)

@@ -1,5 +1,6 @@
 -- The octets that spell a frame are octets, at most as many as the longest frame has.
-use Rattle.std.proofs.Common.{◌≡◌, ◌∙◌, ℕ, zero, suc, ◌+◌, ◌-◌, ◌*◌, ◌/◌, ◌%◌, ◌≤◌, ◌<◌, Bool, true, false, not, List, [], ◌∷◌, ◌++◌, length, map, take, drop, replicate, subst, arith, refl}
+use Rattle.std.proofs.Common.{◌≡◌, ◌∙◌, ℕ, zero, suc, ◌+◌, ◌-◌, ◌*◌, ◌/◌, ◌%◌, ◌≤◌, ◌<◌, Bool, true, false, not, List, [], ◌∷◌, ◌++◌, length, map, take, drop}
+use Rattle.std.proofs.Common.{replicate, subst, arith, refl}
 use Rattle.std.proofs.{lemmas.List.{length-append, length-map, length-replicate}, lemmas.List.Elements.{All-nil, All-cons, All-append}}
 use Rattle.x25_bits.specs.{Bits.{bit}, FrameCheck.{number_of, bits_of, add, divisor, divided, remainder, inverted, fcs_of}, FrameCheck.Sealed.{seal_of}}
 use Rattle.x25_bits.specs.{declared.role.Role.{Role}, declared.role.Role.TheVariants.{Dte, Dce}}
@@ -52,7 +53,8 @@ unfolding fcs_of
 fcs_below octets =
     let q = bits_of octets ++ replicate 16 false in
     let p = inverted q in
-    let few = length_divided (length p - 16) p (omega (arith, length-append (bits_of octets) (replicate 16 false), length-replicate 16 false, length_inverted q)) in
+    let few = length_divided (length p - 16) p
+    (omega (arith, length-append (bits_of octets) (replicate 16 false), length-replicate 16 false, length_inverted q)) in
     subst (λ n. number_of (map not (remainder p)) < bound n) (length-map (remainder p) not ∙ few) (number_below (map not (remainder p)))
 
 -- ---- frames
@@ -88,11 +90,16 @@ IsOctet octet = octet < 256
 
 sealed_octets : (body : List ℕ) → AreOctets body → AreOctets (body ++ seal_of body)
 sealed_octets body h =
-    All-append IsOctet body (seal_of body) h (All-cons IsOctet (fcs_of body % 256) (fcs_of body / 256 ∷ []) (omega arith) (All-cons IsOctet (fcs_of body / 256) [] (omega (arith, fcs_below body)) (All-nil IsOctet)))
+    All-append IsOctet body (seal_of body) h
+    (All-cons IsOctet (fcs_of body % 256) (fcs_of body / 256 ∷ []) (omega arith)
+    (All-cons IsOctet (fcs_of body / 256) [] (omega (arith, fcs_below body)) (All-nil IsOctet)))
 
-pub spelled_of_frame : (from : Role) (v : PlainFrame) → IsInRange v → MayCarry v (information_of v) → IsWithin longest_packet v (information_of v) → AreOctets (information_of v) → AreOfFrame (spelling_of from v)
+pub spelled_of_frame : (from : Role) (v : PlainFrame) → IsInRange v → MayCarry v (information_of v) → IsWithin longest_packet v (information_of v)
+    → AreOctets (information_of v) → AreOfFrame (spelling_of from v)
 spelled_of_frame from v in_range carries within h = record {
-  each = sealed_octets (body_of from v) (All-cons IsOctet (address_of from (is_command v)) (control_of v ∷ information_of v) (address_below from (is_command v)) (All-cons IsOctet (control_of v) (information_of v) (control_below v in_range) h));
+  each = sealed_octets (body_of from v)
+      (All-cons IsOctet (address_of from (is_command v)) (control_of v ∷ information_of v) (address_below from (is_command v))
+      (All-cons IsOctet (control_of v) (information_of v) (control_below v in_range) h));
   short = by;
 }
   where

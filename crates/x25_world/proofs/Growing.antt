@@ -1,5 +1,6 @@
 -- What a step of an end adds: packets, entries of its transcript, and octets on the tap and on the line.
-use Rattle.std.proofs.Common.{◌≡◌, ℕ, zero, suc, List, [], ◌∷◌, ◌++◌, map, length, Result, Ok, Contains, refl, sym, ap, ap₂, subst, ◌∙◌, arith, append_assoc, append-nil}
+use Rattle.std.proofs.Common.{◌≡◌, ℕ, zero, suc, List, [], ◌∷◌, ◌++◌, map, length, Result, Ok, Contains, refl, sym, ap, ap₂, subst, ◌∙◌, arith, append_assoc}
+use Rattle.std.proofs.Common.{append-nil}
 use Rattle.std.proofs.lemmas.List.{map-append, length-map}
 use Rattle.x25_bits.specs.{declared.role.Role.{Role}, declared.role.Role.TheVariants.{Dte, Dce}}
 use Rattle.x25_frame.specs.{Frame.{PlainFrame}, Spelling.{spelling_of}}
@@ -33,7 +34,8 @@ pub nothing_read : (cfg : Cfg) (octets : List (List ℕ)) → all_read cfg octet
 nothing_read cfg [] none = refl
 nothing_read cfg (o ∷ octets) none = absurd (cc)
 
-pub grown : (cfg : Cfg) (xs xs₂ os : List (List ℕ)) (ps ps₂ qs : List PlainPacket) → all_read cfg xs ≡ as_read ps → xs₂ ≡ xs ++ os → all_read cfg os ≡ as_read qs → ps₂ ≡ ps ++ qs → all_read cfg xs₂ ≡ as_read ps₂
+pub grown : (cfg : Cfg) (xs xs₂ os : List (List ℕ)) (ps ps₂ qs : List PlainPacket) → all_read cfg xs ≡ as_read ps → xs₂ ≡ xs ++ os → all_read cfg os
+    ≡ as_read qs → ps₂ ≡ ps ++ qs → all_read cfg xs₂ ≡ as_read ps₂
 grown cfg xs xs₂ os ps ps₂ qs same more reads more_packets =
     ap (all_read cfg) more ∙ map-append (read_by cfg) xs os ∙ ap₂ (λ a b. a ++ b) same reads
     ∙ sym (map-append is_read ps qs) ∙ ap as_read (sym more_packets)
@@ -81,10 +83,12 @@ no_entries end [] = refl
 no_entries Dte (e ∷ entries) = no_entries Dte entries
 no_entries Dce (e ∷ entries) = no_entries Dce entries
 
-pub entries_more : (end : Role) (transcript : List AtEnd) (entries : List StationEntry) → entries_at end (transcript ++ entered end entries) ≡ entries_at end transcript ++ entries
+pub entries_more : (end : Role) (transcript : List AtEnd) (entries : List StationEntry) → entries_at end (transcript ++ entered end entries)
+    ≡ entries_at end transcript ++ entries
 entries_more end transcript entries = entries_append end transcript (entered end entries) ∙ ap (λ es. entries_at end transcript ++ es) (own_entries end entries)
 
-pub entries_other : (end : Role) (transcript : List AtEnd) (entries : List StationEntry) → entries_at (other end) (transcript ++ entered end entries) ≡ entries_at (other end) transcript
+pub entries_other : (end : Role) (transcript : List AtEnd) (entries : List StationEntry) → entries_at (other end) (transcript ++ entered end entries)
+    ≡ entries_at (other end) transcript
 entries_other end transcript entries =
     entries_append (other end) transcript (entered end entries) ∙ ap (λ es. entries_at (other end) transcript ++ es) (no_entries end entries)
     ∙ append-nil (entries_at (other end) transcript)
@@ -98,13 +102,15 @@ AreOnTap (t ∷ tap) (frame ∷ frames) = (t.octets ≡ spelling_of t.from frame
 AreOnTap [] (frame ∷ frames) = ⊥
 AreOnTap (t ∷ tap) [] = ⊥
 
-pub on_tap : (from : Role) (tap : List OnTap) (sent frames : List PlainFrame) → AreOnTap tap sent → AreOnTap (tap ++ tapped from (map (spelling_of from) frames)) (sent ++ frames)
+pub on_tap : (from : Role) (tap : List OnTap) (sent frames : List PlainFrame) → AreOnTap tap sent
+    → AreOnTap (tap ++ tapped from (map (spelling_of from) frames)) (sent ++ frames)
 on_tap from [] [] [] h = tt
 on_tap from [] [] (f ∷ frames) h = (refl, on_tap from [] [] frames tt)
 on_tap from (t ∷ tap) (s ∷ sent) frames h = (h.0, on_tap from tap sent frames h.1)
 on_tap from tap sent frames h = absurd h
 
-pub octets_put : (es : List Entry) (session : ℕ) (from : Role) (frames : List PlainFrame) → octets_of (es ++ sent_in session from frames) ≡ octets_of es ++ map (spelling_of from) frames
+pub octets_put : (es : List Entry) (session : ℕ) (from : Role) (frames : List PlainFrame) → octets_of (es ++ sent_in session from frames) ≡ octets_of es
+    ++ map (spelling_of from) frames
 octets_put es session from frames = octets_append es (sent_in session from frames) ∙ ap (λ l. octets_of es ++ l) (octets_sent session from frames)
 
 -- octets on the line are those of an entry

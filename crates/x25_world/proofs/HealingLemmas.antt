@@ -1,22 +1,27 @@
 -- What rest shows at a world of two stations; and how its two links heal, while the layers put nothing.
-use Rattle.std.proofs.Common.{◌≡◌, ℕ, List, [], ◌∷◌, ◌++◌, map, true, false, ◌&&◌, if◌then◌else◌, Option, Some, None, refl, sym, ap, ◌∙◌, subst, suc, length, ◌≤◌, inl}
+use Rattle.std.proofs.Common.{◌≡◌, ℕ, List, [], ◌∷◌, ◌++◌, map, true, false, ◌&&◌, if◌then◌else◌, Option, Some, None, refl, sym, ap, ◌∙◌, subst, suc, length}
+use Rattle.std.proofs.Common.{◌≤◌, inl}
 use Rattle.std.proofs.lemmas.Bool.{eq-eqb, and_from}
 use Rattle.std.specs.Prelude.{◌==◌}
 use Rattle.x25_bits.specs.{declared.role.Role.{Role}, declared.role.Role.TheVariants.{Dte, Dce}}
 use Rattle.x25_frame.specs.Spelling.{spelling_of}
 use Rattle.x25_line.specs.{laws.Sessions.{Meeting, Sessions, from_nothing, begun_by, IsTimely, AreTimely}, laws.SessionNumbers.{standing_run, standing_at}}
 use Rattle.x25_line.specs.laws.SessionClaims.{Each, octets_of}
-use Rattle.x25_line.specs.Healing.{IsDelivery, EachRestShows, IsAtRestOrOut, HasTries, OneIsFree, EachSessionHeals, SessionsHealUnlessBothBusy, FindsIn, EachFindsIn, SessionsDrainEnd}
+use Rattle.x25_line.specs.Healing.{IsDelivery, EachRestShows, IsAtRestOrOut, HasTries, OneIsFree, EachSessionHeals, SessionsHealUnlessBothBusy, FindsIn}
+use Rattle.x25_line.specs.Healing.{EachFindsIn, SessionsDrainEnd}
 use Rattle.x25_layer.specs.{code.FitsLayer.{waits_up_to}, laws.Law.{HasAllOf}}
 use Rattle.x25_handshakes.specs.laws.Names.{Name}
 use Rattle.x25_station.specs.{declared.config.Cfg.{Cfg}, Config.{Settings, settings_from, link_settings, layer_settings}, Station.{all_put, view_of}}
 use Rattle.x25_station.specs.{Step.{follows, layer_at, unless, fires}, laws.KeepLaw.{ConnectKeeps}, Station.Told.{stretch}}
-use Rattle.x25_world.specs.World.{World, mirrored, Declined, Receives, acts, delivered, fired, of_station, is_on_line, after, after_step, happens, refusal_of, run, AreAccepted}
+use Rattle.x25_world.specs.World.{World, mirrored, Declined, Receives, acts, delivered, fired, of_station, is_on_line, after, after_step, happens, refusal_of}
+use Rattle.x25_world.specs.World.{run, AreAccepted}
 use Rattle.x25_world.specs.{laws.Claims.{link_of, station_at}, laws.LawsBelow.{SessionLaws}, laws.SessionClaims.{Throughout, AllArrive}}
 use Rattle.x25_world.specs.{laws.SessionWindow.{at_end}, laws.Sessions.{last_session, handed_in}}
-use Rattle.x25_world.specs.Healing.{IsDrained, receipt, all_received, firing, AreLinksOf, StopsAtRest, RestShows, PutsNothing, PutsNothingAt, NonePut, Heals, MayHeal, HealsWhereNonePut, DrainsWhereNonePut}
+use Rattle.x25_world.specs.Healing.{IsDrained, receipt, all_received, firing, AreLinksOf, StopsAtRest, RestShows, PutsNothing, PutsNothingAt, NonePut, Heals}
+use Rattle.x25_world.specs.Healing.{MayHeal, HealsWhereNonePut, DrainsWhereNonePut}
 use Rattle.x25_world.proofs.{Known.{true_false, IsConfigured, is_configured}, WorldLemmas.{refusal-swapped}}
-use Rattle.x25_world.proofs.{sessions.SessionReaches.{joined_at, both_down, known_sessions, links_append, timely_append}, sessions.SessionJoined.{SessionsJoined}}
+use Rattle.x25_world.proofs.sessions.SessionReaches.{joined_at, both_down, known_sessions, links_append, timely_append}
+use Rattle.x25_world.proofs.sessions.SessionJoined.{SessionsJoined}
 use Rattle.x25_world.proofs.{Growing.{octets_put}, sessions.SessionFollows.{silent}, sessions.SessionRuns.{back_after, throughout_joined}}
 use Rattle.x25_peer.proofs.Granted.{timer_silent}
 use Rattle.x25_link.specs.{declared.error.LinkError.{LinkError}, Station.{Settings as LinkSettings, LinkStation, is_up, awaits_ua}}
@@ -58,31 +63,39 @@ module _ (c : Settings) {w : World} {v : Sessions} (h : Alike w v) where
 
   -- the front octets come
   received_alike : PutsNothing c w.near w.back → Alike (after w (delivered c w w.back)) (links.acts (link_settings c) line.Deliver v)
-  received_alike none = subst (λ os. Alike (after w (delivered c w os)) (links.acts (link_settings c) line.Deliver v)) h.back (by v.back (subst (PutsNothing c w.near) (sym h.back) none))
+  received_alike none = subst (λ os. Alike (after w (delivered c w os)) (links.acts (link_settings c) line.Deliver v)) h.back
+      (by v.back (subst (PutsNothing c w.near) (sym h.back) none))
     where
-      by : (es : List links.Entry) → PutsNothing c w.near (octets_of es) → Alike (after w (delivered c w (octets_of es))) (links.delivered (link_settings c) es v)
+      by : (es : List links.Entry) → PutsNothing c w.near (octets_of es)
+          → Alike (after w (delivered c w (octets_of es))) (links.delivered (link_settings c) es v)
       by [] none = h
       by (e ∷ es) none =
           let lc = link_settings c in
           let k = take_step lc e.octets w.near.link in
-          subst (λ b. Alike (after_step c w (octets_of es) (follows c w.near.layer (if b then abandon_step lc w.near.link else k))) (links.delivered lc (e ∷ es) v)) (sym none.0)
-          (subst (λ s. Alike (after_step c w (octets_of es) (follows c w.near.layer k)) (links.after_step lc v es (links.delivered lc (e ∷ es) v).met [] (take_step lc e.octets s))) (sym h.near)
+          subst (λ b. Alike (after_step c w (octets_of es) (follows c w.near.layer (if b then abandon_step lc w.near.link else k)))
+          (links.delivered lc (e ∷ es) v)) (sym none.0)
+          (subst (λ s. Alike (after_step c w (octets_of es) (follows c w.near.layer k))
+          (links.after_step lc v es (links.delivered lc (e ∷ es) v).met [] (take_step lc e.octets s))) (sym h.near)
           (step_alike es (octets_of es) (links.delivered lc (e ∷ es) v).met k refl none.1))
 
   -- timer T1 runs out, which isn't refused while UA isn't awaited but as the link's
   fired_alike : awaits_ua w.near.link.phase ≡ false → Alike (after w (fired c w)) (links.acts (link_settings c) line.T1 v)
   fired_alike not_awaited =
-      subst (λ b. Alike (after w (if b && is_on_line c w then Declined error.OnLine else of_station c w (fires c w.near))) (links.acts (link_settings c) line.T1 v)) (sym not_awaited)
-      (subst (λ s. Alike (after w (of_station c w (fires c w.near))) (links.unless (timer_refusal s) v (links.after_step (link_settings c) v v.back v.met [] (timer_step (link_settings c) s)))) (sym h.near)
+      subst (λ b. Alike (after w (if b && is_on_line c w then Declined error.OnLine else of_station c w (fires c w.near)))
+      (links.acts (link_settings c) line.T1 v)) (sym not_awaited)
+      (subst (λ s. Alike (after w (of_station c w (fires c w.near)))
+      (links.unless (timer_refusal s) v (links.after_step (link_settings c) v v.back v.met [] (timer_step (link_settings c) s)))) (sym h.near)
       (by (timer_refusal w.near.link)))
     where
       k : LinkStep
       k = timer_step (link_settings c) w.near.link
 
-      by : (o : Option LinkError) → Alike (after w (of_station c w (unless o (follows c w.near.layer k)))) (links.unless o v (links.after_step (link_settings c) v v.back v.met [] k))
+      by : (o : Option LinkError) → Alike (after w (of_station c w (unless o (follows c w.near.layer k))))
+          (links.unless o v (links.after_step (link_settings c) v v.back v.met [] k))
       by (Some e) = h
       by None = step_alike v.back w.back v.met k h.back
-          (silent (view_of (link_settings c) k.side.near) (layer_settings c) c.wide w.near.layer k.packet k.notes.down k.notes.up (timer_silent (link_settings c) w.near.link).0 (timer_silent (link_settings c) w.near.link).1)
+          (silent (view_of (link_settings c) k.side.near) (layer_settings c) c.wide w.near.layer k.packet k.notes.down k.notes.up
+          (timer_silent (link_settings c) w.near.link).0 (timer_silent (link_settings c) w.near.link).1)
 
 -- ---- events
 
@@ -96,14 +109,16 @@ abbrev received : List Role → List line.LinkEvent
 received [] = []
 received (at ∷ ends) = at_end at line.Deliver ∷ received ends
 
-receipt_alike : (cfg : Cfg) (at : Role) (w : World) (v : Sessions) → Alike w v → PutsNothingAt cfg at w → Alike (after w (happens cfg w (receipt at))) (links.happens (c_of cfg) (d_of cfg) (at_end at line.Deliver) v)
+receipt_alike : (cfg : Cfg) (at : Role) (w : World) (v : Sessions) → Alike w v → PutsNothingAt cfg at w
+    → Alike (after w (happens cfg w (receipt at))) (links.happens (c_of cfg) (d_of cfg) (at_end at line.Deliver) v)
 receipt_alike cfg Dte w v h none = received_alike (settings_from Dte cfg) h none
 receipt_alike cfg Dce w v h none =
     let o = acts (settings_from Dce cfg) (mirrored w) Receives in
     let x = links.acts (d_of cfg) line.Deliver (links.swapped v) in
     subst (λ z. Alike z (links.swapped x)) (sym (back_after w o)) (turned (received_alike (settings_from Dce cfg) (turned h) none))
 
-all_alike : (cfg : Cfg) (ends : List Role) {w : World} {v : Sessions} → Alike w v → NonePut cfg ends w → Alike (run cfg (all_received ends) w) (links.run (c_of cfg) (d_of cfg) (received ends) v)
+all_alike : (cfg : Cfg) (ends : List Role) {w : World} {v : Sessions} → Alike w v → NonePut cfg ends w
+    → Alike (run cfg (all_received ends) w) (links.run (c_of cfg) (d_of cfg) (received ends) v)
 all_alike cfg [] h none = h
 all_alike cfg (at ∷ ends) {w} {v} h none = all_alike cfg ends (receipt_alike cfg at w v h none.0) none.1
 
@@ -158,9 +173,11 @@ some_there c w (octets ∷ back) accepted none = cc
 finds : (cfg : Cfg) (at : Role) {w : World} {v : Sessions} → Alike w v → refusal_of (happens cfg w (receipt at)) ≡ None → FindsIn (at_end at line.Deliver) v
 finds cfg Dte {w} h accepted = λ none. some_there (settings_from Dte cfg) w w.back accepted (sym h.back ∙ ap octets_of none)
 finds cfg Dce {w} h accepted = λ none.
-    some_there (settings_from Dce cfg) (mirrored w) w.out (sym (refusal-swapped (acts (settings_from Dce cfg) (mirrored w) Receives)) ∙ accepted) (sym h.out ∙ ap octets_of none)
+    some_there (settings_from Dce cfg) (mirrored w) w.out (sym (refusal-swapped (acts (settings_from Dce cfg) (mirrored w) Receives)) ∙ accepted)
+    (sym h.out ∙ ap octets_of none)
 
-each_finds : (cfg : Cfg) (ends : List Role) {w : World} {v : Sessions} → Alike w v → NonePut cfg ends w → AreAccepted cfg (all_received ends) w → EachFindsIn (c_of cfg) (d_of cfg) (received ends) v
+each_finds : (cfg : Cfg) (ends : List Role) {w : World} {v : Sessions} → Alike w v → NonePut cfg ends w → AreAccepted cfg (all_received ends) w
+    → EachFindsIn (c_of cfg) (d_of cfg) (received ends) v
 each_finds cfg [] h none accepted = tt
 each_finds cfg (at ∷ ends) {w} {v} h none accepted = (
   finds cfg at h accepted.0,
@@ -173,7 +190,16 @@ joined_alike h = record { near = h.near.link; far = h.far.link; out = h.out; bac
 pub links_are : {cfg : Cfg} {w : World} (h : SessionsJoined both_down cfg Dte w) → AreLinksOf cfg w h.links
 links_are {cfg} h = (
   standing_run (c_of cfg) (d_of cfg) h.reach.events from_nothing (standing_at (c_of cfg) (d_of cfg) from_nothing),
-  record { events = h.reach.events; timely = h.reach.timely; run = h.reach.run; standing = refl; near = h.near.link; far = h.far.link; out = h.out; back = h.back },
+  record {
+    events = h.reach.events;
+    timely = h.reach.timely;
+    run = h.reach.run;
+    standing = refl;
+    near = h.near.link;
+    far = h.far.link;
+    out = h.out;
+    back = h.back;
+  },
 )
 
 -- ---- both fire, and then the links go on
@@ -181,7 +207,8 @@ links_are {cfg} h = (
 abbrev pub fired_then : List line.LinkEvent → List line.LinkEvent
 fired_then more = line.Near line.T1 ∷ line.Far line.T1 ∷ more
 
-module _ (cfg : Cfg) (w : World) (h : SessionsJoined both_down cfg Dte w) (near_off : awaits_ua w.near.link.phase ≡ false) (far_off : awaits_ua w.far.link.phase ≡ false)
+module _ (cfg : Cfg) (w : World) (h : SessionsJoined both_down cfg Dte w) (near_off : awaits_ua w.near.link.phase ≡ false)
+    (far_off : awaits_ua w.far.link.phase ≡ false)
     (more : List line.LinkEvent) (on_time : AreTimely (c_of cfg) (d_of cfg) more (links.run (c_of cfg) (d_of cfg) (fired_then []) h.links)) where
   abbrev here_then : Sessions
   here_then = links.run (c_of cfg) (d_of cfg) (fired_then more) h.links
@@ -202,7 +229,8 @@ module _ (cfg : Cfg) (w : World) (h : SessionsJoined both_down cfg Dte w) (near_
     record {
       events = h.reach.events ++ fired_then more;
       timely = timely_append (c_of cfg) (d_of cfg) h.reach.events (fired_then more) from_nothing h.reach.timely (rw h.reach.run timely);
-      run = links_append (c_of cfg) (d_of cfg) h.reach.events (fired_then more) from_nothing ∙ ap (links.run (c_of cfg) (d_of cfg) (fired_then more)) h.reach.run;
+      run = links_append (c_of cfg) (d_of cfg) h.reach.events (fired_then more) from_nothing
+          ∙ ap (links.run (c_of cfg) (d_of cfg) (fired_then more)) h.reach.run;
       standing = refl;
       near = alike.near;
       far = alike.far;
@@ -227,22 +255,26 @@ module _ (laws : SessionLaws) (keeps : ConnectKeeps) where
       shown : EachRestShows (c_of cfg) (d_of cfg) h.links
       shown = known_sessions EachRestShows law (is_configured cfg fine) h.reach
 
-      rests : (s t : LinkStation) → s ≡ t → (is_up t.phase ≡ true → timer_runs t.phase t ≡ false → IsAtRest t) → is_up s.phase ≡ true → timer_runs s.phase s ≡ false → IsAtRest s
+      rests : (s t : LinkStation) → s ≡ t → (is_up t.phase ≡ true → timer_runs t.phase t ≡ false → IsAtRest t) → is_up s.phase ≡ true → timer_runs s.phase s
+          ≡ false → IsAtRest s
       rests s t same there = rw same there
 
       at_rest : (end : Role) → StopsAtRest (station_at end w)
       at_rest Dte up stopped = rests w.near.link h.links.near.station (sym h.near.link) (λ on off. (shown.near on off).0) up stopped
       at_rest Dce up stopped = rests w.far.link h.links.far.station (sym h.far.link) (λ on off. (shown.far on off).0) up stopped
 
-      messages : (end : Role) (channel : ℕ) (name : Name) → is_up (station_at end w).link.phase ≡ true → timer_runs (station_at end w).link.phase (station_at end w).link ≡ false
+      messages : (end : Role) (channel : ℕ) (name : Name) → is_up (station_at end w).link.phase ≡ true
+          → timer_runs (station_at end w).link.phase (station_at end w).link ≡ false
           → waits_up_to (station_at end w).layer.circuits cfg.channels.count ≡ 0 → stretch (settings_from end cfg) (station_at end w) channel ≡ Some name
           → stretch (settings_from (other end) cfg) (station_at (other end) w) channel ≡ Some name
           → HasAllOf channel name (handed_in end (last_session end w) w) (handed_in (other end) (last_session (other end) w) w)
       messages end channel name up stopped none here there =
           arrive cfg fine begin is events octets end channel name
-          (and_from (link.is_idle (station_at end w).link) (waits_up_to (station_at end w).layer.circuits cfg.channels.count == 0) (at_rest end up stopped).idle (eq-eqb (waits_up_to (station_at end w).layer.circuits cfg.channels.count) 0 none)) here there
+          (and_from (link.is_idle (station_at end w).link) (waits_up_to (station_at end w).layer.circuits cfg.channels.count == 0)
+          (at_rest end up stopped).idle (eq-eqb (waits_up_to (station_at end w).layer.circuits cfg.channels.count) 0 none)) here there
 
-  module _ (law : SessionsHealUnlessBothBusy) (cfg : Cfg) (fine : IsConfigured cfg) (w : World) (h : SessionsJoined both_down cfg Dte w) (may : MayHeal w) (ends : List Role) where
+  module _ (law : SessionsHealUnlessBothBusy) (cfg : Cfg) (fine : IsConfigured cfg) (w : World) (h : SessionsJoined both_down cfg Dte w) (may : MayHeal w)
+      (ends : List Role) where
     abbrev c : LinkSettings
     c = c_of cfg
 

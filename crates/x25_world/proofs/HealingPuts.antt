@@ -5,7 +5,8 @@ use Rattle.x25_bits.specs.{declared.role.Role.{Role}, declared.role.Role.TheVari
 use Rattle.x25_frame.specs.Spelling.{spelling_of}
 use Rattle.x25_link.specs.{declared.phase.Phase.{Phase}, declared.phase.Phase.TheVariants.{Waiting}, laws.RestLaw.{IsAtRest}}
 use Rattle.x25_line.specs.{laws.Sessions.{Meeting, Sessions, IsTimely, AreTimely}, laws.SessionClaims.{Each, octets_of}}
-use Rattle.x25_line.specs.laws.HealingPuts.{LinkMayHeal, AreFree, IsDeliverOrPut, IsDeliveryOrPut, SessionsFreeThroughout, SessionsHaveArrived, PutsHealSessions}
+use Rattle.x25_line.specs.laws.HealingPuts.{LinkMayHeal, AreFree, IsDeliverOrPut, IsDeliveryOrPut, SessionsFreeThroughout, SessionsHaveArrived}
+use Rattle.x25_line.specs.laws.HealingPuts.{PutsHealSessions}
 use Rattle.x25_given.specs.Given.{PlainGiven}
 use Rattle.x25_layer.specs.Calls.{LayerRequest}
 use Rattle.x25_station.specs.{declared.config.Cfg.{Cfg}, Config.{Settings, settings_from}, Step.{Step, Outcome, Did, Refused, follows, requests, gives}}
@@ -42,14 +43,16 @@ record Asked (cfg : Cfg) (end : Role) (w u : World) (v : Sessions) : Type 0 wher
   pub free : comes ≡ true → AreFree w.near.link w.far.link
   pub alike : Alike u (all_act (link_of cfg end) (asked_of comes handed) v)
 
-module _ (laws : SessionLaws) (cfg : Cfg) (fine : IsConfigured cfg) (end : Role) (w : World) (h : SessionsJoined both_down cfg end w) (v : Sessions) (like : Alike w v) where
+module _ (laws : SessionLaws) (cfg : Cfg) (fine : IsConfigured cfg) (end : Role) (w : World) (h : SessionsJoined both_down cfg end w) (v : Sessions)
+    (like : Alike w v) where
   abbrev c : Settings
   c = settings_from end cfg
 
   none_asked : Asked cfg end w w v
   none_asked = record { comes = false; handed = []; free = λ is. true_false (sym is); alike = like }
 
-  puts_alike : {v₁ : Sessions} {session : ℕ} {t : Side} {lifted : List (List ℕ)} {left : List links.Entry} {met : List Meeting} {step : Step} → SessionGoes (link_of cfg end) v v₁ session t.near t.out [] lifted left met → (p : HasPut c t step)
+  puts_alike : {v₁ : Sessions} {session : ℕ} {t : Side} {lifted : List (List ℕ)} {left : List links.Entry} {met : List Meeting} {step : Step}
+      → SessionGoes (link_of cfg end) v v₁ session t.near t.out [] lifted left met → (p : HasPut c t step)
       → Alike (after_step c w (octets_of left) step) (all_act (link_of cfg end) (puts_of p.handed) v₁)
   puts_alike {v₁} {session} {t} {lifted} {left} {met} {step} g p =
       let r = puts_go c v v₁ session p.packets p.handed t step lifted left met g p.put in
@@ -70,10 +73,12 @@ module _ (laws : SessionLaws) (cfg : Cfg) (fine : IsConfigured cfg) (end : Role)
           let v₁ = links.acts (link_of cfg end) line.Deliver v in
           let f = front_entry octets back v.back (like.back ∙ is) in
           let next = follows c w.near.layer k in
-          let goes : StepGoes (link_of cfg end) v v₁ k f.others v₁.met = subst (λ os. StepGoes (link_of cfg end) v v₁ (take_step (link_of cfg end) os w.near.link) f.others v₁.met) f.octets
+          let goes : StepGoes (link_of cfg end) v v₁ k f.others v₁.met =
+          subst (λ os. StepGoes (link_of cfg end) v v₁ (take_step (link_of cfg end) os w.near.link) f.others v₁.met) f.octets
           (deliver_goes (link_of cfg end) v w.near.link f.entry f.others like.near f.is) in
           let p = taken_puts laws cfg fine end w h (λ before e same. absurd (down_at_none before e same)) octets back is free.0 in
-          subst (λ b. Asked cfg end w (after_step c w back (follows c w.near.layer (if b then abandon_step (link_of cfg end) w.near.link else k))) v) (sym free.0)
+          subst (λ b. Asked cfg end w (after_step c w back (follows c w.near.layer (if b then abandon_step (link_of cfg end) w.near.link else k))) v)
+          (sym free.0)
           (record {
             comes = true;
             handed = p.handed;
@@ -97,7 +102,8 @@ module _ (laws : SessionLaws) (cfg : Cfg) (fine : IsConfigured cfg) (end : Role)
       by (Refused e) is = none_asked
       by (Did step) is = puts_asked (request_puts laws cfg fine end w h request octets step is)
 
-  given_asked : (g : PlainGiven) (request : LayerRequest) → GivesOctets g → RequestsOctets request → Asked cfg end w (after w (of_station c w (gives c w.near g request))) v
+  given_asked : (g : PlainGiven) (request : LayerRequest) → GivesOctets g → RequestsOctets request
+      → Asked cfg end w (after w (of_station c w (gives c w.near g request))) v
   given_asked g request of_given octets = by (gives c w.near g request) refl
     where
       by : (o : Outcome) → gives c w.near g request ≡ o → Asked cfg end w (after w (of_station c w o)) v
@@ -106,8 +112,10 @@ module _ (laws : SessionLaws) (cfg : Cfg) (fine : IsConfigured cfg) (end : Role)
 
   near_asked : (act : Act) → IsReceiptOrRequest act → ActsInOctets act → ActsFreely c w.near w.far.link w.back act → Asked cfg end w (after w (acts c w act)) v
   near_asked Receives are octets free = came_asked free
-  near_asked (Commands (command.Requests request)) are octets free = request_asked (command.said_by cfg.say_sizes w.near.layer request) (said_octets cfg.say_sizes w.near.layer request octets)
-  near_asked (Commands (command.RequestsWith given request)) are octets free = given_asked given (command.said_by cfg.say_sizes w.near.layer request) octets.0 (said_octets cfg.say_sizes w.near.layer request octets.1)
+  near_asked (Commands (command.Requests request)) are octets free =
+      request_asked (command.said_by cfg.say_sizes w.near.layer request) (said_octets cfg.say_sizes w.near.layer request octets)
+  near_asked (Commands (command.RequestsWith given request)) are octets free =
+      given_asked given (command.said_by cfg.say_sizes w.near.layer request) octets.0 (said_octets cfg.say_sizes w.near.layer request octets.1)
   near_asked act are octets free = absurd are
 
 -- ---- at either end
@@ -128,7 +136,8 @@ record EventAsked (cfg : Cfg) (at : Role) (w u : World) (v : Sessions) : Type 0 
   pub free : comes ≡ true → AreFree w.near.link w.far.link
   pub alike : Alike u (links.run (c_of cfg) (d_of cfg) (all_at at (asked_of comes handed)) v)
 
-event_asked : (laws : SessionLaws) (cfg : Cfg) → IsConfigured cfg → (at : Role) (act : Act) (w : World) → SessionsJoined both_down cfg Dte w → (v : Sessions) → Alike w v → IsReceiptOrRequest act → ActsInOctets act → FreeAt cfg at act w
+event_asked : (laws : SessionLaws) (cfg : Cfg) → IsConfigured cfg → (at : Role) (act : Act) (w : World) → SessionsJoined both_down cfg Dte w → (v : Sessions)
+    → Alike w v → IsReceiptOrRequest act → ActsInOctets act → FreeAt cfg at act w
     → EventAsked cfg at w (after w (happens cfg w (record { at = at; act = act }))) v
 event_asked laws cfg fine Dte act w h v like are octets free =
     let a = near_asked laws cfg fine Dte w h v like act are octets free in
@@ -136,7 +145,8 @@ event_asked laws cfg fine Dte act w h v like are octets free =
       comes = a.comes;
       handed = a.handed;
       free = a.free;
-      alike = subst (Alike (after w (happens cfg w (record { at = Dte; act = act })))) (sym (near_run (c_of cfg) (d_of cfg) (asked_of a.comes a.handed) v)) a.alike;
+      alike = subst (Alike (after w (happens cfg w (record { at = Dte; act = act })))) (sym (near_run (c_of cfg) (d_of cfg) (asked_of a.comes a.handed) v))
+          a.alike;
     }
 event_asked laws cfg fine Dce act w h v like are octets free =
     let a = near_asked laws cfg fine Dce (mirrored w) (sessions_swapped h) (links.swapped v) (turned like) act are octets free in
@@ -146,31 +156,37 @@ event_asked laws cfg fine Dce act w h v like are octets free =
       comes = a.comes;
       handed = a.handed;
       free = λ is. free_turned w.far.link w.near.link (a.free is);
-      alike = rw (back_after w o) (subst (Alike (mirrored (after (mirrored w) o))) (sym (far_run (c_of cfg) (d_of cfg) (asked_of a.comes a.handed) v)) (turned a.alike));
+      alike = rw (back_after w o) (subst (Alike (mirrored (after (mirrored w) o))) (sym (far_run (c_of cfg) (d_of cfg) (asked_of a.comes a.handed) v))
+          (turned a.alike));
     }
 
 -- ---- events are deliveries and packets that are put
 
-puts_are : (at : Role) (packets : List (List ℕ)) (rest : List line.LinkEvent) → Each IsDeliveryOrPut rest → Each IsDeliveryOrPut (all_at at (puts_of packets) ++ rest)
+puts_are : (at : Role) (packets : List (List ℕ)) (rest : List line.LinkEvent) → Each IsDeliveryOrPut rest
+    → Each IsDeliveryOrPut (all_at at (puts_of packets) ++ rest)
 puts_are at [] rest h = h
 puts_are Dte (p ∷ packets) rest h = (tt, puts_are Dte packets rest h)
 puts_are Dce (p ∷ packets) rest h = (tt, puts_are Dce packets rest h)
 
-asked_are : (at : Role) (comes : Bool) (packets : List (List ℕ)) (rest : List line.LinkEvent) → Each IsDeliveryOrPut rest → Each IsDeliveryOrPut (all_at at (asked_of comes packets) ++ rest)
+asked_are : (at : Role) (comes : Bool) (packets : List (List ℕ)) (rest : List line.LinkEvent) → Each IsDeliveryOrPut rest
+    → Each IsDeliveryOrPut (all_at at (asked_of comes packets) ++ rest)
 asked_are at false packets rest h = puts_are at packets rest h
 asked_are Dte true packets rest h = (tt, puts_are Dte packets rest h)
 asked_are Dce true packets rest h = (tt, puts_are Dce packets rest h)
 
 -- packets are put whatever waits
 
-puts_free : (c d : LinkSettings) (at : Role) (packets : List (List ℕ)) (rest : List line.LinkEvent) (v : Sessions) → SessionsFreeThroughout c d rest (links.run c d (all_at at (puts_of packets)) v)
+puts_free : (c d : LinkSettings) (at : Role) (packets : List (List ℕ)) (rest : List line.LinkEvent) (v : Sessions)
+    → SessionsFreeThroughout c d rest (links.run c d (all_at at (puts_of packets)) v)
     → SessionsFreeThroughout c d (all_at at (puts_of packets) ++ rest) v
 puts_free c d at [] rest v h = h
 puts_free c d Dte (p ∷ packets) rest v h = (tt, puts_free c d Dte packets rest _ h)
 puts_free c d Dce (p ∷ packets) rest v h = (tt, puts_free c d Dce packets rest _ h)
 
-asked_free : (c d : LinkSettings) (at : Role) (comes : Bool) (packets : List (List ℕ)) (rest : List line.LinkEvent) (v : Sessions) → (comes ≡ true → AreFree v.near.station v.far.station)
-    → SessionsFreeThroughout c d rest (links.run c d (all_at at (asked_of comes packets)) v) → SessionsFreeThroughout c d (all_at at (asked_of comes packets) ++ rest) v
+asked_free : (c d : LinkSettings) (at : Role) (comes : Bool) (packets : List (List ℕ)) (rest : List line.LinkEvent) (v : Sessions)
+    → (comes ≡ true → AreFree v.near.station v.far.station)
+    → SessionsFreeThroughout c d rest (links.run c d (all_at at (asked_of comes packets)) v)
+    → SessionsFreeThroughout c d (all_at at (asked_of comes packets) ++ rest) v
 asked_free c d at false packets rest v free h = puts_free c d at packets rest v h
 asked_free c d Dte true packets rest v free h = (free refl, puts_free c d Dte packets rest _ h)
 asked_free c d Dce true packets rest v free h = (free refl, puts_free c d Dce packets rest _ h)
@@ -185,7 +201,8 @@ record AllAsked (cfg : Cfg) (u : World) (v : Sessions) : Type 0 where
   pub free : SessionsFreeThroughout (c_of cfg) (d_of cfg) asked v
   pub alike : Alike u (links.run (c_of cfg) (d_of cfg) asked v)
 
-all_asked : (laws : SessionLaws) {cfg : Cfg} → IsConfigured cfg → (events : List Event) {w : World} → SessionsJoined both_down cfg Dte w → {v : Sessions} → Alike w v → AreReceiptsAndRequests events → AreInOctets events → FreeThroughout cfg events w
+all_asked : (laws : SessionLaws) {cfg : Cfg} → IsConfigured cfg → (events : List Event) {w : World} → SessionsJoined both_down cfg Dte w → {v : Sessions}
+    → Alike w v → AreReceiptsAndRequests events → AreInOctets events → FreeThroughout cfg events w
     → AllAsked cfg (run cfg events w) v
 all_asked laws fine [] {w} h {v} like are octets free = record { asked = []; are = tt; free = free_alike like free; alike = like }
 all_asked laws {cfg} fine (e ∷ events) {w} h {v} like are octets free =
@@ -221,8 +238,10 @@ asked_timely c d (line.Far act ∷ es) v are = (timely_act d c act (links.swappe
 
 abbrev HealsOnce : LinkSettings → LinkSettings → Sessions → Type 0
 HealsOnce c d x =
-    x.out ≡ [] → x.back ≡ [] → LinkMayHeal c.retries x.near.station → LinkMayHeal d.retries x.far.station → (more : List line.LinkEvent) → Each IsDeliveryOrPut more
-    → (let fired = links.run c d (line.Near line.T1 ∷ line.Far line.T1 ∷ []) x in SessionsFreeThroughout c d more fired → (let v = links.run c d more fired in v.out ≡ [] → v.back ≡ [] → SessionsHaveArrived x v))
+    x.out ≡ [] → x.back ≡ [] → LinkMayHeal c.retries x.near.station → LinkMayHeal d.retries x.far.station → (more : List line.LinkEvent)
+    → Each IsDeliveryOrPut more
+    → (let fired = links.run c d (line.Near line.T1 ∷ line.Far line.T1 ∷ []) x in SessionsFreeThroughout c d more fired
+    → (let v = links.run c d more fired in v.out ≡ [] → v.back ≡ [] → SessionsHaveArrived x v))
 
 module _ (laws : SessionLaws) (keeps : ConnectKeeps) where
   pub heals_with_puts : PutsHealSessions → Throughout HealsWithPuts
@@ -257,7 +276,8 @@ module _ (laws : SessionLaws) (keeps : ConnectKeeps) where
 
       -- both fire
       fire : (at : Role) (x : World) → SessionsJoined both_down cfg Dte x → SessionsJoined both_down cfg Dte (after x (happens cfg x (firing at)))
-      fire at x joined = (event_joined laws cfg configured at Fires x (λ before e same. absurd (down_at_none before e same)) tt (λ off. not_set_up off) joined).joined
+      fire at x joined = (event_joined laws cfg configured at Fires x (λ before e same. absurd (down_at_none before e same)) tt (λ off. not_set_up off)
+          joined).joined
 
       both : World
       both = run cfg (firing Dte ∷ firing Dce ∷ []) w
@@ -266,7 +286,8 @@ module _ (laws : SessionLaws) (keeps : ConnectKeeps) where
       fired = links.run (c_of cfg) (d_of cfg) (fired_then []) h.links
 
       all : AllAsked cfg (run cfg more both) fired
-      all = all_asked laws configured more (fire Dce (after w (happens cfg w (firing Dte))) (fire Dte w h)) (both_alike cfg (joined_alike h) near_off far_off) are more_octets free
+      all = all_asked laws configured more (fire Dce (after w (happens cfg w (firing Dte))) (fire Dte w h)) (both_alike cfg (joined_alike h) near_off far_off)
+          are more_octets free
 
       u : World
       u = run cfg more both

@@ -1,5 +1,6 @@
 -- Healing as a whole: firings, and rounds of pulls; all arrives.
-use Rattle.std.proofs.Common.{◌≡◌, ℕ, zero, suc, ◌+◌, ◌-◌, ◌*◌, ◌≤◌, ◌<◌, Bool, true, false, List, [], ◌∷◌, ◌++◌, length, ◌&&◌, inl, Option, Some, None, refl, sym, ap, ◌∙◌, subst, arith}
+use Rattle.std.proofs.Common.{◌≡◌, ℕ, zero, suc, ◌+◌, ◌-◌, ◌*◌, ◌≤◌, ◌<◌, Bool, true, false, List, [], ◌∷◌, ◌++◌, length, ◌&&◌, inl, Option, Some, None, refl}
+use Rattle.std.proofs.Common.{sym, ap, ◌∙◌, subst, arith}
 use Rattle.std.proofs.lemmas.Bool.{and_parts, not-true}
 use Rattle.std.specs.Prelude.{is_none, is_some, not, option_map}
 use Rattle.x25_bits.specs.{declared.role.Role.{Role}, declared.role.Role.TheVariants.{Dte, Dce}}
@@ -10,7 +11,9 @@ use Rattle.x25_layer.specs.{Calls.{PullsAll}, laws.WaitLaw.{PullsNone}}
 use Rattle.x25_world.specs.World.{World, AtEnd, mirrored, WorldOutcome, Happened, Declined, of_station, swapped_back, Event, happens, after, run}
 use Rattle.x25_world.specs.{laws.Claims.{AreInOctets, IsBeginning}, laws.SessionClaims.{Throughout}}
 use Rattle.x25_world.specs.laws.WaitClaims.{pull_at, AllWaitForUsers, HasNoneToPull, PullsLeaveNone, UnpulledWaitForUsers}
-use Rattle.x25_world.specs.Healing.{receipt, all_received, firing, next_end, arrivals, deliveries, one_if, if_accepted, behind, both_tried, pull_round, unless_empty, pull_rounds, fire_and_pull, healing, received_by, received_in, IsDrained, AreReceiptsAndRequests, FreeThroughout, BothMayHeal, HaveArrived, HealsWithPuts, RestShows, ArrivesByHealing, AllArrives, RestShowsAll}
+use Rattle.x25_world.specs.Healing.{receipt, all_received, firing, next_end, arrivals, deliveries, one_if, if_accepted, behind, both_tried, pull_round}
+use Rattle.x25_world.specs.Healing.{unless_empty, pull_rounds, fire_and_pull, healing, received_by, received_in, IsDrained, AreReceiptsAndRequests}
+use Rattle.x25_world.specs.Healing.{FreeThroughout, BothMayHeal, HaveArrived, HealsWithPuts, RestShows, ArrivesByHealing, AllArrives, RestShowsAll}
 use Rattle.x25_world.specs.{code.ShownWorld.{ShownWorld}, code.FitsWorld.{FitsRun, Leaves}, code.FitsHealing.{most_times, TellingWorld, GoesBy}}
 use Rattle.x25_world.proofs.{WorldLemmas.{run_append, accepted_append, octets_append}, HealingSchedule.{count_append, tried_is, Begun, goes_on, rest_is}}
 
@@ -35,7 +38,8 @@ module _ (cfg : Cfg) (most : ℕ) where
   unfolding pull_rounds
   no_rounds n w e = ap (λ m. pull_rounds cfg most m w) e
 
-  pub round_more : (n m : ℕ) (w : World) → n ≡ suc m → pull_rounds cfg most n w ≡ pull_round cfg most w ++ left_behind cfg most m (run cfg (pull_round cfg most w) w)
+  pub round_more : (n m : ℕ) (w : World) → n ≡ suc m → pull_rounds cfg most n w ≡ pull_round cfg most w
+      ++ left_behind cfg most m (run cfg (pull_round cfg most w) w)
   unfolding pull_rounds
   round_more n m w e = ap (λ k. pull_rounds cfg most k w) e
 
@@ -54,13 +58,16 @@ module _ (cfg : Cfg) (most : ℕ) where
   line_filled n w e = by_frames (pull_rounds cfg most n) w (next_end w.out w.back) e
 
 module _ (cfg : Cfg) (most : ℕ) (events : List Event) (w : World) (before : List AtEnd) (all done count : ℕ) where
-  abbrev pub next_round : (v : TellingWorld) → done < all → Begun cfg events w v before (pull_rounds cfg most (all - done)) count → Begun cfg events w v before (behind cfg (pull_round cfg most) (left_behind cfg most (all - (done + 1)))) count
+  abbrev pub next_round : (v : TellingWorld) → done < all → Begun cfg events w v before (pull_rounds cfg most (all - done)) count
+      → Begun cfg events w v before (behind cfg (pull_round cfg most) (left_behind cfg most (all - (done + 1)))) count
   next_round v low h =
       rest_is h (behind cfg (pull_round cfg most) (left_behind cfg most (all - (done + 1))))
       (round_more cfg most (all - done) (all - (done + 1)) (run cfg h.done w) (omega (arith, low)))
 
-  pub round_done : {u : TellingWorld} (v : TellingWorld) (more : ℕ) (low : done < all) (h : Begun cfg events w u before (pull_rounds cfg most (all - done)) count)
-      → (let x = run cfg h.done w in GoesBy cfg (pull_round cfg most x) x v before → more ≡ received_in (pull_round cfg most x) → Begun cfg events w v before (left_behind cfg most (all - (done + 1))) (count + more))
+  pub round_done : {u : TellingWorld} (v : TellingWorld) (more : ℕ) (low : done < all)
+      (h : Begun cfg events w u before (pull_rounds cfg most (all - done)) count)
+      → (let x = run cfg h.done w in GoesBy cfg (pull_round cfg most x) x v before → more ≡ received_in (pull_round cfg most x)
+      → Begun cfg events w v before (left_behind cfg most (all - (done + 1))) (count + more))
   round_done {u} v more low h goes counted = goes_on v (pull_round cfg most) (left_behind cfg most (all - (done + 1))) (next_round u low h) more goes counted
 
 -- ---- how many arrive
@@ -76,7 +83,8 @@ count_tried cfg e w none = by (happens cfg w e)
     by (Happened next) = omega (arith, none)
     by (Declined x) = refl
 
-pub count_both : (cfg : Cfg) (first second : Event) (w : World) → received_by first.act ≡ 0 → received_by second.act ≡ 0 → received_in (both_tried cfg first second w) ≡ 0
+pub count_both : (cfg : Cfg) (first second : Event) (w : World) → received_by first.act ≡ 0 → received_by second.act ≡ 0
+    → received_in (both_tried cfg first second w) ≡ 0
 count_both cfg first second w none none_there =
     let x = run cfg (if_accepted cfg first w) w in
     omega (arith, count_append (if_accepted cfg first w) (if_accepted cfg second x), count_tried cfg first w none, count_tried cfg second x none_there)
@@ -84,26 +92,43 @@ count_both cfg first second w none none_there =
 pub count_round : (cfg : Cfg) (most : ℕ) (w : World) (count : ℕ) → count ≡ length (arrivals cfg most w) → count ≡ received_in (pull_round cfg most w)
 count_round cfg most w count counted =
     let x = run cfg (deliveries cfg most w) w in
-    omega (arith, counted, count_append (deliveries cfg most w) (both_tried cfg (pull_at Dte) (pull_at Dce) x), count_received (arrivals cfg most w), count_both cfg (pull_at Dte) (pull_at Dce) x refl refl)
+    omega (
+      arith,
+      counted,
+      count_append (deliveries cfg most w) (both_tried cfg (pull_at Dte) (pull_at Dce) x),
+      count_received (arrivals cfg most w),
+      count_both cfg (pull_at Dte) (pull_at Dce) x refl refl,
+    )
 
 -- both firings have been tried
 abbrev pub fired_at : Cfg → World → World
 fired_at cfg v = run cfg (both_tried cfg (firing Dte) (firing Dce) v) v
 
 pub counts_both : (cfg : Cfg) (most : ℕ) (w : World) (before behind same : ℕ) → before ≡ length (arrivals cfg most w)
-    → behind ≡ received_in (pull_rounds cfg most most (fired_at cfg (run cfg (deliveries cfg most w) w))) → same ≡ before → same + behind ≡ received_in (healing cfg most w)
+    → behind ≡ received_in (pull_rounds cfg most most (fired_at cfg (run cfg (deliveries cfg most w) w))) → same ≡ before → same + behind
+    ≡ received_in (healing cfg most w)
 counts_both cfg most w before behind same first second kept =
     let v = run cfg (deliveries cfg most w) w in
     let fired = both_tried cfg (firing Dte) (firing Dce) v in
     let x = fired_at cfg v in
-    omega (arith, first, second, kept, count_append (deliveries cfg most w) (fire_and_pull cfg most v), count_received (arrivals cfg most w), count_append fired (pull_rounds cfg most most x), count_both cfg (firing Dte) (firing Dce) v refl refl)
+    omega (
+      arith,
+      first,
+      second,
+      kept,
+      count_append (deliveries cfg most w) (fire_and_pull cfg most v),
+      count_received (arrivals cfg most w),
+      count_append fired (pull_rounds cfg most most x),
+      count_both cfg (firing Dte) (firing Dce) v refl refl,
+    )
 
 -- a round more has brought at most so many more
 pub few_more : (count rounds more : ℕ) → more ≤ most_times → count ≤ rounds * most_times → count + more ≤ (rounds + 1) * most_times
 few_more count rounds more few h = omega (arith, few, h)
 
 -- and at least one, where a frame was on the line
-pub rounds_more : (at : Option Role) (count rounds more : ℕ) → rounds ≤ count + 1 → (1 ≤ rounds → is_none at ≡ false) → (more ≡ 0 → at ≡ None) → rounds + 1 ≤ count + more + 1
+pub rounds_more : (at : Option Role) (count rounds more : ℕ) → rounds ≤ count + 1 → (1 ≤ rounds → is_none at ≡ false) → (more ≡ 0 → at ≡ None) → rounds + 1
+    ≤ count + more + 1
 rounds_more at count zero more low filled none = omega arith
 rounds_more at count (suc n) zero low filled none = absurd (some at (filled (omega arith)) (none refl))
   where
@@ -136,7 +161,8 @@ module _ (P : List Event → Type 0) (none : P []) (append : (xs ys : List Event
     round_is_so : (cfg : Cfg) (most : ℕ) (w : World) → P (pull_round cfg most w)
     round_is_so cfg most w =
         let x = run cfg (deliveries cfg most w) w in
-        append (deliveries cfg most w) (both_tried cfg (pull_at Dte) (pull_at Dce) x) (received_are receipts (arrivals cfg most w)) (both_are_so cfg (pull_at Dte) (pull_at Dce) x (pulls Dte) (pulls Dce))
+        append (deliveries cfg most w) (both_tried cfg (pull_at Dte) (pull_at Dce) x) (received_are receipts (arrivals cfg most w))
+        (both_are_so cfg (pull_at Dte) (pull_at Dce) x (pulls Dte) (pulls Dce))
 
     unless_is_so : (rest : World → List Event) → ((w : World) → P (rest w)) → (w : World) (at : Option Role) → P (unless_empty rest w at)
     unless_is_so rest are w None = none
@@ -147,7 +173,8 @@ module _ (P : List Event → Type 0) (none : P []) (append : (xs ys : List Event
     rounds_are_so cfg most zero w = none
     rounds_are_so cfg most (suc n) w =
         let x = run cfg (pull_round cfg most w) w in
-        append (pull_round cfg most w) (left_behind cfg most n x) (round_is_so cfg most w) (unless_is_so (pull_rounds cfg most n) (rounds_are_so cfg most n) x (next_end x.out x.back))
+        append (pull_round cfg most w) (left_behind cfg most n x) (round_is_so cfg most w)
+        (unless_is_so (pull_rounds cfg most n) (rounds_are_so cfg most n) x (next_end x.out x.back))
 
 rounds_octets : (cfg : Cfg) (most : ℕ) (n : ℕ) (w : World) → AreInOctets (pull_rounds cfg most n w)
 rounds_octets = rounds_are_so AreInOctets tt octets_append (λ at. (tt, tt)) (λ at. (tt, tt))
@@ -161,9 +188,11 @@ healing_octets cfg most w =
     let fired = both_tried cfg (firing Dte) (firing Dce) v in
     let x = run cfg fired v in
     octets_append (deliveries cfg most w) (fire_and_pull cfg most v) (received_octets (arrivals cfg most w))
-    (octets_append fired (pull_rounds cfg most most x) (both_are_so AreInOctets tt octets_append cfg (firing Dte) (firing Dce) v (tt, tt) (tt, tt)) (rounds_octets cfg most most x))
+    (octets_append fired (pull_rounds cfg most most x) (both_are_so AreInOctets tt octets_append cfg (firing Dte) (firing Dce) v (tt, tt) (tt, tt))
+    (rounds_octets cfg most most x))
 
-pub holds_healed : (Holds : Cfg → World → World → Type 0) {old : ShownWorld} (new : TellingWorld) {cfg : Cfg} (most : ℕ) {from : World} {past : List Event} (before : List AtEnd)
+pub holds_healed : (Holds : Cfg → World → World → Type 0) {old : ShownWorld} (new : TellingWorld) {cfg : Cfg} (most : ℕ) {from : World} {past : List Event}
+    (before : List AtEnd)
     → FitsRun cfg from old past
     → (let w = run cfg past from in GoesBy cfg (healing cfg most w) w new before
     → (AreInOctets (past ++ healing cfg most w) → Holds cfg w (run cfg (past ++ healing cfg most w) from))
@@ -197,10 +226,12 @@ pulled_both cfg w =
     let x = after w (happens cfg w (pull_at Dte)) in
     after x (happens cfg x (pull_at Dce))
 
-both_are : (cfg : Cfg) (first second : Event) (w : World) → (let x = after w (happens cfg w first) in run cfg (both_tried cfg first second w) w ≡ after x (happens cfg x second))
+both_are : (cfg : Cfg) (first second : Event) (w : World)
+    → (let x = after w (happens cfg w first) in run cfg (both_tried cfg first second w) w ≡ after x (happens cfg x second))
 both_are cfg first second w =
     let y = run cfg (if_accepted cfg first w) w in
-    run_append cfg (if_accepted cfg first w) (if_accepted cfg second y) w ∙ tried_is cfg second y ∙ ap (λ x. after x (happens cfg x second)) (tried_is cfg first w)
+    run_append cfg (if_accepted cfg first w) (if_accepted cfg second y) w ∙ tried_is cfg second y
+    ∙ ap (λ x. after x (happens cfg x second)) (tried_is cfg first w)
 
 -- a world of which the last two events tried were the pulls
 record ArePulled (cfg : Cfg) (u : World) : Type 0 where
@@ -210,9 +241,14 @@ record ArePulled (cfg : Cfg) (u : World) : Type 0 where
 round_pulls : (cfg : Cfg) (most : ℕ) (w : World) → ArePulled cfg (run cfg (pull_round cfg most w) w)
 round_pulls cfg most w =
     let x = run cfg (deliveries cfg most w) w in
-    record { from = x; is = run_append cfg (deliveries cfg most w) (both_tried cfg (pull_at Dte) (pull_at Dce) x) w ∙ both_are cfg (pull_at Dte) (pull_at Dce) x }
+    record {
+      from = x;
+      is = run_append cfg (deliveries cfg most w) (both_tried cfg (pull_at Dte) (pull_at Dce) x) w
+          ∙ both_are cfg (pull_at Dte) (pull_at Dce) x;
+    }
 
-unless_pulls : {cfg : Cfg} (rest : World → List Event) → ((w : World) → ArePulled cfg w → ArePulled cfg (run cfg (rest w) w)) → {w : World} (at : Option Role) → ArePulled cfg w → ArePulled cfg (run cfg (unless_empty rest w at) w)
+unless_pulls : {cfg : Cfg} (rest : World → List Event) → ((w : World) → ArePulled cfg w → ArePulled cfg (run cfg (rest w) w)) → {w : World} (at : Option Role)
+    → ArePulled cfg w → ArePulled cfg (run cfg (unless_empty rest w at) w)
 unless_pulls rest pulls None are = are
 unless_pulls rest pulls {w} (Some at) are = pulls w are
 
@@ -221,13 +257,15 @@ unfolding pull_rounds
 rounds_pull cfg most zero w are = are
 rounds_pull cfg most (suc n) w are =
     let x = run cfg (pull_round cfg most w) w in
-    subst (ArePulled cfg) (sym (run_append cfg (pull_round cfg most w) (left_behind cfg most n x) w)) (unless_pulls (pull_rounds cfg most n) (rounds_pull cfg most n) (next_end x.out x.back) (round_pulls cfg most w))
+    subst (ArePulled cfg) (sym (run_append cfg (pull_round cfg most w) (left_behind cfg most n x) w))
+    (unless_pulls (pull_rounds cfg most n) (rounds_pull cfg most n) (next_end x.out x.back) (round_pulls cfg most w))
 
 all_pull : (cfg : Cfg) (most : ℕ) (n m : ℕ) (w : World) → n ≡ suc m → ArePulled cfg (run cfg (pull_rounds cfg most n w) w)
 all_pull cfg most n m w is =
     let x = run cfg (pull_round cfg most w) w in
     subst (λ es. ArePulled cfg (run cfg es w)) (sym (round_more cfg most n m w is))
-    (subst (ArePulled cfg) (sym (run_append cfg (pull_round cfg most w) (left_behind cfg most m x) w)) (unless_pulls (pull_rounds cfg most m) (rounds_pull cfg most m) (next_end x.out x.back) (round_pulls cfg most w)))
+    (subst (ArePulled cfg) (sym (run_append cfg (pull_round cfg most w) (left_behind cfg most m x) w))
+    (unless_pulls (pull_rounds cfg most m) (rounds_pull cfg most m) (next_end x.out x.back) (round_pulls cfg most w)))
 
 -- the pull of the DCE leaves the DTE as it was
 keeps_dte : (cfg : Cfg) (w : World) → (after w (happens cfg w (pull_at Dce))).near ≡ w.near
@@ -253,19 +291,23 @@ both_rest : (s t : Station) → IsAtRest s.link → IsAtRest t.link → (is_at_r
 both_rest s t here there = rw (here.idle, here.no_timer, there.idle, there.no_timer) refl
 
 -- behind both pulls, where both links are idle, a pull gives none at either end
-both_left : PullsLeaveNone → (cfg : Cfg) (w : World) → (let u = pulled_both cfg w in is_idle u.near.link ≡ true → is_idle u.far.link ≡ true → HasNoneToPull cfg u Dte × HasNoneToPull cfg u Dce)
+both_left : PullsLeaveNone → (cfg : Cfg) (w : World)
+    → (let u = pulled_both cfg w in is_idle u.near.link ≡ true → is_idle u.far.link ≡ true → HasNoneToPull cfg u Dte × HasNoneToPull cfg u Dce)
 both_left law cfg w idle idle_there =
     let x = after w (happens cfg w (pull_at Dte)) in
     let same = keeps_dte cfg x in (
-      subst (λ s. s.layer.restarting ≡ false → PullsNone (layer_settings (settings_from Dte cfg)) s.layer) (sym same) (law cfg w Dte (ap (λ s. is_idle s.link) (sym same) ∙ idle)),
+      subst (λ s. s.layer.restarting ≡ false → PullsNone (layer_settings (settings_from Dte cfg)) s.layer) (sym same)
+          (law cfg w Dte (ap (λ s. is_idle s.link) (sym same) ∙ idle)),
       law cfg x Dce idle_there,
     )
 
-pulled_left : PullsLeaveNone → {cfg : Cfg} {u : World} → ArePulled cfg u → is_idle u.near.link ≡ true → is_idle u.far.link ≡ true → HasNoneToPull cfg u Dte × HasNoneToPull cfg u Dce
+pulled_left : PullsLeaveNone → {cfg : Cfg} {u : World} → ArePulled cfg u → is_idle u.near.link ≡ true → is_idle u.far.link ≡ true → HasNoneToPull cfg u Dte
+    × HasNoneToPull cfg u Dce
 pulled_left law {cfg} are =
     rw are.is (both_left law cfg are.from)
 
-module _ (left : PullsLeaveNone) (unpulled : Throughout UnpulledWaitForUsers) (cfg : Cfg) (fine : config_refusal cfg ≡ None) (from : World) (begins : IsBeginning cfg from) (past : List Event) (octets : AreInOctets past) (most : ℕ) (some : 0 < most) where
+module _ (left : PullsLeaveNone) (unpulled : Throughout UnpulledWaitForUsers) (cfg : Cfg) (fine : config_refusal cfg ≡ None) (from : World)
+    (begins : IsBeginning cfg from) (past : List Event) (octets : AreInOctets past) (most : ℕ) (some : 0 < most) where
   abbrev w : World
   w = run cfg past from
 
@@ -305,7 +347,8 @@ module _ (left : PullsLeaveNone) (unpulled : Throughout UnpulledWaitForUsers) (c
   pub brings_all : Throughout HealsWithPuts → ArrivesByHealing cfg most w (run cfg (healing cfg most w) w)
   brings_all law may free drained =
       let links = have_arrived law may free (subst IsDrained ends_so drained) in
-      subst (AllArrives cfg v) (sym ends_so) (record { at_rest = both_rest u.near u.far links.dte links.dce; links = links; waits = wait_alone links.dte links.dce })
+      subst (AllArrives cfg v) (sym ends_so)
+      (record { at_rest = both_rest u.near u.far links.dte links.dce; links = links; waits = wait_alone links.dte links.dce })
 
   all_has_come : Throughout RestShows → RestShowsAll cfg u
   all_has_come law rest =

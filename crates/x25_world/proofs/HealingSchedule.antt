@@ -1,5 +1,6 @@
 -- The schedule of healing, event by event: lists that go on, an event that may be refused, deliveries.
-use Rattle.std.proofs.Common.{◌≡◌, ℕ, zero, suc, ◌+◌, ◌-◌, ◌≤◌, ◌<◌, ◌⊎◌, inl, inr, ◌≢◌, List, [], ◌∷◌, ◌++◌, length, map, Some, None, Result, Ok, Err, OnOk, IfErr, refl, sym, ap, ap₂, ◌∙◌, subst, arith, append_assoc, append-nil, length-append}
+use Rattle.std.proofs.Common.{◌≡◌, ℕ, zero, suc, ◌+◌, ◌-◌, ◌≤◌, ◌<◌, ◌⊎◌, inl, inr, ◌≢◌, List, [], ◌∷◌, ◌++◌, length, map, Some, None, Result, Ok, Err, OnOk}
+use Rattle.std.proofs.Common.{IfErr, refl, sym, ap, ap₂, ◌∙◌, subst, arith, append_assoc, append-nil, length-append}
 use Rattle.x25_bits.specs.{declared.role.Role.{Role}, declared.role.Role.TheVariants.{Dte, Dce}}
 use Rattle.x25_station.specs.{declared.config.Cfg.{Cfg}, Config.{settings_from}}
 use Rattle.x25_world.specs.World.{World, AtEnd, mirrored, WorldOutcome, Happened, Declined, swapped_back, delivered, Event, happens, refusal_of, after, run}
@@ -13,13 +14,15 @@ use Rattle.x25_world.specs.declared.error.WorldError.TheVariants as error
 -- ---- lists of events
 
 -- one list, and then another
-pub goes_behind : {cfg : Cfg} {xs ys : List Event} {w : World} {u v : TellingWorld} {before : List AtEnd} → GoesBy cfg xs w u before → GoesBy cfg ys (run cfg xs w) v before → GoesBy cfg (xs ++ ys) w v before
+pub goes_behind : {cfg : Cfg} {xs ys : List Event} {w : World} {u v : TellingWorld} {before : List AtEnd} → GoesBy cfg xs w u before
+    → GoesBy cfg ys (run cfg xs w) v before → GoesBy cfg (xs ++ ys) w v before
 goes_behind {cfg} {xs} {ys} {w} f g = record {
   accepted = accepted_append cfg xs ys w f.accepted g.accepted;
   fits = rw (run_append cfg xs ys w) g.fits;
 }
 
-pub stops_first : {cfg : Cfg} {xs : List Event} (ys : List Event) {w : World} {v : TellingWorld} {before : List AtEnd} {e : WorldError} → GoesPartly cfg xs w v before e → GoesPartly cfg (xs ++ ys) w v before e
+pub stops_first : {cfg : Cfg} {xs : List Event} (ys : List Event) {w : World} {v : TellingWorld} {before : List AtEnd} {e : WorldError}
+    → GoesPartly cfg xs w v before e → GoesPartly cfg (xs ++ ys) w v before e
 stops_first ys h = record {
   memory = h.memory;
   done = h.done;
@@ -28,7 +31,8 @@ stops_first ys h = record {
   goes = h.goes;
 }
 
-pub stops_behind : {cfg : Cfg} {xs ys : List Event} {w : World} {u v : TellingWorld} {before : List AtEnd} {e : WorldError} → GoesBy cfg xs w u before → GoesPartly cfg ys (run cfg xs w) v before e → GoesPartly cfg (xs ++ ys) w v before e
+pub stops_behind : {cfg : Cfg} {xs ys : List Event} {w : World} {u v : TellingWorld} {before : List AtEnd} {e : WorldError} → GoesBy cfg xs w u before
+    → GoesPartly cfg ys (run cfg xs w) v before e → GoesPartly cfg (xs ++ ys) w v before e
 stops_behind {cfg} {xs} {w} {u} {v} {before} f h = record {
   memory = h.memory;
   done = xs ++ h.done;
@@ -54,15 +58,18 @@ pub count_append : (xs ys : List Event) → received_in (xs ++ ys) ≡ received_
 count_append [] ys = omega arith
 count_append (x ∷ xs) ys = omega (arith, count_append xs ys)
 
-module _ {cfg : Cfg} {events : List Event} {w : World} {u : TellingWorld} (v : TellingWorld) {before : List AtEnd} (first rest : World → List Event) {count : ℕ} (h : Begun cfg events w u before (behind cfg first rest) count) where
-  pub goes_on : (more : ℕ) → (let x = run cfg h.done w in GoesBy cfg (first x) x v before → more ≡ received_in (first x) → Begun cfg events w v before rest (count + more))
+module _ {cfg : Cfg} {events : List Event} {w : World} {u : TellingWorld} (v : TellingWorld) {before : List AtEnd}
+    (first rest : World → List Event) {count : ℕ} (h : Begun cfg events w u before (behind cfg first rest) count) where
+  pub goes_on : (more : ℕ) → (let x = run cfg h.done w in GoesBy cfg (first x) x v before → more ≡ received_in (first x)
+      → Begun cfg events w v before rest (count + more))
   goes_on more goes counted =
       let x = run cfg h.done w in
       record {
         done = h.done ++ first x;
         goes = goes_behind h.goes goes;
         counted = count_append h.done (first x) ∙ ap₂ (λ n m. n + m) h.counted (sym counted);
-        all = h.all ∙ sym (append_assoc h.done (first x) (rest (run cfg (first x) x))) ∙ ap (λ z. (h.done ++ first x) ++ rest z) (sym (run_append cfg h.done (first x) w));
+        all = h.all ∙ sym (append_assoc h.done (first x) (rest (run cfg (first x) x)))
+            ∙ ap (λ z. (h.done ++ first x) ++ rest z) (sym (run_append cfg h.done (first x) w));
       }
 
   pub stops_in : (e : WorldError) → (let x = run cfg h.done w in GoesPartly cfg (first x) x v before e → GoesPartly cfg events w v before e)
@@ -71,7 +78,8 @@ module _ {cfg : Cfg} {events : List Event} {w : World} {u : TellingWorld} (v : T
       subst (λ es. GoesPartly cfg es w v before e) (sym h.all)
       (stops_behind h.goes (stops_first (rest (run cfg (first x) x)) partly))
 
-module _ {cfg : Cfg} {events : List Event} {w : World} {v : TellingWorld} {before : List AtEnd} {rest : World → List Event} {count : ℕ} (h : Begun cfg events w v before rest count) where
+module _ {cfg : Cfg} {events : List Event} {w : World} {v : TellingWorld} {before : List AtEnd} {rest : World → List Event} {count : ℕ}
+    (h : Begun cfg events w v before rest count) where
   abbrev pub rest_is : (other : World → List Event) → (let x = run cfg h.done w in rest x ≡ other x → Begun cfg events w v before other count)
   rest_is other same = record { done = h.done; goes = h.goes; counted = h.counted; all = h.all ∙ ap (λ es. h.done ++ es) same }
 
@@ -86,7 +94,8 @@ module _ {cfg : Cfg} {events : List Event} {w : World} {v : TellingWorld} {befor
 
 -- ---- an event that is accepted or not
 
-pub accepts_one : {cfg : Cfg} (e : Event) (w : World) {v : TellingWorld} {before : List AtEnd} → Tells cfg v (after w (happens cfg w e)) before → refusal_of (happens cfg w e) ≡ None → GoesBy cfg (if_accepted cfg e w) w v before
+pub accepts_one : {cfg : Cfg} (e : Event) (w : World) {v : TellingWorld} {before : List AtEnd} → Tells cfg v (after w (happens cfg w e)) before
+    → refusal_of (happens cfg w e) ≡ None → GoesBy cfg (if_accepted cfg e w) w v before
 accepts_one {cfg} e w {v} {before} fits accepted = by (happens cfg w e) refl fits accepted
   where
     by : (o : WorldOutcome) → happens cfg w e ≡ o → Tells cfg v (after w o) before → refusal_of o ≡ None → GoesBy cfg (one_if e o) w v before
@@ -96,16 +105,19 @@ accepts_one {cfg} e w {v} {before} fits accepted = by (happens cfg w e) refl fit
     }
     by (Declined x) is fits accepted = absurd (cc)
 
-pub leaves_out : {cfg : Cfg} (e : Event) {w : World} {v : TellingWorld} {before : List AtEnd} {x : WorldError} (r : Result (Unit {0}) WorldError) → OnOk r (x ≢ error.NoMemory) → IsRefusal cfg w e x → Tells cfg v w before
+pub leaves_out : {cfg : Cfg} (e : Event) {w : World} {v : TellingWorld} {before : List AtEnd} {x : WorldError} (r : Result (Unit {0}) WorldError)
+    → OnOk r (x ≢ error.NoMemory) → IsRefusal cfg w e x → Tells cfg v w before
     → OnOk r (GoesBy cfg (if_accepted cfg e w) w v before)
 leaves_out e (Err y) other refused fits = tt
-leaves_out {cfg} e {w} {v} {before} {x} (Ok done) other refused fits = elim refused [ inl ground ↦ declined (happens cfg w e) ground | inr memory ↦ absurd (other memory) ]
+leaves_out {cfg} e {w} {v} {before} {x} (Ok done) other refused fits =
+    elim refused [ inl ground ↦ declined (happens cfg w e) ground | inr memory ↦ absurd (other memory) ]
   where
     declined : (o : WorldOutcome) → refusal_of o ≡ Some x → GoesBy cfg (one_if e o) w v before
     declined (Happened next) is = absurd (cc)
     declined (Declined y) is = record { accepted = tt; fits = fits }
 
-pub stops_now : {cfg : Cfg} (events : List Event) {w : World} {v : TellingWorld} {before : List AtEnd} (r : Result (Unit {0}) WorldError) → IfErr r (λ x. x ≡ error.NoMemory) → Tells cfg v w before → IfErr r (GoesPartly cfg events w v before)
+pub stops_now : {cfg : Cfg} (events : List Event) {w : World} {v : TellingWorld} {before : List AtEnd} (r : Result (Unit {0}) WorldError)
+    → IfErr r (λ x. x ≡ error.NoMemory) → Tells cfg v w before → IfErr r (GoesPartly cfg events w v before)
 stops_now events (Ok done) memory fits = tt
 stops_now events (Err x) memory fits = record { memory = memory; done = []; left = events; all = refl; goes = record { accepted = tt; fits = fits } }
 
@@ -146,7 +158,8 @@ unfolding arrivals
 none_left cfg zero w is = refl
 none_left cfg (suc n) w is = ap (arrivals_from cfg (arrivals cfg n) w) is
 
-one_more : (cfg : Cfg) (n : ℕ) (w : World) (at : Role) → next_end w.out w.back ≡ Some at → arrivals cfg (suc n) w ≡ at ∷ arrivals cfg n (after w (happens cfg w (receipt at)))
+one_more : (cfg : Cfg) (n : ℕ) (w : World) (at : Role) → next_end w.out w.back ≡ Some at → arrivals cfg (suc n) w ≡ at
+    ∷ arrivals cfg n (after w (happens cfg w (receipt at)))
 unfolding arrivals
 one_more cfg n w at is = ap (arrivals_from cfg (arrivals cfg n) w) is
 
@@ -165,13 +178,15 @@ pub record Delivered (cfg : Cfg) (most : ℕ) (w : World) (v : TellingWorld) (be
   pub counted : length done ≡ count
   pub all : arrivals cfg most w ≡ done ++ arrivals cfg (most - count) (run cfg (all_received done) w)
 
-pub one_delivered : {cfg : Cfg} {most : ℕ} {w : World} {u : TellingWorld} (v : TellingWorld) {before : List AtEnd} {count : ℕ} (at : Role) → count < most → (h : Delivered cfg most w u before count) → next_end u.world.to_dce u.world.to_dte ≡ Some at
+pub one_delivered : {cfg : Cfg} {most : ℕ} {w : World} {u : TellingWorld} (v : TellingWorld) {before : List AtEnd} {count : ℕ} (at : Role) → count < most
+    → (h : Delivered cfg most w u before count) → next_end u.world.to_dce u.world.to_dte ≡ Some at
     → (let x = run cfg (all_received h.done) w in Tells cfg v (after x (happens cfg x (receipt at))) before) → Delivered cfg most w v before (count + 1)
 one_delivered {cfg} {most} {w} {u} v {count} at low h is fits =
     let x = run cfg (all_received h.done) w in
     let here : next_end x.out x.back ≡ Some at = sym (line_is h.goes.fits.fits) ∙ is in
     let events = received_append h.done (at ∷ []) in
-    let next : run cfg (all_received (h.done ++ at ∷ [])) w ≡ after x (happens cfg x (receipt at)) = ap (λ es. run cfg es w) events ∙ run_append cfg (all_received h.done) (receipt at ∷ []) w in
+    let next : run cfg (all_received (h.done ++ at ∷ [])) w ≡ after x (happens cfg x (receipt at)) =
+    ap (λ es. run cfg es w) events ∙ run_append cfg (all_received h.done) (receipt at ∷ []) w in
     let fewer : most - count ≡ suc (most - (count + 1)) = omega (arith, low) in
     record {
       done = h.done ++ at ∷ [];
@@ -188,7 +203,8 @@ one_delivered {cfg} {most} {w} {u} v {count} at low h is fits =
     }
 
 -- all of them have happened
-ended : {cfg : Cfg} {most : ℕ} {w : World} {v : TellingWorld} {before : List AtEnd} {count : ℕ} (h : Delivered cfg most w v before count) → arrivals cfg (most - count) (run cfg (all_received h.done) w) ≡ []
+ended : {cfg : Cfg} {most : ℕ} {w : World} {v : TellingWorld} {before : List AtEnd} {count : ℕ} (h : Delivered cfg most w v before count)
+    → arrivals cfg (most - count) (run cfg (all_received h.done) w) ≡ []
     → arrivals cfg most w ≡ h.done
 ended h none = h.all ∙ ap (λ l. h.done ++ l) none ∙ append-nil h.done
 
@@ -196,24 +212,28 @@ pub record AllDelivered (cfg : Cfg) (most : ℕ) (w : World) (v : TellingWorld) 
   pub goes : GoesBy cfg (deliveries cfg most w) w v before
   pub counted : count ≡ length (arrivals cfg most w)
 
-all_of_them : {cfg : Cfg} {most : ℕ} {w : World} {v : TellingWorld} {before : List AtEnd} {count : ℕ} (h : Delivered cfg most w v before count) → arrivals cfg most w ≡ h.done → AllDelivered cfg most w v before count
+all_of_them : {cfg : Cfg} {most : ℕ} {w : World} {v : TellingWorld} {before : List AtEnd} {count : ℕ} (h : Delivered cfg most w v before count)
+    → arrivals cfg most w ≡ h.done → AllDelivered cfg most w v before count
 all_of_them h is = record {
   goes = rw is h.goes;
   counted = sym h.counted ∙ ap length (sym is);
 }
 
-pub ends_drained : {cfg : Cfg} {most : ℕ} {w : World} {v : TellingWorld} {before : List AtEnd} {count : ℕ} → Delivered cfg most w v before count → next_end v.world.to_dce v.world.to_dte ≡ None → AllDelivered cfg most w v before count
+pub ends_drained : {cfg : Cfg} {most : ℕ} {w : World} {v : TellingWorld} {before : List AtEnd} {count : ℕ} → Delivered cfg most w v before count
+    → next_end v.world.to_dce v.world.to_dte ≡ None → AllDelivered cfg most w v before count
 ends_drained {cfg} {most} {w} {v} {before} {count} h is =
     let x = run cfg (all_received h.done) w in
     all_of_them h (ended h (none_left cfg (most - count) x (sym (line_is h.goes.fits.fits) ∙ is)))
 
-pub ends_counted : {cfg : Cfg} {most : ℕ} {w : World} {v : TellingWorld} {before : List AtEnd} {count : ℕ} → Delivered cfg most w v before count → most ≤ count → AllDelivered cfg most w v before count
+pub ends_counted : {cfg : Cfg} {most : ℕ} {w : World} {v : TellingWorld} {before : List AtEnd} {count : ℕ} → Delivered cfg most w v before count → most ≤ count
+    → AllDelivered cfg most w v before count
 ends_counted {cfg} {most} {w} {v} {before} {count} h all =
     let x = run cfg (all_received h.done) w in
     all_of_them h (ended h (no_more cfg (most - count) x (omega (arith, all))))
 
 -- memory was refused at the next
-pub stops_there : {cfg : Cfg} {most : ℕ} {w : World} {u : TellingWorld} (v : TellingWorld) {before : List AtEnd} {count : ℕ} (at : Role) (e : WorldError) (h : Delivered cfg most w u before count) → next_end u.world.to_dce u.world.to_dte ≡ Some at
+pub stops_there : {cfg : Cfg} {most : ℕ} {w : World} {u : TellingWorld} (v : TellingWorld) {before : List AtEnd} {count : ℕ} (at : Role) (e : WorldError)
+    (h : Delivered cfg most w u before count) → next_end u.world.to_dce u.world.to_dte ≡ Some at
     → (let x = run cfg (all_received h.done) w in Tells cfg v x before × IsRefusal cfg x (receipt at) e) → GoesPartly cfg (deliveries cfg most w) w v before e
 stops_there {cfg} {most} {w} {u} v {count} at e h is f =
     let x = run cfg (all_received h.done) w in

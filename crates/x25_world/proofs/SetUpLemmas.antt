@@ -8,7 +8,8 @@ pub found_at : {X : Type 0} (p : X → Bool) (xs : List X) (i : ℕ) (x : X) →
 found_at p xs i x within at passes = list_any_at p xs i x within (ap p (get_or_from_slice_get xs i x x (sym at)) ∙ passes)
 
 -- it doesn't pass, as nothing before it does
-pub not_found_yet : {X : Type 0} (p : X → Bool) (xs : List X) (i : ℕ) (x : X) → i < length xs → Some x ≡ slice_get xs i → list_any p (take i xs) ≡ false → p x ≡ false
+pub not_found_yet : {X : Type 0} (p : X → Bool) (xs : List X) (i : ℕ) (x : X) → i < length xs → Some x ≡ slice_get xs i → list_any p (take i xs) ≡ false → p x
+    ≡ false
     → list_any p (take (i + 1) xs) ≡ false
 not_found_yet p xs i x within at before fails =
     list_any_more p xs i x within ∙ ap₂ (λ a b. a || b) before (ap p (get_or_from_slice_get xs i x x (sym at)) ∙ fails)

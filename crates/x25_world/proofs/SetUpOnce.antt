@@ -23,7 +23,8 @@ begun_more p (link_up ∷ es) = omega (arith, begun_more (after_entry p link_up)
 begun_more p (link_down reason ∷ es) = begun_more (after_entry p (link_down reason)) es
 begun_more p (other ∷ es) = begun_more p es
 
-ups_are_begun : {cfg : Cfg} {end : Role} {s : Station} {k : SessionEnd} {trace : List Done} {es : List StationEntry} → IsEnd cfg end s k trace es → ups_in es ≡ k.begun
+ups_are_begun : {cfg : Cfg} {end : Role} {s : Station} {k : SessionEnd} {trace : List Done} {es : List StationEntry} → IsEnd cfg end s k trace es → ups_in es
+    ≡ k.begun
 ups_are_begun {es} h =
     omega (arith, begun_more none_begun es, ap (λ p. p.begun) h.progress)
 
@@ -41,7 +42,8 @@ few_begun zero few = inl refl
 few_begun (suc zero) few = inr refl
 few_begun (suc (suc n)) few = absurd (omega (arith, few))
 
-module _ {since : Beginning} (laws : SessionLaws) (cfg : Cfg) (fine : IsConfigured cfg) (w : World) (h : SessionsJoined since cfg Dte w) (once : IsUpAtMostOnce cfg w) where
+module _ {since : Beginning} (laws : SessionLaws) (cfg : Cfg) (fine : IsConfigured cfg) (w : World) (h : SessionsJoined since cfg Dte w)
+    (once : IsUpAtMostOnce cfg w) where
   near_few : h.links.near.begun ≤ 1
   near_few = omega (arith, once Dte, ups_are_begun h.near)
 
@@ -70,9 +72,11 @@ module _ {since : Beginning} (laws : SessionLaws) (cfg : Cfg) (fine : IsConfigur
   paired = elim (h.near_hears 1) [
     | inl none ↦ elim (h.far_hears 1) [
       | inl none_there ↦ nothing_in_order cfg Dte h.trace 1 1 (h.near.alone 1 none.0) (h.far.alone 1 none_there.0)
-      | inr one ↦ met_in_order cfg Dte h.trace h.links.met 1 1 h.pairs (subst (λ n. HasMet n 1 h.links.met) (first_of h.links.near.begun one.session near_few one.begun.1 (begun one.session 1 one.has_met).0) one.has_met)
+      | inr one ↦ met_in_order cfg Dte h.trace h.links.met 1 1 h.pairs
+          (subst (λ n. HasMet n 1 h.links.met) (first_of h.links.near.begun one.session near_few one.begun.1 (begun one.session 1 one.has_met).0) one.has_met)
     ]
-    | inr one ↦ met_in_order cfg Dte h.trace h.links.met 1 1 h.pairs (subst (λ m. HasMet 1 m h.links.met) (first_of h.links.far.begun one.session far_few one.begun.1 (begun 1 one.session one.has_met).1) one.has_met)
+    | inr one ↦ met_in_order cfg Dte h.trace h.links.met 1 1 h.pairs
+        (subst (λ m. HasMet 1 m h.links.met) (first_of h.links.far.begun one.session far_few one.begun.1 (begun 1 one.session one.has_met).1) one.has_met)
   ]
     where
       begun : (n m : ℕ) → HasMet n m h.links.met → (n ≤ h.links.near.begun) × (m ≤ h.links.far.begun)
@@ -81,7 +85,8 @@ module _ {since : Beginning} (laws : SessionLaws) (cfg : Cfg) (fine : IsConfigur
       first_of : (last n : ℕ) → last ≤ 1 → 1 ≤ n → n ≤ last → n ≡ 1
       first_of last n few low high = omega (arith, few, low, high)
 
-  handed_by : (end : Role) {s : Station} {k : SessionEnd} → IsEnd cfg end s k h.trace (entries_at end w.transcript) → k.begun ≤ 1 → (own cfg end 1 h.trace).entries ≡ handed_at end w
+  handed_by : (end : Role) {s : Station} {k : SessionEnd} → IsEnd cfg end s k h.trace (entries_at end w.transcript) → k.begun ≤ 1
+      → (own cfg end 1 h.trace).entries ≡ handed_at end w
   handed_by end {s} {k} e few = elim (few_begun k.begun few) [
     | inl none ↦ (let nothing = e.later 1 (omega (arith, none)) in
         ap (λ moves. (own_run (layer_of cfg end) moves (started (goes_up (layer_of cfg end)))).entries) nothing.moves

@@ -1,5 +1,6 @@
 -- What an end did is its act by the definition, and its refusal is due.
-use Rattle.std.proofs.Common.{◌≡◌, ℕ, true, false, ◌&&◌, if◌then◌else◌, List, [], ◌∷◌, ◌++◌, map, Some, None, slice_get, Result, Ok, Err, OnOk, OnErr, IfErr, ◌⊎◌, inl, inr, refl, ap, sym, ◌∙◌}
+use Rattle.std.proofs.Common.{◌≡◌, ℕ, true, false, ◌&&◌, if◌then◌else◌, List, [], ◌∷◌, ◌++◌, map, Some, None, slice_get, Result, Ok, Err, OnOk, OnErr, IfErr}
+use Rattle.std.proofs.Common.{◌⊎◌, inl, inr, refl, ap, sym, ◌∙◌}
 use Rattle.std.proofs.lemmas.List.{append-nil}
 use Rattle.std.specs.List.{remove}
 use Rattle.x25_bits.specs.{Role.{other}, declared.role.Role.{Role}, declared.role.Role.TheVariants.{Dte, Dce}}
@@ -22,7 +23,8 @@ pub record FitsShared (at : Role) (line : ShownLine) (w : World) (left : List (L
   pub back : line_to line at ≡ left
 
 -- what a step answers was put on the line and told
-pub step_told : (cfg : Cfg) (at : Role) {near : code.Station} {line : ShownLine} {w : World} {left : List (List ℕ)} (step : Step) (frames : List (List ℕ)) (entries : List StationEntry)
+pub step_told : (cfg : Cfg) (at : Role) {near : code.Station} {line : ShownLine} {w : World} {left : List (List ℕ)} (step : Step) (frames : List (List ℕ))
+    (entries : List StationEntry)
     → FitsShared at line w left → FitsStation (settings_from at cfg) near step.near → frames ≡ map (spelling_of at) step.out → entries ≡ step.entries
     → HasHappened cfg at near (put_by line at frames) (entered at entries) w (Happened (after_step (settings_from at cfg) w left step))
 step_told cfg Dte {near} {w} step frames entries shared fits sent told =
@@ -31,7 +33,8 @@ step_told cfg Dce {near} {w} step frames entries shared fits sent told =
     (record { near = fits; out = rw (shared.out, sent) refl; back = shared.back }, ap (λ l. w.transcript ++ entered Dce l) (sym told))
 
 -- memory that was set aside shows nowhere
-pub shared_of : {cfg : Cfg} (at : Role) {near : code.Station} {line : ShownLine} {w : World} (room : ShownLine) → FitsSide cfg at near line w → FitsShared at (with_room_of room line) w w.back
+pub shared_of : {cfg : Cfg} (at : Role) {near : code.Station} {line : ShownLine} {w : World} (room : ShownLine) → FitsSide cfg at near line w
+    → FitsShared at (with_room_of room line) w w.back
 shared_of Dte room side = record { out = side.out; back = side.back }
 shared_of Dce room side = record { out = side.out; back = side.back }
 
@@ -79,7 +82,8 @@ its_own : (e d : StationError) → e ≡ d → (Some (error.Station d) ≡ Some 
 its_own station.NoMemory d is = inr refl
 its_own e d is = inl (rw (sym is) refl)
 
-pub is_refusal : (cfg : Cfg) (at : Role) (w : World) (outcome : Outcome) (e : StationError) → Refuses (let r : Result (Unit {0}) StationError = Err e in r) outcome
+pub is_refusal : (cfg : Cfg) (at : Role) (w : World) (outcome : Outcome) (e : StationError)
+    → Refuses (let r : Result (Unit {0}) StationError = Err e in r) outcome
     → (refusal_of (of_station (settings_from at cfg) w outcome) ≡ Some (error_of e)) ⊎ (error_of e ≡ error.NoMemory)
 is_refusal cfg at w (Did step) e refuses = inr (no_memory e refuses)
 is_refusal cfg at w (Refused d) e is = its_own e d is
@@ -104,11 +108,14 @@ taken_off : (at : Role) {line : ShownLine} {w : World} (octets : List ℕ) (left
 taken_off Dte octets left shared = record { out = shared.out; back = ap (λ l. remove l 0) shared.back }
 taken_off Dce octets left shared = record { out = shared.out; back = ap (λ l. remove l 0) shared.back }
 
-pub has_arrived : (cfg : Cfg) (at : Role) (near : code.Station) (line : ShownLine) (w : World) (back : List (List ℕ)) (octets : List ℕ) (answer : code_step.Step)
+pub has_arrived : (cfg : Cfg) (at : Role) (near : code.Station) (line : ShownLine) (w : World) (back : List (List ℕ)) (octets : List ℕ)
+    (answer : code_step.Step)
     → FitsShared at line w back → Some octets ≡ slice_get back 0
     → Leaves (settings_from at cfg) near ok (Did (receives (settings_from at cfg) w.near octets))
-    → Sends (settings_from at cfg) answer ok (Did (receives (settings_from at cfg) w.near octets)) → Enters answer ok (Did (receives (settings_from at cfg) w.near octets))
-    → HasHappened cfg at near (put_by (with_line_to line at (remove (line_to line at) 0)) at answer.frames) (entered at (map plain_entry answer.entries.items)) w
+    → Sends (settings_from at cfg) answer ok (Did (receives (settings_from at cfg) w.near octets))
+    → Enters answer ok (Did (receives (settings_from at cfg) w.near octets))
+    → HasHappened cfg at near (put_by (with_line_to line at (remove (line_to line at) 0)) at answer.frames) (entered at (map plain_entry answer.entries.items))
+    w
     (delivered (settings_from at cfg) w back)
 has_arrived cfg at near line w [] octets answer shared front leaves sends enters = cc
 has_arrived cfg at near line w (o ∷ left) octets answer shared front leaves sends enters =
@@ -119,13 +126,15 @@ has_arrived cfg at near line w (o ∷ left) octets answer shared front leaves se
 
 -- ---- octets on the line are lost, or others come in their place
 
-pub line_changes : {cfg : Cfg} {at : Role} {near : code.Station} {line : ShownLine} (new : ShownLine) {w : World} (result : Result (Unit {0}) WorldError) (outcome : WorldOutcome)
+pub line_changes : {cfg : Cfg} {at : Role} {near : code.Station} {line : ShownLine} (new : ShownLine) {w : World} (result : Result (Unit {0}) WorldError)
+    (outcome : WorldOutcome)
     → FitsSide cfg at near line w → OnOk result (outcome ≡ Happened (on_line w (line_to new at))) → new ≡ with_line_to line at (line_to new at)
     → OnOk result (HasHappened cfg at near new [] w outcome)
 line_changes new (Err e) outcome side happened only = tt
 line_changes {cfg} {at} {near} {line} new {w} (Ok x) outcome side happened only = rw happened (go at side only)
   where
-    go : (end : Role) → FitsSide cfg end near line w → new ≡ with_line_to line end (line_to new end) → HasHappened cfg end near new [] w (Happened (on_line w (line_to new end)))
+    go : (end : Role) → FitsSide cfg end near line w → new ≡ with_line_to line end (line_to new end)
+        → HasHappened cfg end near new [] w (Happened (on_line w (line_to new end)))
     go Dte f o = (record { near = f.near; out = ap (λ l. l.to_dce) o ∙ f.out; back = refl }, sym (append-nil w.transcript))
     go Dce f o = (record { near = f.near; out = ap (λ l. l.to_dte) o ∙ f.out; back = refl }, sym (append-nil w.transcript))
 
@@ -134,10 +143,12 @@ pub line_stays : {cfg : Cfg} {at : Role} {near : code.Station} {line : ShownLine
 line_stays new (Ok x) side same = tt
 line_stays new (Err e) side same = rw same side
 
-pub loses_or_not : (result : Result (Unit {0}) WorldError) (outcome : WorldOutcome) → IfErr result (λ e. outcome ≡ Declined e) → IfErr result (λ e. (refusal_of outcome ≡ Some e) ⊎ (e ≡ error.NoMemory))
+pub loses_or_not : (result : Result (Unit {0}) WorldError) (outcome : WorldOutcome) → IfErr result (λ e. outcome ≡ Declined e)
+    → IfErr result (λ e. (refusal_of outcome ≡ Some e) ⊎ (e ≡ error.NoMemory))
 loses_or_not (Ok x) outcome is = tt
 loses_or_not (Err e) outcome is = inl (ap refusal_of is)
 
-pub damages_or_not : (result : Result (Unit {0}) WorldError) (outcome : WorldOutcome) → IfErr result (λ e. (outcome ≡ Declined e) ⊎ (e ≡ error.NoMemory)) → IfErr result (λ e. (refusal_of outcome ≡ Some e) ⊎ (e ≡ error.NoMemory))
+pub damages_or_not : (result : Result (Unit {0}) WorldError) (outcome : WorldOutcome) → IfErr result (λ e. (outcome ≡ Declined e) ⊎ (e ≡ error.NoMemory))
+    → IfErr result (λ e. (refusal_of outcome ≡ Some e) ⊎ (e ≡ error.NoMemory))
 damages_or_not (Ok x) outcome is = tt
 damages_or_not (Err e) outcome is = elim is [ inl d ↦ inl (ap refusal_of d) | inr m ↦ inr m ]

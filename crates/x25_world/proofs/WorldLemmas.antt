@@ -1,5 +1,6 @@
 -- An end that acts, in its world: the other end is as it was. And lists of events, one more at a time.
-use Rattle.std.proofs.Common.{◌≡◌, IfOk, ℕ, nat_lt, ◌&&◌, Bool, true, false, if◌then◌else◌, List, [], ◌∷◌, ◌++◌, length, map, drop, Option, Some, None, Result, Ok, Err, OnOk, OnErr, IfErr, ◌⊎◌, inl, inr, refl, ap, sym, ◌∙◌, subst, append_assoc, arith}
+use Rattle.std.proofs.Common.{◌≡◌, IfOk, ℕ, nat_lt, ◌&&◌, Bool, true, false, if◌then◌else◌, List, [], ◌∷◌, ◌++◌, length, map, drop, Option, Some, None, Result}
+use Rattle.std.proofs.Common.{Ok, Err, OnOk, OnErr, IfErr, ◌⊎◌, inl, inr, refl, ap, sym, ◌∙◌, subst, append_assoc, arith}
 use Rattle.std.proofs.{Math.Seq.{drop-append_seam}, lemmas.List.{append-nil, drop_all}}
 use Rattle.std.specs.List.{remove}
 use Rattle.x25_bits.specs.{declared.role.Role.{Role}, declared.role.Role.TheVariants.{Dte, Dce}}
@@ -9,9 +10,13 @@ use Rattle.x25_line.specs.laws.Stations.{is_visible, replaced}
 use Rattle.x25_station.specs.{declared.config.Cfg.{Cfg}, declared.error.StationError.{StationError}, Entry.{StationEntry}, code.FitsStation.{FitsStation}}
 use Rattle.x25_station.specs.{Config.{Settings, settings_from, config_refusal}, Step.{Step, Outcome, Did, Refused, commands, fires, receives}}
 use Rattle.x25_world.specs.declared.error.WorldError.{WorldError}
-use Rattle.x25_world.specs.World.{World, mirrored, Event, Act, Commands, Receives, Fires, Loses, Damages, WorldOutcome, Happened, Declined, after_step, of_station, delivered, on_line, is_on_line, acts, acts_at, tapped, entered, swapped_back, AtEnd, happens, after, refusal_of, run, AreAccepted, connected, established, start}
-use Rattle.x25_world.specs.laws.Claims.{ActsInOctets, AreInOctets, IsUpOnce, IsUpAtMostOnce, IsBeginning, NoneConnects, UpOnceUnlessConnected, UntilSecondUp, IsLawful, IsNamed, ArrivesAll, HasNoProcedureError}
-use Rattle.x25_world.specs.laws.SessionClaims.{Throughout, ThroughoutAlong, MeetInStep, AreLawfulWhereMet, AreNamedInSessions, AllArrive, UnmetAreToldNothing, OpenStretchesMeet, SessionsKeepOrder}
+use Rattle.x25_world.specs.World.{World, mirrored, Event, Act, Commands, Receives, Fires, Loses, Damages, WorldOutcome, Happened, Declined, after_step}
+use Rattle.x25_world.specs.World.{of_station, delivered, on_line, is_on_line, acts, acts_at, tapped, entered, swapped_back, AtEnd, happens, after, refusal_of}
+use Rattle.x25_world.specs.World.{run, AreAccepted, connected, established, start}
+use Rattle.x25_world.specs.laws.Claims.{ActsInOctets, AreInOctets, IsUpOnce, IsUpAtMostOnce, IsBeginning, NoneConnects, UpOnceUnlessConnected, UntilSecondUp}
+use Rattle.x25_world.specs.laws.Claims.{IsLawful, IsNamed, ArrivesAll, HasNoProcedureError}
+use Rattle.x25_world.specs.laws.SessionClaims.{Throughout, ThroughoutAlong, MeetInStep, AreLawfulWhereMet, AreNamedInSessions, AllArrive, UnmetAreToldNothing}
+use Rattle.x25_world.specs.laws.SessionClaims.{OpenStretchesMeet, SessionsKeepOrder}
 use Rattle.x25_world.specs.{laws.BesideClaims.{BesideIsGiven}, laws.SessionWindow.{SessionsStayInWindow}}
 use Rattle.x25_world.specs.{code.ShownLine.{ShownLine}, code.ShownWorld.{ShownWorld, shown_with, line_from}}
 use Rattle.x25_world.specs.code.FitsWorld.{FitsWorld, FitsRun, RunHolds, Claims, ClaimsOfNew, and_then, HasHappened, HasActed, HasActedAt, RefusesConfig}
@@ -51,7 +56,8 @@ abbrev PutsLast : Role → World → World → Type 0
 PutsLast at w next = next.tap ≡ w.tap ++ tapped at (drop (length w.out) next.out)
 
 puts_none : (at : Role) (w next : World) → next.tap ≡ w.tap → next.out ≡ w.out → PutsLast at w next
-puts_none at w next tap out = tap ∙ sym (append-nil w.tap) ∙ ap (λ frames. w.tap ++ tapped at frames) (sym (ap (drop (length w.out)) out ∙ drop_all (length w.out) w.out (omega arith)))
+puts_none at w next tap out = tap ∙ sym (append-nil w.tap)
+    ∙ ap (λ frames. w.tap ++ tapped at frames) (sym (ap (drop (length w.out)) out ∙ drop_all (length w.out) w.out (omega arith)))
 
 step_puts : (c : Settings) (w : World) (back : List (List ℕ)) (step : Step) → PutsLast c.role w (after_step c w back step)
 step_puts c w back step = ap (λ frames. w.tap ++ tapped c.role frames) (sym (drop-append_seam w.out (map (spelling_of c.role) step.out)))
@@ -64,7 +70,8 @@ delivered_puts : (c : Settings) (w : World) (back : List (List ℕ)) → PutsLas
 delivered_puts c w [] = puts_none c.role w w refl refl
 delivered_puts c w (octets ∷ back) = step_puts c w back (receives c w.near octets)
 
-puts_if : (at : Role) (w : World) (b : Bool) (u v : WorldOutcome) → PutsLast at w (after w u) → PutsLast at w (after w v) → PutsLast at w (after w (if b then u else v))
+puts_if : (at : Role) (w : World) (b : Bool) (u v : WorldOutcome) → PutsLast at w (after w u) → PutsLast at w (after w v)
+    → PutsLast at w (after w (if b then u else v))
 puts_if at w true u v f g = f
 puts_if at w false u v f g = g
 
@@ -72,16 +79,20 @@ acts_put : (c : Settings) (w : World) (a : Act) → PutsLast c.role w (after w (
 acts_put c w (Commands command) = station_puts c w (commands c w.near command)
 acts_put c w Receives = delivered_puts c w w.back
 acts_put c w Fires = puts_if c.role w (awaits_ua w.near.link.phase && is_on_line c w) _ _ (puts_none c.role w w refl refl) (station_puts c w (fires c w.near))
-acts_put c w (Loses place) = puts_if c.role w (nat_lt place (length w.back)) _ _ (puts_none c.role w (on_line w (remove w.back place)) refl refl) (puts_none c.role w w refl refl)
+acts_put c w (Loses place) = puts_if c.role w (nat_lt place (length w.back)) _ _ (puts_none c.role w (on_line w (remove w.back place)) refl refl)
+    (puts_none c.role w w refl refl)
 acts_put c w (Damages place octets) =
-    puts_if c.role w (nat_lt place (length w.back)) _ _ (puts_if c.role w (is_visible octets) _ _ (puts_none c.role w (on_line w (replaced w.back place octets)) refl refl) (puts_none c.role w w refl refl)) (puts_none c.role w w refl refl)
+    puts_if c.role w (nat_lt place (length w.back))
+    _ _ (puts_if c.role w (is_visible octets) _ _ (puts_none c.role w (on_line w (replaced w.back place octets)) refl refl)
+    (puts_none c.role w w refl refl)) (puts_none c.role w w refl refl)
 
 -- what either end put
 abbrev out_from : World → Role → List (List ℕ)
 out_from w Dte = w.out
 out_from w Dce = w.back
 
-event_puts : (cfg : Cfg) (w : World) (at : Role) (a : Act) → (let next = after w (acts_at cfg w at a) in next.tap ≡ w.tap ++ tapped at (drop (length (out_from w at)) (out_from next at)))
+event_puts : (cfg : Cfg) (w : World) (at : Role) (a : Act)
+    → (let next = after w (acts_at cfg w at a) in next.tap ≡ w.tap ++ tapped at (drop (length (out_from w at)) (out_from next at)))
 event_puts cfg w Dte a = acts_put (settings_from Dte cfg) w a
 event_puts cfg w Dce a = go (acts (settings_from Dce cfg) (mirrored w) a) (acts_put (settings_from Dce cfg) (mirrored w) a)
   where
@@ -95,7 +106,8 @@ shown_from Dte f = f.to_dce
 shown_from Dce f = f.to_dte
 
 -- what an accepted event put
-pub put_last : {cfg : Cfg} {old : ShownWorld} (new : ShownWorld) {w : World} (e : Event) (r : Result (Unit {0}) WorldError) → FitsWorld cfg old w → OnOk r (FitsWorld cfg new (after w (happens cfg w e)))
+pub put_last : {cfg : Cfg} {old : ShownWorld} (new : ShownWorld) {w : World} (e : Event) (r : Result (Unit {0}) WorldError) → FitsWorld cfg old w
+    → OnOk r (FitsWorld cfg new (after w (happens cfg w e)))
     → OnOk r ((after w (happens cfg w e)).tap ≡ w.tap ++ tapped e.at (drop (length (line_from old e.at)) (line_from new e.at)))
 put_last {cfg} {old} new {w} e (Ok x) f g = rw (shown_from e.at f, shown_from e.at g) (event_puts cfg w e.at e.act)
 put_last new e (Err error) f g = tt
@@ -108,7 +120,8 @@ pub record HasDone (cfg : Cfg) (v : ShownWorld) (told : List AtEnd) (w : World) 
   pub tells : (after w o).transcript ≡ w.transcript ++ told
   pub accepted : refusal_of o ≡ None
 
-dte_done : {cfg : Cfg} {near dce : code.Station} (line : ShownLine) {told : List AtEnd} {w : World} (o : WorldOutcome) → KeepsFar w o → FitsStation (settings_from Dce cfg) dce w.far
+dte_done : {cfg : Cfg} {near dce : code.Station} (line : ShownLine) {told : List AtEnd} {w : World} (o : WorldOutcome) → KeepsFar w o
+    → FitsStation (settings_from Dce cfg) dce w.far
     → HasHappened cfg Dte near line told w o → HasDone cfg (shown_with near dce line) told w o
 dte_done {dce} line (Happened next) far fits h = record {
   fits = record { dte = h.0.near; dce = rw far fits; to_dce = h.0.out; to_dte = h.0.back };
@@ -117,7 +130,8 @@ dte_done {dce} line (Happened next) far fits h = record {
 }
 dte_done line (Declined e) far fits h = absurd h
 
-dce_done : {cfg : Cfg} {near dte : code.Station} (line : ShownLine) {told : List AtEnd} (w : World) (o : WorldOutcome) → KeepsFar (mirrored w) o → FitsStation (settings_from Dte cfg) dte w.near
+dce_done : {cfg : Cfg} {near dte : code.Station} (line : ShownLine) {told : List AtEnd} (w : World) (o : WorldOutcome) → KeepsFar (mirrored w) o
+    → FitsStation (settings_from Dte cfg) dte w.near
     → HasHappened cfg Dce near line told (mirrored w) o → HasDone cfg (shown_with dte near line) told w (swapped_back o)
 dce_done {dte} line w (Happened next) far fits h = record {
   fits = record { dte = rw far fits; dce = h.0.near; to_dce = h.0.back; to_dte = h.0.out };
@@ -131,34 +145,52 @@ refusal-swapped (Happened next) = refl
 refusal-swapped (Declined e) = refl
 
 -- an act of the DTE of a world
-pub dte_fits : (cfg : Cfg) (near dce : code.Station) (line : ShownLine) (told : List AtEnd) (w : World) (o : WorldOutcome) (r : Result (Unit {0}) WorldError) → KeepsFar w o
-    → FitsStation (settings_from Dce cfg) dce w.far → OnOk r (HasHappened cfg Dte near line told w o) → OnOk r (FitsWorld cfg (shown_with near dce line) (after w o))
+pub dte_fits : (cfg : Cfg) (near dce : code.Station) (line : ShownLine) (told : List AtEnd) (w : World) (o : WorldOutcome) (r : Result (Unit {0}) WorldError)
+    → KeepsFar w o
+    → FitsStation (settings_from Dce cfg) dce w.far → OnOk r (HasHappened cfg Dte near line told w o)
+    → OnOk r (FitsWorld cfg (shown_with near dce line) (after w o))
 dte_fits cfg near dce line told w o (Ok x) far fits h = (dte_done line o far fits h).fits
 dte_fits cfg near dce line told w o (Err e) far fits h = tt
 
-pub dte_acted : {cfg : Cfg} {near dce : code.Station} {line : ShownLine} {w : World} (e : Event) (r : Result (Unit {0}) WorldError) (told : List StationEntry) → e.at ≡ Dte
+pub dte_acted : {cfg : Cfg} {near dce : code.Station} {line : ShownLine} {w : World} (e : Event) (r : Result (Unit {0}) WorldError) (told : List StationEntry)
+    → e.at ≡ Dte
     → FitsStation (settings_from Dce cfg) dce w.far → HasActed cfg Dte near line (entered Dte told) r w (acts (settings_from Dte cfg) w e.act)
     → HasActedAt cfg (shown_with near dce line) (entered e.at told) r w e
 dte_acted {cfg} {near} {dce} {line} {w} e (Ok x) told at fits h =
     let done = dte_done line (acts (settings_from Dte cfg) w e.act) (acts_keep_far (settings_from Dte cfg) w e.act) fits h.happened in
     record { happened = rw at done.fits; tells = rw at done.tells; accepted = rw at done.accepted; refused = tt; stays = tt }
 dte_acted {dce} e (Err x) told at fits h =
-    record { happened = tt; tells = tt; accepted = tt; refused = rw at h.refused; stays = record { dte = h.stays.near; dce = fits; to_dce = h.stays.out; to_dte = h.stays.back } }
+    record {
+      happened = tt;
+      tells = tt;
+      accepted = tt;
+      refused = rw at h.refused;
+      stays = record { dte = h.stays.near; dce = fits; to_dce = h.stays.out; to_dte = h.stays.back };
+    }
 
 -- an act of its DCE
-pub dce_acted : {cfg : Cfg} {near dte : code.Station} {line : ShownLine} (w : World) (e : Event) (r : Result (Unit {0}) WorldError) (told : List StationEntry) → e.at ≡ Dce
-    → FitsStation (settings_from Dte cfg) dte w.near → HasActed cfg Dce near line (entered Dce told) r (mirrored w) (acts (settings_from Dce cfg) (mirrored w) e.act)
+pub dce_acted : {cfg : Cfg} {near dte : code.Station} {line : ShownLine} (w : World) (e : Event) (r : Result (Unit {0}) WorldError) (told : List StationEntry)
+    → e.at ≡ Dce
+    → FitsStation (settings_from Dte cfg) dte w.near
+    → HasActed cfg Dce near line (entered Dce told) r (mirrored w) (acts (settings_from Dce cfg) (mirrored w) e.act)
     → HasActedAt cfg (shown_with dte near line) (entered e.at told) r w e
 dce_acted {cfg} {near} {dte} {line} w e (Ok x) told at fits h =
     let done = dce_done line w (acts (settings_from Dce cfg) (mirrored w) e.act) (acts_keep_far (settings_from Dce cfg) (mirrored w) e.act) fits h.happened in
     record { happened = rw at done.fits; tells = rw at done.tells; accepted = rw at done.accepted; refused = tt; stays = tt }
 dce_acted {dte} w e (Err x) told at fits h =
-    record { happened = tt; tells = tt; accepted = tt; refused = rw (at, refusal-swapped) h.refused; stays = record { dte = fits; dce = h.stays.near; to_dce = h.stays.back; to_dte = h.stays.out } }
+    record {
+      happened = tt;
+      tells = tt;
+      accepted = tt;
+      refused = rw (at, refusal-swapped) h.refused;
+      stays = record { dte = fits; dce = h.stays.near; to_dce = h.stays.back; to_dte = h.stays.out };
+    }
 
 -- ---- accepted and refused
 
 -- what isn't refused by the definition is refused for want of memory alone
-pub only_memory : (o : Option WorldError) (r : Result (Unit {0}) WorldError) → o ≡ None → IfErr r (λ e. (o ≡ Some e) ⊎ (e ≡ error.NoMemory)) → IfErr r (λ e. e ≡ error.NoMemory)
+pub only_memory : (o : Option WorldError) (r : Result (Unit {0}) WorldError) → o ≡ None → IfErr r (λ e. (o ≡ Some e) ⊎ (e ≡ error.NoMemory))
+    → IfErr r (λ e. e ≡ error.NoMemory)
 only_memory o (Ok x) none h = tt
 only_memory o (Err e) none h = elim h [ inl is ↦ cc | inr memory ↦ memory ]
 
@@ -167,16 +199,19 @@ in_range None x made = refl
 in_range (Some d) x made = cc
 
 -- what else is made, or refused by the same error, says the same of them
-pub made_as : {T U : Type 0} (o : Option StationError) (x : T) (y : U) → RefusesConfig (let made : Result T WorldError = Ok x in made) o → RefusesConfig (let made : Result U WorldError = Ok y in made) o
+pub made_as : {T U : Type 0} (o : Option StationError) (x : T) (y : U) → RefusesConfig (let made : Result T WorldError = Ok x in made) o
+    → RefusesConfig (let made : Result U WorldError = Ok y in made) o
 made_as None x y made = tt
 made_as (Some d) x y made = cc
 
-pub refused_as : (T U : Type 0) (o : Option StationError) (e : WorldError) → RefusesConfig (let made : Result T WorldError = Err e in made) o → RefusesConfig (let made : Result U WorldError = Err e in made) o
+pub refused_as : (T U : Type 0) (o : Option StationError) (e : WorldError) → RefusesConfig (let made : Result T WorldError = Err e in made) o
+    → RefusesConfig (let made : Result U WorldError = Err e in made) o
 refused_as T U None e memory = memory
 refused_as T U (Some d) e bad = cc
 
 -- the settings are in their ranges, so that only want of memory is left
-pub refused_later : {T : Type 0} (U : Type 0) (o : Option StationError) (x : T) (e : WorldError) → RefusesConfig (let made : Result T WorldError = Ok x in made) o → e ≡ error.NoMemory
+pub refused_later : {T : Type 0} (U : Type 0) (o : Option StationError) (x : T) (e : WorldError)
+    → RefusesConfig (let made : Result T WorldError = Ok x in made) o → e ≡ error.NoMemory
     → RefusesConfig (let made : Result U WorldError = Err e in made) o
 refused_later U None x e made memory = memory
 refused_later U (Some d) x e made memory = cc
@@ -200,8 +235,10 @@ octets_append [] ys f g = g
 octets_append (x ∷ xs) ys f g = (f.0, octets_append xs ys f.1 g)
 
 -- one more event, where it is accepted
-pub run_and_then : {cfg : Cfg} {from : World} {old : ShownWorld} (new : ShownWorld) {past : List Event} (e : Event) (r : Result (Unit {0}) WorldError) → FitsRun cfg from old past → ActsInOctets e.act
-    → ((w : World) → FitsWorld cfg old w → OnOk r (FitsWorld cfg new (after w (happens cfg w e)))) → ((w : World) → FitsWorld cfg old w → OnOk r (refusal_of (happens cfg w e) ≡ None))
+pub run_and_then : {cfg : Cfg} {from : World} {old : ShownWorld} (new : ShownWorld) {past : List Event} (e : Event) (r : Result (Unit {0}) WorldError)
+    → FitsRun cfg from old past → ActsInOctets e.act
+    → ((w : World) → FitsWorld cfg old w → OnOk r (FitsWorld cfg new (after w (happens cfg w e))))
+    → ((w : World) → FitsWorld cfg old w → OnOk r (refusal_of (happens cfg w e) ≡ None))
     → ((w : World) → FitsWorld cfg old w → OnErr r (FitsWorld cfg new w)) → FitsRun cfg from new (and_then past e r)
 run_and_then {cfg} {from} new {past} e (Ok x) h octets step accepted stays = record {
   settings = h.settings;
@@ -209,7 +246,8 @@ run_and_then {cfg} {from} new {past} e (Ok x) h octets step accepted stays = rec
   accepted = accepted_append cfg past (e ∷ []) from h.accepted (accepted (run cfg past from) h.fits, tt);
   fits = subst (FitsWorld cfg new) (sym (run_append cfg past (e ∷ []) from)) (step (run cfg past from) h.fits);
 }
-run_and_then {cfg} {from} new {past} e (Err x) h octets step accepted stays = record { settings = h.settings; octets = h.octets; accepted = h.accepted; fits = stays (run cfg past from) h.fits }
+run_and_then {cfg} {from} new {past} e (Err x) h octets step accepted stays =
+    record { settings = h.settings; octets = h.octets; accepted = h.accepted; fits = stays (run cfg past from) h.fits }
 
 -- ---- claims
 
@@ -228,7 +266,8 @@ once_at_most : (cfg : Cfg) (w : World) → IsUpOnce cfg w → IsUpAtMostOnce cfg
 once_at_most cfg w once = λ end. omega (arith, once end)
 
 -- the claims on sessions together
-pub all_of_sessions : Throughout MeetInStep → Throughout AreLawfulWhereMet → Throughout AreNamedInSessions → Throughout AllArrive → Throughout UnmetAreToldNothing → Throughout OpenStretchesMeet → Throughout HasNoProcedureError → ThroughoutAlong SessionsStayInWindow
+pub all_of_sessions : Throughout MeetInStep → Throughout AreLawfulWhereMet → Throughout AreNamedInSessions → Throughout AllArrive
+    → Throughout UnmetAreToldNothing → Throughout OpenStretchesMeet → Throughout HasNoProcedureError → ThroughoutAlong SessionsStayInWindow
     → Throughout SessionsKeepOrder
 all_of_sessions step lawful named arrives unmet stand quiet window cfg fine from begins events octets = record {
   step = step cfg fine from begins events octets;
@@ -242,7 +281,8 @@ all_of_sessions step lawful named arrives unmet stand quiet window cfg fine from
 }
 
 -- by the laws on two stations the claims hold of each run
-module _ (lawful : UntilSecondUp IsLawful) (named : UntilSecondUp IsNamed) (arrives : UntilSecondUp ArrivesAll) (up_once : UpOnceUnlessConnected) (sessions : Throughout SessionsKeepOrder) (links : ThroughoutAlong SessionsStayInWindow)
+module _ (lawful : UntilSecondUp IsLawful) (named : UntilSecondUp IsNamed) (arrives : UntilSecondUp ArrivesAll) (up_once : UpOnceUnlessConnected)
+    (sessions : Throughout SessionsKeepOrder) (links : ThroughoutAlong SessionsStayInWindow)
     (beside : ThroughoutAlong BesideIsGiven) where
   run_holds : {cfg : Cfg} {from : World} {v : ShownWorld} {events : List Event} → IsBeginning cfg from → FitsRun cfg from v events → RunHolds cfg from v events
   run_holds {cfg} {from} {events} begins h = record {
@@ -261,7 +301,8 @@ module _ (lawful : UntilSecondUp IsLawful) (named : UntilSecondUp IsNamed) (arri
   claims_hold old new more runs = record { run = runs; holds = λ cfg from past begins h. run_holds begins (runs cfg from past h) }
 
   -- they hold of a world that was just made
-  pub claims_of_new : (cfg : Cfg) (from : World) (v : ShownWorld) → IsBeginning cfg from → IsUpAtMostOnce cfg from → FitsRun cfg from v [] → ClaimsOfNew cfg from v
+  pub claims_of_new : (cfg : Cfg) (from : World) (v : ShownWorld) → IsBeginning cfg from → IsUpAtMostOnce cfg from → FitsRun cfg from v []
+      → ClaimsOfNew cfg from v
   claims_of_new cfg from v begins once h = record { once = once; holds = run_holds begins h }
 
   pub established_up : (cfg : Cfg) → config_refusal cfg ≡ None → IsUpAtMostOnce cfg (established cfg)
@@ -272,7 +313,8 @@ new_run : {cfg : Cfg} {from : World} {v : ShownWorld} → config_refusal cfg ≡
 new_run fine fits = record { settings = fine; octets = tt; accepted = tt; fits = fits }
 
 -- what holds of it, where one was made
-pub made_world : (cfg : Cfg) (from : World) (P : ShownWorld → Type 0) (made : Result ShownWorld WorldError) → RefusesConfig made (config_refusal cfg) → IfOk made (λ v. FitsWorld cfg v from)
+pub made_world : (cfg : Cfg) (from : World) (P : ShownWorld → Type 0) (made : Result ShownWorld WorldError) → RefusesConfig made (config_refusal cfg)
+    → IfOk made (λ v. FitsWorld cfg v from)
     → ((v : ShownWorld) → FitsRun cfg from v [] → P v) → IfOk made P
 made_world cfg from P (Ok v) refused fits holds = holds v (new_run (in_range (config_refusal cfg) v refused) fits)
 made_world cfg from P (Err e) refused fits holds = tt

@@ -2,7 +2,9 @@
 use Rattle.std.proofs.Common.{◌≡◌, ◌≤◌, ◌+◌, ◌⊎◌, ℕ, suc, List, [], ◌∷◌, ◌++◌, inl, inr, refl, arith, subst}
 use Rattle.x25_line.specs.{laws.Said.{sabm_of, ua_of, disc_of, Sabm, Disc, Ua}}
 use Rattle.x25_line.specs.laws.Ends.{Stand, Out, Asking, In, Letter, letter, how_many, OfTells, AreOf}
-use Rattle.x25_line.proofs.ends.Lines.{count_push, Less, count_less, AllTold, AllTags, tags_push, tags_more, tags_less, told_push, told_less, of_tells, sabm_free, Of, AfterUa, after_none, after_push, after_less, after_base, AllAsked, asked_none, asked_map, asked_now, asked_push, asked_less}
+use Rattle.x25_line.proofs.ends.Lines.{count_push, Less, count_less, AllTold, AllTags, tags_push, tags_more, tags_less, told_push, told_less, of_tells}
+use Rattle.x25_line.proofs.ends.Lines.{sabm_free, Of, AfterUa, after_none, after_push, after_less, after_base, AllAsked, asked_none, asked_map, asked_now}
+use Rattle.x25_line.proofs.ends.Lines.{asked_push, asked_less}
 
 -- Where a SABM of y that is older than its session may be on the line to x, whose line is `out`: x is about to be in the session that stands.
 abbrev pub IsOlder : ℕ → ℕ → List Letter → Stand → Type 0
@@ -23,10 +25,21 @@ pub record Side (sx : Stand) (bx p : ℕ) (sy : Stand) (b q : ℕ) (out back : L
 
 -- as a run begins
 pub first_side : (s : Stand) (b : ℕ) → Side s b b s b b [] []
-first_side s b = record { view = inl refl; tags = tt; is_in = λ _. refl; live = λ _. tt; soon = λ _ _. tt; left = λ _ _. refl; asked = tt; one = omega arith; asks_once = λ _. (omega arith, refl) }
+first_side s b = record {
+  view = inl refl;
+  tags = tt;
+  is_in = λ _. refl;
+  live = λ _. tt;
+  soon = λ _ _. tt;
+  left = λ _ _. refl;
+  asked = tt;
+  one = omega arith;
+  asks_once = λ _. (omega arith, refl);
+}
 
 -- x begins its session of the two that stand, as a UA or an older SABM comes
-pub begin_near : {bx p b q : ℕ} {sy : Stand} {out back : List Letter} → suc bx ≡ p → AllTags b back → AllTold (Of q) back → AllAsked (sy ≡ In → ⊥) (IsOlder (suc bx) p out sy) b q back → how_many sabm_of back ≤ 1
+pub begin_near : {bx p b q : ℕ} {sy : Stand} {out back : List Letter} → suc bx ≡ p → AllTags b back → AllTold (Of q) back
+    → AllAsked (sy ≡ In → ⊥) (IsOlder (suc bx) p out sy) b q back → how_many sabm_of back ≤ 1
     → Side In (suc bx) p sy b q out back
 begin_near is tags told asked one = record {
   view = inl is;
@@ -43,7 +56,8 @@ begin_near is tags told asked one = record {
 -- ---- the line from x is another
 
 module _ {sx sy : Stand} {bx p b q : ℕ} {out back : List Letter} where
-  from_near : (fs : List Letter) → AllAsked (sy ≡ In → ⊥) (IsOlder bx p fs sy) b q back → (sx ≡ Asking → (how_many sabm_of fs + how_many ua_of back ≤ 1) × (how_many disc_of fs ≡ 0))
+  from_near : (fs : List Letter) → AllAsked (sy ≡ In → ⊥) (IsOlder bx p fs sy) b q back
+      → (sx ≡ Asking → (how_many sabm_of fs + how_many ua_of back ≤ 1) × (how_many disc_of fs ≡ 0))
       → Side sx bx p sy b q out back → Side sx bx p sy b q fs back
   from_near fs asked once h =
       record { view = h.view; tags = h.tags; is_in = h.is_in; live = h.live; soon = h.soon; left = h.left; asked = asked; one = h.one; asks_once = once }
@@ -148,11 +162,14 @@ module _ {sx sy : Stand} {bx p b q : ℕ} {out back : List Letter} where
   pub close_near : Side sx bx p sy b q out back → Side Out bx p sy b q (out ++ letter bx Disc ∷ []) back
   close_near h =
       let left = leave_near h in
-      from_near (out ++ letter bx Disc ∷ []) (asked_map _ _ b q (λ n. n) (λ o. ((o.0, omega (arith, o.1, (count_push sabm_of out (letter bx Disc))), o.2))) back left.asked) (λ k. absurd (cc)) left
+      from_near (out ++ letter bx Disc ∷ [])
+      (asked_map _ _ b q (λ n. n) (λ o. ((o.0, omega (arith, o.1, (count_push sabm_of out (letter bx Disc))), o.2))) back left.asked) (λ k. absurd (cc))
+      left
 
   -- ---- x asks
 
-  pub ask_near : how_many sabm_of out ≡ 0 → how_many disc_of out ≡ 0 → how_many ua_of back ≡ 0 → AreOf b back → Side sx bx p sy b q out back → Side Asking bx p sy b q (out ++ letter bx Sabm ∷ []) back
+  pub ask_near : how_many sabm_of out ≡ 0 → how_many disc_of out ≡ 0 → how_many ua_of back ≡ 0 → AreOf b back → Side sx bx p sy b q out back
+      → Side Asking bx p sy b q (out ++ letter bx Sabm ∷ []) back
   ask_near no_sabm no_disc no_ua present h =
       record {
         view = h.view;
@@ -163,7 +180,10 @@ module _ {sx sy : Stand} {bx p b q : ℕ} {out back : List Letter} where
         left = λ _ _. no_ua;
         asked = asked_now _ _ _ b q q back present h.asked;
         one = h.one;
-        asks_once = λ _. (omega (arith, count_push sabm_of out (letter bx Sabm), no_sabm, no_ua), omega (arith, count_push disc_of out (letter bx Sabm), no_disc));
+        asks_once = λ _. (
+          omega (arith, count_push sabm_of out (letter bx Sabm), no_sabm, no_ua),
+          omega (arith, count_push disc_of out (letter bx Sabm), no_disc),
+        );
       }
 
   pub ask_far : how_many sabm_of out ≡ 0 → Side sy b q sx bx p back out → Side sy b q Asking bx p back (out ++ letter bx Sabm ∷ [])
@@ -200,7 +220,8 @@ module _ {sx sy : Stand} {bx p b q : ℕ} {out back : List Letter} where
   -- ---- a SABM of y's present session comes, by which two new sessions stand
 
   -- y is about to begin its own; it may await the UA
-  pub new_far : (s : Stand) → (sy ≡ In → ⊥) → Side sy b q sx bx p (letter b Sabm ∷ back) out → {bn : ℕ} → bx ≤ bn → bn ≤ suc bx → AllAsked (s ≡ In → ⊥) (IsOlder b (suc b) back s) bn (suc bx) out
+  pub new_far : (s : Stand) → (sy ≡ In → ⊥) → Side sy b q sx bx p (letter b Sabm ∷ back) out → {bn : ℕ} → bx ≤ bn → bn ≤ suc bx
+      → AllAsked (s ≡ In → ⊥) (IsOlder b (suc b) back s) bn (suc bx) out
       → Side sy b (suc b) s bn (suc bx) back (out ++ letter bn Ua ∷ [])
   new_far s off h {bn} low high asked =
       let e = letter bn Ua in

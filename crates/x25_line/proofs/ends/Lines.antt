@@ -1,7 +1,8 @@
 -- The lines between two ends over sessions, and what is said of them.
 use Rattle.std.proofs.Common.{◌≡◌, ◌≤◌, ◌<◌, ◌+◌, ◌⊎◌, inl, inr, ℕ, zero, suc, List, [], ◌∷◌, ◌++◌, remove, refl, sym, subst, arith}
 use Rattle.x25_line.proofs.Lists.{each_append}
-use Rattle.x25_line.specs.{laws.Said.{sabm_of, ua_of, Said, Tells, Sabm, Else}, laws.Ends.{Letter, letter, spoilt, how_many, OfSabm, OfTells, AreOf}, laws.StationClaims.{Each}}
+use Rattle.x25_line.specs.{laws.Said.{sabm_of, ua_of, Said, Tells, Sabm, Else}, laws.Ends.{Letter, letter, spoilt, how_many, OfSabm, OfTells, AreOf}}
+use Rattle.x25_line.specs.laws.StationClaims.{Each}
 
 -- one or the other
 abbrev pub choose : ℕ → Type 0 → Type 0 → Type 0
@@ -126,7 +127,8 @@ pub after_clean : (q b : ℕ) (es : List Letter) → Clean q b es → AfterUa q 
 after_clean q b [] h = tt
 after_clean q b (e ∷ es) h = (let rest : Clean q b es = (h.0.1, h.1.1) in both (ua_of e.said) (AfterUa q b es) (Clean q b es) (after_clean q b es rest) rest)
 
-pub after_push : (q b : ℕ) (es : List Letter) (e : Letter) → AfterUa q b es → OfTells e.said (e.session ≡ q) → OfSabm e.said (e.session ≡ b) → AfterUa q b (es ++ e ∷ [])
+pub after_push : (q b : ℕ) (es : List Letter) (e : Letter) → AfterUa q b es → OfTells e.said (e.session ≡ q) → OfSabm e.said (e.session ≡ b)
+    → AfterUa q b (es ++ e ∷ [])
 after_push q b [] e h t s = both (ua_of e.said) (Unit {0}) (Clean q b []) tt (tt, tt)
 after_push q b (x ∷ es) e h t s =
     choose_map (ua_of x.said) (AfterUa q b es) (Clean q b es) (AfterUa q b (es ++ e ∷ [])) (Clean q b (es ++ e ∷ [])) (λ k. after_push q b es e k t s)
@@ -151,7 +153,8 @@ after_less q b (deeper e xs ys l) few h =
 pub after_base : (q b c : ℕ) (es : List Letter) → how_many sabm_of es ≡ 0 → AfterUa q b es → AfterUa q c es
 after_base q b c [] none h = tt
 after_base q b c (e ∷ es) none h =
-    choose_map (ua_of e.said) (AfterUa q b es) (Clean q b es) (AfterUa q c es) (Clean q c es) (λ k. after_base q b c es (omega (arith, none)) k) (λ k. (k.0, are_none c es (omega (arith, none)))) h
+    choose_map (ua_of e.said) (AfterUa q b es) (Clean q b es) (AfterUa q c es) (Clean q c es) (λ k. after_base q b c es (omega (arith, none)) k)
+    (λ k. (k.0, are_none c es (omega (arith, none)))) h
 
 -- ---- SABMs
 
@@ -201,7 +204,8 @@ asked_begins N O M P b q r p never (e ∷ es) h = (
   asked_begins N O M P b q r p never es h.1,
 )
 
-pub asked_push : (N O : Type 0) (b q : ℕ) (es : List Letter) (e : Letter) → AllAsked N O b q es → OfTells e.said ((N → ⊥) × (e.session ≡ q)) → OfSabm e.said (N × (e.session ≡ b)) → AllAsked N O b q (es ++ e ∷ [])
+pub asked_push : (N O : Type 0) (b q : ℕ) (es : List Letter) (e : Letter) → AllAsked N O b q es → OfTells e.said ((N → ⊥) × (e.session ≡ q))
+    → OfSabm e.said (N × (e.session ≡ b)) → AllAsked N O b q (es ++ e ∷ [])
 asked_push N O b q [] e h t s = (of_sabm e.said (IsAsked N O b q e []) (λ k. inl (k.0, k.1, tt)) s, tt)
 asked_push N O b q (x ∷ es) e h t s = (
   of_sabm x.said (IsAsked N O b q x (es ++ e ∷ []))

@@ -81,11 +81,13 @@ pub meets : {p q near far : ℕ} {m : Meeting} → near ≡ p → far ≤ q → 
 meets is high begun (inl same) here = (omega (arith, same.1, begun.1, high), omega (arith, same.1, begun.1, high))
 meets is high begun (inr less) here = absurd (omega (arith, less.0, is, here))
 
-pub all_meet : (p q near far : ℕ) (met : List Meeting) → near ≡ p → far ≤ q → Each (IsBegun near far) met → Each (IsPaired p q) met → Each (λ (m : Meeting). m.near ≡ near → m.far ≡ far) met
+pub all_meet : (p q near far : ℕ) (met : List Meeting) → near ≡ p → far ≤ q → Each (IsBegun near far) met → Each (IsPaired p q) met
+    → Each (λ (m : Meeting). m.near ≡ near → m.far ≡ far) met
 all_meet p q near far [] is high begun paired = tt
 all_meet p q near far (m ∷ ms) is high begun paired = (λ here. (meets is high begun.0 paired.0 here).0, all_meet p q near far ms is high begun.1 paired.1)
 
-pub some_meets : (p q near far : ℕ) (met : List Meeting) → near ≡ p → far ≤ q → Each (IsBegun near far) met → Each (IsPaired p q) met → SomeMet (λ (m : Meeting). m.near ≡ near) met → q ≡ far
+pub some_meets : (p q near far : ℕ) (met : List Meeting) → near ≡ p → far ≤ q → Each (IsBegun near far) met → Each (IsPaired p q) met
+    → SomeMet (λ (m : Meeting). m.near ≡ near) met → q ≡ far
 some_meets p q near far [] is high begun paired some = absurd some
 some_meets p q near far (m ∷ ms) is high begun paired some =
     elim some [ inl here ↦ (meets is high begun.0 paired.0 here).1 | inr there ↦ some_meets p q near far ms is high begun.1 paired.1 there ]

@@ -1,10 +1,14 @@
 -- Whatever an end does keeps what holds of two ends over sessions.
 use Rattle.std.proofs.Common.{◌≡◌, ◌≤◌, ◌+◌, ◌⊎◌, inl, inr, ℕ, suc, List, [], ◌∷◌, ◌++◌, map, remove, Option, refl, sym, subst, arith, ap}
-use Rattle.x25_line.specs.{laws.Said.{sabm_of, ua_of, disc_of, Said, Carried, Tells, Sabm, Disc, Ua, Else, Odd}, laws.Sessions.{Meeting, turned}, laws.SessionClaims.{Each, InStep}}
-use Rattle.x25_line.specs.laws.Ends.{Stand, Out, Asking, In, Letter, letter, Two, two_swapped, how_many, OfTells, IsPatient, heard, spoilt, Moves, free, odd, asks, closes, leaves, hears, takes_ua, takes_sabm, waits_on, takes_disc, loses, damages, begin_at}
+use Rattle.x25_line.specs.{laws.Said.{sabm_of, ua_of, disc_of, Said, Carried, Tells, Sabm, Disc, Ua, Else, Odd}, laws.Sessions.{Meeting, turned}}
+use Rattle.x25_line.specs.laws.SessionClaims.{Each, InStep}
+use Rattle.x25_line.specs.laws.Ends.{Stand, Out, Asking, In, Letter, letter, Two, two_swapped, how_many, OfTells, IsPatient, heard, spoilt, Moves, free, odd}
+use Rattle.x25_line.specs.laws.Ends.{asks, closes, leaves, hears, takes_ua, takes_sabm, waits_on, takes_disc, loses, damages, begin_at}
 use Rattle.x25_line.proofs.ends.Meetings.{IsPaired, IsBegun, begun_later, paired_anew, above_paired, begun_turned, paired_turned, in_step_turned}
-use Rattle.x25_line.proofs.ends.Lines.{count_push, Less, gone, less_removes, less_spoils, AllTold, told_map, Never, Of, are_none, after_clean, asked_none, asked_now, asked_never, asked_begins}
-use Rattle.x25_line.proofs.ends.Held.{IsOlder, Side, first_side, near_at, far_at, near_stands, far_stands, less_near, less_far, push_near, push_far, leave_near, leave_far, close_near, ask_near, ask_far, begin_near, begin_far, new_far}
+use Rattle.x25_line.proofs.ends.Lines.{count_push, Less, gone, less_removes, less_spoils, AllTold, told_map, Never, Of, are_none, after_clean, asked_none}
+use Rattle.x25_line.proofs.ends.Lines.{asked_now, asked_never, asked_begins}
+use Rattle.x25_line.proofs.ends.Held.{IsOlder, Side, first_side, near_at, far_at, near_stands, far_stands, less_near, less_far, push_near, push_far, leave_near}
+use Rattle.x25_line.proofs.ends.Held.{leave_far, close_near, ask_near, ask_far, begin_near, begin_far, new_far}
 
 -- ---- who met
 
@@ -42,7 +46,8 @@ pub record Held (w : Two) : Type 0 where
   pub far : Side w.far.stand w.far.begun q w.near.stand w.near.begun p w.back w.out
   pub meets : Meets w.near.begun w.far.begun p q w.met
 
-abbrev holds : {w : Two} {p q : ℕ} → Side w.near.stand w.near.begun p w.far.stand w.far.begun q w.out w.back → Side w.far.stand w.far.begun q w.near.stand w.near.begun p w.back w.out
+abbrev holds : {w : Two} {p q : ℕ} → Side w.near.stand w.near.begun p w.far.stand w.far.begun q w.out w.back
+    → Side w.far.stand w.far.begun q w.near.stand w.near.begun p w.back w.out
     → Meets w.near.begun w.far.begun p q w.met → Held w
 holds {w} {p} {q} near far meets = record { p = p; q = q; near = near; far = far; meets = meets }
 
@@ -57,7 +62,8 @@ held_turned w h = holds h.far h.near (meets_turned h.meets)
 -- ---- each move
 
 -- what comes to an end that is in a session
-pub live_heard : {t b p sy q : ℕ} {st : Stand} {out rest : List Letter} (s : Said) (stand : Stand) → Side stand b p st sy q out (letter t s ∷ rest) → (ms : List Meeting) → Meets b sy p q ms
+pub live_heard : {t b p sy q : ℕ} {st : Stand} {out rest : List Letter} (s : Said) (stand : Stand) → Side stand b p st sy q out (letter t s ∷ rest)
+    → (ms : List Meeting) → Meets b sy p q ms
     → Meets b sy p q (heard stand b (letter t s) ms)
 live_heard {t} {b} {p} {sy} {q} {st} {out} {rest} (Tells c n) In h ms m = meets_here b sy p q t ms (h.is_in refl) (h.live refl).0 h.tags.0 m
 live_heard {t} {b} {p} {sy} {q} {st} {out} {rest} s In h ms m = m
@@ -79,7 +85,8 @@ module _ (w : Two) where
       holds (less_near l h.near) (less_far l h.far) h.meets
 
   -- one more on the line, which sets nothing up
-  abbrev longer : (s : Said) → sabm_of s ≡ 0 → disc_of s ≡ 0 → (h : Held w) → OfTells s (((w.near.stand ≡ In → ⊥) → ⊥) × (bx ≡ h.p)) → (sy ≡ Asking → ua_of s ≡ 0) → Held (record w { out = w.out ++ letter bx s ∷ [] })
+  abbrev longer : (s : Said) → sabm_of s ≡ 0 → disc_of s ≡ 0 → (h : Held w) → OfTells s (((w.near.stand ≡ In → ⊥) → ⊥) × (bx ≡ h.p))
+      → (sy ≡ Asking → ua_of s ≡ 0) → Held (record w { out = w.out ++ letter bx s ∷ [] })
   longer s no_sabm no_disc h told no_ua =
       holds (push_near (letter bx s) no_sabm no_disc h.near) (push_far (letter bx s) no_sabm (omega arith) told no_ua h.far) h.meets
 
@@ -96,18 +103,21 @@ module _ (w : Two) where
       holds (leave_near h.near) (leave_far h.far) h.meets
 
   -- the UA that the near end awaits
-  ua_held : (s : ℕ) (rest : List Letter) {p q : ℕ} → Side Asking bx p sy b q w.out (letter s Ua ∷ rest) → Side sy b q Asking bx p (letter s Ua ∷ rest) w.out → Meets bx b p q w.met
+  ua_held : (s : ℕ) (rest : List Letter) {p q : ℕ} → Side Asking bx p sy b q w.out (letter s Ua ∷ rest) → Side sy b q Asking bx p (letter s Ua ∷ rest) w.out
+      → Meets bx b p q w.met
       → Onward w (record w { near = record { stand = In; begun = suc bx }; back = rest }) p q
   ua_held s rest {p} {q} near far meets = elim near.view [
     | inl is ↦ (absurd (omega (arith, near.left refl is)))
     | inr is ↦ (let none : how_many sabm_of w.out ≡ 0 = omega (arith, (near.asks_once refl).0) in let clean = near.soon refl is in record {
       pair = inl (refl, refl);
-      held = holds (begin_near is near.tags.1 clean.0 (asked_now _ _ _ b q q rest clean.1 near.asked.1) (omega (arith, near.one))) (begin_far none (less_far (gone (letter s Ua) rest) far)) (meets_more w.met meets);
+      held = holds (begin_near is near.tags.1 clean.0 (asked_now _ _ _ b q q rest clean.1 near.asked.1) (omega (arith, near.one)))
+          (begin_far none (less_far (gone (letter s Ua) rest) far)) (meets_more w.met meets);
     })
   ]
 
   -- a SABM
-  sabm_held : (s : ℕ) (rest : List Letter) {p q : ℕ} → Side w.near.stand bx p sy b q w.out (letter s Sabm ∷ rest) → Side sy b q w.near.stand bx p (letter s Sabm ∷ rest) w.out → Meets bx b p q w.met
+  sabm_held : (s : ℕ) (rest : List Letter) {p q : ℕ} → Side w.near.stand bx p sy b q w.out (letter s Sabm ∷ rest)
+      → Side sy b q w.near.stand bx p (letter s Sabm ∷ rest) w.out → Meets bx b p q w.met
       → Onward w (record w { near = record { stand = In; begun = suc bx }; out = w.out ++ letter (suc bx) Ua ∷ []; back = rest }) p q
   sabm_held s rest {p} {q} near far meets = elim near.asked.0 [
     | inl now ↦ new_pair now.0 now.1 now.2
@@ -117,13 +127,15 @@ module _ (w : Two) where
       none : how_many sabm_of rest ≡ 0
       none = (omega (arith, near.one))
 
-      new_pair : (sy ≡ In → ⊥) → s ≡ b → AllTold Never rest → Onward w (record w { near = record { stand = In; begun = suc bx }; out = w.out ++ letter (suc bx) Ua ∷ []; back = rest }) p q
+      new_pair : (sy ≡ In → ⊥) → s ≡ b → AllTold Never rest
+          → Onward w (record w { near = record { stand = In; begun = suc bx }; out = w.out ++ letter (suc bx) Ua ∷ []; back = rest }) p q
       new_pair off is told =
           let that = far_at (ap (λ z. letter z Sabm ∷ rest) is) far in
           record {
             pair = inr (refl, refl);
             held = holds
-                (begin_near refl near.tags.1 (told_map Never (Of (suc b)) (λ n no. absurd no) rest told) (asked_none _ _ b (suc b) rest none) (omega (arith, none)))
+                (begin_near refl near.tags.1 (told_map Never (Of (suc b)) (λ n no. absurd no) rest told) (asked_none _ _ b (suc b) rest none)
+                (omega (arith, none)))
                 (new_far In off that (omega arith) (omega arith)
                 (asked_begins _ _ _ _ bx p (suc bx) (refl, none, λ k. absurd (cc)) (λ o. (absurd (omega (arith, o.1)))) w.out that.asked))
                 (meets_more w.met (meets_new meets));
@@ -135,11 +147,13 @@ module _ (w : Two) where
           record {
             pair = inl (refl, refl);
             held = holds (begin_near ok.0 near.tags.1 told (asked_none _ _ b q rest none) (omega (arith, none)))
-                (push_far (letter (suc bx) Ua) refl (omega arith) tt (λ k. absurd (ok.2 k)) (begin_far ok.1 (less_far (gone (letter s Sabm) rest) far))) (meets_more w.met meets);
+                (push_far (letter (suc bx) Ua) refl (omega arith) tt (λ k. absurd (ok.2 k)) (begin_far ok.1 (less_far (gone (letter s Sabm) rest) far)))
+                (meets_more w.met meets);
           }
 
   -- a SABM that crossed that of the near end, which waits on
-  waits_held : (s : ℕ) (rest : List Letter) {p q : ℕ} → Side Asking bx p sy b q w.out (letter s Sabm ∷ rest) → Side sy b q Asking bx p (letter s Sabm ∷ rest) w.out → Meets bx b p q w.met
+  waits_held : (s : ℕ) (rest : List Letter) {p q : ℕ} → Side Asking bx p sy b q w.out (letter s Sabm ∷ rest)
+      → Side sy b q Asking bx p (letter s Sabm ∷ rest) w.out → Meets bx b p q w.met
       → Onward w (record w { near = record { stand = Asking; begun = bx }; out = w.out ++ letter bx Ua ∷ []; back = rest }) p q
   waits_held s rest {p} {q} near far meets = elim near.asked.0 [
     | inl now ↦ new_pair now.0 now.1 now.2
@@ -155,7 +169,8 @@ module _ (w : Two) where
       discs : how_many disc_of (w.out ++ letter bx Ua ∷ []) ≡ how_many disc_of w.out + 0
       discs = count_push disc_of w.out (letter bx Ua)
 
-      new_pair : (sy ≡ In → ⊥) → s ≡ b → AllTold Never rest → Onward w (record w { near = record { stand = Asking; begun = bx }; out = w.out ++ letter bx Ua ∷ []; back = rest }) p q
+      new_pair : (sy ≡ In → ⊥) → s ≡ b → AllTold Never rest
+          → Onward w (record w { near = record { stand = Asking; begun = bx }; out = w.out ++ letter bx Ua ∷ []; back = rest }) p q
       new_pair off is told =
           let that = far_at (ap (λ z. letter z Sabm ∷ rest) is) far in
           let once = (near.asks_once refl).0 in
@@ -178,7 +193,8 @@ module _ (w : Two) where
                 (meets_new meets);
           }
 
-      same_pair : IsOlder bx p w.out sy → Onward w (record w { near = record { stand = Asking; begun = bx }; out = w.out ++ letter bx Ua ∷ []; back = rest }) p q
+      same_pair : IsOlder bx p w.out sy → Onward w (record w { near = record { stand = Asking; begun = bx }; out = w.out ++ letter bx Ua ∷ []; back = rest }) p
+          q
       same_pair ok =
           record {
             pair = inl (refl, refl);
@@ -187,14 +203,16 @@ module _ (w : Two) where
           }
 
 -- two moves by themselves, of which it shows that the same two sessions stand
-abbrev pub told_held : (w : Two) (carried : Option Carried) (nr : ℕ) → w.near.stand ≡ In → Held w → Held (record w { out = w.out ++ letter w.near.begun (Tells carried nr) ∷ [] })
+abbrev pub told_held : (w : Two) (carried : Option Carried) (nr : ℕ) → w.near.stand ≡ In → Held w
+    → Held (record w { out = w.out ++ letter w.near.begun (Tells carried nr) ∷ [] })
 told_held w carried nr is h =
     longer w (Tells carried nr) refl refl h ((λ off. off is), h.near.is_in is) (λ _. refl)
 
 pub popped : (xs rest : List Letter) (e : Letter) → xs ≡ e ∷ rest → Less xs rest
 popped xs rest e is = rw is (gone e rest)
 
-abbrev pub come_held : (w : Two) (e : Letter) (rest : List Letter) → w.back ≡ e ∷ rest → Held w → Held (record w { back = rest; met = heard w.near.stand w.near.begun e w.met })
+abbrev pub come_held : (w : Two) (e : Letter) (rest : List Letter) → w.back ≡ e ∷ rest → Held w
+    → Held (record w { back = rest; met = heard w.near.stand w.near.begun e w.met })
 come_held w e rest is h =
     let k = shorter w rest (popped w.back rest e is) h in
     holds k.near k.far
@@ -213,7 +231,8 @@ moves_held {w} (takes_ua s rest is asking) h =
 moves_held {w} (takes_sabm s rest is) h =
     sabm_held w s rest (near_at is h.near) (far_at is h.far) h.meets
 moves_held {w} (waits_on s rest is asking) h =
-    subst (λ z. Onward w (record w { near = record { stand = z; begun = w.near.begun }; out = w.out ++ letter w.near.begun Ua ∷ []; back = rest }) h.p h.q) (sym asking)
+    subst (λ z. Onward w (record w { near = record { stand = z; begun = w.near.begun }; out = w.out ++ letter w.near.begun Ua ∷ []; back = rest }) h.p h.q)
+    (sym asking)
     (waits_held w s rest (near_stands asking (near_at is h.near)) (far_stands asking (far_at is h.far)) h.meets)
 moves_held {w} (takes_disc s rest is) h =
     let k = shorter w rest (popped w.back rest (letter s Disc) is) h in

@@ -1,11 +1,16 @@
 -- The session that stands has a line of its own: what of the line has its number. So what holds of a link set up once holds of it.
-use Rattle.std.proofs.Common.{◌≡◌, ◌≤◌, ◌<◌, ◌==◌, ◌⊎◌, inl, inr, ℕ, suc, List, [], ◌∷◌, ◌++◌, map, Bool, true, false, Option, Some, None, refl, sym, ap, ◌∙◌, subst, arith, append-nil, length}
+use Rattle.std.proofs.Common.{◌≡◌, ◌≤◌, ◌<◌, ◌==◌, ◌⊎◌, inl, inr, ℕ, suc, List, [], ◌∷◌, ◌++◌, map, Bool, true, false, Option, Some, None, refl, sym, ap, ◌∙◌}
+use Rattle.std.proofs.Common.{subst, arith, append-nil, length}
 use Rattle.x25_window.specs.code.Modulo.{resolved}
 use Rattle.x25_line.specs.{laws.InWindow.{IsPrefix}, laws.Said.{sabm_of, Said, Carried, Tells, Sabm, Disc, Ua, Else, Odd}, laws.Sessions.{Meeting, turned}}
 use Rattle.x25_line.specs.{laws.SessionClaims.{Each, SomeMet}, laws.Peer.{Peer, fresh_peer, MaySay, MayMake}}
-use Rattle.x25_line.specs.laws.Ends.{Stand, Out, Asking, In, put_for, Letter, letter, Two, how_many, meets, heard, OfTells, AreOf, Moves, free, odd, asks, closes, hears, takes_ua, takes_sabm, waits_on, takes_disc, loses, damages, Ends, ends_swapped, near_now, with_near, begins, fresh_where, with_packet, Does, sends, listens, moves, begin_at, EndsReached, at_start, set_up, near_handed, far_handed, near_does, far_does}
+use Rattle.x25_line.specs.laws.Ends.{Stand, Out, Asking, In, put_for, Letter, letter, Two, how_many, meets, heard, OfTells, AreOf, Moves, free, odd, asks}
+use Rattle.x25_line.specs.laws.Ends.{closes, hears, takes_ua, takes_sabm, waits_on, takes_disc, loses, damages, Ends, ends_swapped, near_now, with_near, begins}
+use Rattle.x25_line.specs.laws.Ends.{fresh_where, with_packet, Does, sends, listens, moves, begin_at, EndsReached, at_start, set_up, near_handed, far_handed}
+use Rattle.x25_line.specs.laws.Ends.{near_does, far_does}
 use Rattle.x25_line.specs.laws.EndClaims.{InOrder, MetInOrder, KeepSessions, OfAnyTwoEnds}
-use Rattle.x25_line.proofs.Order.{Told, told, only, IsApart, only_append, only_quiet, Left, left_front, left_deeper, Hold, starts, hold_turned, handed, says, left, makes, in_order, valid_front}
+use Rattle.x25_line.proofs.Order.{Told, told, only, IsApart, only_append, only_quiet, Left, left_front, left_deeper, Hold, starts, hold_turned, handed, says}
+use Rattle.x25_line.proofs.Order.{left, makes, in_order, valid_front}
 use Rattle.x25_line.proofs.ends.Meetings.{IsPaired, near_turned, far_turned, all_meet, some_meets}
 use Rattle.x25_line.proofs.{ends.Lines.{Less, whole, gone, hurt, deeper, less_removes, less_spoils, AllTags, tags_less}, ends.Held.{Side, near_at, near_stands}}
 use Rattle.x25_line.proofs.ends.Moves.{Held, held_turned, first_held, moves_held, told_held, come_held, popped}
@@ -140,8 +145,10 @@ all_turned {w} h =
 
 -- ---- a move without an N(R)
 
-met_heard : {b p c q t : ℕ} {st : Stand} {out rest : List Letter} (near_of far_of : ℕ → Peer) (stand : Stand) (s : Said) → Side stand b p st c q out (letter t s ∷ rest)
-    → InOrder (near_of p) (far_of q) × InOrder (far_of q) (near_of p) → (ms : List Meeting) → Each (MetInOrder near_of far_of) ms → Each (MetInOrder near_of far_of) (heard stand b (letter t s) ms)
+met_heard : {b p c q t : ℕ} {st : Stand} {out rest : List Letter} (near_of far_of : ℕ → Peer) (stand : Stand) (s : Said)
+    → Side stand b p st c q out (letter t s ∷ rest)
+    → InOrder (near_of p) (far_of q) × InOrder (far_of q) (near_of p) → (ms : List Meeting) → Each (MetInOrder near_of far_of) ms
+    → Each (MetInOrder near_of far_of) (heard stand b (letter t s) ms)
 met_heard {b} {p} {c} {q} {t} {st} {out} {rest} near_of far_of In (Tells carried n) h orders ms m =
     (rw (h.is_in refl, (h.live refl).0) orders, m)
 met_heard {b} {p} {c} {q} {t} {st} {out} {rest} near_of far_of stand s h orders ms m = m
@@ -195,7 +202,8 @@ moves_all w v m h =
     go x y (inr e) = rw (e.0, e.1) anew
 
 -- the same, but for functions of the same values
-order_alike : (near_of far_of f : ℕ → Peer) → ((n : ℕ) → f n ≡ near_of n) → (ms : List Meeting) → Each (MetInOrder near_of far_of) ms → Each (MetInOrder f far_of) ms
+order_alike : (near_of far_of f : ℕ → Peer) → ((n : ℕ) → f n ≡ near_of n) → (ms : List Meeting) → Each (MetInOrder near_of far_of) ms
+    → Each (MetInOrder f far_of) ms
 order_alike near_of far_of f same [] h = tt
 order_alike near_of far_of f same (m ∷ ms) h = (rw (same m.near) h.0, order_alike near_of far_of f same ms h.1)
 
@@ -219,24 +227,24 @@ fresh_same b all later true n = elim (same_or_other n (suc b)) [
   | inr not ↦ put_apart (suc b) n fresh_peer all not
 ]
 
-begun_all : (w : Ends) (v : Two) (m : Moves w.two v) → All w → All (record w { two = v; near_of = fresh_where (begins m) w.two.near.begun w.near_of })
-begun_all w v m h = alike_all (fresh_where (begins m) w.two.near.begun w.near_of) (fresh_same w.two.near.begun w.near_of h.near_later (begins m)) (moves_all w v m h)
-
 -- ---- what is done in a session
 
-order_again : (near_of far_of : ℕ → Peer) (b p q : ℕ) (r : Peer) → b ≡ p → InOrder r (far_of q) × InOrder (far_of q) r → (ms : List Meeting) → Each (IsPaired p q) ms → Each (MetInOrder near_of far_of) ms
+order_again : (near_of far_of : ℕ → Peer) (b p q : ℕ) (r : Peer) → b ≡ p → InOrder r (far_of q) × InOrder (far_of q) r → (ms : List Meeting)
+    → Each (IsPaired p q) ms → Each (MetInOrder near_of far_of) ms
     → Each (MetInOrder (put_for b r near_of) far_of) ms
 order_again near_of far_of b p q r is orders [] paired h = tt
 order_again near_of far_of b p q r is orders (m ∷ ms) paired h = (
   elim paired.0 [
     | inl same ↦ rw (put_same b m.near r near_of (same.0 ∙ sym is)) (rw same.1 orders)
-    | inr less ↦ (subst (λ x. InOrder x (far_of m.far) × InOrder (far_of m.far) x) (sym (put_other b m.near r near_of (λ here. omega (arith, less.0, is, here)))) h.0)
+    | inr less ↦ (subst (λ x. InOrder x (far_of m.far) × InOrder (far_of m.far) x)
+        (sym (put_other b m.near r near_of (λ here. omega (arith, less.0, is, here)))) h.0)
   ],
   order_again near_of far_of b p q r is orders ms paired.1 h.1,
 )
 
 -- the near end is r in the session that it is in; the session's lines are then these
-updated : {w : Ends} {v : Two} (h : All w) (on : Held v) {r : Peer} → w.two.near.stand ≡ In → on.p ≡ h.held.p → on.q ≡ h.held.q → v.near.begun ≡ w.two.near.begun → v.far ≡ w.two.far
+updated : {w : Ends} {v : Two} (h : All w) (on : Held v) {r : Peer} → w.two.near.stand ≡ In → on.p ≡ h.held.p → on.q ≡ h.held.q → v.near.begun
+    ≡ w.two.near.begun → v.far ≡ w.two.far
     → Hold r (w.far_of h.held.q) (of h.held.p v.out) (of h.held.q v.back) → Each (MetInOrder w.near_of w.far_of) v.met → Each (IsPaired h.held.p h.held.q) v.met
     → ((n : ℕ) → ((with_near r w n).taken ≡ []) ⊎ SomeMet (λ m. m.near ≡ n) v.met) → ((n : ℕ) → ((w.far_of n).taken ≡ []) ⊎ SomeMet (λ m. m.far ≡ n) v.met)
     → All (record { two = v; near_of = with_near r w; far_of = w.far_of })
@@ -256,7 +264,8 @@ updated {w} {v} h on {r} is same_p same_q begun far hold order paired near_unmet
 at_now : {w : Ends} (h : All w) → w.two.near.stand ≡ In → Hold (near_now w) (w.far_of h.held.q) (of h.held.p w.two.out) (of h.held.q w.two.back)
 at_now h is = rw (h.held.near.is_in is) h.line
 
-still_unmet : (w : Ends) (h : All w) (r : Peer) → r.taken ≡ (near_now w).taken → (n : ℕ) → ((with_near r w n).taken ≡ []) ⊎ SomeMet (λ (m : Meeting). m.near ≡ n) w.two.met
+still_unmet : (w : Ends) (h : All w) (r : Peer) → r.taken ≡ (near_now w).taken → (n : ℕ) → ((with_near r w n).taken ≡ [])
+    ⊎ SomeMet (λ (m : Meeting). m.near ≡ n) w.two.met
 still_unmet w h r same n = elim (h.near_unmet n) [ inl none ↦ inl (put_alike (λ p. p.taken) w.two.near.begun r w.near_of same n ∙ none) | inr some ↦ inr some ]
 
 handed_all : {w : Ends} (packet : List ℕ) → w.two.near.stand ≡ In → (h : All w) → All (with_packet packet w)
@@ -284,12 +293,14 @@ sent_all w carried nr r is may h =
 in_front : (q t : ℕ) (c : Option Carried) (n : ℕ) (rest : List Letter) → t ≡ q → of q (letter t (Tells c n) ∷ rest) ≡ told c n ∷ of q rest
 in_front q t c n rest is = ap (λ z. keep (z == q) (Tells c n) (of q rest)) is ∙ ap (λ z. keep z (Tells c n) (of q rest)) (equal q)
 
-came : {x y r : Peer} {out : List Told} (q t : ℕ) (s : Said) (rest : List Letter) → OfTells s (t ≡ q) → Hold x y out (of q (letter t s ∷ rest)) → MayMake x s r → Hold r y out (of q rest)
+came : {x y r : Peer} {out : List Told} (q t : ℕ) (s : Said) (rest : List Letter) → OfTells s (t ≡ q) → Hold x y out (of q (letter t s ∷ rest)) → MayMake x s r
+    → Hold r y out (of q rest)
 came {x} {y} {r} {out} q t (Tells c n) rest to hold may = makes x y out (Tells c n) (of q rest) may (rw (sym (in_front q t c n rest to)) hold)
 came {x} {y} {r} {out} q t s rest to hold may = makes x y out s (of q rest) may (rw (sym (keep_quiet (t == q) s (of q rest) tt)) hold)
 
 -- a session that takes a packet meets one
-heard_unmet : (b t : ℕ) (f : ℕ → Peer) (r : Peer) (s : Said) (ms : List Meeting) → MayMake (f b) s r → (n : ℕ) → ((f n).taken ≡ []) ⊎ SomeMet (λ (m : Meeting). m.near ≡ n) ms
+heard_unmet : (b t : ℕ) (f : ℕ → Peer) (r : Peer) (s : Said) (ms : List Meeting) → MayMake (f b) s r → (n : ℕ) → ((f n).taken ≡ [])
+    ⊎ SomeMet (λ (m : Meeting). m.near ≡ n) ms
     → ((put_for b r f n).taken ≡ []) ⊎ SomeMet (λ m. m.near ≡ n) (meets s (record { near = b; far = t }) ms)
 heard_unmet b t f r (Tells c nr) ms may n h = elim (same_or_other n b) [
   | inl is ↦ inr (inl (sym is))
@@ -300,7 +311,8 @@ heard_unmet b t f r s ms may n h = elim h [
   | inr some ↦ inr some
 ]
 
-heard_all : (w : Ends) (e : Letter) (rest : List Letter) (r : Peer) → w.two.back ≡ e ∷ rest → w.two.near.stand ≡ In → MayMake (near_now w) e.said r → (h : All w)
+heard_all : (w : Ends) (e : Letter) (rest : List Letter) (r : Peer) → w.two.back ≡ e ∷ rest → w.two.near.stand ≡ In → MayMake (near_now w) e.said r
+    → (h : All w)
     → All (record w { two = record w.two { back = rest; met = heard w.two.near.stand w.two.near.begun e w.two.met }; near_of = with_near r w })
 heard_all w e rest r is on may h =
     let b = w.two.near.begun in
@@ -318,10 +330,19 @@ heard_all w e rest r is on may h =
 does_all : {w v : Ends} → Does w v → All w → All v
 does_all {w} (sends carried nr r is may) h = sent_all w carried nr r is may h
 does_all {w} (listens e rest r is on may) h = heard_all w e rest r is on may h
-does_all {w} (moves u m) h = begun_all w u m h
+does_all {w} (moves u m) h = (alike_all (fresh_where (begins m) w.two.near.begun w.near_of) (fresh_same w.two.near.begun w.near_of h.near_later (begins m))
+    (moves_all w u m h))
 
 starts_all : (stand : Stand) (b : ℕ) → All (begin_at stand b)
-starts_all stand b = record { held = first_held stand b; near_later = λ n less. refl; far_later = λ n less. refl; line = starts; order = tt; near_unmet = λ n. inl refl; far_unmet = λ n. inl refl }
+starts_all stand b = record {
+  held = first_held stand b;
+  near_later = λ n less. refl;
+  far_later = λ n less. refl;
+  line = starts;
+  order = tt;
+  near_unmet = λ n. inl refl;
+  far_unmet = λ n. inl refl;
+}
 
 pub reached_all : {w : Ends} → EndsReached w → All w
 reached_all at_start = starts_all Out 0
@@ -348,21 +369,25 @@ some_stands w h on =
     some_meets h.held.p h.held.q w.two.near.begun w.two.far.begun w.two.met (h.held.near.is_in on) (far_high h) h.held.meets.begun h.held.meets.paired
 
 -- all that an end was handed down in its session was taken, where all is acknowledged
-pub all_taken : {w : Ends} (h : All w) → w.two.near.stand ≡ In → h.held.q ≡ w.two.far.begun → (near_now w).acked ≡ length (near_now w).given → (w.far_of w.two.far.begun).taken ≡ (near_now w).given
+pub all_taken : {w : Ends} (h : All w) → w.two.near.stand ≡ In → h.held.q ≡ w.two.far.begun → (near_now w).acked ≡ length (near_now w).given
+    → (w.far_of w.two.far.begun).taken ≡ (near_now w).given
 all_taken h on latest acked =
     rw (sym latest) ((both_orders (at_now h on)).0.all acked)
 
-pub valid : (w : Ends) (h : All w) → w.two.near.stand ≡ In → (e : Letter) (rest : List Letter) (carried : Option Carried) (nr : ℕ) → w.two.back ≡ e ∷ rest → e.said ≡ Tells carried nr
+pub valid : (w : Ends) (h : All w) → w.two.near.stand ≡ In → (e : Letter) (rest : List Letter) (carried : Option Carried) (nr : ℕ) → w.two.back ≡ e ∷ rest
+    → e.said ≡ Tells carried nr
     → resolved (near_now w).acked nr ≤ (near_now w).sent
 valid w h on e rest carried nr is says =
     let q = h.held.q in
     let near = near_at is h.held.near in
     let to = subst (λ z. OfTells z (e.session ≡ q)) says (near.live on).0 in
-    let front : of q w.two.back ≡ told carried nr ∷ of q rest = ap (of q) is ∙ ap (λ z. keep (e.session == q) z (of q rest)) says ∙ in_front q e.session carried nr rest to in
+    let front : of q w.two.back ≡ told carried nr ∷ of q rest =
+    ap (of q) is ∙ ap (λ z. keep (e.session == q) z (of q rest)) says ∙ in_front q e.session carried nr rest to in
     valid_front (near_now w) (w.far_of q) (of h.held.p w.two.out) (of q rest) (told carried nr) (rw (sym front) (at_now h on))
 
 -- behind the UA that an end awaits no SABM of the other is older than its session, and no SABM of the end is on the line
-pub ua_present : {w : Ends} (h : All w) (s : ℕ) (rest : List Letter) → w.two.near.stand ≡ Asking → w.two.back ≡ letter s Ua ∷ rest → AreOf w.two.far.begun rest × (how_many sabm_of w.two.out ≡ 0)
+pub ua_present : {w : Ends} (h : All w) (s : ℕ) (rest : List Letter) → w.two.near.stand ≡ Asking → w.two.back ≡ letter s Ua ∷ rest → AreOf w.two.far.begun rest
+    × (how_many sabm_of w.two.out ≡ 0)
 ua_present h s rest asking is =
     let near = near_stands asking (near_at is h.held.near) in
     elim near.view [ inl here ↦ (absurd (omega (arith, near.left refl here))) | inr less ↦ ((near.soon refl less).1, omega (arith, ((near.asks_once refl).0))) ]

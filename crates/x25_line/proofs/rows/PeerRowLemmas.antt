@@ -28,7 +28,14 @@ module _ (reads : ReadsSpelled) where
       let q : Peer = told_to 0 (numbered_to 0 p3) in
       let w4 : JoinedOnce = record w3 { peer = q; back = spelling_of Dce polling_frame ∷ [] } in
       let r4 : ReachedOnce ⊥ dte w4 = goes_on w3 w4 r3
-      (Sends (spelling_of Dce polling_frame) q (rw polling_reads (0, 0, record { number = refl; same = refl; window = omega arith; again = omega arith }, record { number = refl; rising = omega arith; taken = omega arith }, refl)))
+      (Sends (spelling_of Dce polling_frame) q
+      (rw polling_reads (
+        0,
+        0,
+        record { number = refl; same = refl; window = omega arith; again = omega arith },
+        record { number = refl; rising = omega arith; taken = omega arith },
+        refl,
+      )))
       in
       let w5 : JoinedOnce = with_peer q (acts dte Deliver (our_end w4)) in
       let r5 : ReachedOnce ⊥ dte w5 = goes_on w4 w5 r4 (Ours Deliver) in

@@ -17,10 +17,12 @@ module _ (reads : ReadsSpelled) where
   polling_reads = reads Dce 128 polling_frame _ (record { in_range = (omega arith, omega arith); carries = tt; within = omega arith; spelling = refl })
 
   -- the station takes the front
-  takes : (f : PlainFrame) (session : ℕ) (back : List Entry) {w : PeerSessions} → frame_of Dce 128 (spelling_of Dce f) ≡ Ok f → w.back ≡ record { session = session; octets = spelling_of Dce f } ∷ back → ReachedInSessions ⊥ dte w
+  takes : (f : PlainFrame) (session : ℕ) (back : List Entry) {w : PeerSessions} → frame_of Dce 128 (spelling_of Dce f) ≡ Ok f → w.back
+      ≡ record { session = session; octets = spelling_of Dce f } ∷ back → ReachedInSessions ⊥ dte w
       → ReachedInSessions ⊥ dte (with_peer w.peer (taken_as dte (Ok f) (record { session = session; octets = spelling_of Dce f }) back (both_ends w)))
   takes f session back {w} read is reached =
-      subst (λ v. ReachedInSessions ⊥ dte (with_peer w.peer v)) (comes dte (Ok f) (record { session = session; octets = spelling_of Dce f }) back (both_ends w) read is)
+      subst (λ v. ReachedInSessions ⊥ dte (with_peer w.peer v))
+      (comes dte (Ok f) (record { session = session; octets = spelling_of Dce f }) back (both_ends w) read is)
       (sessions.goes_on w (with_peer w.peer (acts dte Deliver (both_ends w))) reached (sessions.Ours Deliver tt))
 
   pub crossing_peer_moves : CrossingPeerMoves
@@ -30,13 +32,19 @@ module _ (reads : ReadsSpelled) where
       let w0 : PeerSessions = begin_with Out from_nothing in
       let w1 : PeerSessions = record w0 { peer = record (w0.peer) { stand = Asking }; back = entry 0 (sabm true) ∷ [] } in
       let r1 : ReachedInSessions ⊥ dte w1 = sessions.goes_on w0 w1 sessions.at_start
-      (sessions.Theirs w1 (record { does = λ crossing. rw (bare_reads reads Dce (sabm true) (tt, tt)) (moves _ (asks (record { sabm = refl; disc = refl; ua = refl; crossing = crossing }))); left = untouched; puts = puts_frame 0 _ (sabm true) (bare_reads reads Dce (sabm true) (tt, tt)) })) in
+      (sessions.Theirs w1 (record {
+        does = λ crossing. rw (bare_reads reads Dce (sabm true) (tt, tt))
+            (moves _ (asks (record { sabm = refl; disc = refl; ua = refl; crossing = crossing })));
+        left = untouched;
+        puts = puts_frame 0 _ (sabm true) (bare_reads reads Dce (sabm true) (tt, tt));
+      })) in
       let w2 : PeerSessions = with_peer w1.peer (acts dte Connect (both_ends w1)) in
       let r2 : ReachedInSessions ⊥ dte w2 = sessions.goes_on w1 w2 r1 (sessions.Ours Connect tt) in
       let w3 : PeerSessions = record w2 { peer = begins w2.peer; out = []; back = entry 0 (sabm true) ∷ entry 1 (ua true) ∷ [] } in
       let r3 : ReachedInSessions ⊥ dte w3 = sessions.goes_on w2 w3 r2
       (sessions.Theirs w3 (record {
-        does = λ crossing. rw (bare_reads reads Dce (ua true) tt) (moves _ (takes_sabm 0 [] (ap (λ r. letter 0 (said r) ∷ []) (bare_reads reads Dte (sabm true) (tt, tt)))));
+        does = λ crossing. rw (bare_reads reads Dce (ua true) tt)
+            (moves _ (takes_sabm 0 [] (ap (λ r. letter 0 (said r) ∷ []) (bare_reads reads Dte (sabm true) (tt, tt)))));
         left = without 0;
         puts = puts_frame 1 _ (ua true) (bare_reads reads Dce (ua true) tt);
       })) in
@@ -47,12 +55,20 @@ module _ (reads : ReadsSpelled) where
       let w5 : PeerSessions = record w4 { peer = with_now p5 w4.peer; back = entry 0 (sabm true) ∷ entry 1 (ua true) ∷ entry 1 polling_frame ∷ [] } in
       let r5 : ReachedInSessions ⊥ dte w5 = sessions.goes_on w4 w5 r4
       (sessions.Theirs w5 (record {
-        does = λ crossing. rw polling_reads (tells_does _ polling_frame p5 refl refl (0, 0, record { number = refl; same = refl; window = omega arith; again = omega arith }, record { number = refl; rising = omega arith; taken = omega arith }, refl));
+        does = λ crossing. rw polling_reads (tells_does _ polling_frame p5 refl refl (
+          0,
+          0,
+          record { number = refl; same = refl; window = omega arith; again = omega arith },
+          record { number = refl; rising = omega arith; taken = omega arith },
+          refl,
+        ));
         left = untouched;
         puts = puts_frame 1 _ polling_frame polling_reads;
       })) in
-      let w6 : PeerSessions = with_peer w5.peer (taken_as dte (Ok (sabm true)) (entry 0 (sabm true)) (entry 1 (ua true) ∷ entry 1 polling_frame ∷ []) (both_ends w5)) in
-      let r6 : ReachedInSessions ⊥ dte w6 = takes (sabm true) 0 (entry 1 (ua true) ∷ entry 1 polling_frame ∷ []) (bare_reads reads Dce (sabm true) (tt, tt)) refl r5 in
+      let w6 : PeerSessions = with_peer w5.peer
+      (taken_as dte (Ok (sabm true)) (entry 0 (sabm true)) (entry 1 (ua true) ∷ entry 1 polling_frame ∷ []) (both_ends w5)) in
+      let r6 : ReachedInSessions ⊥ dte w6 = takes (sabm true) 0 (entry 1 (ua true) ∷ entry 1 polling_frame ∷ []) (bare_reads reads Dce (sabm true) (tt, tt))
+      refl r5 in
       let w7 : PeerSessions = with_peer w6.peer (taken_as dte (Ok (ua true)) (entry 1 (ua true)) (entry 1 polling_frame ∷ []) (both_ends w6)) in
       let r7 : ReachedInSessions ⊥ dte w7 = takes (ua true) 1 (entry 1 polling_frame ∷ []) (bare_reads reads Dce (ua true) tt) refl r6 in
       let w8 : PeerSessions = with_peer w7.peer (taken_as dte (Ok polling_frame) (entry 1 polling_frame) [] (both_ends w7)) in

@@ -15,7 +15,8 @@ taken_as c r e back w =
     after_step c w back (heard (is_up w.near.station.phase) (number_in r) (record { near = w.near.begun; far = e.session }) w.met) []
     (closed_by c.window (hears c e.octets r w.near.station.phase (alone w.near.station)))
 
-pub comes : (c : Settings) (r : Result PlainFrame FrameError) (e : Entry) (back : List Entry) (w : Sessions) → frame_of (other c.role) c.longest e.octets ≡ r → w.back ≡ e ∷ back
+pub comes : (c : Settings) (r : Result PlainFrame FrameError) (e : Entry) (back : List Entry) (w : Sessions) → frame_of (other c.role) c.longest e.octets ≡ r
+    → w.back ≡ e ∷ back
     → acts c Deliver w ≡ taken_as c r e back w
 comes c r e back w reads is = ap (λ es. delivered c es w) is ∙ ap (λ z. taken_as c z e back w) reads
 
@@ -23,7 +24,8 @@ comes c r e back w reads is = ap (λ es. delivered c es w) is ∙ ap (λ z. take
 abbrev sent : ℕ → Role → PlainFrame → Entry
 sent session from f = record { session = session; octets = spelling_of from f }
 
-near_takes : (f : PlainFrame) (session : ℕ) (back : List Entry) (w : Sessions) → frame_of Dce 128 (spelling_of Dce f) ≡ Ok f → w.back ≡ sent session Dce f ∷ back
+near_takes : (f : PlainFrame) (session : ℕ) (back : List Entry) (w : Sessions) → frame_of Dce 128 (spelling_of Dce f) ≡ Ok f → w.back ≡ sent session Dce f
+    ∷ back
     → happens dte dce (Near Deliver) w ≡ taken_as dte (Ok f) (sent session Dce f) back w
 near_takes f session back w reads is = comes dte (Ok f) (sent session Dce f) back w reads is
 
@@ -45,7 +47,8 @@ module _ (reads : ReadsSpelled) where
       let first = far_takes (sabm true) 0 [] w (bare_reads reads Dte (sabm true) (tt, tt)) refl in
       let second = near_takes (ua true) 1 [] v (bare_reads reads Dce (ua true) tt) refl in (
         (tt, (tt, ((λ waiting. refl), (tt, (tt, (tt, (tt, tt))))))),
-        subst IsFirst (sym (ap (run dte dce (Near Deliver ∷ Near (Put (5 ∷ [])) ∷ Far Deliver ∷ [])) first ∙ ap (run dte dce (Near (Put (5 ∷ [])) ∷ Far Deliver ∷ [])) second ∙ (far_takes packet_frame 1 [] t (packet_reads reads Dte) refl)))
+        subst IsFirst (sym (ap (run dte dce (Near Deliver ∷ Near (Put (5 ∷ [])) ∷ Far Deliver ∷ [])) first
+            ∙ ap (run dte dce (Near (Put (5 ∷ [])) ∷ Far Deliver ∷ [])) second ∙ (far_takes packet_frame 1 [] t (packet_reads reads Dte) refl)))
             (refl, refl, refl, refl),
       )
 

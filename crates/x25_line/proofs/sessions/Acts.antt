@@ -3,7 +3,8 @@ use Rattle.std.proofs.Common.{◌≡◌, ℕ, ◌≤◌, List, [], ◌∷◌, le
 use Rattle.std.proofs.lemmas.Bool.{leb-true}
 use Rattle.std.specs.Prelude.{nat_le}
 use Rattle.x25_link.specs.{Station.{Settings, LinkStation, is_up}}
-use Rattle.x25_link.specs.Link.{take_step, put_step, timer_step, connect_step, disconnect_step, abandon_step, put_refusal, timer_refusal, connect_refusal, disconnect_refusal}
+use Rattle.x25_link.specs.Link.{take_step, put_step, timer_step, connect_step, disconnect_step, abandon_step, put_refusal, timer_refusal, connect_refusal}
+use Rattle.x25_link.specs.Link.{disconnect_refusal}
 use Rattle.x25_line.specs.laws.Stations.{Act, Put, Deliver, T1, Connect, Disconnect, Abandon, Probe, Lose, Damage, is_visible}
 use Rattle.x25_line.specs.laws.Sessions.{Entry, Sessions, delivered, acts}
 use Rattle.x25_line.proofs.sessions.EntryLines.{Less, whole, gone, less_removes, less_replaces}
@@ -36,15 +37,18 @@ module _ (c : Settings) (P : LinkStation → Type 0) (keeps : Keeps c P) (w : Se
   pub act_stays : (a : Act) → Stays P w (acts c a w)
   act_stays (Put packet) =
       if_by (Stays P w) (nat_le (length packet) c.longest) as_it_was
-      (λ short. unless_by (Stays P w) (put_refusal s) as_it_was (λ _. record { near = keeps.puts packet s (leb-true _ _ short) h; far = refl; less = whole w.back }))
+      (λ short. unless_by (Stays P w) (put_refusal s) as_it_was
+      (λ _. record { near = keeps.puts packet s (leb-true _ _ short) h; far = refl; less = whole w.back }))
   act_stays Deliver = delivered_stays w.back refl
   act_stays T1 = unless_by (Stays P w) (timer_refusal s) as_it_was (λ _. record { near = keeps.fires s h; far = refl; less = whole w.back })
   act_stays Connect = unless_by (Stays P w) (connect_refusal s.phase) as_it_was (λ _. record { near = keeps.connects s h; far = refl; less = whole w.back })
-  act_stays Disconnect = unless_by (Stays P w) (disconnect_refusal s.phase) as_it_was (λ _. record { near = keeps.disconnects s h; far = refl; less = whole w.back })
+  act_stays Disconnect = unless_by (Stays P w) (disconnect_refusal s.phase) as_it_was
+      (λ _. record { near = keeps.disconnects s h; far = refl; less = whole w.back })
   act_stays Abandon = if_by (Stays P w) (is_up s.phase) as_it_was (λ _. record { near = keeps.abandons s h; far = refl; less = whole w.back })
   act_stays Probe = if_by (Stays P w) (is_up s.phase) as_it_was (λ _. record { near = keeps.fires s h; far = refl; less = whole w.back })
   act_stays (Lose i) = record { near = h; far = refl; less = less_removes w.back i }
-  act_stays (Damage i octets) = if_by (Stays P w) (is_visible octets) as_it_was (λ visible. record { near = h; far = refl; less = less_replaces octets visible w.back i })
+  act_stays (Damage i octets) = if_by (Stays P w) (is_visible octets) as_it_was
+      (λ visible. record { near = h; far = refl; less = less_replaces octets visible w.back i })
 
 -- where nothing is asked of the station
 abbrev pub Anything : LinkStation → Type 0
@@ -52,4 +56,11 @@ Anything s = Unit {0}
 
 pub acts_still : (c : Settings) (a : Act) (w : Sessions) → Stays Anything w (acts c a w)
 acts_still c a w =
-    act_stays c Anything (record { takes = λ _ _ _. tt; puts = λ _ _ _ _. tt; fires = λ _ _. tt; connects = λ _ _. tt; disconnects = λ _ _. tt; abandons = λ _ _. tt }) w tt a
+    act_stays c Anything (record {
+      takes = λ _ _ _. tt;
+      puts = λ _ _ _ _. tt;
+      fires = λ _ _. tt;
+      connects = λ _ _. tt;
+      disconnects = λ _ _. tt;
+      abandons = λ _ _. tt;
+    }) w tt a

@@ -3,7 +3,8 @@ use Rattle.std.proofs.Common.{◌≡◌, ◌≤◌, ℕ, zero, suc, List, [], �
 use Rattle.x25_bits.specs.declared.role.Role.{Role}
 use Rattle.x25_frame.specs.{Frame.{PlainFrame}, Reading.{frame_of}, declared.error.FrameError.{FrameError}}
 use Rattle.x25_frame.specs.declared.error.FrameError.TheVariants.{Short, BadFcs}
-use Rattle.x25_line.specs.{laws.Stations.{is_visible}, laws.Sessions.{Entry, sabm_in, how_many, replaced}, laws.PeerSessions.{IsAskedIn, AllAskedIn}, laws.StationClaims.{Each}}
+use Rattle.x25_line.specs.{laws.Stations.{is_visible}, laws.Sessions.{Entry, sabm_in, how_many, replaced}, laws.PeerSessions.{IsAskedIn, AllAskedIn}}
+use Rattle.x25_line.specs.laws.StationClaims.{Each}
 use Rattle.x25_line.proofs.StationLines.{visible_is}
 
 -- one entry at most is lost or damaged
@@ -44,7 +45,8 @@ pub less_replaces : (o : List ℕ) → is_visible o ≡ true → (es : List Entr
 less_replaces o visible es i = less_at (replaces_at o visible es i)
 
 -- of no kind there is more
-pub many_less : (kind : Result PlainFrame FrameError → ℕ) → kind (Err Short) ≡ 0 → kind (Err BadFcs) ≡ 0 → (from : Role) (n1 : ℕ) {es fs : List Entry} → Less es fs → how_many kind from n1 fs ≤ how_many kind from n1 es
+pub many_less : (kind : Result PlainFrame FrameError → ℕ) → kind (Err Short) ≡ 0 → kind (Err BadFcs) ≡ 0 → (from : Role) (n1 : ℕ) {es fs : List Entry}
+    → Less es fs → how_many kind from n1 fs ≤ how_many kind from n1 es
 many_less kind short bad from n1 (whole xs) = omega arith
 many_less kind short bad from n1 (gone e xs) = omega arith
 many_less kind short bad from n1 (hurt e xs o visible) =
@@ -53,7 +55,8 @@ many_less kind short bad from n1 (hurt e xs o visible) =
 many_less kind short bad from n1 (deeper e xs ys l) = (omega (arith, many_less kind short bad from n1 l))
 
 -- what holds of each, where it holds of what is damaged
-pub each_less : (P : Entry → Type 0) → ((e : Entry) (o : List ℕ) → is_visible o ≡ true → P (record { session = e.session; octets = o })) → {es fs : List Entry} → Less es fs → Each P es → Each P fs
+pub each_less : (P : Entry → Type 0) → ((e : Entry) (o : List ℕ) → is_visible o ≡ true → P (record { session = e.session; octets = o })) → {es fs : List Entry}
+    → Less es fs → Each P es → Each P fs
 each_less P hurts (whole xs) h = h
 each_less P hurts (gone e xs) h = h.1
 each_less P hurts (hurt e xs o visible) h = (hurts e o visible, h.1)

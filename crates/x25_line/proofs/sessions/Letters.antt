@@ -18,14 +18,16 @@ meets_said (Err Short) m met = refl
 meets_said (Err e) m met = refl
 
 -- who meets whom, as an end hears it
-pub heard_said : (p : Phase) (b t : ℕ) (r : Read) (met : List Meeting) → heard (is_up p) (number_in r) (record { near = b; far = t }) met ≡ ends.heard (stand_of p) b (letter t (said r)) met
+pub heard_said : (p : Phase) (b t : ℕ) (r : Read) (met : List Meeting) → heard (is_up p) (number_in r) (record { near = b; far = t }) met
+    ≡ ends.heard (stand_of p) b (letter t (said r)) met
 heard_said Up b t r met = meets_said r (record { near = b; far = t }) met
 heard_said p b t r met = refl
 
 -- ---- all on a line
 
 module _ (from : Role) (n1 : ℕ) where
-  pub letters_push : (es : List Entry) (b : ℕ) (octets : List ℕ) (r : Read) → frame_of from n1 octets ≡ r → letters from n1 (es ++ entry b octets ∷ []) ≡ letters from n1 es ++ letter b (said r) ∷ []
+  pub letters_push : (es : List Entry) (b : ℕ) (octets : List ℕ) (r : Read) → frame_of from n1 octets ≡ r → letters from n1 (es ++ entry b octets ∷ [])
+      ≡ letters from n1 es ++ letter b (said r) ∷ []
   letters_push [] b octets r read = ap (λ x. letter b (said x) ∷ []) read
   letters_push (e ∷ es) b octets r read = ap (λ xs. letter e.session (said (frame_of from n1 e.octets)) ∷ xs) (letters_push es b octets r read)
 
@@ -81,5 +83,6 @@ never_odd : (f : PlainFrame) → said (Ok f) ≡ OddSaid → ⊥
 never_odd (sabm p) is = cc
 never_odd f is = cc
 
-pub puts_frame : {Odd : Type 0} {c : Settings} {es : List Entry} (n : ℕ) (o : List ℕ) (f : PlainFrame) → frame_of (other c.role) c.longest o ≡ Ok f → Puts Odd c es (es ++ entry n o ∷ [])
+pub puts_frame : {Odd : Type 0} {c : Settings} {es : List Entry} (n : ℕ) (o : List ℕ) (f : PlainFrame) → frame_of (other c.role) c.longest o ≡ Ok f
+    → Puts Odd c es (es ++ entry n o ∷ [])
 puts_frame n o f is = put (entry n o) (λ odd. absurd (never_odd f (sym (ap said is) ∙ odd)))

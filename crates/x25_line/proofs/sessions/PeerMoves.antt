@@ -4,10 +4,13 @@ use Rattle.x25_frame.specs.Reading.{frame_of}
 use Rattle.x25_link.specs.{declared.phase.Phase.{Phase}, declared.phase.Phase.TheVariants.{Waiting, Closed}, Station.{Settings}, Hearing.{other}}
 use Rattle.x25_line.specs.{laws.Stations.{Act}, laws.Sessions.{Entry, acts}, laws.Peer.{Peer}, laws.PeerSessionClaims.{frmr_in}}
 use Rattle.x25_line.specs.laws.Said.{Said, Tells, Sabm, Disc, Ua, Else, Odd as OddSaid, said, sabm_of, ua_of, disc_of}
-use Rattle.x25_line.specs.laws.Ends.{Letter, letter, how_many, AreOf, OfSabm, Two, Moves, free, odd, asks, closes, leaves, hears, takes_ua, takes_sabm, waits_on, takes_disc, loses, damages, Ends, ends_swapped, Does, sends, listens, moves, EndsReached, far_handed, far_does}
-use Rattle.x25_line.specs.laws.PeerSessions.{PeerSessions, IsLeft, untouched, without, damaged, Puts, nothing, put, seen_by_peer, now, with_now, HappensInSessions, Ours, HandsDown, Theirs, IsTimely, stand_of, both_ends, with_peer}
+use Rattle.x25_line.specs.laws.Ends.{Letter, letter, how_many, AreOf, OfSabm, Two, Moves, free, odd, asks, closes, leaves, hears, takes_ua, takes_sabm}
+use Rattle.x25_line.specs.laws.Ends.{waits_on, takes_disc, loses, damages, Ends, ends_swapped, Does, sends, listens, moves, EndsReached, far_handed, far_does}
+use Rattle.x25_line.specs.laws.PeerSessions.{PeerSessions, IsLeft, untouched, without, damaged, Puts, nothing, put, seen_by_peer, now, with_now}
+use Rattle.x25_line.specs.laws.PeerSessions.{HappensInSessions, Ours, HandsDown, Theirs, IsTimely, stand_of, both_ends, with_peer}
 use Rattle.x25_line.proofs.{Lists.{each_append}, sessions.SessionHeld.{Owes, owes_less}, sessions.Letters.{asked_letters}, sessions.SessionSeen.{Seen}}
-use Rattle.x25_line.proofs.{sessions.EntryLines.{Less as LessEntries, whole as all_entries, less_removes as entry_removes, less_replaces as entry_replaces, many_less, asked_fewer}}
+use Rattle.x25_line.proofs.sessions.EntryLines.{Less as LessEntries, whole as all_entries, less_removes as entry_removes, less_replaces as entry_replaces}
+use Rattle.x25_line.proofs.sessions.EntryLines.{many_less, asked_fewer}
 use Rattle.x25_line.proofs.sessions.SessionWith.{NoneOdd, Where, where_map, outs, backs, Kept, at, IsWith}
 use Rattle.x25_line.proofs.ends.Lines.{count_push, count_less, Less, less_removes, less_spoils, are_push, are_none}
 use Rattle.x25_line.proofs.{ends.Moves.{popped}, ends.Sessions.{All, all_turned, reached_all, ua_present}, ends.Meetings.{twice_turned}}
@@ -15,17 +18,22 @@ use Rattle.x25_line.proofs.{ends.Moves.{popped}, ends.Sessions.{All, all_turned,
 -- ---- what an end does, beside a station
 
 -- An answer takes SABM or DISC off one line and puts UA on the other. A station that is Down or Up put neither there.
-owes_answered : (p : Phase) (P : Type 0) (sabm sabms disc discs uas answers : ℕ) → (sabm ≡ 1) ⊎ (disc ≡ 1) → answers ≡ uas + 1 → Owes p ((sabm + sabms) + uas) (disc + discs) → Owes p (sabms + answers) discs × Where p P
+owes_answered : (p : Phase) (P : Type 0) (sabm sabms disc discs uas answers : ℕ) → (sabm ≡ 1) ⊎ (disc ≡ 1) → answers ≡ uas + 1
+    → Owes p ((sabm + sabms) + uas) (disc + discs) → Owes p (sabms + answers) discs × Where p P
 owes_answered Closed P m ms d ds us bs which more owes = (tt, tt)
 owes_answered Waiting P m ms d ds us bs which more owes = (let none = owes.1 in elim which [
   | inl one ↦ ((omega (arith, owes.0, more, one), omega (arith, none)), tt)
   | inr one ↦ absurd (omega (arith, none, one))
 ])
-owes_answered p P m ms d ds us bs which more owes = (elim which [ inl one ↦ absurd (omega (arith, owes.0, one)) | inr one ↦ absurd (omega (arith, owes.1, one)) ])
+owes_answered p P m ms d ds us bs which more owes =
+    (elim which [ inl one ↦ absurd (omega (arith, owes.0, one)) | inr one ↦ absurd (omega (arith, owes.1, one)) ])
 
 module _ {n : ℕ} {p : Phase} {es out : List Letter} (k : Kept n p es out) where
   puts : (e : Letter) → ua_of e.said ≡ 0 → OfSabm e.said (e.session ≡ n) → Kept n p (es ++ e ∷ []) out
-  puts e no_ua of = (record { owes = owes_less p _ _ (omega (arith, count_push ua_of es e, no_ua)) (omega arith) k.owes; present = where_map p _ _ (λ a. are_push n es e a of) k.present })
+  puts e no_ua of = (record {
+    owes = owes_less p _ _ (omega (arith, count_push ua_of es e, no_ua)) (omega arith) k.owes;
+    present = where_map p _ _ (λ a. are_push n es e a of) k.present;
+  })
 
   fewer : {fs : List Letter} → Less out fs → Kept n p es fs
   fewer {fs} l =
@@ -36,7 +44,8 @@ module _ {n : ℕ} {p : Phase} {es out : List Letter} (k : Kept n p es out) wher
   answered : (m s : ℕ) (x : Said) (rest : List Letter) → (sabm_of x ≡ 1) ⊎ (disc_of x ≡ 1) → out ≡ letter s x ∷ rest → Kept m p (es ++ letter m Ua ∷ []) rest
   answered m s x rest which is =
       let owes = subst (λ l. Owes p (how_many sabm_of l + how_many ua_of es) (how_many disc_of l)) is k.owes in
-      let both = owes_answered p (AreOf m (es ++ letter m Ua ∷ [])) (sabm_of x) (how_many sabm_of rest) (disc_of x) (how_many disc_of rest) (how_many ua_of es) (how_many ua_of (es ++ letter m Ua ∷ [])) which (count_push ua_of es (letter m Ua)) owes in
+      let both = owes_answered p (AreOf m (es ++ letter m Ua ∷ [])) (sabm_of x) (how_many sabm_of rest) (disc_of x) (how_many disc_of rest) (how_many ua_of es)
+      (how_many ua_of (es ++ letter m Ua ∷ [])) which (count_push ua_of es (letter m Ua)) owes in
       record { owes = both.0; present = both.1 }
 
 keeps_moves : {w : Ends} {v : Two} {p : Phase} → All w → Moves w.two v → Kept w.two.near.begun p w.two.out w.two.back → Kept v.near.begun p v.out v.back
@@ -48,7 +57,10 @@ keeps_moves h leaves k = record { owes = k.owes; present = k.present }
 keeps_moves {w} h (hears e rest is) k = fewer k (popped w.two.back rest e is)
 keeps_moves {w} {p = p} h (takes_ua s rest is asking) k =
     let none = (ua_present h s rest asking is).1 in
-    record { owes = (fewer k (popped w.two.back rest (letter s Ua) is)).owes; present = where_map p _ _ (λ a. are_none (suc w.two.near.begun) w.two.out none) k.present }
+    record {
+      owes = (fewer k (popped w.two.back rest (letter s Ua) is)).owes;
+      present = where_map p _ _ (λ a. are_none (suc w.two.near.begun) w.two.out none) k.present;
+    }
 keeps_moves {w} h (takes_sabm s rest is) k = answered k (suc w.two.near.begun) s Sabm rest (inl refl) is
 keeps_moves {w} h (waits_on s rest is asking) k = answered k w.two.near.begun s Sabm rest (inl refl) is
 keeps_moves {w} h (takes_disc s rest is) k = answered k w.two.near.begun s Disc rest (inr refl) is
@@ -73,16 +85,19 @@ less_left {es} untouched = all_entries es
 less_left {es} (without i) = entry_removes es i
 less_left {es} (damaged i o visible) = entry_replaces o visible es i
 
-none_odd : {Odd : Type 0} {c : Settings} {es fs : List Entry} → Puts Odd c es fs → (Odd → ⊥) → NoneOdd (other c.role) c.longest es → NoneOdd (other c.role) c.longest fs
+none_odd : {Odd : Type 0} {c : Settings} {es fs : List Entry} → Puts Odd c es fs → (Odd → ⊥) → NoneOdd (other c.role) c.longest es
+    → NoneOdd (other c.role) c.longest fs
 none_odd nothing never h = h
-none_odd {Odd} {c} {es} (put e may) never h = each_append (λ x. said (frame_of (other c.role) c.longest x.octets) ≡ OddSaid → ⊥) es (e ∷ []) h (λ is. never (may is), tt)
+none_odd {Odd} {c} {es} (put e may) never h = each_append (λ x. said (frame_of (other c.role) c.longest x.octets) ≡ OddSaid → ⊥) es (e ∷ []) h
+    (λ is. never (may is), tt)
 
 module _ (Odd : Type 0) {c : Settings} (w : PeerSessions) (h : Seen c (IsWith Odd c w.peer) (both_ends w)) where
   abbrev before : Ends
   before = at Odd c w.peer (backs c w.back) w.met (stand_of w.near.station.phase) w.near.begun h.all (outs c w.out)
 
   -- the station is as it was
-  after : (v : PeerSessions) → EndsReached (ends_swapped (record (seen_by_peer c (record v { near = w.near })) { far_of = h.all })) → Kept v.peer.begun w.near.station.phase (backs c v.back) (outs c v.out) → LessEntries w.out v.out
+  after : (v : PeerSessions) → EndsReached (ends_swapped (record (seen_by_peer c (record v { near = w.near })) { far_of = h.all }))
+      → Kept v.peer.begun w.near.station.phase (backs c v.back) (outs c v.out) → LessEntries w.out v.out
       → ((Odd → ⊥) → NoneOdd (other c.role) c.longest v.back) → Seen c (IsWith Odd c v.peer) (both_ends (record v { near = w.near }))
   after v reached kept less lapb = record {
     all = h.all;
@@ -97,14 +112,18 @@ module _ (Odd : Type 0) {c : Settings} (w : PeerSessions) (h : Seen c (IsWith Od
     tags = asked_fewer c.role c.longest w.near.begun less h.tags;
   }
 
-  pub peer_held : {v : PeerSessions} → HappensInSessions Odd c w v → ((act : Act) → IsTimely c act w → Seen c (IsWith Odd c w.peer) (both_ends (with_peer w.peer (acts c act (both_ends w))))) → Seen c (IsWith Odd c v.peer) (both_ends v)
+  pub peer_held : {v : PeerSessions} → HappensInSessions Odd c w v
+      → ((act : Act) → IsTimely c act w → Seen c (IsWith Odd c w.peer) (both_ends (with_peer w.peer (acts c act (both_ends w)))))
+      → Seen c (IsWith Odd c v.peer) (both_ends v)
   peer_held (Ours act timely) ours = ours act timely
   peer_held (HandsDown packet is) ours =
       let k = h.reached.ends.kept in
-      after (record w { peer = with_now (record (now w.peer) { given = (now w.peer).given ++ packet ∷ [] }) w.peer }) (far_handed before packet h.reached.ends.reached is)
+      after (record w { peer = with_now (record (now w.peer) { given = (now w.peer).given ++ packet ∷ [] }) w.peer })
+      (far_handed before packet h.reached.ends.reached is)
       (record { owes = k.owes; present = k.present }) (all_entries w.out) h.reached.octets.lapb
   peer_held (Theirs u k) ours =
       let then : Ends = record (seen_by_peer c (record u { near = w.near })) { far_of = h.all } in
       let m = beside_any h.all (k.does (asked_letters c.role c.longest w.near.begun w.out h.tags)) in
       after u (far_does before then h.reached.ends.reached m)
-      (keeps (ends_swapped before) then w.near.station.phase (all_turned (reached_all h.reached.ends.reached)) m h.reached.ends.kept) (less_left k.left) (λ ok. none_odd k.puts ok (h.reached.octets.lapb ok))
+      (keeps (ends_swapped before) then w.near.station.phase (all_turned (reached_all h.reached.ends.reached)) m h.reached.ends.kept) (less_left k.left)
+      (λ ok. none_odd k.puts ok (h.reached.octets.lapb ok))

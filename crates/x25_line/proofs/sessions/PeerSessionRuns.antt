@@ -2,15 +2,16 @@
 use Rattle.std.proofs.{Common.{◌≡◌, inl, inr, ◌≤◌, ℕ, ◌+◌, List, [], ◌∷◌, map, length, true, refl, sym, ap, ◌∙◌}, lemmas.Bool.{and_parts}}
 use Rattle.x25_frame.specs.laws.ReadingLaw.{ReadsSpelled}
 use Rattle.x25_link.specs.{declared.phase.Phase.{Phase}, declared.phase.Phase.TheVariants.{Down, Up}, Station.{Settings, is_up}, Hearing.{other}}
-use Rattle.x25_link.specs.{Link.{is_idle}}
 use Rattle.x25_line.specs.{laws.Stations.{Act, T1, Connect}, laws.Sessions.{Meeting, turned, acts, start_with, sabm_in, ua_in, disc_in, how_many}}
 use Rattle.x25_line.specs.{laws.SessionClaims.{Each, IsInOrder, MeetInStep, MetAreInOrder, UnmetHandNothingUp}, laws.LawsBelow.{SessionLaws}}
 use Rattle.x25_line.specs.laws.Peer.{fresh_peer}
-use Rattle.x25_line.specs.laws.PeerSessions.{Stand, PeerSessions, Out, In, both_ends, as_end, with_peer, begin_with, stand_of, ReachedInSessions, at_start, set_up, goes_on}
+use Rattle.x25_line.specs.laws.PeerSessions.{Stand, PeerSessions, Out, In, both_ends, as_end, with_peer, begin_with, stand_of, ReachedInSessions, at_start}
+use Rattle.x25_line.specs.laws.PeerSessions.{set_up, goes_on}
 use Rattle.x25_line.specs.laws.PeerSessionClaims.{IdleHasArrived, EachMeetsLatest}
 use Rattle.x25_line.specs.{laws.Ends.{AreOf, Ends, ends_swapped}, laws.EndClaims.{MetInOrder, KeepSessions}}
 use Rattle.x25_line.proofs.{StationClaimLemmas.{idle_all}, StationAway.{is_up_phase}, sessions.SessionSeen.{Seen, start_seen}}
-use Rattle.x25_line.proofs.{sessions.SessionMay.{MayAsk, Kind}, sessions.SessionSeenSteps.{IsTimely, station_acts}, sessions.SessionWith.{outs, backs, at, IsWith, station_may}}
+use Rattle.x25_line.proofs.{sessions.SessionMay.{MayAsk, Kind}, sessions.SessionSeenSteps.{IsTimely, station_acts}}
+use Rattle.x25_line.proofs.sessions.SessionWith.{outs, backs, at, IsWith, station_may}
 use Rattle.x25_line.proofs.{sessions.PeerMoves.{peer_held}, ends.Sessions.{All, all_turned, reached_all, keep_sessions, latest, some_stands, all_taken}}
 use Rattle.x25_line.proofs.{sessions.SessionHeld.{Owes}, sessions.Letters.{asked_letters, sabms, uas, discs}}
 use Rattle.x25_line.specs.laws.PeerSessions as sessions
@@ -21,31 +22,53 @@ abbrev SeenWith : Type 0 → Settings → PeerSessions → Type 0
 SeenWith Odd c w = Seen c (IsWith Odd c w.peer) (both_ends w)
 
 -- as a run begins
-seen_at_start : (Odd : Type 0) (c : Settings) (stand : Stand) (p : Phase) (b : ℕ) → (IsWith Odd c ((begin_with stand (start_with p b)).peer) [] [] p b (λ n. fresh_peer) []) → SeenWith Odd c (begin_with stand (start_with p b))
-seen_at_start Odd c stand p b reached = start_seen c (IsWith Odd c (begin_with stand (start_with p b)).peer) (as_end (begin_with stand (start_with p b)).peer) reached
+seen_at_start : (Odd : Type 0) (c : Settings) (stand : Stand) (p : Phase) (b : ℕ)
+    → (IsWith Odd c ((begin_with stand (start_with p b)).peer) [] [] p b (λ n. fresh_peer) []) → SeenWith Odd c (begin_with stand (start_with p b))
+seen_at_start Odd c stand p b reached = start_seen c (IsWith Odd c (begin_with stand (start_with p b)).peer) (as_end (begin_with stand (start_with p b)).peer)
+    reached
 
 -- what the station owes, counted in octets
-owes_octets : (Odd : Type 0) {c : Settings} {w : PeerSessions} (h : SeenWith Odd c w) → Owes w.near.station.phase (how_many sabm_in c.role c.longest w.out + how_many ua_in (other c.role) c.longest w.back) (how_many disc_in c.role c.longest w.out)
+owes_octets : (Odd : Type 0) {c : Settings} {w : PeerSessions} (h : SeenWith Odd c w)
+    → Owes w.near.station.phase (how_many sabm_in c.role c.longest w.out + how_many ua_in (other c.role) c.longest w.back)
+    (how_many disc_in c.role c.longest w.out)
 owes_octets Odd {c} {w} h = rw (sabms c.role c.longest w.out, uas (other c.role) c.longest w.back, discs c.role c.longest w.out) h.reached.ends.kept.owes
 
 module _ (reads : ReadsSpelled) (rests : SessionLaws) where
   abbrev kind : (Odd : Type 0) (c : Settings) → c.window ≤ 7 → PeerSessions → Kind c
-  kind Odd c high w = record { high = high; reads = reads; rests = rests; Due = λ p es. MayAsk p (AreOf w.peer.begun (backs c es)); R = IsWith Odd c w.peer; does = station_may Odd c w.peer }
+  kind Odd c high w = record {
+    high = high;
+    reads = reads;
+    rests = rests;
+    Due = λ p es. MayAsk p (AreOf w.peer.begun (backs c es));
+    R = IsWith Odd c w.peer;
+    does = station_may Odd c w.peer;
+  }
 
-  station_timely : (Odd : Type 0) (c : Settings) (high : c.window ≤ 7) (w : PeerSessions) (act : Act) → sessions.IsTimely c act w → IsTimely (kind Odd c high w) act (both_ends w)
-  station_timely Odd c high w T1 timely = λ waiting. (let due = timely waiting in (due.sabm, due.ua, asked_letters (other c.role) c.longest w.peer.begun w.back due.crossing))
+  station_timely : (Odd : Type 0) (c : Settings) (high : c.window ≤ 7) (w : PeerSessions) (act : Act) → sessions.IsTimely c act w
+      → IsTimely (kind Odd c high w) act (both_ends w)
+  station_timely Odd c high w T1 timely = λ waiting.
+      (let due = timely waiting in (due.sabm, due.ua, asked_letters (other c.role) c.longest w.peer.begun w.back due.crossing))
   station_timely Odd c high w Connect timely = λ _. tt
   station_timely Odd c high w act timely = tt
 
-  station_held : (Odd : Type 0) (c : Settings) (high : c.window ≤ 7) (w : PeerSessions) → SeenWith Odd c w → (act : Act) → sessions.IsTimely c act w → SeenWith Odd c (with_peer w.peer (acts c act (both_ends w)))
+  station_held : (Odd : Type 0) (c : Settings) (high : c.window ≤ 7) (w : PeerSessions) → SeenWith Odd c w → (act : Act) → sessions.IsTimely c act w
+      → SeenWith Odd c (with_peer w.peer (acts c act (both_ends w)))
   station_held Odd c high w h act timely =
       let k = station_acts (kind Odd c high w) act (both_ends w)
       (station_timely Odd c high w act timely) (owes_octets Odd h) h in
       record { all = k.all; reached = k.reached; up = k.up; given = k.given; taken = k.taken; later = k.later; tags = k.tags }
 
   reached_seen : (Odd : Type 0) {c : Settings} → c.window ≤ 7 → {w : PeerSessions} → ReachedInSessions Odd c w → SeenWith Odd c w
-  reached_seen Odd {c} high at_start = seen_at_start Odd c Out Down 0 (record { ends = record { reached = ends.at_start; kept = record { owes = (refl, refl); present = tt } }; octets = record { frmr = λ lapb. refl; lapb = λ lapb. tt } })
-  reached_seen Odd {c} high set_up = seen_at_start Odd c In Up 1 (record { ends = record { reached = ends.set_up; kept = record { owes = (refl, refl); present = tt } }; octets = record { frmr = λ lapb. refl; lapb = λ lapb. tt } })
+  reached_seen Odd {c} high at_start = seen_at_start Odd c Out Down 0
+      (record {
+        ends = record { reached = ends.at_start; kept = record { owes = (refl, refl); present = tt } };
+        octets = record { frmr = λ lapb. refl; lapb = λ lapb. tt };
+      })
+  reached_seen Odd {c} high set_up = seen_at_start Odd c In Up 1
+      (record {
+        ends = record { reached = ends.set_up; kept = record { owes = (refl, refl); present = tt } };
+        octets = record { frmr = λ lapb. refl; lapb = λ lapb. tt };
+      })
   reached_seen Odd {c} high {w} (goes_on v u reached event) =
       let h = reached_seen Odd high reached in
       peer_held Odd v h event (station_held Odd c high v h)
@@ -69,7 +92,8 @@ module _ (reads : ReadsSpelled) (rests : SessionLaws) where
     pub lines : IsWith Odd c w.peer w.back w.met w.near.station.phase w.near.begun h.all w.out
     lines = h.reached
 
-    pub owes_is : Owes w.near.station.phase (how_many sabm_in c.role c.longest w.out + how_many ua_in (other c.role) c.longest w.back) (how_many disc_in c.role c.longest w.out)
+    pub owes_is : Owes w.near.station.phase (how_many sabm_in c.role c.longest w.out + how_many ua_in (other c.role) c.longest w.back)
+        (how_many disc_in c.role c.longest w.out)
     owes_is = owes_octets Odd h
 
     in_order : (m : Meeting) → MetInOrder h.all w.peer.of_session m → IsInOrder w.near (as_end w.peer) m
@@ -82,16 +106,11 @@ module _ (reads : ReadsSpelled) (rests : SessionLaws) where
     all_in_order [] k = tt
     all_in_order (m ∷ ms) k = (in_order m k.0, all_in_order ms k.1)
 
-    -- all is acknowledged to an idle station
-    idle_acked : is_idle w.near.station ≡ true → (h.all w.near.begun).acked ≡ length (h.all w.near.begun).given
-    idle_acked idle =
-        let f = h.up (and_parts _ _ idle).0 in
-        ap (λ z. z.acked) f.same ∙ idle_all w.near.station idle f.sound.sent_high ∙ sym (ap (λ z. length z.given) f.same)
-
     pub up_in : is_up w.near.station.phase ≡ true → stand_of w.near.station.phase ≡ In
     up_in up = ap stand_of (is_up_phase w.near.station.phase up)
 
-    peer_latest : (ms : List Meeting) → Each (λ (m : Meeting). m.near ≡ w.peer.begun → m.far ≡ w.near.begun) (map turned ms) → Each (λ (m : Meeting). m.far ≡ w.peer.begun → m.near ≡ w.near.begun) ms
+    peer_latest : (ms : List Meeting) → Each (λ (m : Meeting). m.near ≡ w.peer.begun → m.far ≡ w.near.begun) (map turned ms)
+        → Each (λ (m : Meeting). m.far ≡ w.peer.begun → m.near ≡ w.near.begun) ms
     peer_latest [] k = tt
     peer_latest (m ∷ ms) k = (k.0, peer_latest ms k.1)
 
@@ -111,7 +130,8 @@ module _ (reads : ReadsSpelled) (rests : SessionLaws) where
           | inl is ↦ sym (all_of.held.far.is_in is)
           | inr some ↦ some_stands two all_of on some
         ] in
-        all_taken all_of on stands (idle_acked idle) ∙ h.given w.near.begun
+        all_taken all_of on stands (let f = h.up (and_parts _ _ idle).0 in ap (λ z. z.acked) f.same ∙ idle_all w.near.station idle f.sound.sent_high
+        ∙ sym (ap (λ z. length z.given) f.same)) ∙ h.given w.near.begun
 
     pub latest_is : EachMeetsLatest c w
     latest_is = record {

@@ -11,12 +11,19 @@ use Rattle.x25_line.proofs.sessions.SessionSteps.{end_after, stepped, nothing_ha
 
 module _ {c d : Settings} (joined : AreJoined c d) (reads : ReadsSpelled) where
   -- the near end answers UA; the far end asked, so that it is about to be in its session, or it is Closed
-  pub begins_held : {stand : Standing} (w : Sessions) (h : Held stand c d w) (line : OnLine c d w) (e : Entry) (es : List Entry) (met : List Meeting) → w.back ≡ e ∷ es → sabm_in (frame_of (other c.role) c.longest e.octets) ≡ 1 → (n : ℕ) (f : Bool) (step : Step)
+  pub begins_held : {stand : Standing} (w : Sessions) (h : Held stand c d w) (line : OnLine c d w) (e : Entry) (es : List Entry) (met : List Meeting) → w.back
+      ≡ e ∷ es → sabm_in (frame_of (other c.role) c.longest e.octets) ≡ 1 → (n : ℕ) (f : Bool) (step : Step)
       → step.packet ≡ None → step.side.out ≡ ua f ∷ []
       → IsThere step.side.near.phase (other c.role) c.longest step.side.near n es fresh [] (suc w.near.begun) (suc w.far.begun)
       → Held (anew c d w) c d (stepped c w es met [] n step)
   begins_held {stand} w h line e es met is one n f step none answer there = by (elim (asked_by w.far.station.phase some line.far_owes) [
-    | inl waits ↦ is_soon w.far.station.phase waits.0 (λ _. record { station = refl; session = refl; comes = ap (numbers (other d.role) d.longest) (last waits.1); of = subst (AllOf (other d.role) d.longest (suc w.near.begun)) (sym (last waits.1)) tt })
+    | inl waits ↦ is_soon w.far.station.phase waits.0
+        (λ _. record {
+          station = refl;
+          session = refl;
+          comes = ap (numbers (other d.role) d.longest) (last waits.1);
+          of = subst (AllOf (other d.role) d.longest (suc w.near.begun)) (sym (last waits.1)) tt;
+        })
     | inr closed ↦ is_out w.far.station.phase (ap is_up closed) (λ waits. waiting_is_closed w.far.station.phase waits closed)
   ])
     where
@@ -26,7 +33,8 @@ module _ {c d : Settings} (joined : AreJoined c d) (reads : ReadsSpelled) where
       more : List Entry
       more = sent_in n c.role step.side.out
 
-      all_back : (kind : Read → ℕ) → how_many kind (other c.role) c.longest w.back ≡ kind (frame_of (other c.role) c.longest e.octets) + how_many kind (other c.role) c.longest es
+      all_back : (kind : Read → ℕ) → how_many kind (other c.role) c.longest w.back ≡ kind (frame_of (other c.role) c.longest e.octets)
+          + how_many kind (other c.role) c.longest es
       all_back kind = ap (how_many kind (other c.role) c.longest) is
 
       some_back : 1 ≤ how_many sabm_in (other c.role) c.longest w.back
@@ -41,8 +49,10 @@ module _ {c d : Settings} (joined : AreJoined c d) (reads : ReadsSpelled) where
           omega (arith, one_ua)
 
       -- the UA is the last on the line
-      last : how_many sabm_in (other c.role) c.longest w.back + how_many ua_in (other d.role) d.longest w.out ≤ 1 → behind_ua (other d.role) d.longest (w.out ++ more) ≡ []
-      last few = rw answer (behind_last (other d.role) d.longest w.out (record { session = n; octets = spelling_of c.role (ua f) }) (omega (arith, few, some_back)) ua_reads)
+      last : how_many sabm_in (other c.role) c.longest w.back + how_many ua_in (other d.role) d.longest w.out ≤ 1
+          → behind_ua (other d.role) d.longest (w.out ++ more) ≡ []
+      last few = rw answer (behind_last (other d.role) d.longest w.out (record { session = n; octets = spelling_of c.role (ua f) })
+          (omega (arith, few, some_back)) ua_reads)
 
       same : SameLists w.near (end_after w.near n [] step)
       same = nothing_handed w.near n step none

@@ -13,10 +13,12 @@ use Rattle.x25_line.proofs.sessions.SessionLines.{carried, carried_numbers, carr
 use Rattle.x25_line.proofs.sessions.SessionHeld.{is_there, is_soon, is_out, IsOf, EndIsThere, OnLine, Held, counted_there, with_machine, standing_after_is}
 use Rattle.x25_line.proofs.sessions.SessionActs.{waiting_owes}
 
-module _ {c d : Settings} (joined : AreJoined c d) (reads : ReadsSpelled) (laws : Laws) {stand : Standing} {w : Sessions} (h : Held stand c d w) (line : OnLine c d w) {es : List Entry} {i : ℕ} (less : LessAt i w.back es) where
+module _ {c d : Settings} (joined : AreJoined c d) (reads : ReadsSpelled) (laws : Laws) {stand : Standing} {w : Sessions} (h : Held stand c d w)
+    (line : OnLine c d w) {es : List Entry} {i : ℕ} (less : LessAt i w.back es) where
   -- what is kept where the session alone has these octets on its line
   kept_by : {os : List (List ℕ)} (missing : Option ℕ) → Leads ⊥ c d h.alone stand.machine (taken_out missing stand.machine.back) (record h.alone { back = os })
-      → EndIsThere c w.near es h.alone.near.station os stand.near stand.far → Held (standing_after c w.near.station [] missing stand) c d (record w { back = es })
+      → EndIsThere c w.near es h.alone.near.station os stand.near stand.far
+      → Held (standing_after c w.near.station [] missing stand) c d (record w { back = es })
   kept_by {os} missing left near =
       subst (λ z. Held z c d (record w { back = es })) is_on (record {
         alone = record h.alone { back = os };
@@ -35,11 +37,13 @@ module _ {c d : Settings} (joined : AreJoined c d) (reads : ReadsSpelled) (laws 
       is_on : with_machine stand left.0 ≡ standing_after c w.near.station [] missing stand
       is_on =
           standing_after_is c w.near.station [] missing stand left.0 same left.2.far
-          (left.2.out ∙ ap (λ put. stand.machine.out ++ given left.0.near.acked (length left.0.near.taken) stand.machine.near.sent (numbered_on c.role c.longest put)) (nothing_put h.alone.out))
+          (left.2.out ∙ ap (λ put. stand.machine.out
+          ++ given left.0.near.acked (length left.0.near.taken) stand.machine.near.sent (numbered_on c.role c.longest put)) (nothing_put h.alone.out))
           left.2.back
 
   -- of an end that these are to come to, and then those, as this place of the session alone is gone
-  come_by : (missing : Option ℕ) {s : LinkStation} {begun : ℕ} {xs : List Entry} (ys : List Entry) → (Come (other c.role) c.longest stand.machine.back stand.far xs → Come (other c.role) c.longest (taken_out missing stand.machine.back) stand.far ys)
+  come_by : (missing : Option ℕ) {s : LinkStation} {begun : ℕ} {xs : List Entry} (ys : List Entry)
+      → (Come (other c.role) c.longest stand.machine.back stand.far xs → Come (other c.role) c.longest (taken_out missing stand.machine.back) stand.far ys)
       → IsOf (other c.role) c.longest s begun xs h.alone.near.station h.alone.back stand.near stand.far
       → Leads ⊥ c d h.alone stand.machine (taken_out missing stand.machine.back) (record h.alone { back = carried (other c.role) c.longest ys })
       × IsOf (other c.role) c.longest s begun ys h.alone.near.station (carried (other c.role) c.longest ys) stand.near stand.far
@@ -52,7 +56,8 @@ module _ {c d : Settings} (joined : AreJoined c d) (reads : ReadsSpelled) (laws 
       )
 
   -- of an end that is out of it nothing is gone
-  none_by : (missing : Option ℕ) → missing ≡ None → EndIsThere c w.near es h.alone.near.station h.alone.back stand.near stand.far → Held (standing_after c w.near.station [] missing stand) c d (record w { back = es })
+  none_by : (missing : Option ℕ) → missing ≡ None → EndIsThere c w.near es h.alone.near.station h.alone.back stand.near stand.far
+      → Held (standing_after c w.near.station [] missing stand) c d (record w { back = es })
   none_by missing none near =
       rw none (kept_by None (stands_still ⊥ h.holds) near)
 
@@ -69,22 +74,26 @@ module _ {c d : Settings} (joined : AreJoined c d) (reads : ReadsSpelled) (laws 
   waiting_by is = go (how_many ua_in from n1 es) refl
     where
       go : (n : ℕ) → how_many ua_in from n1 es ≡ n → KeptIn Waiting
-      go zero none = none_by (place_behind_ua from n1 (octets_of w.back) i) (behind_none from n1 less none) (is_out w.near.station.phase (ap is_up is) (λ _. none))
+      go zero none = none_by (place_behind_ua from n1 (octets_of w.back) i) (behind_none from n1 less none)
+          (is_out w.near.station.phase (ap is_up is) (λ _. none))
       go (suc n) some =
           let owes = waiting_owes is line.near_owes in
           let few : how_many ua_in from n1 w.back ≤ 1 = omega (arith, owes.0) in
           let more : 1 ≤ how_many ua_in from n1 es = omega (arith, some) in
           let left = come_by (place_behind_ua from n1 (octets_of w.back) i) (behind_ua from n1 es)
-          (λ come. behind_less from n1 stand.far less few more stand.machine.back come) (h.near.awaits is (omega (arith, more, many_less ua_in refl refl from n1 (less_at less)))) in
+          (λ come. behind_less from n1 stand.far less few more stand.machine.back come)
+          (h.near.awaits is (omega (arith, more, many_less ua_in refl refl from n1 (less_at less)))) in
           kept_by (place_behind_ua from n1 (octets_of w.back) i) left.0 (is_soon w.near.station.phase is (λ _. left.1))
 
   by : (p : Phase) → w.near.station.phase ≡ p → KeptIn p
   by Up is =
-      let left = come_by (place_of from n1 (octets_of w.back) i) es (λ come. come_less from n1 stand.far less stand.machine.back come) (h.near.up (ap is_up is)) in
+      let left = come_by (place_of from n1 (octets_of w.back) i) es (λ come. come_less from n1 stand.far less stand.machine.back come)
+      (h.near.up (ap is_up is)) in
       kept_by (place_of from n1 (octets_of w.back) i) left.0 (is_there w.near.station.phase (ap is_up is) left.1)
   by Waiting is = waiting_by is
   by p is = none_by None refl (is_out w.near.station.phase (ap is_up is) (λ waits. absurd (cc)))
 
   -- a frame on the line to the near end is lost or damaged
-  pub change_held : Held (standing_after c w.near.station [] (place_to_hear w.near.station.phase (other c.role) c.longest (octets_of w.back) i) stand) c d (record w { back = es })
+  pub change_held : Held (standing_after c w.near.station [] (place_to_hear w.near.station.phase (other c.role) c.longest (octets_of w.back) i) stand) c d
+      (record w { back = es })
   change_held = by w.near.station.phase refl

@@ -1,5 +1,6 @@
 -- What one event does to the sessions of two link stations, by cases of the event.
-use Rattle.std.proofs.Common.{◌≡◌, ◌<◌, ◌⊎◌, ℕ, suc, List, [], ◌∷◌, length, map, inl, inr, Bool, true, false, if◌then◌else◌, Option, Some, None, Ok, refl, sym, ap, ◌∙◌, subst, arith, append-nil}
+use Rattle.std.proofs.Common.{◌≡◌, ◌<◌, ◌⊎◌, ℕ, suc, List, [], ◌∷◌, length, map, inl, inr, Bool, true, false, if◌then◌else◌, Option, Some, None, Ok, refl, sym}
+use Rattle.std.proofs.Common.{ap, ◌∙◌, subst, arith, append-nil}
 use Rattle.std.specs.Prelude.{nat_le, option_to_list}
 use Rattle.x25_frame.specs.{Frame.{PlainFrame, info, rr, rnr, rej}, laws.ReadingLaw.{ReadsSpelled}}
 use Rattle.x25_link.specs.{declared.error.LinkError.{LinkError}, declared.phase.Reason.{Reason}}
@@ -11,7 +12,8 @@ use Rattle.x25_line.specs.laws.Stations.{Act, Put, Deliver, Lose, Damage, Near, 
 use Rattle.x25_line.specs.laws.StationClaims.{number_in}
 use Rattle.x25_line.specs.laws.Sessions.{Entry, SessionEnd, Meeting, Sessions, turned, swapped, begun_by, after_step, unless, heard, delivered, acts}
 use Rattle.x25_line.specs.laws.SessionClaims.{Throughout, AllOf}
-use Rattle.x25_line.specs.laws.SessionEvents.{NextBegins, GoesOn, HandsInSession, EachEventHandsInSession, latest, BeginsAfresh, MeetsNone, MeetsOne, EachEventMeetsLatest}
+use Rattle.x25_line.specs.laws.SessionEvents.{NextBegins, GoesOn, HandsInSession, EachEventHandsInSession, latest, BeginsAfresh, MeetsNone, MeetsOne}
+use Rattle.x25_line.specs.laws.SessionEvents.{EachEventMeetsLatest}
 use Rattle.x25_line.specs.laws.LawsBelow.{SessionLaws}
 use Rattle.x25_line.proofs.{StationSteps.{not_both, not_afresh}, StationEvents.{own_by}, sessions.SessionLines.{Read, none_is_some}}
 use Rattle.x25_line.proofs.{sessions.SessionHeld.{extended_same, extended_other}, sessions.SessionSteps.{end_after, nothing_handed}}
@@ -25,7 +27,13 @@ abbrev end_by : SessionEnd → List (List ℕ) → Step → SessionEnd
 end_by e down step = end_after e (begun_by step.notes.up e.begun) down step
 
 stays : (e : SessionEnd) → GoesOn [] [] e e
-stays e = record { begun = refl; down = sym (append-nil (e.down e.begun)); up = sym (append-nil (e.up e.begun)); other_down = λ n never. refl; other_up = λ n never. refl }
+stays e = record {
+  begun = refl;
+  down = sym (append-nil (e.down e.begun));
+  up = sym (append-nil (e.up e.begun));
+  other_down = λ n never. refl;
+  other_up = λ n never. refl;
+}
 
 -- no LinkUp is noted
 step_goes : (e : SessionEnd) (down : List (List ℕ)) (step : Step) → step.notes.up ≡ false → GoesOn down (option_to_list step.packet) e (end_by e down step)
@@ -75,7 +83,8 @@ HandsNothing w v = GoesOn [] [] w.near v.near × (v.far ≡ w.far)
 as_it_was : (w : Sessions) → HandsNothing w w
 as_it_was w = (stays w.near, refl)
 
-put_hands : (o : Option LinkError) (c : Settings) (packet : List ℕ) (w : Sessions) → Hands (Put packet) w (unless o w (after_step c w w.back w.met (packet ∷ []) (put_step c packet w.near.station)))
+put_hands : (o : Option LinkError) (c : Settings) (packet : List ℕ) (w : Sessions)
+    → Hands (Put packet) w (unless o w (after_step c w w.back w.met (packet ∷ []) (put_step c packet w.near.station)))
 put_hands (Some e) c packet w = ((false, stays w.near), refl)
 put_hands None c packet w = ((true, step_goes w.near (packet ∷ []) (put_step c packet w.near.station) refl), refl)
 
@@ -96,12 +105,14 @@ deliver_hands hands_up c (e ∷ es) w = (by (take_step c e.octets w.near.station
 
 acts_hands : TakeHandsUp → (c : Settings) (a : Act) (w : Sessions) → Hands a w (acts c a w)
 acts_hands hands_up c (Put packet) w =
-    put_by (nat_le (length packet) c.longest) packet w (unless (put_refusal w.near.station) w (after_step c w w.back w.met (packet ∷ []) (put_step c packet w.near.station)))
+    put_by (nat_le (length packet) c.longest) packet w
+    (unless (put_refusal w.near.station) w (after_step c w w.back w.met (packet ∷ []) (put_step c packet w.near.station)))
     (put_hands (put_refusal w.near.station) c packet w)
 acts_hands hands_up c Deliver w = deliver_hands hands_up c w.back w
 acts_hands hands_up c (Lose i) w = (stays w.near, refl)
 acts_hands hands_up c (Damage i octets) w = if_by (HandsNothing w) (is_visible octets) (as_it_was w) (λ _. (stays w.near, refl))
-acts_hands hands_up c act w = own_by (HandsNothing w) c w.near.station w (after_step c w w.back w.met []) (as_it_was w) (λ step none low. (quiet_goes w.near step none low, refl)) act
+acts_hands hands_up c act w = own_by (HandsNothing w) c w.near.station w (after_step c w w.back w.met []) (as_it_was w)
+    (λ step none low. (quiet_goes w.near step none low, refl)) act
 
 pub each_hands_in_session : TakeHandsUp → EachEventHandsInSession
 each_hands_in_session hands_up c d (Near act) w = acts_hands hands_up c act w
@@ -109,11 +120,13 @@ each_hands_in_session hands_up c d (Far act) w = acts_hands hands_up d act (swap
 
 -- ---- no LinkUp is noted where a frame with a number comes
 
-valid_quiet : (b : Bool) (k : ℕ) (input : Input) {s : LinkStation} {step : Step} → Tells s step → (let o : Option Reason = if b then None else Some FrmrSent in Follows o k input s step) → step.notes.up ≡ false
+valid_quiet : (b : Bool) (k : ℕ) (input : Input) {s : LinkStation} {step : Step} → Tells s step
+    → (let o : Option Reason = if b then None else Some FrmrSent in Follows o k input s step) → step.notes.up ≡ false
 valid_quiet true k input tells stay = ap (λ n. n.up) stay.quiet
 valid_quiet false k input {s} {step} tells end = not_afresh tells (ap is_up end.phase)
 
-number_quiet : (r : Read) (f : PlainFrame) (k : ℕ) (v : Window) {s : LinkStation} {step : Step} → number_in r ≡ Some f → Tells s step → Follows (ending_of r v) k (brought_by r) s step → step.notes.up ≡ false
+number_quiet : (r : Read) (f : PlainFrame) (k : ℕ) (v : Window) {s : LinkStation} {step : Step} → number_in r ≡ Some f → Tells s step
+    → Follows (ending_of r v) k (brought_by r) s step → step.notes.up ≡ false
 number_quiet (Ok (info ns nr p x)) f k v {s} {step} some tells h = valid_quiet _ k _ tells h
 number_quiet (Ok (rr command nr pf)) f k v {s} {step} some tells h = valid_quiet _ k _ tells h
 number_quiet (Ok (rnr command nr pf)) f k v {s} {step} some tells h = valid_quiet _ k _ tells h
@@ -132,7 +145,8 @@ afresh {old} {new} later next =
     record { begins = next; down = ap new.down next.begun ∙ next.down (suc old.begun) ∙ none.0; up = ap new.up next.begun ∙ next.up (suc old.begun) ∙ none.1 }
 
 -- nothing is handed up
-step_meets_none : (w : Sessions) → ((n : ℕ) → w.near.begun < n → (w.near.down n ≡ []) × (w.near.up n ≡ [])) → (step : Step) (now : List Meeting) → step.packet ≡ None → now ≡ w.met → MeetsNone w.near (end_by w.near [] step) w.met now
+step_meets_none : (w : Sessions) → ((n : ℕ) → w.near.begun < n → (w.near.down n ≡ []) × (w.near.up n ≡ [])) → (step : Step) (now : List Meeting) → step.packet
+    ≡ None → now ≡ w.met → MeetsNone w.near (end_by w.near [] step) w.met now
 step_meets_none w later step now none same = record { met = same; nothing_up = by step.notes.up refl }
   where
     by : (b : Bool) → step.notes.up ≡ b → BeginsAfresh w.near (end_by w.near [] step) ⊎ GoesOn [] [] w.near (end_by w.near [] step)
@@ -159,21 +173,21 @@ module _ (reads : ReadsSpelled) (rests : SessionLaws) (hands_up : TakeHandsUp) w
       pair : Meeting
       pair = record { near = w.near.begun; far = e.session }
 
-      follows : is_up w.near.station.phase ≡ true → Follows (ending_of (read_of c e) (window_of c.window w.near.station)) c.window (brought_by (read_of c e)) w.near.station step
+      follows : is_up w.near.station.phase ≡ true
+          → Follows (ending_of (read_of c e) (window_of c.window w.near.station)) c.window (brought_by (read_of c e)) w.near.station step
       follows up = rests.laws.window.take c e.octets w.near.station (running reads rests c d w h up) (read_of c e) refl
-
-      -- the front was sent in the far end's latest session, where it carries a number
-      front_latest : is_up w.near.station.phase ≡ true → (number_in (read_of c e) ≡ None) ⊎ (e.session ≡ w.far.begun)
-      front_latest up = (subst (λ xs. AllOf (other c.role) c.longest w.far.begun xs) is (hears_latest reads rests c d w h up)).0
 
       heard_up : is_up w.near.station.phase ≡ true → (o : Option PlainFrame) → number_in (read_of c e) ≡ o → met ≡ heard true o pair w.met
       heard_up up o number =
           ap (λ b. heard b (number_in (read_of c e)) pair w.met) up ∙ ap (λ x. heard true x pair w.met) number
 
-      goes : is_up w.near.station.phase ≡ true → (o : Option PlainFrame) → number_in (read_of c e) ≡ o → (number_in (read_of c e) ≡ None) ⊎ (e.session ≡ w.far.begun)
+      goes : is_up w.near.station.phase ≡ true → (o : Option PlainFrame) → number_in (read_of c e) ≡ o → (number_in (read_of c e) ≡ None)
+          ⊎ (e.session ≡ w.far.begun)
           → MeetsOne Deliver (latest w) w.near (end_by w.near [] step) w.met met
       goes up None none of =
-          inr (step_meets_none w h.near.later step met (follows_no_packet (ending_of (read_of c e) (window_of c.window w.near.station)) c.window (read_of c e) w.near.station step none (follows up)) (heard_up up None none))
+          inr (step_meets_none w h.near.later step met
+          (follows_no_packet (ending_of (read_of c e) (window_of c.window w.near.station)) c.window (read_of c e) w.near.station step none (follows up))
+          (heard_up up None none))
       goes up (Some f) some (inl none) = none_is_some f (sym none ∙ some)
       goes up (Some f) some (inr session) =
           inl (record {
@@ -184,9 +198,11 @@ module _ (reads : ReadsSpelled) (rests : SessionLaws) (hands_up : TakeHandsUp) w
           })
 
       by : (b : Bool) → is_up w.near.station.phase ≡ b → MeetsOne Deliver (latest w) w.near (end_by w.near [] step) w.met met
-      by true up = goes up (number_in (read_of c e)) refl (front_latest up)
+      by true up = goes up (number_in (read_of c e)) refl
+          ((subst (λ xs. AllOf (other c.role) c.longest w.far.begun xs) is (hears_latest reads rests c d w h up)).0)
       by false off =
-          inr (step_meets_none w h.near.later step met (out_empty (hands_up c e.octets w.near.station) off) (heard_out (is_up w.near.station.phase) (number_in (read_of c e)) pair w.met off))
+          inr (step_meets_none w h.near.later step met (out_empty (hands_up c e.octets w.near.station) off)
+          (heard_out (is_up w.near.station.phase) (number_in (read_of c e)) pair w.met off))
 
   acts_meet : {c d : Settings} (a : Act) {w : Sessions} → Both c d w → MeetsOne a (latest w) w.near (acts c a w).near w.met (acts c a w).met
   acts_meet {c} (Put packet) {w} h =

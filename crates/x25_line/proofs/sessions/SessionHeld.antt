@@ -1,5 +1,6 @@
 -- What holds of two stations over set-up and re-set-up at any moment.
-use Rattle.std.proofs.Common.{◌≡◌, ◌≤◌, ◌==◌, ℕ, suc, ◌+◌, List, [], ◌∷◌, ◌++◌, ◌⊎◌, inl, inr, Bool, true, false, if◌then◌else◌, length, Option, None, refl, sym, ap, ◌∙◌, subst, arith, append-nil}
+use Rattle.std.proofs.Common.{◌≡◌, ◌≤◌, ◌==◌, ℕ, suc, ◌+◌, List, [], ◌∷◌, ◌++◌, ◌⊎◌, inl, inr, Bool, true, false, if◌then◌else◌, length, Option, None, refl}
+use Rattle.std.proofs.Common.{sym, ap, ◌∙◌, subst, arith, append-nil}
 use Rattle.std.proofs.{lemmas.Bool.{eq-eqb, eqb-true}, lemmas.List.Elements.{Contains-append_left, Contains-append_right, Contains-append_cases}}
 use Rattle.std.specs.List.{Contains}
 use Rattle.x25_bits.specs.declared.role.Role.{Role}
@@ -25,7 +26,8 @@ pub record IsOf (from : Role) (n1 : ℕ) (s : LinkStation) (begun : ℕ) (es : L
   pub of : AllOf from n1 q es
 
 -- An end that is Up is in the session that stands. One that waits with a UA on the way to it is about to be in it, afresh. Any other is out of it.
-pub record IsThere (phase : Phase) (from : Role) (n1 : ℕ) (s : LinkStation) (begun : ℕ) (es : List Entry) (a : LinkStation) (os : List (List ℕ)) (p q : ℕ) : Type 0 where
+pub record IsThere (phase : Phase) (from : Role) (n1 : ℕ) (s : LinkStation) (begun : ℕ) (es : List Entry) (a : LinkStation) (os : List (List ℕ))
+    (p q : ℕ) : Type 0 where
   pub up : is_up phase ≡ true → IsOf from n1 s begun es a os p q
   pub awaits : phase ≡ Waiting → 1 ≤ how_many ua_in from n1 es → IsOf from n1 fresh (suc begun) (behind_ua from n1 es) a os p q
 
@@ -46,9 +48,12 @@ owes_less p a b f g h = (omega (arith, f, h.0), omega (arith, g, h.1))
 
 -- what the rules of both ends say
 pub record OnLine (c d : Settings) (w : Sessions) : Type 0 where
-  pub near_owes : Owes w.near.station.phase (how_many sabm_in (other d.role) d.longest w.out + how_many ua_in (other c.role) c.longest w.back) (how_many disc_in (other d.role) d.longest w.out)
-  pub far_owes : Owes w.far.station.phase (how_many sabm_in (other c.role) c.longest w.back + how_many ua_in (other d.role) d.longest w.out) (how_many disc_in (other c.role) c.longest w.back)
-  pub quiet : (e : Entry) (es : List Entry) → w.back ≡ e ∷ es → sabm_in (frame_of (other c.role) c.longest e.octets) ≡ 1 → numbers (other c.role) c.longest es ≡ []
+  pub near_owes : Owes w.near.station.phase (how_many sabm_in (other d.role) d.longest w.out + how_many ua_in (other c.role) c.longest w.back)
+      (how_many disc_in (other d.role) d.longest w.out)
+  pub far_owes : Owes w.far.station.phase (how_many sabm_in (other c.role) c.longest w.back + how_many ua_in (other d.role) d.longest w.out)
+      (how_many disc_in (other c.role) c.longest w.back)
+  pub quiet : (e : Entry) (es : List Entry) → w.back ≡ e ∷ es → sabm_in (frame_of (other c.role) c.longest e.octets) ≡ 1 → numbers (other c.role) c.longest es
+      ≡ []
   pub fine : (e : Entry) (es : List Entry) → w.back ≡ e ∷ es → IsOrderly (Unit {0}) (frame_of (other c.role) c.longest e.octets)
   -- the next session of each has no lists
   pub near_next : (w.near.down (suc w.near.begun) ≡ []) × (w.near.up (suc w.near.begun) ≡ [])
@@ -87,16 +92,20 @@ abbrev pub with_machine : Standing → Line (List ℕ) → Standing
 with_machine stand m = record { near = stand.near; far = stand.far; machine = m }
 
 -- the machine behind these two sessions is the one that the definition says
-pub standing_after_is : (c : Settings) (station : LinkStation) (put : List (List ℕ)) (place : Option ℕ) (stand : Standing) (m : Line (List ℕ)) → m.near ≡ counted c.window station stand.machine.near → m.far ≡ stand.machine.far
-    → m.out ≡ stand.machine.out ++ given m.near.acked (length m.near.taken) stand.machine.near.sent (numbered_on c.role c.longest put) → m.back ≡ taken_out place stand.machine.back
+pub standing_after_is : (c : Settings) (station : LinkStation) (put : List (List ℕ)) (place : Option ℕ) (stand : Standing) (m : Line (List ℕ)) → m.near
+    ≡ counted c.window station stand.machine.near → m.far ≡ stand.machine.far
+    → m.out ≡ stand.machine.out ++ given m.near.acked (length m.near.taken) stand.machine.near.sent (numbered_on c.role c.longest put) → m.back
+    ≡ taken_out place stand.machine.back
     → with_machine stand m ≡ standing_after c station put place stand
 standing_after_is c station put place stand m near far out back = ap (with_machine stand) (machine_is c station put place stand.machine m near far out back)
 
 -- an end that is no part of it goes on, and puts no frame with a number
-pub stays_on : (c : Settings) (station : LinkStation) (put : List (List ℕ)) (stand : Standing) → counted c.window station stand.machine.near ≡ stand.machine.near → numbered_on c.role c.longest put ≡ []
+pub stays_on : (c : Settings) (station : LinkStation) (put : List (List ℕ)) (stand : Standing) → counted c.window station stand.machine.near
+    ≡ stand.machine.near → numbered_on c.role c.longest put ≡ []
     → stand ≡ standing_after c station put None stand
 stays_on c station put stand still none =
-    standing_after_is c station put None stand stand.machine (sym still) refl (none_put stand.machine stand.machine.near.acked (length stand.machine.near.taken) (numbered_on c.role c.longest put) none) refl
+    standing_after_is c station put None stand stand.machine (sym still) refl
+    (none_put stand.machine stand.machine.near.acked (length stand.machine.near.taken) (numbered_on c.role c.longest put) none) refl
 
 -- ---- lists by sessions
 
@@ -131,8 +140,10 @@ pub extended_more : (f : ℕ → List (List ℕ)) (s n : ℕ) (more : List (List
 extended_more f s n more x h = if_more (n == s) (f n) more x h
 
 -- more are sent, with what was handed down
-pub whole_on : (n1 : ℕ) (e f far : SessionEnd) (more : List (List ℕ)) (fs es : List PlainFrame) → ((n : ℕ) (x : List ℕ) → Contains (e.down n) x → Contains (f.down n) x)
-    → ((x : List ℕ) → Contains more x → ((n : ℕ) × Contains (f.down n) x) ⊎ ((n : ℕ) × Contains (far.down n) x)) → AreWhole n1 more es → AreWholeIn n1 e far fs → AreWholeIn n1 f far (fs ++ es)
+pub whole_on : (n1 : ℕ) (e f far : SessionEnd) (more : List (List ℕ)) (fs es : List PlainFrame)
+    → ((n : ℕ) (x : List ℕ) → Contains (e.down n) x → Contains (f.down n) x)
+    → ((x : List ℕ) → Contains more x → ((n : ℕ) × Contains (f.down n) x) ⊎ ((n : ℕ) × Contains (far.down n) x)) → AreWhole n1 more es → AreWholeIn n1 e far fs
+    → AreWholeIn n1 f far (fs ++ es)
 whole_on n1 e f far more fs es grows of whole h =
     record {
       given = h.given ++ more;
@@ -140,14 +151,17 @@ whole_on n1 e f far more fs es grows of whole h =
         | inl old ↦ elim (h.handed_down x old) [ inl near ↦ inl (near.0, grows near.0 x near.1) | inr other_end ↦ inr other_end ]
         | inr new ↦ of x new
       ];
-      whole = each_append (IsWhole n1 (h.given ++ more)) fs es (whole_more n1 h.given (h.given ++ more) (λ x old. Contains-append_left h.given more x old) fs h.whole)
+      whole = each_append (IsWhole n1 (h.given ++ more)) fs es
+          (whole_more n1 h.given (h.given ++ more) (λ x old. Contains-append_left h.given more x old) fs h.whole)
           (whole_more n1 more (h.given ++ more) (λ x new. Contains-append_right h.given more x new) es whole);
     }
 
 -- none of them carries a packet
-pub whole_apart : {n1 : ℕ} {e f far : SessionEnd} {fs : List PlainFrame} (es : List PlainFrame) → SameLists e f → AreParting (Unit {0}) es → AreWholeIn n1 e far fs → AreWholeIn n1 f far (fs ++ es)
+pub whole_apart : {n1 : ℕ} {e f far : SessionEnd} {fs : List PlainFrame} (es : List PlainFrame) → SameLists e f → AreParting (Unit {0}) es
+    → AreWholeIn n1 e far fs → AreWholeIn n1 f far (fs ++ es)
 whole_apart {n1} {e} {f} {far} {fs} es same parting h =
-    whole_on n1 e f far [] fs es (λ n x old. rw (same.down n) old) (λ x new. absurd (omega (arith, new.1))) (parting_whole (Unit {0}) n1 [] es (parts_of (Unit {0}) es parting)) h
+    whole_on n1 e f far [] fs es (λ n x old. rw (same.down n) old) (λ x new. absurd (omega (arith, new.1)))
+    (parting_whole (Unit {0}) n1 [] es (parts_of (Unit {0}) es parting)) h
 
 -- ---- by the phase
 
@@ -155,38 +169,45 @@ module _ {from : Role} {n1 : ℕ} {s : LinkStation} {begun : ℕ} {es : List Ent
   pub is_there : is_up phase ≡ true → IsOf from n1 s begun es a os p q → IsThere phase from n1 s begun es a os p q
   is_there up h = record { up = λ _. h; awaits = λ waits. not_both (is_up phase) up (ap is_up waits) }
 
-  pub is_soon : phase ≡ Waiting → (1 ≤ how_many ua_in from n1 es → IsOf from n1 fresh (suc begun) (behind_ua from n1 es) a os p q) → IsThere phase from n1 s begun es a os p q
+  pub is_soon : phase ≡ Waiting → (1 ≤ how_many ua_in from n1 es → IsOf from n1 fresh (suc begun) (behind_ua from n1 es) a os p q)
+      → IsThere phase from n1 s begun es a os p q
   is_soon waits h = record { up = λ up. not_both (is_up phase) up (ap is_up waits); awaits = λ _. h }
 
   pub is_out : is_up phase ≡ false → (phase ≡ Waiting → how_many ua_in from n1 es ≡ 0) → IsThere phase from n1 s begun es a os p q
   is_out off none = record { up = λ up. not_both (is_up phase) up off; awaits = λ waits some. (absurd (omega (arith, some, none waits))) }
 
 -- more goes on the line, with the same numbers on that of the session alone
-of_more : {from : Role} {n1 : ℕ} {s : LinkStation} {begun : ℕ} {es : List Entry} {a : LinkStation} {os : List (List ℕ)} {p q : ℕ} (more : List Entry) (xs : List (List ℕ)) → numbers from n1 more ≡ numbered_on from n1 xs → AllOf from n1 q more
+of_more : {from : Role} {n1 : ℕ} {s : LinkStation} {begun : ℕ} {es : List Entry} {a : LinkStation} {os : List (List ℕ)} {p q : ℕ} (more : List Entry)
+    (xs : List (List ℕ)) → numbers from n1 more ≡ numbered_on from n1 xs → AllOf from n1 q more
     → IsOf from n1 s begun es a os p q → IsOf from n1 s begun (es ++ more) a (os ++ xs) p q
 of_more {from} {n1} {s} {begun} {es} {a} {os} {p} {q} more xs same of h = record {
   station = h.station;
   session = h.session;
-  comes = numbers_append from n1 es more ∙ ap (λ fs. fs ++ numbers from n1 more) h.comes ∙ ap (λ fs. numbered_on from n1 os ++ fs) same ∙ sym (numbered_append from n1 os xs);
+  comes = numbers_append from n1 es more ∙ ap (λ fs. fs ++ numbers from n1 more) h.comes ∙ ap (λ fs. numbered_on from n1 os ++ fs) same
+      ∙ sym (numbered_append from n1 os xs);
   of = of_append from n1 q es more h.of of;
 }
 
 module _ {phase : Phase} {from : Role} {n1 : ℕ} {s : LinkStation} {begun : ℕ} {es : List Entry} {a : LinkStation} {os : List (List ℕ)} {p q : ℕ} where
-  pub there_more : (more : List Entry) (xs : List (List ℕ)) → numbers from n1 more ≡ numbered_on from n1 xs → AllOf from n1 q more → (phase ≡ Waiting → how_many ua_in from n1 more ≡ 0)
+  pub there_more : (more : List Entry) (xs : List (List ℕ)) → numbers from n1 more ≡ numbered_on from n1 xs → AllOf from n1 q more
+      → (phase ≡ Waiting → how_many ua_in from n1 more ≡ 0)
       → IsThere phase from n1 s begun es a os p q → IsThere phase from n1 s begun (es ++ more) a (os ++ xs) p q
   there_more more xs same of none h = record {
     up = λ up. of_more more xs same of (h.up up);
     awaits = λ waits some. (let before : 1 ≤ how_many ua_in from n1 es = omega (arith, many_append from n1 ua_in es more, none waits, some) in
-        subst (λ zs. IsOf from n1 fresh (suc begun) zs a (os ++ xs) p q) (sym (behind_append from n1 es more before)) (of_more more xs same of (h.awaits waits before)));
+        subst (λ zs. IsOf from n1 fresh (suc begun) zs a (os ++ xs) p q) (sym (behind_append from n1 es more before))
+        (of_more more xs same of (h.awaits waits before)));
   }
 
   -- what comes to an end that waits on is passed over
-  pub there_passes : (e : Entry) → phase ≡ Waiting → how_many ua_in from n1 (e ∷ es) ≤ 1 → IsThere phase from n1 s begun (e ∷ es) a os p q → IsThere phase from n1 s begun es a os p q
+  pub there_passes : (e : Entry) → phase ≡ Waiting → how_many ua_in from n1 (e ∷ es) ≤ 1 → IsThere phase from n1 s begun (e ∷ es) a os p q
+      → IsThere phase from n1 s begun es a os p q
   there_passes e waits few h = is_soon phase waits (λ some. (let none : ua_in (frame_of from n1 e.octets) ≡ 0 = omega (arith, few, some) in
       subst (λ n. IsOf from n1 fresh (suc begun) (by_first n (behind_ua from n1 es) es) a os p q) none (h.awaits waits (omega (arith, some)))))
 
 -- the machine stands still where the end isn't in the session
-pub counted_there : {es : List Entry} {os : List (List ℕ)} {p q : ℕ} {c : Settings} (e : SessionEnd) {a : LinkStation} {l : End (List ℕ)} → EndIsThere c e es a os p q → FitsEnd ⊥ c a l → counted c.window e.station l ≡ l
+pub counted_there : {es : List Entry} {os : List (List ℕ)} {p q : ℕ} {c : Settings} (e : SessionEnd) {a : LinkStation} {l : End (List ℕ)}
+    → EndIsThere c e es a os p q → FitsEnd ⊥ c a l → counted c.window e.station l ≡ l
 counted_there {c = c} e {a} {l} h fits = go (is_up e.station.phase) refl
   where
     go : (b : Bool) → is_up e.station.phase ≡ b → counted c.window e.station l ≡ l

@@ -1,6 +1,7 @@
 -- The line between two stations, with the sessions of its frames: the numbers on it, how many there are of a kind, and what
 -- sending, loss and damage change of these.
-use Rattle.std.proofs.Common.{◌≡◌, ◌≤◌, ℕ, zero, suc, ◌+◌, List, [], ◌∷◌, ◌++◌, inl, inr, map, true, Option, Some, None, Result, Ok, Err, refl, sym, ap, ◌∙◌, subst, arith}
+use Rattle.std.proofs.Common.{◌≡◌, ◌≤◌, ℕ, zero, suc, ◌+◌, List, [], ◌∷◌, ◌++◌, inl, inr, map, true, Option, Some, None, Result, Ok, Err, refl, sym, ap, ◌∙◌}
+use Rattle.std.proofs.Common.{subst, arith}
 use Rattle.std.proofs.lemmas.Option.{none-some}
 use Rattle.x25_bits.specs.declared.role.Role.{Role}
 use Rattle.x25_frame.specs.{Frame.{PlainFrame, info, rr, rnr, rej, sabm, frmr}, Spelling.{spelling_of}, Reading.{frame_of}, laws.ReadingLaw.{ReadsSpelled}}
@@ -97,7 +98,8 @@ module _ (from : Role) (n1 : ℕ) where
   carried [] = []
   carried (e ∷ es) = kept (number_in (frame_of from n1 e.octets)) e.octets (carried es)
 
-  kept_numbers : (m : Option PlainFrame) (o : List ℕ) (os : List (List ℕ)) → number_in (frame_of from n1 o) ≡ m → numbered_on from n1 (kept m o os) ≡ consed m (numbered_on from n1 os)
+  kept_numbers : (m : Option PlainFrame) (o : List ℕ) (os : List (List ℕ)) → number_in (frame_of from n1 o) ≡ m → numbered_on from n1 (kept m o os)
+      ≡ consed m (numbered_on from n1 os)
   kept_numbers None o os e = refl
   kept_numbers (Some f) o os e = ap (λ m. consed m (numbered_on from n1 os)) e
 
@@ -113,7 +115,8 @@ module _ (from : Role) (n1 : ℕ) where
   some_orderly (Err x) f e = none_is_some f e
   some_orderly (Ok frame) f e = tt
 
-  kept_orderly : (m : Option PlainFrame) (o : List ℕ) (os : List (List ℕ)) → number_in (frame_of from n1 o) ≡ m → AreOrderly ⊥ from n1 os → AreOrderly ⊥ from n1 (kept m o os)
+  kept_orderly : (m : Option PlainFrame) (o : List ℕ) (os : List (List ℕ)) → number_in (frame_of from n1 o) ≡ m → AreOrderly ⊥ from n1 os
+      → AreOrderly ⊥ from n1 (kept m o os)
   kept_orderly None o os e h = h
   kept_orderly (Some f) o os e h = (some_orderly (frame_of from n1 o) f e, h)
 
@@ -126,14 +129,12 @@ module _ (from : Role) (n1 : ℕ) where
   damaged_number : (octets : List ℕ) → is_visible octets ≡ true → number_in (frame_of from n1 octets) ≡ None
   damaged_number octets visible = visible_is (λ r. number_in r ≡ None) from n1 octets visible refl refl
 
-  damaged_ua : (octets : List ℕ) → is_visible octets ≡ true → ua_in (frame_of from n1 octets) ≡ 0
-  damaged_ua octets visible = visible_is (λ r. ua_in r ≡ 0) from n1 octets visible refl refl
-
   -- those that come by an end that is Up, of which the frame at this place of the line goes
   abbrev pub Come : List (Frame (List ℕ)) → ℕ → List Entry → Type 0
   Come gs s es = ShowAll (numbers es) gs × AllOf from n1 s es
 
-  shows_less : {i : ℕ} {es fs : List Entry} → LessAt i es fs → (gs : List (Frame (List ℕ))) → ShowAll (numbers es) gs → ShowAll (numbers fs) (taken_out (place_of from n1 (octets_of es) i) gs)
+  shows_less : {i : ℕ} {es fs : List Entry} → LessAt i es fs → (gs : List (Frame (List ℕ))) → ShowAll (numbers es) gs
+      → ShowAll (numbers fs) (taken_out (place_of from n1 (octets_of es) i) gs)
   shows_less (nothing j) gs h = h
   shows_less (gone_at e xs) gs h = shows_first (number_in (frame_of from n1 e.octets)) (numbers xs) gs h
   shows_less (hurt_at e xs octets visible) gs h =
@@ -147,7 +148,8 @@ module _ (from : Role) (n1 : ℕ) where
   of_less s (hurt_at e xs octets visible) h = (inl (damaged_number octets visible), h.1)
   of_less s (deeper_at j e xs ys l) h = (h.0, of_less s l h.1)
 
-  pub come_less : (s : ℕ) {i : ℕ} {es fs : List Entry} → LessAt i es fs → (gs : List (Frame (List ℕ))) → Come gs s es → Come (taken_out (place_of from n1 (octets_of es) i) gs) s fs
+  pub come_less : (s : ℕ) {i : ℕ} {es fs : List Entry} → LessAt i es fs → (gs : List (Frame (List ℕ))) → Come gs s es
+      → Come (taken_out (place_of from n1 (octets_of es) i) gs) s fs
   come_less s {i} {es} {fs} l gs h = (shows_less l gs h.0, of_less s l h.1)
 
   -- ---- behind the first UA
@@ -181,18 +183,21 @@ module _ (from : Role) (n1 : ℕ) where
       go (suc n) rest = quiet_tail e es none
 
   -- and the frame that goes is one of these, or none where the UA goes
-  pub behind_less : (s : ℕ) {i : ℕ} {es fs : List Entry} → LessAt i es fs → how_many ua_in from n1 es ≤ 1 → 1 ≤ how_many ua_in from n1 fs → (gs : List (Frame (List ℕ))) → Come gs s (behind_ua es)
+  pub behind_less : (s : ℕ) {i : ℕ} {es fs : List Entry} → LessAt i es fs → how_many ua_in from n1 es ≤ 1 → 1 ≤ how_many ua_in from n1 fs
+      → (gs : List (Frame (List ℕ))) → Come gs s (behind_ua es)
       → Come (taken_out (place_behind_ua from n1 (octets_of es) i) gs) s (behind_ua fs)
   behind_less s (nothing j) few some gs h = h
-  behind_less s (gone_at e xs) few some gs h = (let none : ua_in (frame_of from n1 e.octets) ≡ 0 = omega (arith, few, some) in subst (λ n. Come gs s (by_first n (behind_ua xs) xs)) none h)
+  behind_less s (gone_at e xs) few some gs h =
+      (let none : ua_in (frame_of from n1 e.octets) ≡ 0 = omega (arith, few, some) in subst (λ n. Come gs s (by_first n (behind_ua xs) xs)) none h)
   behind_less s (hurt_at e xs octets visible) few some gs h =
-      let new = damaged_ua octets visible in
+      let new = (visible_is (λ r. ua_in r ≡ 0) from n1 octets visible refl refl) in
       let none : ua_in (frame_of from n1 e.octets) ≡ 0 = omega (arith, few, some, new) in
       subst (λ n. Come gs s (by_first n (behind_ua xs) xs)) (none ∙ sym new) h
   behind_less s (deeper_at j e xs ys l) few some gs h = go (ua_in (frame_of from n1 e.octets)) refl (λ fewer more k. behind_less s l fewer more gs k) h
     where
       go : (n : ℕ) → ua_in (frame_of from n1 e.octets) ≡ n
-          → (how_many ua_in from n1 xs ≤ 1 → 1 ≤ how_many ua_in from n1 ys → Come gs s (behind_ua xs) → Come (taken_out (place_behind_ua from n1 (octets_of xs) j) gs) s (behind_ua ys))
+          → (how_many ua_in from n1 xs ≤ 1 → 1 ≤ how_many ua_in from n1 ys → Come gs s (behind_ua xs)
+          → Come (taken_out (place_behind_ua from n1 (octets_of xs) j) gs) s (behind_ua ys))
           → Come gs s (by_first n (behind_ua xs) xs)
           → Come (taken_out (by_answers n (place_behind_ua from n1 (octets_of xs) j) (place_of from n1 (octets_of xs) j)) gs) s (by_first n (behind_ua ys) ys)
       go zero is next k = next (omega (arith, few, is)) (omega (arith, some, is)) k
@@ -207,7 +212,8 @@ module _ (from : Role) (n1 : ℕ) where
 -- ---- what is sent reads as it was spelled
 
 module _ (reads : ReadsSpelled) (from : Role) (n1 : ℕ) where
-  pub many_sent : (kind : Read → ℕ) (s : ℕ) (given : List (List ℕ)) (fs : List PlainFrame) → AreWhole n1 given fs → how_many kind from n1 (sent_in s from fs) ≡ count kind fs
+  pub many_sent : (kind : Read → ℕ) (s : ℕ) (given : List (List ℕ)) (fs : List PlainFrame) → AreWhole n1 given fs → how_many kind from n1 (sent_in s from fs)
+      ≡ count kind fs
   many_sent kind s given [] h = refl
   many_sent kind s given (f ∷ fs) h =
       let read = reads from n1 f (spelling_of from f) (record { in_range = h.0.in_range; carries = h.0.carries; within = h.0.within; spelling = refl }) in

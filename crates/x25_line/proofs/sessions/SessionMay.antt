@@ -43,33 +43,46 @@ Known = List Entry → List Meeting → Phase → ℕ → (ℕ → Peer) → Lis
 pub record MayDo (d : Settings) (Due : Phase → List Entry → Type 0) (R : Known) : Type 0 where
   pub handed : (es : List Entry) (met : List Meeting) (b : ℕ) (all : ℕ → Peer) (out : List Entry) (packet : List ℕ) → R es met Up b all out
       → R es met Up b (put_for b (record (all b) { given = (all b).given ++ packet ∷ [] }) all) out
-  pub tells : (es : List Entry) (met : List Meeting) (b : ℕ) (all : ℕ → Peer) (out : List Entry) (octets : List ℕ) (f : PlainFrame) (q : Peer) → sends_read d octets ≡ Ok f → number_in (Ok f) ≡ Some f
+  pub tells : (es : List Entry) (met : List Meeting) (b : ℕ) (all : ℕ → Peer) (out : List Entry) (octets : List ℕ) (f : PlainFrame) (q : Peer)
+      → sends_read d octets ≡ Ok f → number_in (Ok f) ≡ Some f
       → MaySend ⊥ (all b) (Ok f) q → R es met Up b all out → R es met Up b (put_for b q all) (out ++ entry b octets ∷ [])
-  pub declines : (es : List Entry) (met : List Meeting) (p : Phase) (b : ℕ) (all : ℕ → Peer) (out : List Entry) (octets : List ℕ) (f : Bool) → sends_read d octets ≡ Ok (dm f)
+  pub declines : (es : List Entry) (met : List Meeting) (p : Phase) (b : ℕ) (all : ℕ → Peer) (out : List Entry) (octets : List ℕ) (f : Bool)
+      → sends_read d octets ≡ Ok (dm f)
       → R es met p b all out → R es met p b all (out ++ entry b octets ∷ [])
-  pub asks : (es : List Entry) (met : List Meeting) (p : Phase) (b : ℕ) (all : ℕ → Peer) (out : List Entry) (octets : List ℕ) (pf : Bool) → sends_read d octets ≡ Ok (sabm pf) → Due p es → IsClear d es out
+  pub asks : (es : List Entry) (met : List Meeting) (p : Phase) (b : ℕ) (all : ℕ → Peer) (out : List Entry) (octets : List ℕ) (pf : Bool) → sends_read d octets
+      ≡ Ok (sabm pf) → Due p es → IsClear d es out
       → R es met p b all out → R es met Waiting b all (out ++ entry b octets ∷ [])
-  pub closes : (es : List Entry) (met : List Meeting) (p : Phase) (b : ℕ) (all : ℕ → Peer) (out : List Entry) (octets : List ℕ) (pf : Bool) → sends_read d octets ≡ Ok (disc pf)
+  pub closes : (es : List Entry) (met : List Meeting) (p : Phase) (b : ℕ) (all : ℕ → Peer) (out : List Entry) (octets : List ℕ) (pf : Bool)
+      → sends_read d octets ≡ Ok (disc pf)
       → R es met p b all out → R es met Closed b all (out ++ entry b octets ∷ [])
   pub leaves : (es : List Entry) (met : List Meeting) (b : ℕ) (all : ℕ → Peer) (out : List Entry) → R es met Up b all out → R es met Down b all out
-  pub gives_up : (es : List Entry) (met : List Meeting) (b : ℕ) (all : ℕ → Peer) (out : List Entry) → Due Waiting es → IsClear d es out → R es met Waiting b all out → R es met Down b all out
+  pub gives_up : (es : List Entry) (met : List Meeting) (b : ℕ) (all : ℕ → Peer) (out : List Entry) → Due Waiting es → IsClear d es out
+      → R es met Waiting b all out → R es met Down b all out
   -- what comes
-  pub passes : (e : Entry) (es : List Entry) (met : List Meeting) (p : Phase) (b : ℕ) (all : ℕ → Peer) (out : List Entry) → R (e ∷ es) met p b all out → R es (heard_in d p b e met) p b all out
-  pub hears : (e : Entry) (es : List Entry) (met : List Meeting) (b : ℕ) (all : ℕ → Peer) (out : List Entry) (q : Peer) → MayHear (all b) (hears_read d e.octets) q
+  pub passes : (e : Entry) (es : List Entry) (met : List Meeting) (p : Phase) (b : ℕ) (all : ℕ → Peer) (out : List Entry) → R (e ∷ es) met p b all out
+      → R es (heard_in d p b e met) p b all out
+  pub hears : (e : Entry) (es : List Entry) (met : List Meeting) (b : ℕ) (all : ℕ → Peer) (out : List Entry) (q : Peer)
+      → MayHear (all b) (hears_read d e.octets) q
       → R (e ∷ es) met Up b all out → R es (heard_in d Up b e met) Up b (put_for b q all) out
   pub takes_ua : (e : Entry) (es : List Entry) (met : List Meeting) (b : ℕ) (all : ℕ → Peer) (out : List Entry) → hears_read d e.octets ≡ Ok (ua true)
       → R (e ∷ es) met Waiting b all out → R es met Up (suc b) (put_for (suc b) fresh_peer all) out
-  pub takes_sabm : (e : Entry) (es : List Entry) (met : List Meeting) (p : Phase) (b : ℕ) (all : ℕ → Peer) (out : List Entry) (octets : List ℕ) (pf f : Bool) → hears_read d e.octets ≡ Ok (sabm pf) → sends_read d octets ≡ Ok (ua f)
+  pub takes_sabm : (e : Entry) (es : List Entry) (met : List Meeting) (p : Phase) (b : ℕ) (all : ℕ → Peer) (out : List Entry) (octets : List ℕ) (pf f : Bool)
+      → hears_read d e.octets ≡ Ok (sabm pf) → sends_read d octets ≡ Ok (ua f)
       → TakesPart p → R (e ∷ es) met p b all out → R es met Up (suc b) (put_for (suc b) fresh_peer all) (out ++ entry (suc b) octets ∷ [])
-  pub waits_on : (e : Entry) (es : List Entry) (met : List Meeting) (b : ℕ) (all : ℕ → Peer) (out : List Entry) (octets : List ℕ) (pf f : Bool) → hears_read d e.octets ≡ Ok (sabm pf) → sends_read d octets ≡ Ok (ua f)
+  pub waits_on : (e : Entry) (es : List Entry) (met : List Meeting) (b : ℕ) (all : ℕ → Peer) (out : List Entry) (octets : List ℕ) (pf f : Bool)
+      → hears_read d e.octets ≡ Ok (sabm pf) → sends_read d octets ≡ Ok (ua f)
       → R (e ∷ es) met Waiting b all out → R es met Waiting b all (out ++ entry b octets ∷ [])
-  pub takes_disc : (e : Entry) (es : List Entry) (met : List Meeting) (b : ℕ) (all : ℕ → Peer) (out : List Entry) (octets : List ℕ) (pf f : Bool) → hears_read d e.octets ≡ Ok (disc pf) → sends_read d octets ≡ Ok (ua f)
+  pub takes_disc : (e : Entry) (es : List Entry) (met : List Meeting) (b : ℕ) (all : ℕ → Peer) (out : List Entry) (octets : List ℕ) (pf f : Bool)
+      → hears_read d e.octets ≡ Ok (disc pf) → sends_read d octets ≡ Ok (ua f)
       → R (e ∷ es) met Up b all out → R es met Down b all (out ++ entry b octets ∷ [])
   -- it finds a fault, which it answers by FRMR
-  pub faults : (e : Entry) (es : List Entry) (met : List Meeting) (b : ℕ) (all : ℕ → Peer) (out : List Entry) (octets : List ℕ) (f : Bool) (why : List ℕ) → ending_of (hears_read d e.octets) (machine_of d.window (all b)) ≡ Some FrmrSent
+  pub faults : (e : Entry) (es : List Entry) (met : List Meeting) (b : ℕ) (all : ℕ → Peer) (out : List Entry) (octets : List ℕ) (f : Bool) (why : List ℕ)
+      → ending_of (hears_read d e.octets) (machine_of d.window (all b)) ≡ Some FrmrSent
       → sends_read d octets ≡ Ok (frmr f why) → R (e ∷ es) met Up b all out → R es (heard_in d Up b e met) Down b all (out ++ entry b octets ∷ [])
-  pub loses : (es : List Entry) (met : List Meeting) (p : Phase) (b : ℕ) (all : ℕ → Peer) (out : List Entry) (place : ℕ) → R es met p b all out → R (remove es place) met p b all out
-  pub damages : (es : List Entry) (met : List Meeting) (p : Phase) (b : ℕ) (all : ℕ → Peer) (out : List Entry) (place : ℕ) (octets : List ℕ) → is_visible octets ≡ true
+  pub loses : (es : List Entry) (met : List Meeting) (p : Phase) (b : ℕ) (all : ℕ → Peer) (out : List Entry) (place : ℕ) → R es met p b all out
+      → R (remove es place) met p b all out
+  pub damages : (es : List Entry) (met : List Meeting) (p : Phase) (b : ℕ) (all : ℕ → Peer) (out : List Entry) (place : ℕ) (octets : List ℕ)
+      → is_visible octets ≡ true
       → R es met p b all out → R (replaced es place octets) met p b all out
 
 -- a kind of end, with settings d

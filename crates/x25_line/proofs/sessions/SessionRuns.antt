@@ -1,16 +1,21 @@
 -- Each event keeps what holds of two stations over sessions, so each run does, and what holds says the claims.
-use Rattle.std.proofs.Common.{◌≡◌, ℕ, List, [], ◌∷◌, ◌++◌, inl, inr, length, map, drop, remove, Bool, true, false, if◌then◌else◌, Option, Some, None, refl, sym, ap, ◌∙◌, subst, arith}
+use Rattle.std.proofs.Common.{◌≡◌, ℕ, List, [], ◌∷◌, ◌++◌, inl, inr, length, map, drop, remove, Bool, true, false, if◌then◌else◌, Option, Some, None, refl, sym}
+use Rattle.std.proofs.Common.{ap, ◌∙◌, subst, arith}
 use Rattle.std.proofs.lemmas.Bool.{leb-true}
 use Rattle.std.specs.Prelude.{nat_le}
 use Rattle.x25_bits.specs.declared.role.Role.{Role}
 use Rattle.x25_frame.specs.{Frame.{PlainFrame}, Spelling.{spelling_of}, laws.ReadingLaw.{ReadsSpelled}}
 use Rattle.x25_link.specs.{declared.error.LinkError.{LinkError}, declared.phase.Phase.{Phase}, declared.phase.Phase.TheVariants.{Down, Waiting, Up}}
 use Rattle.x25_link.specs.{Station.{Settings, is_up, with_nothing, fresh}, Hearing.{Step, other}}
-use Rattle.x25_link.specs.Link.{take_step, put_step, put_refusal, timer_step, timer_refusal, timer_runs, connect_step, connect_refusal, disconnect_step, disconnect_refusal, abandon_step}
-use Rattle.x25_line.specs.laws.Stations.{Stations, Act, Put, Deliver, T1, Connect, Disconnect, Abandon, Probe, Lose, Damage, LinkEvent, Near, Far, is_visible, start}
+use Rattle.x25_link.specs.Link.{take_step, put_step, put_refusal, timer_step, timer_refusal, timer_runs, connect_step, connect_refusal, disconnect_step}
+use Rattle.x25_link.specs.Link.{disconnect_refusal, abandon_step}
+use Rattle.x25_line.specs.laws.Stations.{Stations, Act, Put, Deliver, T1, Connect, Disconnect, Abandon, Probe, Lose, Damage, LinkEvent, Near, Far, is_visible}
+use Rattle.x25_line.specs.laws.Stations.{start}
 use Rattle.x25_line.specs.laws.StationClaims.{AreJoined, AreWhole}
-use Rattle.x25_line.specs.laws.Sessions.{Entry, Meeting, Sessions, swapped, begun_by, sent_in, after_step, unless, delivered, replaced, acts, happens, run, start_with, IsStart, IsTimely, IsTimelyAt, AreTimely}
-use Rattle.x25_line.specs.laws.SessionNumbers.{Standing, turned as other_way, is_set_up, front_sets_up, anew, place_to_hear, gone_at, standing_after, same_two, standing_acts, standing_happens, standing_run, standing_at, StandsWith, EachUpStandsWith, StandingGoesAlong}
+use Rattle.x25_line.specs.laws.Sessions.{Entry, Meeting, Sessions, swapped, begun_by, sent_in, after_step, unless, delivered, replaced, acts, happens, run}
+use Rattle.x25_line.specs.laws.Sessions.{start_with, IsStart, IsTimely, IsTimelyAt, AreTimely}
+use Rattle.x25_line.specs.laws.SessionNumbers.{Standing, turned as other_way, is_set_up, front_sets_up, anew, place_to_hear, gone_at, standing_after, same_two}
+use Rattle.x25_line.specs.laws.SessionNumbers.{standing_acts, standing_happens, standing_run, standing_at, StandsWith, EachUpStandsWith, StandingGoesAlong}
 use Rattle.x25_line.specs.laws.SessionClaims.{Throughout, octets_of, AllOf, IsSession, Stands, EachUpStands, NoSessionSendsFrmr, AllSessionsSendWhole}
 use Rattle.x25_line.specs.laws.LawsBelow.{SessionLaws}
 use Rattle.x25_line.proofs.{StationSteps.{Holds}, StationAway.{connects_from}, StationRuns.{joined_swapped, joint_swapped, start_machine}}
@@ -28,7 +33,8 @@ abbrev HeldNow : Standing → Settings → Settings → Option ℕ → Sessions 
 HeldNow stand c d gone w v = Held (same_two c gone w v stand) c d v
 
 -- what a step puts
-put_is : (from : Role) (session : ℕ) (fs : List PlainFrame) (out : List Entry) → octets_of (drop (length out) (out ++ sent_in session from fs)) ≡ map (spelling_of from) fs
+put_is : (from : Role) (session : ℕ) (fs : List PlainFrame) (out : List Entry) → octets_of (drop (length out) (out ++ sent_in session from fs))
+    ≡ map (spelling_of from) fs
 put_is from session fs [] = octets_sent session from fs
 put_is from session fs (e ∷ out) = put_is from session fs out
 
@@ -36,13 +42,15 @@ none_put_on : (out : List Entry) → octets_of (drop (length out) out) ≡ []
 none_put_on [] = refl
 none_put_on (e ∷ out) = none_put_on out
 
-step_now : (stand : Standing) {c d : Settings} (w : Sessions) (es : List Entry) (met : List Meeting) (down : List (List ℕ)) (step : Step) (gone : Option ℕ) → Held (went_by c step gone stand) c d (after_step c w es met down step)
+step_now : (stand : Standing) {c d : Settings} (w : Sessions) (es : List Entry) (met : List Meeting) (down : List (List ℕ)) (step : Step) (gone : Option ℕ)
+    → Held (went_by c step gone stand) c d (after_step c w es met down step)
     → HeldNow stand c d gone w (after_step c w es met down step)
 step_now stand {c} w es met down step gone h =
     rw (put_is c.role (begun_by step.notes.up w.near.begun) step.side.out w.out) h
 
 -- nothing is put
-still_now : (stand : Standing) {c d : Settings} (w : Sessions) {v : Sessions} (gone : Option ℕ) → v.out ≡ w.out → Held (standing_after c v.near.station [] gone stand) c d v → HeldNow stand c d gone w v
+still_now : (stand : Standing) {c d : Settings} (w : Sessions) {v : Sessions} (gone : Option ℕ) → v.out ≡ w.out
+    → Held (standing_after c v.near.station [] gone stand) c d v → HeldNow stand c d gone w v
 still_now stand w gone same h =
     rw (ap (λ out. octets_of (drop (length w.out) out)) same ∙ none_put_on w.out) h
 
@@ -51,23 +59,27 @@ stays_now : {stand : Standing} (c d : Settings) (w : Sessions) → Held stand c 
 stays_now {stand} c d w h =
     still_now stand w None refl (rw (sym (stays_on c w.near.station [] stand (counted_there w.near h.near h.holds.near) refl)) h)
 
-now_unless : {stand : Standing} (c d : Settings) (o : Option LinkError) (w v : Sessions) → Held stand c d w → (o ≡ None → HeldNow stand c d None w v) → HeldNow stand c d None w (unless o w v)
+now_unless : {stand : Standing} (c d : Settings) (o : Option LinkError) (w v : Sessions) → Held stand c d w → (o ≡ None → HeldNow stand c d None w v)
+    → HeldNow stand c d None w (unless o w v)
 now_unless {stand} c d o w v h g = unless_by (HeldNow stand c d None w) o (stays_now c d w h) g
 
-now_if : {stand : Standing} (c d : Settings) (b : Bool) (w v : Sessions) → Held stand c d w → (b ≡ true → HeldNow stand c d None w v) → HeldNow stand c d None w (if b then v else w)
+now_if : {stand : Standing} (c d : Settings) (b : Bool) (w v : Sessions) → Held stand c d w → (b ≡ true → HeldNow stand c d None w v)
+    → HeldNow stand c d None w (if b then v else w)
 now_if {stand} c d b w v h g = if_by (HeldNow stand c d None w) b (stays_now c d w h) g
 
 module _ {c d : Settings} (joined : AreJoined c d) (reads : ReadsSpelled) (rests_on : SessionLaws) where
   -- what stands once the front is taken off the line
   abbrev delivered_by : Sessions → List Entry → Standing → Standing
   delivered_by w es stand =
-      if front_sets_up c w.near.station.phase es then anew c d w else same_two c (place_to_hear w.near.station.phase (other c.role) c.longest (octets_of es) 0) w (delivered c es w) stand
+      if front_sets_up c w.near.station.phase es then anew c d w
+      else same_two c (place_to_hear w.near.station.phase (other c.role) c.longest (octets_of es) 0) w (delivered c es w) stand
 
   none_heard : (p : Phase) → place_to_hear p (other c.role) c.longest [] 0 ≡ None
   none_heard Down = refl
   none_heard p = refl
 
-  deliver_held : {stand : Standing} (w : Sessions) → Held stand c d w → OnLine c d w → (es : List Entry) → w.back ≡ es → Held (delivered_by w es stand) c d (delivered c es w)
+  deliver_held : {stand : Standing} (w : Sessions) → Held stand c d w → OnLine c d w → (es : List Entry) → w.back ≡ es
+      → Held (delivered_by w es stand) c d (delivered c es w)
   deliver_held {stand} w h line [] is = rw (none_heard w.near.station.phase) (stays_now c d w h)
   deliver_held {stand} w h line (e ∷ es) is = by (is_set_up w.near.station.phase (read_of c e)) (take_held joined reads rests_on.laws h line e es is)
     where
@@ -77,7 +89,8 @@ module _ {c d : Settings} (joined : AreJoined c d) (reads : ReadsSpelled) (rests
       gone : Option ℕ
       gone = place_to_hear w.near.station.phase (other c.role) c.longest (octets_of (e ∷ es)) 0
 
-      by : (b : Bool) → Held (if b then anew c d w else went_by c (take_step c e.octets w.near.station) gone stand) c d v → Held (if b then anew c d w else same_two c gone w v stand) c d v
+      by : (b : Bool) → Held (if b then anew c d w else went_by c (take_step c e.octets w.near.station) gone stand) c d v
+          → Held (if b then anew c d w else same_two c gone w v stand) c d v
       by true k = k
       by false k =
           step_now stand w es (heard_by c w e) [] (take_step c e.octets w.near.station) gone k
@@ -89,7 +102,8 @@ module _ {c d : Settings} (joined : AreJoined c d) (reads : ReadsSpelled) (rests
       done : Sessions
       done = after_step c w w.back w.met [] (timer_step c w.near.station)
 
-      by : (p : Phase) → w.near.station.phase ≡ p → HeldNow stand c d None w (unless (timer_refusal w.near.station) w (after_step c w w.back w.met [] (timer_step c w.near.station)))
+      by : (p : Phase) → w.near.station.phase ≡ p
+          → HeldNow stand c d None w (unless (timer_refusal w.near.station) w (after_step c w w.back w.met [] (timer_step c w.near.station)))
       by Waiting is =
           now_unless c d (timer_refusal w.near.station) w done h
           (λ _. step_now stand w w.back w.met [] (timer_step c w.near.station) None (timer_waiting_held joined reads rests_on.laws w h is (timely is)))
@@ -98,13 +112,15 @@ module _ {c d : Settings} (joined : AreJoined c d) (reads : ReadsSpelled) (rests
           (λ _. step_now stand w w.back w.met [] (timer_step c w.near.station) None (timer_up_held joined reads rests_on.laws w h (ap is_up is)))
       by phase is = rw (ap (λ p. timer_runs p w.near.station) is) (stays_now c d w h)
 
-  acts_held : {stand : Standing} (a : Act) (w : Sessions) → IsTimely c d a w → OnLine c d w → Held stand c d w → Held (standing_acts c d a w stand) c d (acts c a w)
+  acts_held : {stand : Standing} (a : Act) (w : Sessions) → IsTimely c d a w → OnLine c d w → Held stand c d w
+      → Held (standing_acts c d a w stand) c d (acts c a w)
   acts_held {stand} (Put packet) w timely line h =
       let step = put_step c packet w.near.station in
       let done = after_step c w w.back w.met (packet ∷ []) step in
       now_if c d (nat_le (length packet) c.longest) w (unless (put_refusal w.near.station) w done) h
       (λ short. now_unless c d (put_refusal w.near.station) w done h
-      (λ accepted. step_now stand w w.back w.met (packet ∷ []) step None (put_held joined reads rests_on.laws w h (put_accepted w.near.station accepted) packet (leb-true _ _ short))))
+      (λ accepted. step_now stand w w.back w.met (packet ∷ []) step None
+      (put_held joined reads rests_on.laws w h (put_accepted w.near.station accepted) packet (leb-true _ _ short))))
   acts_held {stand} Deliver w timely line h = deliver_held w h line w.back refl
   acts_held {stand} T1 w timely line h = timer_held w h timely
   acts_held {stand} Connect w timely line h =
@@ -131,7 +147,8 @@ module _ {c d : Settings} (joined : AreJoined c d) (reads : ReadsSpelled) (rests
       v : Sessions
       v = record w { back = replaced w.back i octets }
 
-      by : (b : Bool) → is_visible octets ≡ b → HeldNow stand c d (gone_at c w (if b then Some i else None)) w (if b then record w { back = replaced w.back i octets } else w)
+      by : (b : Bool) → is_visible octets ≡ b
+          → HeldNow stand c d (gone_at c w (if b then Some i else None)) w (if b then record w { back = replaced w.back i octets } else w)
       by true visible =
           still_now stand w (gone_at c w (Some i)) refl (change_held joined reads rests_on.laws h line (replaces_at octets visible w.back i))
       by false hidden = stays_now c d w h
@@ -165,10 +182,12 @@ event_held {stand} c d reads rests_on (Far act) w timely both h =
     (acts_held both.turn reads rests_on act (swapped w) timely (on_line reads rests_on (both_swapped both)) (held_swapped c d both.joined w h))
 
 -- what each event keeps is so after a run
-run_keeps : (P : Standing → Sessions → Type 0) (c d : Settings) → ((e : LinkEvent) (w : Sessions) (stand : Standing) → IsTimelyAt c d e w → P stand w → P (standing_happens c d e w stand) (happens c d e w))
+run_keeps : (P : Standing → Sessions → Type 0) (c d : Settings)
+    → ((e : LinkEvent) (w : Sessions) (stand : Standing) → IsTimelyAt c d e w → P stand w → P (standing_happens c d e w stand) (happens c d e w))
     → (es : List LinkEvent) (w : Sessions) (stand : Standing) → AreTimely c d es w → P stand w → P (standing_run c d es w stand) (run c d es w)
 run_keeps P c d keeps [] w stand timely h = h
-run_keeps P c d keeps (e ∷ es) w stand timely h = run_keeps P c d keeps es (happens c d e w) (standing_happens c d e w stand) timely.1 (keeps e w stand timely.0 h)
+run_keeps P c d keeps (e ∷ es) w stand timely h = run_keeps P c d keeps es (happens c d e w) (standing_happens c d e w stand) timely.1
+    (keeps e w stand timely.0 h)
 
 -- ---- how a run begins
 
@@ -196,7 +215,13 @@ begin_held {c} {d} joined is = elim is [
 
 is_session : {c d : Settings} → AreJoined c d → {v : Stations} → Holds ⊥ c d v → IsSession c d v
 is_session {c} {d} joined {v} holds =
-    record { order = holds_order ⊥ holds; lists = holds_lists ⊥ holds; window = holds_window ⊥ holds; no_frmr = holds.1.no_frmr; whole = holds_whole ⊥ joined holds }
+    record {
+      order = holds_order ⊥ holds;
+      lists = holds_lists ⊥ holds;
+      window = holds_window ⊥ holds;
+      no_frmr = holds.1.no_frmr;
+      whole = holds_whole ⊥ joined holds;
+    }
 
 stands : {stand : Standing} (c d : Settings) → AreJoined c d → (w : Sessions) → Held stand c d w → is_up w.near.station.phase ≡ true → Stands c d w
 stands {stand} c d joined w h up =
@@ -213,12 +238,18 @@ stands {stand} c d joined w h up =
       line = i.is.comes;
       of_session = i.is.of;
       both = λ far_up. (let j = in_session d c (swapped w) (held_swapped c d joined w h) far_up in
-          record { station = j.is.station; session = sym j.is.session; line = j.is.comes; of_session = subst (λ n. AllOf (other d.role) d.longest n w.out) (sym i.is.session) j.is.of });
+          record {
+            station = j.is.station;
+            session = sym j.is.session;
+            line = j.is.comes;
+            of_session = subst (λ n. AllOf (other d.role) d.longest n w.out) (sym i.is.session) j.is.of;
+          });
     }
 
 -- ---- the machine behind what stands
 
-stands_with : {stand : Standing} (c d : Settings) → AreJoined c d → (w : Sessions) → Held stand c d w → is_up w.near.station.phase ≡ true → StandsWith c d w stand
+stands_with : {stand : Standing} (c d : Settings) → AreJoined c d → (w : Sessions) → Held stand c d w → is_up w.near.station.phase ≡ true
+    → StandsWith c d w stand
 unfolding stands
 stands_with {stand} c d joined w h up =
     record {

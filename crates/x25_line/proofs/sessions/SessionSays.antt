@@ -16,7 +16,8 @@ pub record SamePackets (all before : ℕ → Peer) : Type 0 where
   pub given : (n : ℕ) → (all n).given ≡ (before n).given
   pub taken : (n : ℕ) → (all n).taken ≡ (before n).taken
 
-pub same_put : (b : ℕ) (r : Peer) {all before : ℕ → Peer} → r.given ≡ (all b).given → r.taken ≡ (all b).taken → SamePackets all before → SamePackets (put_for b r all) before
+pub same_put : (b : ℕ) (r : Peer) {all before : ℕ → Peer} → r.given ≡ (all b).given → r.taken ≡ (all b).taken → SamePackets all before
+    → SamePackets (put_for b r all) before
 same_put b r {all} given taken h = record {
   given = λ n. put_alike (λ p. p.given) b r all given n ∙ h.given n;
   taken = λ n. put_alike (λ p. p.taken) b r all taken n ∙ h.taken n;
@@ -39,12 +40,17 @@ module _ {d : Settings} (k : Kind d) (es : List Entry) (met : List Meeting) wher
   speaks b before out p q frames f good says next given taken h = record {
     all = put_for b q h.all;
     now = put_same b b q h.all refl;
-    reached = rw (sym (append_assoc out (sent_in b d.role frames) (entry b (spelling_of d.role f) ∷ []) ∙ ap (λ xs. out ++ xs) (sym (sent_append b d.role frames (f ∷ []))))) (k.does.tells es met b h.all (out ++ sent_in b d.role frames) (spelling_of d.role f) f q (good_reads k.reads d.role d.longest good) good.number (rw h.now says) h.reached);
+    reached = rw (sym (append_assoc out (sent_in b d.role frames) (entry b (spelling_of d.role f) ∷ [])
+        ∙ ap (λ xs. out ++ xs) (sym (sent_append b d.role frames (f ∷ [])))))
+        (k.does.tells es met b h.all (out ++ sent_in b d.role frames) (spelling_of d.role f) f q (good_reads k.reads d.role d.longest good) good.number
+        (rw h.now says) h.reached);
     packets = same_put b q (given ∙ ap (λ z. z.given) (sym h.now)) (taken ∙ ap (λ z. z.taken) (sym h.now)) h.packets;
   }
 
-  pub runs_said : (b : ℕ) (before : ℕ → Peer) (out : List Entry) (from : Window) → R es met Up b before out → machine_of d.window (before b) ≡ from → (before b).sent ≤ (before b).acked + d.window
-      → (before b).told ≤ length (before b).taken → AllWithin d.longest (before b).given → (w : Window) (frames : List PlainFrame) → Runs from w frames → Said d (Spoken b before out) (before b) w frames
+  pub runs_said : (b : ℕ) (before : ℕ → Peer) (out : List Entry) (from : Window) → R es met Up b before out → machine_of d.window (before b) ≡ from
+      → (before b).sent ≤ (before b).acked + d.window
+      → (before b).told ≤ length (before b).taken → AllWithin d.longest (before b).given → (w : Window) (frames : List PlainFrame) → Runs from w frames
+      → Said d (Spoken b before out) (before b) w frames
   runs_said b before out from reached is room told within w frames runs =
       said_run k.high (speaks b before out) (before b) within (record {
         all = before;

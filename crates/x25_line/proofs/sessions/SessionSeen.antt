@@ -1,5 +1,6 @@
 -- A station over sessions, and what is known of it as an end that keeps the rules, after each of its steps.
-use Rattle.std.proofs.Common.{◌≡◌, ◌≤◌, ◌<◌, ◌==◌, ℕ, suc, ◌+◌, List, [], ◌∷◌, ◌++◌, inl, inr, length, true, false, Option, None, refl, sym, ap, ◌∙◌, subst, arith}
+use Rattle.std.proofs.Common.{◌≡◌, ◌≤◌, ◌<◌, ◌==◌, ℕ, suc, ◌+◌, List, [], ◌∷◌, ◌++◌, inl, inr, length, true, false, Option, None, refl, sym, ap, ◌∙◌, subst}
+use Rattle.std.proofs.Common.{arith}
 use Rattle.std.proofs.lemmas.Bool.{eq-eqb}
 use Rattle.std.specs.Prelude.{option_to_list}
 use Rattle.x25_bits.specs.declared.role.Role.{Role}
@@ -9,8 +10,10 @@ use Rattle.x25_link.specs.{Station.{Settings, is_up, with_nothing, fresh}, Heari
 use Rattle.x25_link.specs.laws.WindowLaw.{window_of, after_input, Stays}
 use Rattle.x25_line.specs.laws.Sessions.{Entry, SessionEnd, start_with, Meeting, Sessions, sabm_in, how_many, sent_in, begun_by, extended, after_step}
 use Rattle.x25_line.specs.{laws.Peer.{Peer, fresh_peer}, laws.Ends.{put_for}, laws.PeerSessions.{IsAskedIn, AllAskedIn}}
-use Rattle.x25_line.proofs.{Lists.{each_append}, StationSays.{machine_of}, StationHears.{UpFacts}, StationSends.{AllWithin}, StationSteps.{not_both}, StationAway.{is_up_phase}}
-use Rattle.x25_line.proofs.{sessions.SessionHeld.{extended_nil, extended_same, extended_other}, sessions.SessionSteps.{stepped}, sessions.SessionMay.{Known, Kind}}
+use Rattle.x25_line.proofs.{Lists.{each_append}, StationSays.{machine_of}, StationHears.{UpFacts}, StationSends.{AllWithin}, StationSteps.{not_both}}
+use Rattle.x25_line.proofs.StationAway.{is_up_phase}
+use Rattle.x25_line.proofs.{sessions.SessionHeld.{extended_nil, extended_same, extended_other}, sessions.SessionSteps.{stepped}}
+use Rattle.x25_line.proofs.sessions.SessionMay.{Known, Kind}
 use Rattle.x25_line.proofs.{sessions.SessionSays.{runs_said}, ends.Puts.{same_or_other, put_same, put_apart}}
 
 asked_sent : (from : Role) (n1 b : ℕ) (role : Role) (fs : List PlainFrame) → AllAskedIn from n1 b (sent_in b role fs)
@@ -24,7 +27,8 @@ asked_never from n1 b (e ∷ es) h =
     (inl here, asked_never from n1 b es (omega (arith, h)))
 
 -- what was handed down or taken, by sessions, once more of it came in this one
-pub put_packets : (b : ℕ) (r : Peer) (all : ℕ → Peer) (lists : ℕ → List (List ℕ)) (more : List (List ℕ)) (f : Peer → List (List ℕ)) → f r ≡ f (all b) ++ more → ((n : ℕ) → f (all n) ≡ lists n)
+pub put_packets : (b : ℕ) (r : Peer) (all : ℕ → Peer) (lists : ℕ → List (List ℕ)) (more : List (List ℕ)) (f : Peer → List (List ℕ)) → f r ≡ f (all b) ++ more
+    → ((n : ℕ) → f (all n) ≡ lists n)
     → (n : ℕ) → f (put_for b r all n) ≡ extended lists b more n
 put_packets b r all lists more f grows same n = elim (same_or_other n b) [
   | inl is ↦ ap f (put_same b n r all is) ∙ grows ∙ ap (λ xs. xs ++ more) (same b) ∙ sym (extended_same lists b more) ∙ ap (extended lists b more) (sym is)
@@ -43,10 +47,17 @@ module _ (d : Settings) (R : Known) where
     pub tags : AllAskedIn d.role d.longest w.near.begun w.out
 
 fresh_facts : (d : Settings) (p : Phase) → UpFacts d (with_nothing p 0) fresh_peer
-fresh_facts d p = record { same = refl; sound = record { place_low = omega arith; place_high = omega arith; sent_high = omega arith; room = omega arith }; room = omega arith; told = omega arith; within = tt }
+fresh_facts d p = record {
+  same = refl;
+  sound = record { place_low = omega arith; place_high = omega arith; sent_high = omega arith; room = omega arith };
+  room = omega arith;
+  told = omega arith;
+  within = tt;
+}
 
 -- as a run begins
-pub start_seen : (d : Settings) (R : Known) {p : Phase} {b : ℕ} (far : SessionEnd) → R [] [] p b (λ n. fresh_peer) [] → Seen d R (record (start_with p b) { far = far })
+pub start_seen : (d : Settings) (R : Known) {p : Phase} {b : ℕ} (far : SessionEnd) → R [] [] p b (λ n. fresh_peer) []
+    → Seen d R (record (start_with p b) { far = far })
 start_seen d R {p} far reached = record {
   all = λ n. fresh_peer;
   reached = reached;
@@ -63,7 +74,8 @@ module _ {d : Settings} (k : Kind d) where
 
   -- ---- after a step of the near end
 
-  pub build : {w : Sessions} (h : Seen d R w) {es : List Entry} {met : List Meeting} (down : List (List ℕ)) (step : Step) (all : ℕ → Peer) → step.notes.up ≡ false
+  pub build : {w : Sessions} (h : Seen d R w) {es : List Entry} {met : List Meeting} (down : List (List ℕ)) (step : Step) (all : ℕ → Peer) → step.notes.up
+      ≡ false
       → R es met step.side.near.phase w.near.begun all (w.out ++ sent_in w.near.begun d.role step.side.out)
       → (is_up step.side.near.phase ≡ true → UpFacts d step.side.near (all w.near.begun)) → ((n : ℕ) → (all n).given ≡ extended w.near.down w.near.begun down n)
       → ((n : ℕ) → (all n).taken ≡ extended w.near.up w.near.begun (option_to_list step.packet) n) → Seen d R (after_step d w es met down step)
@@ -78,33 +90,39 @@ module _ {d : Settings} (k : Kind d) where
           extended_other w.near.down w.near.begun n down (λ is. omega (arith, is, less)) ∙ old.0,
           extended_other w.near.up w.near.begun n (option_to_list step.packet) (λ is. omega (arith, is, less)) ∙ old.1,
         ));
-        tags = each_append (IsAskedIn d.role d.longest w.near.begun) w.out (sent_in w.near.begun d.role step.side.out) h.tags (asked_sent d.role d.longest w.near.begun d.role step.side.out);
+        tags = each_append (IsAskedIn d.role d.longest w.near.begun) w.out (sent_in w.near.begun d.role step.side.out) h.tags
+            (asked_sent d.role d.longest w.near.begun d.role step.side.out);
       })
 
   -- nothing is handed down or up
-  pub build_quiet : {w : Sessions} (h : Seen d R w) {es : List Entry} {met : List Meeting} (step : Step) → step.notes.up ≡ false → step.packet ≡ None → is_up step.side.near.phase ≡ false
+  pub build_quiet : {w : Sessions} (h : Seen d R w) {es : List Entry} {met : List Meeting} (step : Step) → step.notes.up ≡ false → step.packet ≡ None
+      → is_up step.side.near.phase ≡ false
       → R es met step.side.near.phase w.near.begun h.all (w.out ++ sent_in w.near.begun d.role step.side.out) → Seen d R (after_step d w es met [] step)
   build_quiet {w} h {es} {met} step quiet none off reached =
       build h [] step h.all quiet reached (λ up. not_both (is_up step.side.near.phase) up off) (λ n. h.given n ∙ sym (extended_nil w.near.down w.near.begun n))
       (λ n. h.taken n ∙ sym (ap (λ o. extended w.near.up w.near.begun (option_to_list o) n) none ∙ extended_nil w.near.up w.near.begun n))
 
   -- LinkUp is noted
-  pub build_up : {w : Sessions} (h : Seen d R w) {es : List Entry} (step : Step) → step.notes.up ≡ true → step.side.near ≡ fresh → step.packet ≡ None → how_many sabm_in d.role d.longest w.out ≡ 0
-      → R es w.met Up (suc w.near.begun) (put_for (suc w.near.begun) fresh_peer h.all) (w.out ++ sent_in (suc w.near.begun) d.role step.side.out) → Seen d R (after_step d w es w.met [] step)
+  pub build_up : {w : Sessions} (h : Seen d R w) {es : List Entry} (step : Step) → step.notes.up ≡ true → step.side.near ≡ fresh → step.packet ≡ None
+      → how_many sabm_in d.role d.longest w.out ≡ 0
+      → R es w.met Up (suc w.near.begun) (put_for (suc w.near.begun) fresh_peer h.all) (w.out ++ sent_in (suc w.near.begun) d.role step.side.out)
+      → Seen d R (after_step d w es w.met [] step)
   build_up {w} h {es} step up near none unasked reached =
       subst (λ n. Seen d R (stepped d w es w.met [] n step)) (sym (ap (λ b. begun_by b w.near.begun) up))
       (record {
         all = all;
         reached = rw (ap (λ s. s.phase) near) reached;
         up = λ _. rw near (subst (UpFacts d fresh) (sym (put_same b b fresh_peer h.all refl)) (fresh_facts d Up));
-        given = λ n. put_packets b fresh_peer h.all w.near.down [] (λ p. p.given) (sym (ap (λ xs. xs ++ []) (h.given b ∙ (h.later b (omega arith)).0))) h.given n;
+        given = λ n. put_packets b fresh_peer h.all w.near.down [] (λ p. p.given) (sym (ap (λ xs. xs ++ []) (h.given b ∙ (h.later b (omega arith)).0))) h.given
+            n;
         taken = λ n. put_packets b fresh_peer h.all w.near.up [] (λ p. p.taken) (sym (ap (λ xs. xs ++ []) (h.taken b ∙ (h.later b (omega arith)).1))) h.taken n
             ∙ sym (ap (λ o. extended w.near.up b (option_to_list o) n) none);
         later = λ n less. (let old = h.later n (omega (arith, less)) in (
           extended_other w.near.down b n [] (λ is. omega (arith, is, less)) ∙ old.0,
           extended_other w.near.up b n (option_to_list step.packet) (λ is. omega (arith, is, less)) ∙ old.1,
         ));
-        tags = each_append (IsAskedIn d.role d.longest b) w.out (sent_in b d.role step.side.out) (asked_never d.role d.longest b w.out unasked) (asked_sent d.role d.longest b d.role step.side.out);
+        tags = each_append (IsAskedIn d.role d.longest b) w.out (sent_in b d.role step.side.out) (asked_never d.role d.longest b w.out unasked)
+            (asked_sent d.role d.longest b d.role step.side.out);
       })
     where
       b : ℕ
@@ -126,23 +144,27 @@ module _ {d : Settings} (k : Kind d) where
     pub given : (n : ℕ) → (all n).given ≡ extended w.near.down w.near.begun down n
     pub taken : (n : ℕ) → (all n).taken ≡ extended w.near.up w.near.begun (option_to_list packet) n
 
-  pub stays_seen : {w : Sessions} (h : Seen d R w) {es : List Entry} {met : List Meeting} {down : List (List ℕ)} {input : Input} {step : Step} → Ready w es met down step.packet (after_input input step.packet (window_of d.window w.near.station))
+  pub stays_seen : {w : Sessions} (h : Seen d R w) {es : List Entry} {met : List Meeting} {down : List (List ℕ)} {input : Input} {step : Step}
+      → Ready w es met down step.packet (after_input input step.packet (window_of d.window w.near.station))
       → Stays d.window input w.near.station step → Seen d R (after_step d w es met down step)
   stays_seen {w} h {es} {met} {down} {input} {step} r stays =
-      let said = runs_said k es met w.near.begun r.all w.out (after_input input step.packet (window_of d.window w.near.station)) r.reached r.is r.room r.told r.within
+      let said = runs_said k es met w.near.begun r.all w.out (after_input input step.packet (window_of d.window w.near.station)) r.reached r.is r.room r.told
+      r.within
       (window_of d.window step.side.near) step.side.out stays.sends
       in
       let spoken = said.reached in
       build h down step spoken.all (ap (λ n. n.up) stays.quiet)
       (rw (is_up_phase step.side.near.phase stays.up) spoken.reached)
-      (λ _. subst (UpFacts d step.side.near) (sym spoken.now) (record { same = said.is; sound = stays.sound; room = said.room; told = said.told; within = subst (AllWithin d.longest) (sym said.given) r.within }))
+      (λ _. subst (UpFacts d step.side.near) (sym spoken.now)
+      (record { same = said.is; sound = stays.sound; room = said.room; told = said.told; within = subst (AllWithin d.longest) (sym said.given) r.within }))
       (λ n. spoken.packets.given n ∙ r.given n) (λ n. spoken.packets.taken n ∙ r.taken n)
 
   -- the peer in its session, as it is
   pub reached_in : {w : Sessions} (h : Seen d R w) → is_up w.near.station.phase ≡ true → R w.back w.met Up w.near.begun h.all w.out
   reached_in {w} h up = rw (sym (is_up_phase w.near.station.phase up)) h.reached
 
-  pub unchanged : {w : Sessions} (h : Seen d R w) → is_up w.near.station.phase ≡ true → {es : List Entry} {met : List Meeting} → R es met Up w.near.begun h.all w.out
+  pub unchanged : {w : Sessions} (h : Seen d R w) → is_up w.near.station.phase ≡ true → {es : List Entry} {met : List Meeting}
+      → R es met Up w.near.begun h.all w.out
       → (v : Window) → v ≡ window_of d.window w.near.station → (packet : Option (List ℕ)) → packet ≡ None → Ready w es met [] packet v
   unchanged {w} h up reached v is packet none =
       let f = h.up up in
@@ -158,8 +180,10 @@ module _ {d : Settings} (k : Kind d) where
       }
 
   -- what it is in this session is r
-  pub changed : {w : Sessions} (h : Seen d R w) {es : List Entry} {met : List Meeting} (down : List (List ℕ)) (packet : Option (List ℕ)) (r : Peer) → R es met Up w.near.begun (put_for w.near.begun r h.all) w.out
-      → (v : Window) → machine_of d.window r ≡ v → r.sent ≤ r.acked + d.window → r.told ≤ length r.taken → AllWithin d.longest r.given → r.given ≡ (h.all w.near.begun).given ++ down
+  pub changed : {w : Sessions} (h : Seen d R w) {es : List Entry} {met : List Meeting} (down : List (List ℕ)) (packet : Option (List ℕ)) (r : Peer)
+      → R es met Up w.near.begun (put_for w.near.begun r h.all) w.out
+      → (v : Window) → machine_of d.window r ≡ v → r.sent ≤ r.acked + d.window → r.told ≤ length r.taken → AllWithin d.longest r.given → r.given
+      ≡ (h.all w.near.begun).given ++ down
       → r.taken ≡ (h.all w.near.begun).taken ++ option_to_list packet → Ready w es met down packet v
   changed {w} h down packet r reached v is room told within given taken =
       let b = w.near.begun in

@@ -1,5 +1,6 @@
 -- Each act of a station over sessions is what an end that keeps the rules may do, by its phase and by what comes.
-use Rattle.std.proofs.Common.{◌≡◌, ℕ, List, [], ◌∷◌, ◌++◌, ◌⊎◌, inl, inr, Bool, true, false, if◌then◌else◌, Option, Some, None, Ok, Err, refl, sym, ap, ◌∙◌, subst, arith, append-nil, append_assoc}
+use Rattle.std.proofs.Common.{◌≡◌, ℕ, List, [], ◌∷◌, ◌++◌, ◌⊎◌, inl, inr, Bool, true, false, if◌then◌else◌, Option, Some, None, Ok, Err, refl, sym, ap, ◌∙◌}
+use Rattle.std.proofs.Common.{subst, arith, append-nil, append_assoc}
 use Rattle.x25_frame.specs.{Frame.{PlainFrame, sabm, disc, ua, dm, frmr}, Spelling.{spelling_of}, laws.ReadingLaw.{ReadsSpelled}}
 use Rattle.x25_frame.specs.declared.error.FrameError.TheVariants.{Short}
 use Rattle.x25_link.specs.{declared.phase.Phase.{Phase}, declared.phase.Phase.TheVariants.{Down, Waiting, Up, Closed}, declared.phase.Reason.{Reason}}
@@ -8,8 +9,9 @@ use Rattle.x25_link.specs.{Station.{Settings, LinkStation, is_up, fresh}, Hearin
 use Rattle.x25_link.specs.laws.SetUp.{Is, TakesPart, reset_from, waiting_after, waiting_sends, waiting_up}
 use Rattle.x25_link.specs.laws.WindowLaw.{window_of, brought_by, after_input, ending_of, ends_in, Ends, Follows, AreDeclining, StaysOut}
 use Rattle.x25_line.specs.{laws.StationClaims.{number_in}, laws.Sessions.{Entry, Meeting, Sessions, sabm_in, disc_in, how_many, sent_in, after_step, heard}}
-use Rattle.x25_line.specs.{laws.Peer.{Peer, MayHear}, laws.Ends.{put_for}}
-use Rattle.x25_line.proofs.{StationLines.{AreParting, parts_of, part_reads}, StationHears.{UpFacts, Hears, stays_hears, by_disc, by_reset, by_local, left_by}, StationSends.{AllWithin}, StationSteps.{not_afresh}}
+use Rattle.x25_line.specs.{laws.Peer.{Peer}}
+use Rattle.x25_line.proofs.{StationLines.{AreParting, parts_of, part_reads}, StationHears.{UpFacts, Hears, stays_hears, by_disc, by_reset, by_local, left_by}}
+use Rattle.x25_line.proofs.{StationSends.{AllWithin}, StationSteps.{not_afresh}}
 use Rattle.x25_line.proofs.{StationAway.{is_up_phase, frmr_three, waits_on}, sessions.SessionLines.{Read}}
 use Rattle.x25_line.proofs.sessions.SessionMay.{entry, sends_read, hears_read, heard_in, IsClear, Known, Kind}
 use Rattle.x25_line.proofs.sessions.SessionSeen.{Seen, build_quiet, build_up, stays_seen, changed}
@@ -44,16 +46,19 @@ module _ {d : Settings} (k : Kind d) where
   -- ---- what is put behind a line
 
   -- nothing
-  pub put_none : {es : List Entry} {met : List Meeting} {p : Phase} {b : ℕ} {all : ℕ → Peer} {out : List Entry} (fs : List PlainFrame) → fs ≡ [] → R es met p b all out → R es met p b all (out ++ sent_in b d.role fs)
+  pub put_none : {es : List Entry} {met : List Meeting} {p : Phase} {b : ℕ} {all : ℕ → Peer} {out : List Entry} (fs : List PlainFrame) → fs ≡ []
+      → R es met p b all out → R es met p b all (out ++ sent_in b d.role fs)
   put_none {es} {met} {p} {b} {all} {out} fs is reached =
       subst (λ xs. R es met p b all xs) (sym (append-nil out) ∙ ap (λ xs. out ++ sent_in b d.role xs) (sym is)) reached
 
   -- one frame
-  pub put_one : {es : List Entry} {met : List Meeting} {p : Phase} {b : ℕ} {all : ℕ → Peer} (out : List Entry) (f : PlainFrame) (fs : List PlainFrame) → fs ≡ f ∷ []
+  pub put_one : {es : List Entry} {met : List Meeting} {p : Phase} {b : ℕ} {all : ℕ → Peer} (out : List Entry) (f : PlainFrame) (fs : List PlainFrame) → fs ≡ f
+      ∷ []
       → R es met p b all (out ++ entry b (spelling_of d.role f) ∷ []) → R es met p b all (out ++ sent_in b d.role fs)
   put_one out f fs is reached = rw is reached
 
-  put_declining : {es : List Entry} {met : List Meeting} {p : Phase} {b : ℕ} {all : ℕ → Peer} (out : List Entry) (fs : List PlainFrame) → AreDeclining fs → R es met p b all out → R es met p b all (out ++ sent_in b d.role fs)
+  put_declining : {es : List Entry} {met : List Meeting} {p : Phase} {b : ℕ} {all : ℕ → Peer} (out : List Entry) (fs : List PlainFrame) → AreDeclining fs
+      → R es met p b all out → R es met p b all (out ++ sent_in b d.role fs)
   put_declining {es} {met} {p} {b} {all} out [] h reached = put_none [] refl reached
   put_declining {es} {met} {p} {b} {all} out (dm f ∷ fs) h reached =
       let octets = spelling_of d.role (dm f) in
@@ -66,9 +71,11 @@ module _ {d : Settings} (k : Kind d) where
       → R w.back w.met Waiting w.near.begun h.all (w.out ++ sent_in w.near.begun d.role fs)
   put_asks w h p fs is due clear =
       put_one w.out (sabm p) fs is
-      (k.does.asks w.back w.met w.near.station.phase w.near.begun h.all w.out (spelling_of d.role (sabm p)) p (alone_reads k.reads d (sabm p) (tt, tt)) due clear h.reached)
+      (k.does.asks w.back w.met w.near.station.phase w.near.begun h.all w.out (spelling_of d.role (sabm p)) p (alone_reads k.reads d (sabm p) (tt, tt)) due
+      clear h.reached)
 
-  pub put_closes : (w : Sessions) (h : S w) (p : Bool) (fs : List PlainFrame) → fs ≡ disc p ∷ [] → R w.back w.met Closed w.near.begun h.all (w.out ++ sent_in w.near.begun d.role fs)
+  pub put_closes : (w : Sessions) (h : S w) (p : Bool) (fs : List PlainFrame) → fs ≡ disc p ∷ []
+      → R w.back w.met Closed w.near.begun h.all (w.out ++ sent_in w.near.begun d.role fs)
   put_closes w h p fs is =
       put_one w.out (disc p) fs is
       (k.does.closes w.back w.met w.near.station.phase w.near.begun h.all w.out (spelling_of d.role (disc p)) p (alone_reads k.reads d (disc p) tt) h.reached)
@@ -108,7 +115,8 @@ module _ {d : Settings} (k : Kind d) where
         go false = refl
 
     -- a SABM sets it up
-    pub sets_up_seen : (p : Bool) → r ≡ Ok (sabm p) → TakesPart s.phase → Is fresh (ua p ∷ []) (reset_from s.phase) true step → how_many sabm_in d.role d.longest w.out ≡ 0 → S (after_step d w es met [] step)
+    pub sets_up_seen : (p : Bool) → r ≡ Ok (sabm p) → TakesPart s.phase → Is fresh (ua p ∷ []) (reset_from s.phase) true step
+        → how_many sabm_in d.role d.longest w.out ≡ 0 → S (after_step d w es met [] step)
     sets_up_seen p read part i unasked =
         rw (met_none (ap number_in read)) (build_up k h step i.up i.near i.packet unasked
         (put_one w.out (ua p) step.side.out i.out
@@ -123,21 +131,17 @@ module _ {d : Settings} (k : Kind d) where
       in_it : s.phase ≡ Up
       in_it = is_up_phase s.phase up
 
-      passed_in : R es met Up b h.all w.out
-      passed_in = rw (sym in_it) passed
-
-      hears_it : (q : Peer) → MayHear (h.all b) r q → R es met Up b (put_for b q h.all) w.out
-      hears_it q may = rw in_it (k.does.hears e es w.met b h.all w.out q may (came_in Up in_it))
-
       -- it stays Up
       stays_up : Hears d r s (h.all b) step → S (after_step d w es met [] step)
       stays_up x =
           stays_seen k h
-          (changed k h [] step.packet x.peer (hears_it x.peer x.may) (after_input x.input step.packet (window_of d.window s)) x.is x.room x.told
+          (changed k h [] step.packet x.peer (rw in_it (k.does.hears e es w.met b h.all w.out x.peer x.may (came_in Up in_it)))
+          (after_input x.input step.packet (window_of d.window s)) x.is x.room x.told
           (subst (AllWithin d.longest) (sym x.given) facts.within) (x.given ∙ sym (append-nil (h.all b).given)) x.taken) x.stays
 
       -- it leaves Up
-      left_seen : {reason : Reason} → (reason ≡ Reset → ⊥) → Ends reason step → R es met (ends_in reason) b h.all (w.out ++ sent_in b d.role step.side.out) → S (after_step d w es met [] step)
+      left_seen : {reason : Reason} → (reason ≡ Reset → ⊥) → Ends reason step → R es met (ends_in reason) b h.all (w.out ++ sent_in b d.role step.side.out)
+          → S (after_step d w es met [] step)
       left_seen {reason} no_reset ends reached =
           let off = ends_away reason no_reset step.side.near.phase ends.phase in
           build_quiet k h step (not_afresh (k.rests.laws.take_tells d e.octets s) off) ends.packet off
@@ -145,20 +149,16 @@ module _ {d : Settings} (k : Kind d) where
 
       -- without a frame
       gone : (fs : List PlainFrame) → fs ≡ [] → R es met Down b h.all (w.out ++ sent_in b d.role fs)
-      gone fs none = put_none fs none (k.does.leaves es met b h.all w.out passed_in)
+      gone fs none = put_none fs none (k.does.leaves es met b h.all w.out (rw (sym in_it) passed))
 
-      -- by DISC, which it answers
-      disc_seen : (p : Bool) → r ≡ Ok (disc p) → Ends Disc step → (Disc ≡ Reset → ⊥) → S (after_step d w es met [] step)
-      disc_seen p read ends never =
-          let f = ends.frames.0 in
-          left_seen never ends
-          (rw (met_none (ap number_in read)) (put_one w.out (ua f) step.side.out ends.frames.1
-          (k.does.takes_disc e es w.met b h.all w.out (spelling_of d.role (ua f)) p f read (alone_reads k.reads d (ua f) tt) (came_in Up in_it))))
-
-      ends_seen : (reason : Reason) → (reason ≡ Reset → ⊥) → ending_of r (window_of d.window s) ≡ Some reason → Ends reason step → S (after_step d w es met [] step)
+      ends_seen : (reason : Reason) → (reason ≡ Reset → ⊥) → ending_of r (window_of d.window s) ≡ Some reason → Ends reason step
+          → S (after_step d w es met [] step)
       ends_seen Retries never ending ends = left_seen never ends (gone step.side.out ends.frames)
       ends_seen Disc never ending ends = elim (disc_or_not r) [
-        | inl closes ↦ disc_seen closes.0 closes.1 ends never
+        | inl closes ↦ (let f = ends.frames.0 in
+            left_seen never ends (rw (met_none (ap number_in closes.1))
+            (put_one w.out (ua f) step.side.out ends.frames.1
+            (k.does.takes_disc e es w.met b h.all w.out (spelling_of d.role (ua f)) closes.0 f closes.1 (alone_reads k.reads d (ua f) tt) (came_in Up in_it)))))
         | inr none ↦ (absurd (omega (arith, (left_by r (window_of d.window s)).0, ap by_disc ending, none)))
       ]
       ends_seen Dm never ending ends = left_seen never ends (gone step.side.out ends.frames)
@@ -180,7 +180,9 @@ module _ {d : Settings} (k : Kind d) where
         where
           go : (o : Option Reason) → ending_of r (window_of d.window s) ≡ o → Follows o d.window (brought_by r) s step → S (after_step d w es met [] step)
           go None ending stays = stays_up (stays_hears facts step r no_sabm stays)
-          go (Some reason) ending ends = ends_seen reason (λ reset. (let one = ap by_reset (ending ∙ ap Some reset) in absurd (omega (arith, (left_by r (window_of d.window s)).1, one, no_sabm)))) ending ends
+          go (Some reason) ending ends = ends_seen reason
+              (λ reset. (let one = ap by_reset (ending ∙ ap Some reset) in absurd (omega (arith, (left_by r (window_of d.window s)).1, one, no_sabm)))) ending
+              ends
 
     -- ---- out of Up
 
@@ -221,5 +223,6 @@ module _ {d : Settings} (k : Kind d) where
             (put_one w.out (ua p) step.side.out (i.out ∙ ap waiting_sends read)
             (k.does.waits_on e es w.met b h.all w.out (spelling_of d.role (ua p)) p p read (alone_reads k.reads d (ua p) tt) (came_in Waiting waiting)))
         by (Ok (disc p)) read =
-            put_one w.out (dm p) step.side.out (i.out ∙ ap waiting_sends read) (k.does.declines es met Waiting b h.all w.out (spelling_of d.role (dm p)) p (alone_reads k.reads d (dm p) tt) passed_waiting)
+            put_one w.out (dm p) step.side.out (i.out ∙ ap waiting_sends read)
+            (k.does.declines es met Waiting b h.all w.out (spelling_of d.role (dm p)) p (alone_reads k.reads d (dm p) tt) passed_waiting)
         by x read = none_put (ap waiting_sends read)

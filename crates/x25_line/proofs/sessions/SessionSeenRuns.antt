@@ -6,14 +6,19 @@ use Rattle.x25_link.specs.{declared.phase.Phase.{Phase}, declared.phase.Phase.Th
 use Rattle.x25_link.specs.{Station.{Settings}, Hearing.{other}, Link.{put_refusal}}
 use Rattle.x25_line.specs.laws.Stations.{Act, Put, Deliver, T1, Connect, Lose, Damage, LinkEvent, Near, Far, is_visible}
 use Rattle.x25_line.specs.{laws.StationClaims.{AreJoined}, laws.Said.{said, sabm_of, disc_of, ua_of}}
-use Rattle.x25_line.specs.laws.Sessions.{Entry, SessionEnd, Meeting, Sessions, turned, swapped, sabm_in, ua_in, disc_in, how_many, replaced, after_step, delivered, acts, happens, run, IsStart, from_nothing, from_set_up, IsTimely, IsTimelyAt, AreTimely}
+use Rattle.x25_line.specs.laws.Sessions.{Entry, SessionEnd, Meeting, Sessions, turned, swapped, sabm_in, ua_in, disc_in, how_many, replaced, after_step}
+use Rattle.x25_line.specs.laws.Sessions.{delivered, acts, happens, run, IsStart, from_nothing, from_set_up, IsTimely, IsTimelyAt, AreTimely}
 use Rattle.x25_line.specs.{laws.SessionClaims.{Throughout}, laws.LawsBelow.{SessionLaws}, laws.Peer.{Peer, fresh_peer}}
-use Rattle.x25_line.specs.laws.PeerSessions.{PeerEnd, PeerSessions, both_ends, with_peer, AllAskedIn, stand_of, letters, IsLeft, untouched, without, damaged, Puts, nothing, HandsDown, Theirs, ReachedInSessions, goes_on}
-use Rattle.x25_line.specs.laws.Ends.{Letter, letter, AreOf, Ends, Does, listens, moves, free, asks, closes, leaves, hears, takes_ua, takes_sabm, waits_on, takes_disc, loses, damages}
+use Rattle.x25_line.specs.laws.PeerSessions.{PeerEnd, PeerSessions, both_ends, with_peer, AllAskedIn, stand_of, letters, IsLeft, untouched, without, damaged}
+use Rattle.x25_line.specs.laws.PeerSessions.{Puts, nothing, HandsDown, Theirs, ReachedInSessions, goes_on}
+use Rattle.x25_line.specs.laws.Ends.{Letter, letter, AreOf, Ends, Does, listens, moves, free, asks, closes, leaves, hears, takes_ua, takes_sabm, waits_on}
+use Rattle.x25_line.specs.laws.Ends.{takes_disc, loses, damages}
 use Rattle.x25_line.specs.laws.SessionPeers.{IsPeer, AreBothPeers}
-use Rattle.x25_line.proofs.{Choices.{unless_both, if_both, own_both}, StationRuns.{joined_swapped}, sessions.SessionLines.{Read}, sessions.SessionHeld.{Owes}, sessions.EntryLines.{asked_fewer}}
+use Rattle.x25_line.proofs.{Choices.{unless_both, if_both, own_both}, StationRuns.{joined_swapped}, sessions.SessionLines.{Read}, sessions.SessionHeld.{Owes}}
+use Rattle.x25_line.proofs.sessions.EntryLines.{asked_fewer}
 use Rattle.x25_line.proofs.{sessions.Acts.{Stays, Anything, acts_still}, sessions.SessionMay.{sends_read, hears_read, entry, heard_in, MayAsk, MayDo, Kind}}
-use Rattle.x25_line.proofs.{ends.Meetings.{twice_turned}, sessions.SessionSeen.{Seen, start_seen}, sessions.PeerSessionRuns.{owes_is}, sessions.SessionWith.{tells_does}}
+use Rattle.x25_line.proofs.{ends.Meetings.{twice_turned}, sessions.SessionSeen.{Seen, start_seen}, sessions.PeerSessionRuns.{owes_is}}
+use Rattle.x25_line.proofs.sessions.SessionWith.{tells_does}
 use Rattle.x25_line.proofs.sessions.Letters.{heard_said, letters_push, letters_removed, letters_replaced, many_said, puts_frame}
 use Rattle.x25_line.specs.laws.PeerSessions as sessions
 use Rattle.x25_line.specs.laws.Ends as ends
@@ -51,21 +56,30 @@ module _ {c d : Settings} (joined : AreJoined c d) (far : SessionEnd) where
   outs es = letters (other c.role) c.longest es
 
   -- who meets whom, as it hears the front
-  same_met : (p : Phase) (b : ℕ) (e : Entry) (met : List Meeting) → heard_in d p b e met ≡ ends.heard (stand_of p) b (letter e.session (said (frame_of c.role c.longest e.octets))) met
-  same_met p b e met = heard_said p b e.session (hears_read d e.octets) met ∙ ap (λ r. ends.heard (stand_of p) b (letter e.session (said r)) met) (here e.octets)
+  same_met : (p : Phase) (b : ℕ) (e : Entry) (met : List Meeting) → heard_in d p b e met
+      ≡ ends.heard (stand_of p) b (letter e.session (said (frame_of c.role c.longest e.octets))) met
+  same_met p b e met = heard_said p b e.session (hears_read d e.octets) met
+      ∙ ap (λ r. ends.heard (stand_of p) b (letter e.session (said r)) met) (here e.octets)
 
   front : (e : Entry) (es : List Entry) (r : Read) → hears_read d e.octets ≡ r → ins (e ∷ es) ≡ letter e.session (said r) ∷ ins es
   front e es r read = ap (λ x. letter e.session (said x) ∷ ins es) (sym (here e.octets) ∙ read)
 
   abbrev view : List Letter → List Meeting → Phase → ℕ → (ℕ → Peer) → List Letter → Ends
   view back met p b all out = record {
-    two = record { near = record { stand = stand_of p; begun = b }; far = record { stand = stand_of far.station.phase; begun = far.begun }; out = out; back = back; met = met };
+    two = record {
+      near = record { stand = stand_of p; begun = b };
+      far = record { stand = stand_of far.station.phase; begun = far.begun };
+      out = out;
+      back = back;
+      met = met;
+    };
     near_of = all;
     far_of = λ n. fresh_peer;
   }
 
   module _ (es fs : List Entry) {met now : List Meeting} (p q : Phase) {b m : ℕ} {all those : ℕ → Peer} (out : List Entry) where
-    goes : {more : List Entry} (left from : List Letter) → IsLeft es fs → Puts ⊥ c out more → ins fs ≡ left → outs more ≡ from → (AreOf far.begun (ins es) → Does (view (ins es) met p b all (outs out)) (view left now q m those from))
+    goes : {more : List Entry} (left from : List Letter) → IsLeft es fs → Puts ⊥ c out more → ins fs ≡ left → outs more ≡ from
+        → (AreOf far.begun (ins es) → Does (view (ins es) met p b all (outs out)) (view left now q m those from))
         → IsPeerOf es met p b all out → IsPeerOf fs now q m those more
     goes {more} left from less puts back there does h = goes_on _ _ h (Theirs (at fs now (end q m those) more) (record {
       does = λ crossing. rw (twice_turned met, twice_turned now, back, there) (does crossing);
@@ -74,26 +88,32 @@ module _ {c d : Settings} (joined : AreJoined c d) (far : SessionEnd) where
     }))
 
     -- it puts a frame on the line
-    sent : (n : ℕ) (octets : List ℕ) (f : PlainFrame) → sends_read d octets ≡ Ok f → IsLeft es fs → (AreOf far.begun (ins es) → Does (view (ins es) met p b all (outs out)) (view (ins fs) now q m those (outs out ++ letter n (said (Ok f)) ∷ [])))
+    sent : (n : ℕ) (octets : List ℕ) (f : PlainFrame) → sends_read d octets ≡ Ok f → IsLeft es fs
+        → (AreOf far.begun (ins es) → Does (view (ins es) met p b all (outs out)) (view (ins fs) now q m those (outs out ++ letter n (said (Ok f)) ∷ [])))
         → IsPeerOf es met p b all out → IsPeerOf fs now q m those (out ++ entry n octets ∷ [])
     sent n octets f read less does h =
         let is = sym (there octets) ∙ read in
-        goes (ins fs) (outs out ++ letter n (said (Ok f)) ∷ []) less (puts_frame n octets f is) refl (letters_push (other c.role) c.longest out n octets (Ok f) is) does h
+        goes (ins fs) (outs out ++ letter n (said (Ok f)) ∷ []) less (puts_frame n octets f is) refl
+        (letters_push (other c.role) c.longest out n octets (Ok f) is) does h
 
     -- or none
-    stays : IsLeft es fs → (AreOf far.begun (ins es) → Does (view (ins es) met p b all (outs out)) (view (ins fs) now q m those (outs out))) → IsPeerOf es met p b all out → IsPeerOf fs now q m those out
+    stays : IsLeft es fs → (AreOf far.begun (ins es) → Does (view (ins es) met p b all (outs out)) (view (ins fs) now q m those (outs out)))
+        → IsPeerOf es met p b all out → IsPeerOf fs now q m those out
     stays less does h = goes (ins fs) (outs out) less nothing refl refl does h
 
-  passes : (e : Entry) (es : List Entry) (met : List Meeting) (p : Phase) (b : ℕ) (all : ℕ → Peer) (out : List Entry) → IsPeerOf (e ∷ es) met p b all out → IsPeerOf es (heard_in d p b e met) p b all out
+  passes : (e : Entry) (es : List Entry) (met : List Meeting) (p : Phase) (b : ℕ) (all : ℕ → Peer) (out : List Entry) → IsPeerOf (e ∷ es) met p b all out
+      → IsPeerOf es (heard_in d p b e met) p b all out
   passes e es met p b all out h = stays (e ∷ es) es p p out (without 0) (λ crossing. rw (same_met p b e met) (moves _ (hears _ (ins es) refl))) h
 
-  leaves_now : {es : List Entry} (met : List Meeting) (p : Phase) {b : ℕ} {all : ℕ → Peer} {out : List Entry} → IsPeerOf es met p b all out → IsPeerOf es met Down b all out
+  leaves_now : {es : List Entry} (met : List Meeting) (p : Phase) {b : ℕ} {all : ℕ → Peer} {out : List Entry} → IsPeerOf es met p b all out
+      → IsPeerOf es met Down b all out
   leaves_now {es} met p {out = out} h = stays es es p Down out untouched (λ crossing. moves _ leaves) h
 
   pub peer_may : MayDo d (λ p es. MayAsk p (Unit {0})) IsPeerOf
   peer_may = record {
     handed = λ es met b all out packet h. goes_on _ _ h (HandsDown packet refl);
-    tells = λ es met b all out octets f q read number may h. sent es es Up Up out b octets f read untouched (λ crossing. tells_does (view (ins es) met Up b all (outs out)) f q refl number may) h;
+    tells = λ es met b all out octets f q read number may h. sent es es Up Up out b octets f read untouched
+        (λ crossing. tells_does (view (ins es) met Up b all (outs out)) f q refl number may) h;
     declines = λ es met p b all out octets f read h. sent es es p p out b octets (dm f) read untouched (λ crossing. moves _ free) h;
     asks = λ es met p b all out octets pf read due clear h.
         (sent es es p Waiting out b octets (sabm pf) read untouched (λ crossing. moves _ (asks (record {
@@ -108,19 +128,26 @@ module _ {c d : Settings} (joined : AreJoined c d) (far : SessionEnd) where
     passes = passes;
     hears = λ e es met b all out q may h.
         stays (e ∷ es) es Up Up out (without 0) (λ crossing. rw (same_met Up b e met) (listens _ (ins es) q refl refl (rw (sym (here e.octets)) may))) h;
-    takes_ua = λ e es met b all out read h. stays (e ∷ es) es Waiting Up out (without 0) (λ crossing. moves _ (takes_ua e.session (ins es) (front e es (Ok (ua true)) read) refl)) h;
+    takes_ua = λ e es met b all out read h. stays (e ∷ es) es Waiting Up out (without 0)
+        (λ crossing. moves _ (takes_ua e.session (ins es) (front e es (Ok (ua true)) read) refl)) h;
     takes_sabm = λ e es met p b all out octets pf f read answer part h.
-        sent (e ∷ es) es p Up out (suc b) octets (ua f) answer (without 0) (λ crossing. moves _ (takes_sabm e.session (ins es) (front e es (Ok (sabm pf)) read))) h;
+        sent (e ∷ es) es p Up out (suc b) octets (ua f) answer (without 0)
+        (λ crossing. moves _ (takes_sabm e.session (ins es) (front e es (Ok (sabm pf)) read))) h;
     waits_on = λ e es met b all out octets pf f read answer h.
-        sent (e ∷ es) es Waiting Waiting out b octets (ua f) answer (without 0) (λ crossing. moves _ (waits_on e.session (ins es) (front e es (Ok (sabm pf)) read) refl)) h;
+        sent (e ∷ es) es Waiting Waiting out b octets (ua f) answer (without 0)
+        (λ crossing. moves _ (waits_on e.session (ins es) (front e es (Ok (sabm pf)) read) refl)) h;
     takes_disc = λ e es met b all out octets pf f read answer h.
         leaves_now met Up
-        (sent (e ∷ es) es Up Up out b octets (ua f) answer (without 0) (λ crossing. moves _ (takes_disc e.session (ins es) (front e es (Ok (disc pf)) read))) h);
+        (sent (e ∷ es) es Up Up out b octets (ua f) answer (without 0) (λ crossing. moves _ (takes_disc e.session (ins es) (front e es (Ok (disc pf)) read)))
+        h);
     faults = λ e es met b all out octets f why ending read h.
-        sent es es Down Down out b octets (frmr f why) read untouched (λ crossing. moves _ free) (leaves_now (heard_in d Up b e met) Up (passes e es met Up b all out h));
-    loses = λ es met p b all out i h. goes es (remove es i) p p out (remove (ins es) i) (outs out) (without i) nothing (letters_removed c.role c.longest es i) refl (λ crossing. moves _ (loses i)) h;
+        sent es es Down Down out b octets (frmr f why) read untouched (λ crossing. moves _ free)
+        (leaves_now (heard_in d Up b e met) Up (passes e es met Up b all out h));
+    loses = λ es met p b all out i h. goes es (remove es i) p p out (remove (ins es) i) (outs out) (without i) nothing (letters_removed c.role c.longest es i)
+        refl (λ crossing. moves _ (loses i)) h;
     damages = λ es met p b all out i octets visible h.
-        goes es (replaced es i octets) p p out (ends.spoilt (ins es) i) (outs out) (damaged i octets visible) nothing (letters_replaced c.role c.longest octets visible es i) refl (λ crossing. moves _ (damages i)) h;
+        goes es (replaced es i octets) p p out (ends.spoilt (ins es) i) (outs out) (damaged i octets visible) nothing
+        (letters_replaced c.role c.longest octets visible es i) refl (λ crossing. moves _ (damages i)) h;
   }
 
 -- ---- what the other end does
@@ -129,7 +156,8 @@ module _ {c d : Settings} (joined : AreJoined c d) (far : SessionEnd) where
 abbrev SameBut : PeerEnd → Sessions → Sessions → Type 0
 SameBut p w v = with_peer p w ≡ with_peer p v
 
-alike_delivered : (c : Settings) (p : PeerEnd) (w : Sessions) (es : List Entry) → with_peer p (delivered c es w) ≡ with_peer p (delivered c es (both_ends (with_peer p w)))
+alike_delivered : (c : Settings) (p : PeerEnd) (w : Sessions) (es : List Entry) → with_peer p (delivered c es w)
+    ≡ with_peer p (delivered c es (both_ends (with_peer p w)))
 alike_delivered c p w [] = refl
 alike_delivered c p w (e ∷ es) = refl
 
@@ -140,7 +168,8 @@ alike c p (Put packet) w =
 alike c p Deliver w = alike_delivered c p w w.back
 alike c p (Lose i) w = refl
 alike c p (Damage i octets) w = if_both (SameBut p) (is_visible octets) refl refl
-alike c p act w = (let x = both_ends (with_peer p w) in own_both (SameBut p) c w.near.station w x (after_step c w w.back w.met []) (after_step c x w.back w.met []) refl (λ step. refl) act)
+alike c p act w = (let x = both_ends (with_peer p w) in
+    own_both (SameBut p) c w.near.station w x (after_step c w w.back w.met []) (after_step c x w.back w.met []) refl (λ step. refl) act)
 
 -- a station, with settings d, as a peer of the other end of these sessions
 abbrev pub SeenAt : (c d : Settings) → AreJoined c d → Sessions → Type 0
@@ -155,9 +184,14 @@ module _ (c d : Settings) (joined : AreJoined c d) (reads : ReadsSpelled) (rests
   pub tags_there : (b : ℕ) (es : List Entry) → AllAskedIn d.role d.longest b es → AllAskedIn (other c.role) c.longest b es
   tags_there b es h = rw joined.longest (rw joined.far_role h)
 
-  station_timely : (a : Act) (w : Sessions) (p : PeerEnd) → AllAskedIn d.role d.longest p.begun w.back → IsTimely c d a w → sessions.IsTimely c a (with_peer p w)
+  station_timely : (a : Act) (w : Sessions) (p : PeerEnd) → AllAskedIn d.role d.longest p.begun w.back → IsTimely c d a w
+      → sessions.IsTimely c a (with_peer p w)
   station_timely T1 w p tags timely = λ waiting.
-      (let none = timely waiting in record { sabm = omega (arith, none, heard_many joined w.far sabm_in w.out); ua = omega (arith, none); crossing = tags_there p.begun w.back tags })
+      (let none = timely waiting in record {
+        sabm = omega (arith, none, heard_many joined w.far sabm_in w.out);
+        ua = omega (arith, none);
+        crossing = tags_there p.begun w.back tags;
+      })
   station_timely a w p tags timely = tt
 
   other_acts : (a : Act) (w : Sessions) → IsTimely c d a w → S (swapped w) → S (swapped (acts c a w))
@@ -187,7 +221,8 @@ module _ (c d : Settings) (joined : AreJoined c d) (reads : ReadsSpelled) (rests
       before = rw (sym (twice_turned w.met)) h.reached
 
       acted : ReachedInSessions ⊥ c (with_peer p v)
-      acted = subst (ReachedInSessions ⊥ c) (sym (alike c p a w)) (sessions.goes_on (with_peer p w) (with_peer p (acts c a (both_ends (with_peer p w)))) before (sessions.Ours a (station_timely a w p h.tags timely)))
+      acted = subst (ReachedInSessions ⊥ c) (sym (alike c p a w))
+          (sessions.goes_on (with_peer p w) (with_peer p (acts c a (both_ends (with_peer p w)))) before (sessions.Ours a (station_timely a w p h.tags timely)))
 
       reached : IsPeerOf joined v.near v.out (map turned v.met) v.far.station.phase v.far.begun h.all v.back
       reached =
@@ -196,7 +231,14 @@ module _ (c d : Settings) (joined : AreJoined c d) (reads : ReadsSpelled) (rests
   -- ---- it acts
 
   abbrev kind : Sessions → Kind d
-  kind w = record { high = joined.far_high; reads = reads; rests = rests; Due = λ p es. MayAsk p (Unit {0}); R = IsPeerOf joined w.far; does = peer_may joined w.far }
+  kind w = record {
+    high = joined.far_high;
+    reads = reads;
+    rests = rests;
+    Due = λ p es. MayAsk p (Unit {0});
+    R = IsPeerOf joined w.far;
+    does = peer_may joined w.far;
+  }
 
   own_timely : (a : Act) (w : Sessions) → IsTimely d c a w → own.IsTimely (kind w) a w
   own_timely T1 w timely = λ waiting. (let none = timely waiting in (omega (arith, none, sent_many joined w.far sabm_in w.out), omega (arith, none), tt))
@@ -204,12 +246,15 @@ module _ (c d : Settings) (joined : AreJoined c d) (reads : ReadsSpelled) (rests
   own_timely a w timely = tt
 
   own_acts : (a : Act) (w : Sessions) → IsTimely d c a w
-      → Owes w.near.station.phase (how_many sabm_in d.role d.longest w.out + how_many ua_in (other d.role) d.longest w.back) (how_many disc_in d.role d.longest w.out) → S w → S (acts d a w)
+      → Owes w.near.station.phase (how_many sabm_in d.role d.longest w.out + how_many ua_in (other d.role) d.longest w.back)
+      (how_many disc_in d.role d.longest w.out) → S w → S (acts d a w)
   own_acts a w timely owed h =
       rw (acts_still d a w).far (own.station_acts (kind w) a w (own_timely a w timely) owed h)
 
   -- the other end, which sees it as its peer, with what that has on the line
-  pub other_owes : {w : Sessions} → S w → Owes w.far.station.phase (how_many sabm_in c.role c.longest w.back + how_many ua_in (other c.role) c.longest w.out) (how_many disc_in c.role c.longest w.back)
+  pub other_owes : {w : Sessions} → S w
+      → Owes w.far.station.phase (how_many sabm_in c.role c.longest w.back + how_many ua_in (other c.role) c.longest w.out)
+      (how_many disc_in c.role c.longest w.back)
   other_owes {w} h = owes_is reads rests joined.near_high h.reached
 
 -- ---- both ends
@@ -270,7 +315,13 @@ module _ (reads : ReadsSpelled) (rests : SessionLaws) where
   throughout_both {c} {d} joined {begin} is events timely = run_both events timely (begin_both joined is)
 
   is_peer : {c d : Settings} (joined : AreJoined c d) {w : Sessions} → SeenAt c d joined w → IsPeer c w
-  is_peer {c} {d} joined {w} h = record { peer = end joined w.far w.near.station.phase w.near.begun h.all; reached = h.reached; begun = refl; given = h.given; taken = h.taken }
+  is_peer {c} {d} joined {w} h = record {
+    peer = end joined w.far w.near.station.phase w.near.begun h.all;
+    reached = h.reached;
+    begun = refl;
+    given = h.given;
+    taken = h.taken;
+  }
 
   pub both_peers : Throughout AreBothPeers
   both_peers c d joined begin is events timely =

@@ -1,19 +1,22 @@
 -- Each event at a station over sessions is what an end that keeps the rules may do.
-use Rattle.std.proofs.Common.{◌≡◌, ◌≤◌, ℕ, suc, ◌+◌, List, [], ◌∷◌, ◌++◌, ◌⊎◌, inl, inr, length, Bool, true, false, not, if◌then◌else◌, Option, Some, None, Ok, refl, sym, ap, ◌∙◌, subst, arith, append-nil}
+use Rattle.std.proofs.Common.{◌≡◌, ◌≤◌, ℕ, suc, ◌+◌, List, [], ◌∷◌, ◌++◌, ◌⊎◌, inl, inr, length, Bool, true, false, not, if◌then◌else◌, Option, Some, None, Ok}
+use Rattle.std.proofs.Common.{refl, sym, ap, ◌∙◌, subst, arith, append-nil}
 use Rattle.std.proofs.lemmas.Bool.{leb-true}
 use Rattle.std.specs.Prelude.{nat_le, nat_lt, option_to_list}
 use Rattle.x25_frame.specs.{Frame.{PlainFrame, sabm, disc, ua}}
 use Rattle.x25_link.specs.{declared.error.LinkError.{LinkError}, declared.phase.Phase.{Phase}, declared.phase.Phase.TheVariants.{Down, Waiting, Up, Closed}}
 use Rattle.x25_link.specs.{declared.phase.Reason.TheVariants.{Retries}, Station.{Settings, LinkStation, is_up, with_nothing}}
 use Rattle.x25_link.specs.Hearing.{Step, other}
-use Rattle.x25_link.specs.Link.{put_step, put_refusal, timer_step, timer_refusal, timer_runs, connect_step, connect_refusal, disconnect_step, disconnect_refusal, abandon_step}
+use Rattle.x25_link.specs.Link.{put_step, put_refusal, timer_step, timer_refusal, timer_runs, connect_step, connect_refusal, disconnect_step}
+use Rattle.x25_link.specs.Link.{disconnect_refusal, abandon_step}
 use Rattle.x25_link.specs.{laws.SetUp.{Is, TakesPart, waiting_up}, laws.WindowMachine.{hands_down, nothing}}
 use Rattle.x25_link.specs.laws.WindowLaw.{window_of, Follows, IsOut}
 use Rattle.x25_window.specs.{laws.Window.{after}, laws.Window.Step.{HandDown}}
 use Rattle.x25_line.specs.laws.Stations.{Act, Put, Deliver, T1, Connect, Disconnect, Abandon, Probe, Lose, Damage, is_visible}
 use Rattle.x25_line.specs.laws.Sessions.{Entry, Sessions, sabm_in, ua_in, disc_in, how_many, sent_in, after_step, unless, delivered, acts}
 use Rattle.x25_line.specs.{laws.Peer.{Peer}}
-use Rattle.x25_line.proofs.{StationHears.{sabm_or_not, sets_none_up}, StationSends.{within_push}, StationSteps.{no_packet_of, not_afresh}, StationAway.{connects_from, closed_takes}}
+use Rattle.x25_line.proofs.{StationHears.{sabm_or_not, sets_none_up}, StationSends.{within_push}, StationSteps.{no_packet_of, not_afresh}}
+use Rattle.x25_line.proofs.StationAway.{connects_from, closed_takes}
 use Rattle.x25_line.proofs.{sessions.SessionLines.{Read}, sessions.SessionHeld.{Owes}, sessions.SessionMay.{hears_read, IsClear, Known, Kind}}
 use Rattle.x25_line.proofs.sessions.SessionSeen.{Seen, build_quiet, stays_seen, reached_in, unchanged, changed}
 use Rattle.x25_line.proofs.sessions.SessionSeenActs.{put_none, put_asks, put_closes, sets_up_seen, up_seen, out_seen, answer_seen, waiting_seen}
@@ -45,9 +48,11 @@ module _ {d : Settings} (k : Kind d) where
 
   -- its SABMs and the UAs to it that are on the line, and its DISCs
   abbrev pub OwesAt : Sessions → Type 0
-  OwesAt w = Owes w.near.station.phase (how_many sabm_in d.role d.longest w.out + how_many ua_in (other d.role) d.longest w.back) (how_many disc_in d.role d.longest w.out)
+  OwesAt w = Owes w.near.station.phase (how_many sabm_in d.role d.longest w.out + how_many ua_in (other d.role) d.longest w.back)
+      (how_many disc_in d.role d.longest w.out)
 
-  owes_at : (w : Sessions) (p : Phase) → w.near.station.phase ≡ p → OwesAt w → Owes p (how_many sabm_in d.role d.longest w.out + how_many ua_in (other d.role) d.longest w.back) (how_many disc_in d.role d.longest w.out)
+  owes_at : (w : Sessions) (p : Phase) → w.near.station.phase ≡ p → OwesAt w
+      → Owes p (how_many sabm_in d.role d.longest w.out + how_many ua_in (other d.role) d.longest w.back) (how_many disc_in d.role d.longest w.out)
   owes_at w p is owes = rw (sym is) owes
 
   -- T1 may run out while it awaits UA
@@ -59,7 +64,8 @@ module _ {d : Settings} (k : Kind d) where
   IsTimely Connect w = w.near.station.phase ≡ Down → k.Due Down w.back
   IsTimely act w = Unit {0}
 
-  put_seen : (w : Sessions) (h : S w) (packet : List ℕ) → length packet ≤ d.longest → is_up w.near.station.phase ≡ true → S (after_step d w w.back w.met (packet ∷ []) (put_step d packet w.near.station))
+  put_seen : (w : Sessions) (h : S w) (packet : List ℕ) → length packet ≤ d.longest → is_up w.near.station.phase ≡ true
+      → S (after_step d w w.back w.met (packet ∷ []) (put_step d packet w.near.station))
   put_seen w h packet short up =
       let b = w.near.begun in
       let f = h.up up in
@@ -70,7 +76,8 @@ module _ {d : Settings} (k : Kind d) where
       let r : Peer = record (h.all b) { given = (h.all b).given ++ packet ∷ [] } in
       stays_seen k h
       (changed k h (packet ∷ []) step.packet r (k.does.handed w.back w.met b h.all w.out packet (reached_in k h up))
-      (after (window_of d.window s) (HandDown packet)) (ap (λ z. after z (HandDown packet)) f.same) f.room f.told (within_push d.longest (h.all b).given packet f.within short) refl
+      (after (window_of d.window s) (HandDown packet)) (ap (λ z. after z (HandDown packet)) f.same) f.room f.told
+      (within_push d.longest (h.all b).given packet f.within short) refl
       (sym (ap (λ o. (h.all b).taken ++ option_to_list o) none ∙ append-nil (h.all b).taken))) stays
 
   -- it isn't Up any more, with nothing taken off the line
@@ -81,7 +88,8 @@ module _ {d : Settings} (k : Kind d) where
       (rw phase reached)
 
   -- without a frame
-  left : (w : Sessions) (h : S w) → is_up w.near.station.phase ≡ true → (fs : List PlainFrame) → fs ≡ [] → R w.back w.met Down w.near.begun h.all (w.out ++ sent_in w.near.begun d.role fs)
+  left : (w : Sessions) (h : S w) → is_up w.near.station.phase ≡ true → (fs : List PlainFrame) → fs ≡ []
+      → R w.back w.met Down w.near.begun h.all (w.out ++ sent_in w.near.begun d.role fs)
   left w h up fs none =
       put_none k fs none (k.does.leaves w.back w.met w.near.begun h.all w.out (reached_in k h up))
 
@@ -97,18 +105,22 @@ module _ {d : Settings} (k : Kind d) where
       by : (b : Bool) → Follows (if b then None else Some Retries) d.window nothing s step → S (after_step d w w.back w.met [] step)
       by true stays =
           stays_seen k h
-          (unchanged k h up (reached_in k h up) (window_of d.window s) refl step.packet (no_packet_of nothing step.packet (window_of d.window s) (λ y never. never) stays.hands_up)) stays
+          (unchanged k h up (reached_in k h up) (window_of d.window s) refl step.packet
+          (no_packet_of nothing step.packet (window_of d.window s) (λ y never. never) stays.hands_up)) stays
       by false ends =
           away_seen h step (not_afresh (k.rests.laws.timer_tells d s) (ap is_up ends.phase)) ends.packet ends.phase refl (left w h up step.side.out ends.frames)
 
-  timer_waiting : (w : Sessions) (h : S w) → w.near.station.phase ≡ Waiting → IsOver w → OwesAt w → S (after_step d w w.back w.met [] (timer_step d w.near.station))
-  timer_waiting w h waiting over owes = by (nat_lt w.near.station.tries d.retries) (timer_step d w.near.station) (k.rests.laws.set_up.timer d w.near.station waiting)
+  timer_waiting : (w : Sessions) (h : S w) → w.near.station.phase ≡ Waiting → IsOver w → OwesAt w
+      → S (after_step d w w.back w.met [] (timer_step d w.near.station))
+  timer_waiting w h waiting over owes = by (nat_lt w.near.station.tries d.retries) (timer_step d w.near.station)
+      (k.rests.laws.set_up.timer d w.near.station waiting)
     where
       clear : IsClear d w.back w.out
       clear = record { sabm = over.0; disc = (owes_at w Waiting waiting owes).1; ua = over.1 }
 
       by : (b : Bool) (step : Step)
-          → (let s = w.near.station in Is (if b then record s { tries = suc s.tries } else with_nothing Down s.tries) (if b then sabm true ∷ [] else []) (if b then None else Some Retries) false step)
+          → (let s = w.near.station in Is (if b then record s { tries = suc s.tries } else with_nothing Down s.tries) (if b then sabm true ∷ [] else [])
+          (if b then None else Some Retries) false step)
           → S (after_step d w w.back w.met [] step)
       by true step i =
           away_seen h step i.up i.packet (ap (λ z. z.phase) i.near ∙ waiting) refl
@@ -118,7 +130,8 @@ module _ {d : Settings} (k : Kind d) where
           (put_none k step.side.out i.out
           (k.does.gives_up w.back w.met w.near.begun h.all w.out over.2 clear (rw (sym waiting) h.reached)))
 
-  timer_seen : (w : Sessions) (h : S w) → IsTimely T1 w → OwesAt w → S (unless (timer_refusal w.near.station) w (after_step d w w.back w.met [] (timer_step d w.near.station)))
+  timer_seen : (w : Sessions) (h : S w) → IsTimely T1 w → OwesAt w
+      → S (unless (timer_refusal w.near.station) w (after_step d w w.back w.met [] (timer_step d w.near.station)))
   timer_seen w h timely owes = by w.near.station.phase refl
     where
       done : Sessions
@@ -129,7 +142,8 @@ module _ {d : Settings} (k : Kind d) where
       by Up is = unless_by S (timer_refusal w.near.station) h (λ _. timer_up w h (ap is_up is))
       by phase is = rw (ap (λ p. timer_runs p w.near.station) is) h
 
-  connect_seen : (w : Sessions) (h : S w) → w.near.station.phase ≡ Down → k.Due Down w.back → OwesAt w → S (after_step d w w.back w.met [] (connect_step d w.near.station))
+  connect_seen : (w : Sessions) (h : S w) → w.near.station.phase ≡ Down → k.Due Down w.back → OwesAt w
+      → S (after_step d w w.back w.met [] (connect_step d w.near.station))
   connect_seen w h down due owes =
       let owed = owes_at w Down down owes in
       let step = connect_step d w.near.station in
@@ -137,7 +151,8 @@ module _ {d : Settings} (k : Kind d) where
       away_seen h step i.up i.packet (ap (λ z. z.phase) i.near) refl
       (put_asks k w h true step.side.out i.out (rw down due) (record { sabm = omega (arith, owed.0); disc = owed.1; ua = omega (arith, owed.0) }))
 
-  disconnect_seen : (w : Sessions) (h : S w) → disconnect_refusal w.near.station.phase ≡ None → S (after_step d w w.back w.met [] (disconnect_step d w.near.station))
+  disconnect_seen : (w : Sessions) (h : S w) → disconnect_refusal w.near.station.phase ≡ None
+      → S (after_step d w w.back w.met [] (disconnect_step d w.near.station))
   disconnect_seen w h accepted = by w.near.station.phase refl
     where
       s : LinkStation
@@ -149,11 +164,13 @@ module _ {d : Settings} (k : Kind d) where
       refused : Some error.Closed ≡ None → ⊥
       refused k = cc
 
-      closes : step.notes.up ≡ false → step.packet ≡ None → step.side.near.phase ≡ Closed → step.side.out ≡ disc true ∷ [] → S (after_step d w w.back w.met [] step)
+      closes : step.notes.up ≡ false → step.packet ≡ None → step.side.near.phase ≡ Closed → step.side.out ≡ disc true ∷ []
+          → S (after_step d w w.back w.met [] step)
       closes quiet none phase sent = away_seen h step quiet none phase refl (put_closes k w h true step.side.out sent)
 
       by : (p : Phase) → s.phase ≡ p → S (after_step d w w.back w.met [] step)
-      by Down is = (let out = k.rests.laws.window.disconnect_out d s (subst IsOut (sym is) tt) in closes (ap (λ n. n.up) out.quiet) out.packet out.phase out.frames)
+      by Down is = (let out = k.rests.laws.window.disconnect_out d s (subst IsOut (sym is) tt) in
+          closes (ap (λ n. n.up) out.quiet) out.packet out.phase out.frames)
       by Waiting is = (let i = k.rests.laws.set_up.disconnects d s is in closes i.up i.packet (ap (λ z. z.phase) i.near) i.out)
       by Up is =
           let up : is_up s.phase ≡ true = ap is_up is in
@@ -212,7 +229,8 @@ module _ {d : Settings} (k : Kind d) where
   station_acts Deliver w timely owes h = deliver_seen w h owes w.back refl
   station_acts T1 w timely owes h = timer_seen w h timely owes
   station_acts Connect w timely owes h =
-      unless_by S (connect_refusal w.near.station.phase) h (λ accepted. (let down = connects_from w.near.station.phase accepted in connect_seen w h down (timely down) owes))
+      unless_by S (connect_refusal w.near.station.phase) h
+      (λ accepted. (let down = connects_from w.near.station.phase accepted in connect_seen w h down (timely down) owes))
   station_acts Disconnect w timely owes h =
       unless_by S (disconnect_refusal w.near.station.phase) h (λ accepted. disconnect_seen w h accepted)
   station_acts Abandon w timely owes h = if_by S (is_up w.near.station.phase) h (λ up. abandon_seen w h up)

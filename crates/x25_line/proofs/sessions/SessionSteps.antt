@@ -11,7 +11,8 @@ use Rattle.x25_line.specs.{laws.SessionNumbers.{Standing, standing_after}, laws.
 use Rattle.x25_line.proofs.StationLines.{AreParting, parts_of, no_frmr_append, parting_no_frmr, parting_numbered, parting_whole}
 use Rattle.x25_line.proofs.StationSteps.{MayBeAway, away_is_not_up, Leads, put_behind, FitsEnd}
 use Rattle.x25_line.proofs.sessions.SessionLines.{Read, octets_sent, count, numbers, quiet_of, of_sent, many_sent}
-use Rattle.x25_line.proofs.sessions.SessionHeld.{IsThere, Owes, HasLists, SameLists, lists_same, Held, with_machine, standing_after_is, stays_on, extended_nil, extended_same, extended_more, whole_on, whole_apart, is_there, is_out, there_more, counted_there}
+use Rattle.x25_line.proofs.sessions.SessionHeld.{IsThere, Owes, HasLists, SameLists, lists_same, Held, with_machine, standing_after_is, stays_on, extended_nil}
+use Rattle.x25_line.proofs.sessions.SessionHeld.{extended_same, extended_more, whole_on, whole_apart, is_there, is_out, there_more, counted_there}
 use Rattle.x25_line.specs.laws.Stations as one
 
 -- ---- the end, and both, after a step, in which its session is n
@@ -60,9 +61,6 @@ no_frmr_behind (frame ∷ xs) ys h = no_frmr_behind xs ys h
 pub waiting_is_closed : {A : Type 0} (p : Phase) → p ≡ Waiting → p ≡ Closed → A
 waiting_is_closed p e f = absurd (cc)
 
-waiting_away : {A : Type 0} {p : Phase} → p ≡ Waiting → MayBeAway ⊥ p → A
-waiting_away e h = absurd (subst (MayBeAway ⊥) e h)
-
 -- who has a SABM on the line waits, or is Closed
 pub asked_by : (p : Phase) {n m : ℕ} → 1 ≤ n → Owes p n m → ((p ≡ Waiting) × (n ≤ 1) × (m ≡ 0)) ⊎ (p ≡ Closed)
 asked_by Waiting h g = inl (refl, g.0, g.1)
@@ -74,16 +72,20 @@ abbrev pub Answers : Sessions → Step → Type 0
 Answers w step = (w.far.station.phase ≡ Closed) ⊎ (count ua_in step.side.out ≡ 0)
 
 module _ {c d : Settings} (joined : AreJoined c d) (reads : ReadsSpelled) where
-  pub many_out : (kind : Read → ℕ) (s : ℕ) (given : List (List ℕ)) (fs : List PlainFrame) → AreWhole d.longest given fs → how_many kind (other d.role) d.longest (sent_in s c.role fs) ≡ count kind fs
+  pub many_out : (kind : Read → ℕ) (s : ℕ) (given : List (List ℕ)) (fs : List PlainFrame) → AreWhole d.longest given fs
+      → how_many kind (other d.role) d.longest (sent_in s c.role fs) ≡ count kind fs
   many_out kind s given fs h =
       rw joined.near_role (many_sent reads c.role d.longest kind s given fs h)
 
   -- ---- an end that is in the session
 
-  pub live_held : {stand : Standing} (w : Sessions) (h : Held stand c d w) → w.near.begun ≡ stand.near → (es : List Entry) (os : List (List ℕ)) (met : List Meeting) (down : List (List ℕ)) (step : Step) (gone : Option ℕ)
-      → Leads ⊥ c d h.alone stand.machine (taken_out gone stand.machine.back) (one.after_step c h.alone os down step) → numbers (other c.role) c.longest es ≡ numbered_on (other c.role) c.longest os → AllOf (other c.role) c.longest stand.far es
+  pub live_held : {stand : Standing} (w : Sessions) (h : Held stand c d w) → w.near.begun ≡ stand.near
+      → (es : List Entry) (os : List (List ℕ)) (met : List Meeting) (down : List (List ℕ)) (step : Step) (gone : Option ℕ)
+      → Leads ⊥ c d h.alone stand.machine (taken_out gone stand.machine.back) (one.after_step c h.alone os down step) → numbers (other c.role) c.longest es
+      ≡ numbered_on (other c.role) c.longest os → AllOf (other c.role) c.longest stand.far es
       → Answers w step → Held (went_by c step gone stand) c d (stepped c w es met down w.near.begun step)
-  live_held {stand} w h near es os met down step gone holds comes from answers = subst (λ z. Held z c d (stepped c w es met down w.near.begun step)) is_on (go holds.1.near)
+  live_held {stand} w h near es os met down step gone holds comes from answers =
+      subst (λ z. Held z c d (stepped c w es met down w.near.begun step)) is_on (go holds.1.near)
     where
       fs : List PlainFrame
       fs = step.side.out
@@ -98,7 +100,8 @@ module _ {c d : Settings} (joined : AreJoined c d) (reads : ReadsSpelled) where
       none_to waiting =
           elim answers [
             | inl closed ↦ waiting_is_closed w.far.station.phase waiting closed
-            | inr none ↦ many_out ua_in w.near.begun (now.near.down ++ now.far.down) fs (whole_behind d.longest (now.near.down ++ now.far.down) h.alone.sent fs holds.1.whole) ∙ none
+            | inr none ↦ many_out ua_in w.near.begun (now.near.down ++ now.far.down) fs
+                (whole_behind d.longest (now.near.down ++ now.far.down) h.alone.sent fs holds.1.whole) ∙ none
           ]
 
       same : numbers (other d.role) d.longest more ≡ numbered_on (other d.role) d.longest (map (spelling_of c.role) fs)
@@ -117,7 +120,8 @@ module _ {c d : Settings} (joined : AreJoined c d) (reads : ReadsSpelled) where
             | inr there ↦ inr (stand.far, subst (λ xs. Contains xs x) (sym h.far_lists.down) there)
           ]
 
-      by : IsThere step.side.near.phase (other c.role) c.longest step.side.near w.near.begun es step.side.near os stand.near stand.far → Held (with_machine stand holds.0) c d (stepped c w es met down w.near.begun step)
+      by : IsThere step.side.near.phase (other c.role) c.longest step.side.near w.near.begun es step.side.near os stand.near stand.far
+          → Held (with_machine stand holds.0) c d (stepped c w es met down w.near.begun step)
       by there =
           record {
             alone = now;
@@ -127,19 +131,23 @@ module _ {c d : Settings} (joined : AreJoined c d) (reads : ReadsSpelled) where
             near_lists = live_lists c h.alone os down step near h.near_lists;
             far_lists = h.far_lists;
             no_frmr = no_frmr_append w.sent fs h.no_frmr (no_frmr_behind h.alone.sent fs holds.1.no_frmr);
-            whole = whole_on d.longest w.near (end_after w.near w.near.begun down step) w.far (now.near.down ++ now.far.down) w.sent fs (λ n x old. extended_more w.near.down w.near.begun n down x old)
+            whole = whole_on d.longest w.near (end_after w.near w.near.begun down step) w.far (now.near.down ++ now.far.down) w.sent fs
+                (λ n x old. extended_more w.near.down w.near.begun n down x old)
                 handed (whole_behind d.longest (now.near.down ++ now.far.down) h.alone.sent fs holds.1.whole) h.whole;
           }
 
       is_on : with_machine stand holds.0 ≡ went_by c step gone stand
       is_on =
           standing_after_is c step.side.near (map (spelling_of c.role) fs) gone stand holds.0 holds.2.near holds.2.far
-          (holds.2.out ∙ ap (λ put. stand.machine.out ++ given holds.0.near.acked (length holds.0.near.taken) stand.machine.near.sent (numbered_on c.role c.longest put)) (put_behind h.alone.out (map (spelling_of c.role) fs)))
+          (holds.2.out ∙ ap (λ put. stand.machine.out
+          ++ given holds.0.near.acked (length holds.0.near.taken) stand.machine.near.sent (numbered_on c.role c.longest put))
+          (put_behind h.alone.out (map (spelling_of c.role) fs)))
           holds.2.back
 
       go : FitsEnd ⊥ c step.side.near holds.0.near → Held (with_machine stand holds.0) c d (stepped c w es met down w.near.begun step)
       go (inl u) = by (is_there step.side.near.phase u.up (record { station = refl; session = near; comes = comes; of = from }))
-      go (inr away) = by (is_out step.side.near.phase (away_is_not_up ⊥ step.side.near.phase away.away) (λ waiting. waiting_away waiting away.away))
+      go (inr away) = by (is_out step.side.near.phase (away_is_not_up ⊥ step.side.near.phase away.away)
+          (λ waiting. (absurd (subst (MayBeAway ⊥) waiting away.away))))
 
   -- ---- an end that is out of the session, or goes into it
 
@@ -153,7 +161,8 @@ module _ {c d : Settings} (joined : AreJoined c d) (reads : ReadsSpelled) where
         alone = h.alone;
         holds = h.holds;
         near = there;
-        far = rw (sym (append-nil h.alone.out)) (there_more more [] quiet (quiet_of (other d.role) d.longest stand.near more quiet) (λ waiting. many ua_in ∙ no_ua) h.far);
+        far = rw (sym (append-nil h.alone.out))
+            (there_more more [] quiet (quiet_of (other d.role) d.longest stand.near more quiet) (λ waiting. many ua_in ∙ no_ua) h.far);
         near_lists = lists_same same h.near_lists;
         far_lists = h.far_lists;
         no_frmr = no_frmr_append w.sent fs h.no_frmr (parting_no_frmr (Unit {0}) fs (parts_of (Unit {0}) fs parting));
@@ -169,7 +178,8 @@ module _ {c d : Settings} (joined : AreJoined c d) (reads : ReadsSpelled) where
       quiet : numbers (other d.role) d.longest more ≡ []
       quiet =
           ap (numbered_on (other d.role) d.longest) (octets_sent n c.role step.side.out)
-          ∙ subst (λ r. numbered_on r d.longest (map (spelling_of c.role) step.side.out) ≡ []) (sym joined.near_role) (parting_numbered reads c.role d.longest (Unit {0}) step.side.out (parts_of (Unit {0}) step.side.out parting))
+          ∙ subst (λ r. numbered_on r d.longest (map (spelling_of c.role) step.side.out) ≡ []) (sym joined.near_role)
+          (parting_numbered reads c.role d.longest (Unit {0}) step.side.out (parts_of (Unit {0}) step.side.out parting))
 
       many : (kind : Read → ℕ) → how_many kind (other d.role) d.longest more ≡ count kind step.side.out
       many kind = many_out kind n [] step.side.out (parting_whole (Unit {0}) d.longest [] step.side.out (parts_of (Unit {0}) step.side.out parting))

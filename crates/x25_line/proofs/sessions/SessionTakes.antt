@@ -1,5 +1,6 @@
 -- What comes to the near end keeps what holds of two stations over sessions.
-use Rattle.std.proofs.Common.{◌≡◌, ◌≤◌, ℕ, suc, ◌+◌, List, [], ◌∷◌, ◌⊎◌, inl, inr, Bool, true, false, if◌then◌else◌, Option, None, Ok, refl, sym, ap, ◌∙◌, subst, arith}
+use Rattle.std.proofs.Common.{◌≡◌, ◌≤◌, ℕ, suc, ◌+◌, List, [], ◌∷◌, ◌⊎◌, inl, inr, Bool, true, false, if◌then◌else◌, Option, None, Ok, refl, sym, ap, ◌∙◌}
+use Rattle.std.proofs.Common.{subst, arith}
 use Rattle.x25_frame.specs.{Frame.{PlainFrame, sabm, disc, ua, dm}, Reading.{frame_of}, laws.ReadingLaw.{ReadsSpelled}}
 use Rattle.x25_link.specs.{declared.phase.Phase.{Phase}, declared.phase.Phase.TheVariants.{Down, Waiting, Up, Closed}}
 use Rattle.x25_link.specs.{laws.SetUp.{Is, TakesPart, waiting_sends, waiting_up}, Station.{Settings, LinkStation, is_up, fresh}, Hearing.{Step, other}}
@@ -51,7 +52,8 @@ taken c w e es = after_step c w es (heard_by c w e) [] (step_of c w e)
 -- what stands then: two sessions begin, or the same go on
 abbrev pub taken_by : Settings → Settings → Sessions → Entry → List Entry → Standing → Standing
 taken_by c d w e es stand =
-    if is_set_up w.near.station.phase (read_of c e) then anew c d w else went_by c (step_of c w e) (place_to_hear w.near.station.phase (other c.role) c.longest (octets_of (e ∷ es)) 0) stand
+    if is_set_up w.near.station.phase (read_of c e) then anew c d w
+    else went_by c (step_of c w e) (place_to_hear w.near.station.phase (other c.role) c.longest (octets_of (e ∷ es)) 0) stand
 
 none_asks : (r : Read) → IsNoSabm r → is_sabm r ≡ false
 none_asks (Ok (sabm p)) no_sabm = absurd (omega (arith, no_sabm))
@@ -62,9 +64,6 @@ none_asks r no_sabm = refl
 pub closed_by : (p : Phase) (n m : ℕ) → 1 ≤ m → Owes p n m → p ≡ Closed
 closed_by Closed n m some h = refl
 closed_by p n m some h = absurd (omega (arith, some, h.1))
-
-out_is_waiting : {A : Type 0} {p : Phase} → IsOut p → p ≡ Waiting → A
-out_is_waiting out waiting = absurd (subst IsOut waiting out)
 
 module _ {c d : Settings} (joined : AreJoined c d) (reads : ReadsSpelled) (laws : Laws) where
   -- ---- the front is taken off the line
@@ -82,8 +81,14 @@ module _ {c d : Settings} (joined : AreJoined c d) (reads : ReadsSpelled) (laws 
     quiet_left p read = line.quiet e es is (ap sabm_in read)
 
     -- an end in a session that begins, to which nothing was told in it
-    new_one : (s : LinkStation) (n : ℕ) (zs : List Entry) → fresh ≡ s → n ≡ suc w.near.begun → numbers (other c.role) c.longest zs ≡ [] → IsOf (other c.role) c.longest s n zs fresh [] (suc w.near.begun) (suc w.far.begun)
-    new_one s n zs station session quiet = record { station = station; session = session; comes = quiet; of = quiet_of (other c.role) c.longest (suc w.far.begun) zs quiet }
+    new_one : (s : LinkStation) (n : ℕ) (zs : List Entry) → fresh ≡ s → n ≡ suc w.near.begun → numbers (other c.role) c.longest zs ≡ []
+        → IsOf (other c.role) c.longest s n zs fresh [] (suc w.near.begun) (suc w.far.begun)
+    new_one s n zs station session quiet = record {
+      station = station;
+      session = session;
+      comes = quiet;
+      of = quiet_of (other c.role) c.longest (suc w.far.begun) zs quiet;
+    }
 
     -- in Down or Up
     sabm_held : (p : Bool) → read_of c e ≡ Ok (sabm p) → TakesPart w.near.station.phase → Held (anew c d w) c d (taken c w e es)
@@ -101,7 +106,9 @@ module _ {c d : Settings} (joined : AreJoined c d) (reads : ReadsSpelled) (laws 
         let i : Is w.near.station (ua p ∷ []) None false (step_of c w e) = laws.set_up.waits c e.octets w.near.station waiting (Ok (sabm p)) (sym read) in
         quiet_held c d w es (heard_by c w e) [] (step_of c w e) i.up
         (begins_held joined reads w h line e es (heard_by c w e) is (ap sabm_in read) w.near.begun p (step_of c w e) i.packet i.out
-        (is_soon (step_of c w e).side.near.phase (ap (λ z. z.phase) i.near ∙ waiting) (λ _. new_one fresh (suc w.near.begun) (behind_ua (other c.role) c.longest es) refl refl (behind_quiet (other c.role) c.longest es (quiet_left p read)))))
+        (is_soon (step_of c w e).side.near.phase (ap (λ z. z.phase) i.near ∙ waiting)
+        (λ _. new_one fresh (suc w.near.begun) (behind_ua (other c.role) c.longest es) refl refl
+        (behind_quiet (other c.role) c.longest es (quiet_left p read)))))
 
     -- ---- an end that is out and stays so
 
@@ -110,13 +117,10 @@ module _ {c d : Settings} (joined : AreJoined c d) (reads : ReadsSpelled) (laws 
         let t = step_of c w e in
         quiet_held c d w es (heard_by c w e) [] t (ap (λ n. n.up) stays.quiet)
         (apart_held joined reads w h es (heard_by c w e) w.near.begun t stays.packet
-        (is_out t.side.near.phase (out_not_up t.side.near.phase stays.out) (λ waiting. out_is_waiting stays.out waiting))
+        (is_out t.side.near.phase (out_not_up t.side.near.phase stays.out) (λ waiting. (absurd (subst IsOut waiting stays.out))))
         (declining_parting (Unit {0}) t.side.out stays.frames) (declining_none t.side.out stays.frames))
 
     -- ---- while UA is awaited
-
-    few_uas : w.near.station.phase ≡ Waiting → how_many ua_in (other c.role) c.longest (e ∷ es) ≤ 1
-    few_uas waiting = (let owes = waiting_owes waiting line.near_owes in omega (arith, ap (how_many ua_in (other c.role) c.longest) is, owes.0))
 
     at_front : EndIsThere c w.near (e ∷ es) h.alone.near.station h.alone.back stand.near stand.far
     at_front = rw (sym is) h.near
@@ -124,7 +128,8 @@ module _ {c d : Settings} (joined : AreJoined c d) (reads : ReadsSpelled) (laws 
     -- the UA begins the session that the end was about to be in
     answered_held : read_of c e ≡ Ok (ua true) → w.near.station.phase ≡ Waiting → Held (went_by c (step_of c w e) None stand) c d (taken c w e es)
     answered_held read waiting =
-        subst (λ n. Held (went_by c (step_of c w e) None stand) c d (stepped c w es (heard_by c w e) [] n (step_of c w e))) (sym (ap (λ b. begun_by b w.near.begun) i.up))
+        subst (λ n. Held (went_by c (step_of c w e) None stand) c d (stepped c w es (heard_by c w e) [] n (step_of c w e)))
+        (sym (ap (λ b. begun_by b w.near.begun) i.up))
         (apart_held joined reads w h es (heard_by c w e) (suc w.near.begun) (step_of c w e) i.packet
         (is_there (step_of c w e).side.near.phase (ap (λ z. is_up z.phase) i.near)
         (record { station = now.station ∙ sym i.near; session = now.session; comes = now.comes; of = now.of }))
@@ -138,7 +143,8 @@ module _ {c d : Settings} (joined : AreJoined c d) (reads : ReadsSpelled) (laws 
 
         now : IsOf (other c.role) c.longest fresh (suc w.near.begun) es h.alone.near.station h.alone.back stand.near stand.far
         now =
-            subst (λ n. IsOf (other c.role) c.longest fresh (suc w.near.begun) (by_first n (behind_ua (other c.role) c.longest es) es) h.alone.near.station h.alone.back stand.near stand.far) one_ua
+            subst (λ n. IsOf (other c.role) c.longest fresh (suc w.near.begun) (by_first n (behind_ua (other c.role) c.longest es) es) h.alone.near.station
+            h.alone.back stand.near stand.far) one_ua
             (at_front.awaits waiting (omega (arith, one_ua)))
 
     -- what else comes
@@ -149,14 +155,16 @@ module _ {c d : Settings} (joined : AreJoined c d) (reads : ReadsSpelled) (laws 
         let same : (step_of c w e).side.near ≡ w.near.station = i.near ∙ waits_on (read_of c e) w.near.station no_answer in
         quiet_held c d w es (heard_by c w e) [] (step_of c w e) (i.up ∙ no_answer)
         (apart_held joined reads w h es (heard_by c w e) w.near.begun (step_of c w e) i.packet
-        (rw same (there_passes e waiting (few_uas waiting) at_front))
+        (rw same (there_passes e waiting ((let owes = waiting_owes waiting line.near_owes in
+        omega (arith, ap (how_many ua_in (other c.role) c.longest) is, owes.0))) at_front))
         (subst (AreParting (Unit {0})) (sym i.out) (waiting_parting (Unit {0}) (read_of c e))) (ap (count ua_in) i.out ∙ waiting_none (read_of c e) no_sabm))
 
     -- ---- in Up
 
     up_held : IsNoSabm (read_of c e) → is_up w.near.station.phase ≡ true
         → Held (went_by c (step_of c w e) (first_of (number_in (read_of c e))) stand) c d (taken c w e es)
-    up_held no_sabm up = live_goes_on joined reads w h i.is.session es (carried (other c.role) c.longest es) (heard_by c w e) [] (step_of c w e) gone leads (sym (carried_numbers (other c.role) c.longest es)) comes.of.1 answers
+    up_held no_sabm up = live_goes_on joined reads w h i.is.session es (carried (other c.role) c.longest es) (heard_by c w e) [] (step_of c w e) gone leads
+        (sym (carried_numbers (other c.role) c.longest es)) comes.of.1 answers
       where
         i : InSession stand c d w h
         i = in_session c d w h up
@@ -173,7 +181,8 @@ module _ {c d : Settings} (joined : AreJoined c d) (reads : ReadsSpelled) (laws 
         gone : Option ℕ
         gone = first_of (number_in (read_of c e))
 
-        leads : Leads ⊥ c d h.alone stand.machine (taken_out gone stand.machine.back) (one.after_step c h.alone (carried (other c.role) c.longest es) [] (step_of c w e))
+        leads : Leads ⊥ c d h.alone stand.machine (taken_out gone stand.machine.back)
+            (one.after_step c h.alone (carried (other c.role) c.longest es) [] (step_of c w e))
         leads =
             rw (sym i.is.station) (read_joint ⊥ joined reads h.holds i.machine (read_of c e)
             (orderly no_sabm) (carried_orderly (other c.role) c.longest es) shows (laws.take_tells c e.octets h.alone.near.station)
@@ -186,7 +195,8 @@ module _ {c d : Settings} (joined : AreJoined c d) (reads : ReadsSpelled) (laws 
         answers : Answers w (step_of c w e)
         answers =
             let v = window_of c.window w.near.station in
-            follows_answers w (ending_of (read_of c e) v) c.window (brought_by (read_of c e)) w.near.station (step_of c w e) (λ one. closed (sym (left_by (read_of c e) v).0 ∙ one)) ((left_by (read_of c e) v).1 ∙ no_sabm)
+            follows_answers w (ending_of (read_of c e) v) c.window (brought_by (read_of c e)) w.near.station (step_of c w e)
+            (λ one. closed (sym (left_by (read_of c e) v).0 ∙ one)) ((left_by (read_of c e) v).1 ∙ no_sabm)
             (laws.window.take c e.octets w.near.station i.running (read_of c e) refl)
 
     -- ---- in any phase
@@ -194,7 +204,8 @@ module _ {c d : Settings} (joined : AreJoined c d) (reads : ReadsSpelled) (laws 
     -- two sessions begin, or the same go on
     abbrev TakenIn : Phase → Read → Type 0
     TakenIn p r =
-        Held (if is_set_up p r then anew c d w else went_by c (step_of c w e) (place_to_hear p (other c.role) c.longest (octets_of (e ∷ es)) 0) stand) c d (taken c w e es)
+        Held (if is_set_up p r then anew c d w else went_by c (step_of c w e) (place_to_hear p (other c.role) c.longest (octets_of (e ∷ es)) 0) stand) c d
+        (taken c w e es)
 
     goes_on : IsNoSabm (read_of c e) → (place : Option ℕ) → Held (went_by c (step_of c w e) place stand) c d (taken c w e es)
         → Held (if is_sabm (read_of c e) then anew c d w else went_by c (step_of c w e) place stand) c d (taken c w e es)
@@ -203,9 +214,11 @@ module _ {c d : Settings} (joined : AreJoined c d) (reads : ReadsSpelled) (laws 
     by_phase : (p : Phase) → w.near.station.phase ≡ p → ((f : Bool) × (read_of c e ≡ Ok (sabm f))) ⊎ IsNoSabm (read_of c e) → TakenIn p (read_of c e)
     by_phase Down phase (inl read) = subst (TakenIn Down) (sym read.1) (sabm_held read.0 read.1 (subst TakesPart (sym phase) tt))
     by_phase Down phase (inr no_sabm) =
-        goes_on no_sabm None (stays_held (subst IsOut (sym phase) tt) (laws.window.take_out c e.octets w.near.station (subst IsOut (sym phase) tt) (sets_none_up (read_of c e) no_sabm)))
+        goes_on no_sabm None (stays_held (subst IsOut (sym phase) tt)
+        (laws.window.take_out c e.octets w.near.station (subst IsOut (sym phase) tt) (sets_none_up (read_of c e) no_sabm)))
     by_phase Waiting phase (inl read) = subst (TakenIn Waiting) (sym read.1) (sabm_waiting read.0 read.1 phase)
-    by_phase Waiting phase (inr no_sabm) = goes_on no_sabm None (elim (is_answer (read_of c e)) [ inl read ↦ answered_held read phase | inr no_answer ↦ waits_held no_sabm no_answer phase ])
+    by_phase Waiting phase (inr no_sabm) = goes_on no_sabm None
+        (elim (is_answer (read_of c e)) [ inl read ↦ answered_held read phase | inr no_answer ↦ waits_held no_sabm no_answer phase ])
     by_phase Up phase (inl read) = subst (TakenIn Up) (sym read.1) (sabm_held read.0 read.1 (subst TakesPart (sym phase) tt))
     by_phase Up phase (inr no_sabm) = goes_on no_sabm (first_of (number_in (read_of c e))) (up_held no_sabm (ap is_up phase))
     by_phase Closed phase which = stays_held (subst IsOut (sym phase) tt) (closed_takes c e.octets w.near.station phase)

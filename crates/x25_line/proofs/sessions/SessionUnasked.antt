@@ -1,13 +1,16 @@
 -- Where none asks for set-up, no session begins, until a Connect is accepted.
 use Rattle.std.proofs.Common.{◌≡◌, ◌≤◌, ℕ, ◌+◌, List, [], ◌∷◌, ◌++◌, Ok, refl, sym, ap, subst, arith}
 use Rattle.x25_frame.specs.{Frame.{disc, ua, dm, frmr}, laws.ReadingLaw.{ReadsSpelled}}
-use Rattle.x25_link.specs.{declared.phase.Phase.{Phase}, declared.phase.Phase.TheVariants.{Down, Waiting, Up, Closed}, Station.{Settings, is_up}, Hearing.{other}, Link.{connect_refusal}}
+use Rattle.x25_link.specs.{declared.phase.Phase.{Phase}, declared.phase.Phase.TheVariants.{Down, Waiting, Up, Closed}, Station.{Settings, is_up}}
+use Rattle.x25_link.specs.{Hearing.{other}, Link.{connect_refusal}}
 use Rattle.x25_line.specs.laws.Stations.{Act, T1, Connect, LinkEvent, Near, Far}
 use Rattle.x25_line.specs.laws.StationClaims.{AreJoined, AcceptsNoConnect, AcceptsNoConnectAt}
 use Rattle.x25_line.specs.laws.Sessions.{Entry, Sessions, sabm_in, how_many, acts, swapped, happens}
 use Rattle.x25_line.specs.{laws.SessionClaims.{Throughout}, laws.SessionEvents.{IsUnasked, BeginNone, NoneBeginUnasked}, laws.LawsBelow.{SessionLaws}}
-use Rattle.x25_line.proofs.{StationSteps.{not_both}, StationAway.{is_up_phase}, sessions.SessionHeld.{Owes}, sessions.SessionLines.{Read, number_kinds, many_append}, sessions.EntryLines.{Less, many_less, less_removes, less_replaces}}
-use Rattle.x25_line.proofs.{sessions.SessionMay.{sends_read, entry, Known, MayDo, Kind}, sessions.Acts.{acts_still}, sessions.SessionSeen.{Seen}, sessions.SessionSeenSteps.{IsTimely, station_acts}}
+use Rattle.x25_line.proofs.{StationSteps.{not_both}, StationAway.{is_up_phase}, sessions.SessionHeld.{Owes}}
+use Rattle.x25_line.proofs.{sessions.SessionLines.{Read, number_kinds, many_append}, sessions.EntryLines.{Less, many_less, less_removes, less_replaces}}
+use Rattle.x25_line.proofs.{sessions.SessionMay.{sends_read, entry, Known, MayDo, Kind}, sessions.Acts.{acts_still}, sessions.SessionSeen.{Seen}}
+use Rattle.x25_line.proofs.sessions.SessionSeenSteps.{IsTimely, station_acts}
 use Rattle.x25_line.proofs.{sessions.SessionSeenRuns.{other_owes, Both, both_swapped}, sessions.TwoSessions.{throughout_of}}
 
 -- ---- an end that doesn't await UA, with no SABM on its lines, after n sessions
@@ -22,7 +25,8 @@ module _ (d : Settings) (n : ℕ) where
   abbrev R : Known
   R es met p b all out = IsQuiet d n es p b out
 
-  push : {es out : List Entry} {p : Phase} {b : ℕ} (q : Phase) (octets : List ℕ) (r : Read) → sends_read d octets ≡ r → sabm_in r ≡ 0 → (q ≡ Waiting → ⊥) → IsQuiet d n es p b out
+  push : {es out : List Entry} {p : Phase} {b : ℕ} (q : Phase) (octets : List ℕ) (r : Read) → sends_read d octets ≡ r → sabm_in r ≡ 0 → (q ≡ Waiting → ⊥)
+      → IsQuiet d n es p b out
       → IsQuiet d n es q b (out ++ entry b octets ∷ [])
   push {es} {out} {p} {b} q octets r read none still h =
       let all = many_append d.role d.longest sabm_in out (entry b octets ∷ []) in
@@ -71,13 +75,19 @@ module _ (d : Settings) (n : ℕ) where
 -- ---- an event
 
 unasked_turned : {c d : Settings} → AreJoined c d → {w : Sessions} → IsUnasked c w → IsUnasked d (swapped w)
-unasked_turned joined h = record { near = h.far; far = h.near; out = rw (sym joined.far_role, sym joined.longest) h.back; back = rw (joined.near_role, sym joined.longest) h.out }
+unasked_turned joined h = record {
+  near = h.far;
+  far = h.near;
+  out = rw (sym joined.far_role, sym joined.longest) h.back;
+  back = rw (joined.near_role, sym joined.longest) h.out;
+}
 
 module _ (reads : ReadsSpelled) (rests : SessionLaws) where
   abbrev kind : (c : Settings) → c.window ≤ 7 → ℕ → Kind c
   kind c high n = record { high = high; reads = reads; rests = rests; Due = λ p es. ⊥; R = R c n; does = quiet_may c n }
 
-  act_timely : {c : Settings} (high : c.window ≤ 7) {w : Sessions} → IsUnasked c w → (act : Act) → AcceptsNoConnect act w.near.station → IsTimely (kind c high w.near.begun) act w
+  act_timely : {c : Settings} (high : c.window ≤ 7) {w : Sessions} → IsUnasked c w → (act : Act) → AcceptsNoConnect act w.near.station
+      → IsTimely (kind c high w.near.begun) act w
   act_timely high h T1 none = λ waiting. absurd (h.near waiting)
   act_timely high h Connect none = λ down. absurd (none (ap connect_refusal down))
   act_timely high h act none = tt
@@ -87,8 +97,17 @@ module _ (reads : ReadsSpelled) (rests : SessionLaws) where
   act_begins_none {c} {d} {w} both h act none =
       let s = both.near in
       let still = acts_still c act w in
-      let seen : Seen c (R c w.near.begun) w = record { all = s.all; reached = record { still = h.near; comes = h.back; sent = h.out; begun = refl }; up = s.up; given = s.given; taken = s.taken; later = s.later; tags = s.tags } in
-      let k = (station_acts (kind c both.joined.near_high w.near.begun) act w (act_timely both.joined.near_high h act none) (other_owes c d both.joined reads rests both.far) seen).reached in
+      let seen : Seen c (R c w.near.begun) w = record {
+        all = s.all;
+        reached = record { still = h.near; comes = h.back; sent = h.out; begun = refl };
+        up = s.up;
+        given = s.given;
+        taken = s.taken;
+        later = s.later;
+        tags = s.tags;
+      } in
+      let k = (station_acts (kind c both.joined.near_high w.near.begun) act w (act_timely both.joined.near_high h act none)
+      (other_owes c d both.joined reads rests both.far) seen).reached in
       record {
         unasked = record { near = k.still; far = rw still.far h.far; out = k.sent; back = k.comes };
         near = k.begun;
@@ -101,7 +120,8 @@ module _ (reads : ReadsSpelled) (rests : SessionLaws) where
       near = λ waits. not_both (is_up w.near.station.phase) near (ap is_up waits);
       far = λ waits. not_both (is_up w.far.station.phase) far (ap is_up waits);
       out = none_owed _ _ _ _ (is_up_phase w.near.station.phase near) (other_owes c d both.joined reads rests both.far);
-      back = rw (both.joined.far_role, both.joined.longest) (none_owed _ _ _ _ (is_up_phase w.far.station.phase far) (other_owes d c both.turn reads rests both.near));
+      back = rw (both.joined.far_role, both.joined.longest)
+          (none_owed _ _ _ _ (is_up_phase w.far.station.phase far) (other_owes d c both.turn reads rests both.near));
     };
     stays = by c d w both;
   })

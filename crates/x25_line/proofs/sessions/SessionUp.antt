@@ -28,7 +28,8 @@ shown_numbered (f ∷ fs) (g ∷ gs) h = (shown_number f g h.0, shown_numbered f
 
 runs_numbered : {v z : Window} {fs : List PlainFrame} → Runs v z fs → AllNumbered fs
 runs_numbered rests = tt
-runs_numbered {v} (goes_on w before step frames runs sent allowed shows) = each_append (λ f. number_in (Ok f) ≡ Some f) before frames (runs_numbered runs) (shown_numbered frames (frames_of w step) shows)
+runs_numbered {v} (goes_on w before step frames runs sent allowed shows) =
+    each_append (λ f. number_in (Ok f) ≡ Some f) before frames (runs_numbered runs) (shown_numbered frames (frames_of w step) shows)
 
 -- ---- what is sent where Up is left
 
@@ -36,7 +37,8 @@ pub stays_answers : (w : Sessions) {k : ℕ} {input : Input} {s : LinkStation} {
 stays_answers w {step = step} h = inr (numbered_no_ua step.side.out (runs_numbered h.sends))
 
 -- where it leaves by DISC that came, and not by SABM
-pub follows_answers : (w : Sessions) (o : Option Reason) (k : ℕ) (input : Input) (s : LinkStation) (step : Step) → (by_disc o ≡ 1 → w.far.station.phase ≡ Closed) → by_reset o ≡ 0 → Follows o k input s step → Answers w step
+pub follows_answers : (w : Sessions) (o : Option Reason) (k : ℕ) (input : Input) (s : LinkStation) (step : Step)
+    → (by_disc o ≡ 1 → w.far.station.phase ≡ Closed) → by_reset o ≡ 0 → Follows o k input s step → Answers w step
 follows_answers w None k input s step closed stays h = stays_answers w h
 follows_answers w (Some Disc) k input s step closed stays h = inl (closed refl)
 follows_answers w (Some FrmrSent) k input s step closed stays h = inr (ap (count ua_in) h.frames.2)
@@ -45,7 +47,8 @@ follows_answers w (Some reason) k input s step closed stays h = inr (ap (count u
 
 -- ---- a packet is handed up where a frame with a number comes
 
-no_packet_by : (input : Input) (packet : Option (List ℕ)) (v : Window) → ((y : List ℕ) → InputMayHandUp input y v → ⊥) → MayHandUp input packet v → packet ≡ None
+no_packet_by : (input : Input) (packet : Option (List ℕ)) (v : Window) → ((y : List ℕ) → InputMayHandUp input y v → ⊥) → MayHandUp input packet v → packet
+    ≡ None
 no_packet_by input None v never up = refl
 no_packet_by input (Some y) v never up = absurd (never y up)
 
@@ -53,10 +56,12 @@ never_up : (r : Read) (v : Window) → number_in r ≡ None → (y : List ℕ) �
 never_up (Ok (info ns nr p x)) v none y h = none_is_some (info ns nr p x) (sym none)
 never_up r v none y h = h
 
-pub stays_no_packet : {k : ℕ} {input : Input} {s : LinkStation} {step : Step} → ((v : Window) (y : List ℕ) → InputMayHandUp input y v → ⊥) → Stays k input s step → step.packet ≡ None
+pub stays_no_packet : {k : ℕ} {input : Input} {s : LinkStation} {step : Step} → ((v : Window) (y : List ℕ) → InputMayHandUp input y v → ⊥)
+    → Stays k input s step → step.packet ≡ None
 stays_no_packet {input = input} {step = step} never h = no_packet_by input step.packet _ (never _) h.hands_up
 
-pub follows_no_packet : (o : Option Reason) (k : ℕ) (r : Read) (s : LinkStation) (step : Step) → number_in r ≡ None → Follows o k (brought_by r) s step → step.packet ≡ None
+pub follows_no_packet : (o : Option Reason) (k : ℕ) (r : Read) (s : LinkStation) (step : Step) → number_in r ≡ None → Follows o k (brought_by r) s step
+    → step.packet ≡ None
 follows_no_packet None k r s step none h = stays_no_packet (λ v y up. never_up r v none y up) h
 follows_no_packet (Some reason) k r s step none h = h.packet
 
@@ -65,8 +70,11 @@ module _ {c d : Settings} (joined : AreJoined c d) (reads : ReadsSpelled) where
   quiet_up : (v : Stations) (os down : List (List ℕ)) (step : Step) → Holds ⊥ c d (one.after_step c v os down step) → step.notes.up ≡ false
   quiet_up v os down step holds = second_false v.near.came_up step.notes.up holds.1.near_has.notes.once
 
-  pub live_goes_on : {stand : Standing} (w : Sessions) (h : Held stand c d w) → w.near.begun ≡ stand.near → (es : List Entry) (os : List (List ℕ)) (met : List Meeting) (down : List (List ℕ)) (step : Step) (gone : Option ℕ)
-      → Leads ⊥ c d h.alone stand.machine (taken_out gone stand.machine.back) (one.after_step c h.alone os down step) → numbers (other c.role) c.longest es ≡ numbered_on (other c.role) c.longest os → AllOf (other c.role) c.longest stand.far es
+  pub live_goes_on : {stand : Standing} (w : Sessions) (h : Held stand c d w) → w.near.begun ≡ stand.near
+      → (es : List Entry) (os : List (List ℕ)) (met : List Meeting) (down : List (List ℕ)) (step : Step) (gone : Option ℕ)
+      → Leads ⊥ c d h.alone stand.machine (taken_out gone stand.machine.back) (one.after_step c h.alone os down step) → numbers (other c.role) c.longest es
+      ≡ numbered_on (other c.role) c.longest os → AllOf (other c.role) c.longest stand.far es
       → Answers w step → Held (went_by c step gone stand) c d (after_step c w es met down step)
   live_goes_on {stand} w h near es os met down step gone leads comes from answers =
-      rw (ap (λ b. begun_by b w.near.begun) (quiet_up h.alone os down step (leads.0, leads.1))) (live_held joined reads w h near es os met down step gone leads comes from answers)
+      rw (ap (λ b. begun_by b w.near.begun) (quiet_up h.alone os down step (leads.0, leads.1)))
+      (live_held joined reads w h near es os met down step gone leads comes from answers)

@@ -6,14 +6,16 @@ use Rattle.x25_link.specs.{declared.phase.Phase.{Phase}, declared.phase.Phase.Th
 use Rattle.x25_link.specs.laws.SetUp.{TakesPart}
 use Rattle.x25_line.specs.{laws.Sessions.{Entry, Meeting, ua_in, how_many as count, replaced}, laws.Peer.{Peer, MaySay}}
 use Rattle.x25_line.specs.{laws.PeerSessions.{PeerEnd, stand_of, letters}, laws.PeerSessionClaims.{frmr_in}}
-use Rattle.x25_line.specs.laws.Ends.{Stand, In, Asking, Letter, letter, how_many, AreOf, free, asks, closes, leaves, hears, takes_ua, takes_sabm, waits_on, takes_disc, loses, damages, Ends, near_now, with_near, Does, sends, listens, moves, EndsReached, near_handed, near_does}
+use Rattle.x25_line.specs.laws.Ends.{Stand, In, Asking, Letter, letter, how_many, AreOf, free, asks, closes, leaves, hears, takes_ua, takes_sabm, waits_on}
+use Rattle.x25_line.specs.laws.Ends.{takes_disc, loses, damages, Ends, near_now, with_near, Does, sends, listens, moves, EndsReached, near_handed, near_does}
 use Rattle.x25_line.specs.{laws.StationClaims.{Each, number_in}, laws.Said.{Sabm, Ua, Else, Odd as OddSaid, said, sabm_of, ua_of, disc_of}}
 use Rattle.x25_line.proofs.{Order.{by_frmr, no_fault}, StationSays.{machine_of}}
 use Rattle.x25_line.proofs.{sessions.SessionLines.{Read, none_is_some, number_kinds, many_append}, sessions.SessionHeld.{Owes, owes_less}}
 use Rattle.x25_line.proofs.sessions.EntryLines.{each_less, Less as LessEntries, less_removes as entry_removes, less_replaces as entry_replaces}
 use Rattle.x25_line.proofs.sessions.Letters.{visible_fine, heard_said, letters_push, letters_removed, letters_replaced, sabms, uas, discs}
 use Rattle.x25_line.proofs.sessions.SessionMay.{sends_read, hears_read, entry, heard_in, MayAsk, MayDo}
-use Rattle.x25_line.proofs.{ends.Lines.{count_push, count_less, Less, gone, less_removes, less_spoils, are_less}, ends.Sessions.{reached_all, ua_present, valid}}
+use Rattle.x25_line.proofs.ends.Lines.{count_push, count_less, Less, gone, less_removes, less_spoils, are_less}
+use Rattle.x25_line.proofs.ends.Sessions.{reached_all, ua_present, valid}
 
 number_frmr : (r : Read) (f : PlainFrame) → number_in r ≡ Some f → frmr_in r ≡ 0
 number_frmr (Ok (frmr g why)) f is = none_is_some f is
@@ -26,7 +28,8 @@ abbrev pub NoneOdd : Role → ℕ → List Entry → Type 0
 NoneOdd from n1 es = Each (λ e. said (frame_of from n1 e.octets) ≡ OddSaid → ⊥) es
 
 odd_less : (c : Settings) (es fs : List Entry) → LessEntries es fs → NoneOdd (other c.role) c.longest es → NoneOdd (other c.role) c.longest fs
-odd_less c es fs l h = each_less (λ e. said (frame_of (other c.role) c.longest e.octets) ≡ OddSaid → ⊥) (λ e o visible. visible_fine (other c.role) c.longest o visible) l h
+odd_less c es fs l h = each_less (λ e. said (frame_of (other c.role) c.longest e.octets) ≡ OddSaid → ⊥)
+    (λ e o visible. visible_fine (other c.role) c.longest o visible) l h
 
 -- of a station that isn't about to ask once more, nor Closed
 abbrev pub Where : Phase → Type 0 → Type 0
@@ -112,7 +115,8 @@ module _ (Odd : Type 0) (c : Settings) (peer : PeerEnd) where
 
   module _ {met : List Meeting} {p : Phase} {b : ℕ} {all : ℕ → Peer} where
     -- one more on the line from it, no FRMR
-    sent : {es out : List Entry} (n : ℕ) (bytes : List ℕ) (r : Read) → sends_read c bytes ≡ r → frmr_in r ≡ 0 → AreLapb Odd c es out → AreEnds (backs c es) met p b all (outs c out ++ letter n (said r) ∷ [])
+    sent : {es out : List Entry} (n : ℕ) (bytes : List ℕ) (r : Read) → sends_read c bytes ≡ r → frmr_in r ≡ 0 → AreLapb Odd c es out
+        → AreEnds (backs c es) met p b all (outs c out ++ letter n (said r) ∷ [])
         → IsWith es met p b all (out ++ entry n bytes ∷ [])
     sent {out = out} n bytes r read no_frmr h k = record {
       ends = rw (letters_push c.role c.longest out n bytes r read) k;
@@ -129,10 +133,12 @@ module _ (Odd : Type 0) (c : Settings) (peer : PeerEnd) where
   came : {p : Phase} {x : Letter} {es out : List Letter} (b : ℕ) → Kept peer.begun p (x ∷ es) out → Kept peer.begun p es (out ++ letter b Ua ∷ [])
   came {p} {x} {es} {out} b k = kept_push (letter b Ua) refl refl (kept_less (gone x es) k)
 
-  passed : (e : Entry) (es : List Entry) (met : List Meeting) (p : Phase) (b : ℕ) (all : ℕ → Peer) (out : List Letter) → EndsReached (at (backs c (e ∷ es)) met (stand_of p) b all out)
+  passed : (e : Entry) (es : List Entry) (met : List Meeting) (p : Phase) (b : ℕ) (all : ℕ → Peer) (out : List Letter)
+      → EndsReached (at (backs c (e ∷ es)) met (stand_of p) b all out)
       → EndsReached (at (backs c es) (heard_in c p b e met) (stand_of p) b all out)
   passed e es met p b all out h =
-      rw (heard_said p b e.session (hears_read c e.octets) met) (near_does _ _ h (moves _ (hears (letter e.session (said (hears_read c e.octets))) (backs c es) refl)))
+      rw (heard_said p b e.session (hears_read c e.octets) met)
+      (near_does _ _ h (moves _ (hears (letter e.session (said (hears_read c e.octets))) (backs c es) refl)))
 
   asked : (p : Phase) {es out : List Letter} → MayAsk p (AreOf peer.begun es) → Kept peer.begun p es out → AreOf peer.begun es
   asked Down due k = k.present
@@ -141,7 +147,10 @@ module _ (Odd : Type 0) (c : Settings) (peer : PeerEnd) where
 
   pub station_may : MayDo c (λ p es. MayAsk p (AreOf peer.begun (backs c es))) IsWith
   station_may = record {
-    handed = λ es met b all out packet h. record { ends = record { reached = near_handed _ packet h.ends.reached refl; kept = h.ends.kept }; octets = h.octets };
+    handed = λ es met b all out packet h. record {
+      ends = record { reached = near_handed _ packet h.ends.reached refl; kept = h.ends.kept };
+      octets = h.octets;
+    };
     tells = λ es met b all out octets f q read number may h. sent b octets (Ok f) read (number_frmr (Ok f) f number) h.octets
         (record {
           reached = near_does _ _ h.ends.reached (tells_does _ f q refl number may);
@@ -159,16 +168,32 @@ module _ (Odd : Type 0) (c : Settings) (peer : PeerEnd) where
             ua = omega (arith, no_ua, same_uas);
             crossing = asked p due h.ends.kept;
           })));
-          kept = record { owes = (omega (arith, no_sabm, no_ua, same_sabms, same_uas, count_push sabm_of (outs c out) (letter b Sabm)), omega (arith, no_disc, same_discs, count_push disc_of (outs c out) (letter b Sabm))); present = tt };
+          kept = record {
+            owes = (
+              omega (arith, no_sabm, no_ua, same_sabms, same_uas, count_push sabm_of (outs c out) (letter b Sabm)),
+              omega (arith, no_disc, same_discs, count_push disc_of (outs c out) (letter b Sabm)),
+            );
+            present = tt;
+          };
         }));
     closes = λ es met p b all out octets pf read h.
-        sent b octets (Ok (disc pf)) read refl h.octets (record { reached = near_does _ _ h.ends.reached (moves _ closes); kept = record { owes = tt; present = tt } });
-    leaves = λ es met b all out h. record { ends = record { reached = near_does _ _ h.ends.reached (moves _ leaves); kept = kept_left h.ends.kept }; octets = h.octets };
+        sent b octets (Ok (disc pf)) read refl h.octets
+        (record { reached = near_does _ _ h.ends.reached (moves _ closes); kept = record { owes = tt; present = tt } });
+    leaves = λ es met b all out h. record {
+      ends = record { reached = near_does _ _ h.ends.reached (moves _ leaves); kept = kept_left h.ends.kept };
+      octets = h.octets;
+    };
     gives_up = λ es met b all out due clear h.
         (record {
           ends = record {
             reached = near_does _ _ h.ends.reached (moves _ leaves);
-            kept = record { owes = (omega (arith, clear.sabm, clear.ua, sabms c.role c.longest out, uas (other c.role) c.longest es), omega (arith, clear.disc, discs c.role c.longest out)); present = due };
+            kept = record {
+              owes = (
+                omega (arith, clear.sabm, clear.ua, sabms c.role c.longest out, uas (other c.role) c.longest es),
+                omega (arith, clear.disc, discs c.role c.longest out),
+              );
+              present = due;
+            };
           };
           octets = h.octets;
         });
@@ -178,7 +203,8 @@ module _ (Odd : Type 0) (c : Settings) (peer : PeerEnd) where
     };
     hears = λ e es met b all out q may h. record {
       ends = record {
-        reached = rw (heard_said Up b e.session (hears_read c e.octets) met) (near_does _ _ h.ends.reached (listens (letter e.session (said (hears_read c e.octets))) (backs c es) q refl refl may));
+        reached = rw (heard_said Up b e.session (hears_read c e.octets) met)
+            (near_does _ _ h.ends.reached (listens (letter e.session (said (hears_read c e.octets))) (backs c es) q refl refl may));
         kept = kept_less (gone _ (backs c es)) h.ends.kept;
       };
       octets = behind h.octets;
@@ -202,10 +228,14 @@ module _ (Odd : Type 0) (c : Settings) (peer : PeerEnd) where
           kept = takes_part p part (came (suc b) h.ends.kept);
         });
     waits_on = λ e es met b all out octets pf f read answer h. sent b octets (Ok (ua f)) answer refl (behind h.octets)
-        (record { reached = near_does _ _ h.ends.reached (moves _ (waits_on e.session (backs c es) (front e es (Ok (sabm pf)) read) refl)); kept = came b h.ends.kept });
+        (record {
+          reached = near_does _ _ h.ends.reached (moves _ (waits_on e.session (backs c es) (front e es (Ok (sabm pf)) read) refl));
+          kept = came b h.ends.kept;
+        });
     takes_disc = λ e es met b all out octets pf f read answer h. sent b octets (Ok (ua f)) answer refl (behind h.octets)
         (record {
-          reached = near_does _ _ (near_does _ _ h.ends.reached (moves _ (takes_disc e.session (backs c es) (front e es (Ok (disc pf)) read)))) (moves _ leaves);
+          reached = near_does _ _ (near_does _ _ h.ends.reached (moves _ (takes_disc e.session (backs c es) (front e es (Ok (disc pf)) read))))
+              (moves _ leaves);
           kept = kept_left (came b h.ends.kept);
         });
     faults = λ e es met b all out octets f why ending read h. record {
@@ -221,11 +251,13 @@ module _ (Odd : Type 0) (c : Settings) (peer : PeerEnd) where
       };
     };
     loses = λ es met p b all out i h. record {
-      ends = rw (letters_removed (other c.role) c.longest es i) (record { reached = near_does _ _ h.ends.reached (moves _ (loses i)); kept = kept_less (less_removes (backs c es) i) h.ends.kept });
+      ends = rw (letters_removed (other c.role) c.longest es i)
+          (record { reached = near_does _ _ h.ends.reached (moves _ (loses i)); kept = kept_less (less_removes (backs c es) i) h.ends.kept });
       octets = record { frmr = h.octets.frmr; lapb = λ ok. odd_less c es (remove es i) (entry_removes es i) (h.octets.lapb ok) };
     };
     damages = λ es met p b all out i octets visible h. record {
-      ends = rw (letters_replaced (other c.role) c.longest octets visible es i) (record { reached = near_does _ _ h.ends.reached (moves _ (damages i)); kept = kept_less (less_spoils (backs c es) i) h.ends.kept });
+      ends = rw (letters_replaced (other c.role) c.longest octets visible es i)
+          (record { reached = near_does _ _ h.ends.reached (moves _ (damages i)); kept = kept_less (less_spoils (backs c es) i) h.ends.kept });
       octets = record { frmr = h.octets.frmr; lapb = λ ok. odd_less c es (replaced es i octets) (entry_replaces octets visible es i) (h.octets.lapb ok) };
     };
   }

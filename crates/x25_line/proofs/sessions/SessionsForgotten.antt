@@ -1,11 +1,13 @@
 -- With the sessions forgotten, two stations over sessions are the two stations by themselves.
-use Rattle.std.proofs.Common.{◌≡◌, ◌≤◌, ◌<◌, ℕ, zero, suc, List, [], ◌∷◌, ◌++◌, length, map, remove, Bool, true, false, refl, sym, ap, ◌∙◌, subst, arith, append-nil, append_assoc}
+use Rattle.std.proofs.Common.{◌≡◌, ◌≤◌, ◌<◌, ℕ, zero, suc, List, [], ◌∷◌, ◌++◌, length, map, remove, Bool, true, false, refl, sym, ap, ◌∙◌, subst, arith}
+use Rattle.std.proofs.Common.{append-nil, append_assoc}
 use Rattle.std.specs.Prelude.{nat_le, option_to_list, ◌||◌}
 use Rattle.x25_frame.specs.Spelling.{spelling_of}
 use Rattle.x25_link.specs.{Station.{Settings, LinkStation}, Hearing.{Step}}
 use Rattle.x25_link.specs.Link.{take_step, put_step, put_refusal}
 use Rattle.x25_line.specs.laws.Stations.{StationEnd, Stations, Act, Put, Deliver, Lose, Damage, LinkEvent, Near, Far, is_visible, start}
-use Rattle.x25_line.specs.laws.Sessions.{Entry, SessionEnd, Meeting, Sessions, extended, begun_by, after_step, unless, delivered, replaced, acts, swapped, happens, from_set_up, run}
+use Rattle.x25_line.specs.laws.Sessions.{Entry, SessionEnd, Meeting, Sessions, extended, begun_by, after_step, unless, delivered, replaced, acts, swapped}
+use Rattle.x25_line.specs.laws.Sessions.{happens, from_set_up, run}
 use Rattle.x25_line.specs.laws.SessionClaims.{octets_of, all_of, IsEndOf, SessionsAreStations, SetUpIsTheStart}
 use Rattle.x25_line.proofs.{Choices.{unless_both, if_both, own_both}, sessions.SessionSteps.{end_after}, sessions.SessionLines.{octets_append, octets_sent}}
 use Rattle.x25_line.proofs.sessions.SessionHeld.{extended_same, extended_other}
@@ -78,7 +80,8 @@ module _ {E : SessionEnd → StationEnd → Type 0} (F : SessionEnd → StationE
   abbrev A : Sessions → Stations → Type 0
   A w v = Alike E F S w v
 
-  step_alike : (c : Settings) {w : Sessions} {v : Stations} → A w v → (es : List Entry) (met : List Meeting) (down : List (List ℕ)) (step : Step) → A (after_step c w es met down step) (one.after_step c v (octets_of es) down step)
+  step_alike : (c : Settings) {w : Sessions} {v : Stations} → A w v → (es : List Entry) (met : List Meeting) (down : List (List ℕ)) (step : Step)
+      → A (after_step c w es met down step) (one.after_step c v (octets_of es) down step)
   step_alike c {w} {v} h es met down step = record {
     near = lasts.steps w.near v.near h.near down step;
     far = h.far;
@@ -90,14 +93,17 @@ module _ {E : SessionEnd → StationEnd → Type 0} (F : SessionEnd → StationE
   }
 
   -- a step that takes nothing off the line
-  own_alike : (c : Settings) {w : Sessions} {v : Stations} → A w v → (down : List (List ℕ)) (step : Step) → A (after_step c w w.back w.met down step) (one.after_step c v v.back down step)
+  own_alike : (c : Settings) {w : Sessions} {v : Stations} → A w v → (down : List (List ℕ)) (step : Step)
+      → A (after_step c w w.back w.met down step) (one.after_step c v v.back down step)
   own_alike c {w} h down step = rw h.back (step_alike c h w.back w.met down step)
 
   put_alike : (c : Settings) (packet : List ℕ) {w : Sessions} {v : Stations} (s t : LinkStation) → t ≡ s → A w v
-      → A (unless (put_refusal s) w (after_step c w w.back w.met (packet ∷ []) (put_step c packet s))) (unless (put_refusal t) v (one.after_step c v v.back (packet ∷ []) (put_step c packet t)))
+      → A (unless (put_refusal s) w (after_step c w w.back w.met (packet ∷ []) (put_step c packet s)))
+      (unless (put_refusal t) v (one.after_step c v v.back (packet ∷ []) (put_step c packet t)))
   put_alike c packet s t same h = rw same (unless_both A (put_refusal s) h (own_alike c h (packet ∷ []) (put_step c packet s)))
 
-  left_alike : {w : Sessions} {v : Stations} → A w v → (es : List Entry) (os : List (List ℕ)) → os ≡ octets_of es → A (record w { back = es }) (record v { back = os })
+  left_alike : {w : Sessions} {v : Stations} → A w v → (es : List Entry) (os : List (List ℕ)) → os ≡ octets_of es
+      → A (record w { back = es }) (record v { back = os })
   left_alike h es os same = record { near = h.near; far = h.far; out = h.out; back = same; sent = h.sent }
 
   deliver_alike : (c : Settings) {w : Sessions} {v : Stations} → A w v → (es : List Entry) → A (delivered c es w) (one.delivered c (octets_of es) v)
@@ -106,7 +112,8 @@ module _ {E : SessionEnd → StationEnd → Type 0} (F : SessionEnd → StationE
       rw (lasts.station w.near v.near h.near) (step_alike c h es _ [] (take_step c e.octets w.near.station))
 
   acts_alike : (c : Settings) (a : Act) {w : Sessions} {v : Stations} → A w v → A (acts c a w) (one.acts c a v)
-  acts_alike c (Put packet) {w} {v} h = if_both A (nat_le (length packet) c.longest) h (put_alike c packet w.near.station v.near.station (lasts.station w.near v.near h.near) h)
+  acts_alike c (Put packet) {w} {v} h = if_both A (nat_le (length packet) c.longest) h
+      (put_alike c packet w.near.station v.near.station (lasts.station w.near v.near h.near) h)
   acts_alike c Deliver {w} {v} h = subst (λ os. A (delivered c w.back w) (one.delivered c os v)) (sym h.back) (deliver_alike c h w.back)
   acts_alike c (Lose i) {w} {v} h = left_alike h (remove w.back i) (remove v.back i) (ap (λ os. remove os i) h.back ∙ octets_removed w.back i)
   acts_alike c (Damage i octets) {w} {v} h =
@@ -118,7 +125,8 @@ module _ {E : SessionEnd → StationEnd → Type 0} (F : SessionEnd → StationE
 
 -- ---- runs
 
-pub turned_alike : (E F : SessionEnd → StationEnd → Type 0) (S : Type 0) (w : Sessions) (v : Stations) → Alike E F S w v → Alike F E S (swapped w) (one.stations_swapped v)
+pub turned_alike : (E F : SessionEnd → StationEnd → Type 0) (S : Type 0) (w : Sessions) (v : Stations) → Alike E F S w v
+    → Alike F E S (swapped w) (one.stations_swapped v)
 turned_alike E F S w v h = record { near = h.far; far = h.near; out = h.back; back = h.out; sent = h.sent }
 
 module _ (E F : SessionEnd → StationEnd → Type 0) (S : Type 0) (here : Lasts E) (there : Lasts F) where
@@ -136,7 +144,8 @@ module _ (E F : SessionEnd → StationEnd → Type 0) (S : Type 0) (here : Lasts
 ends_last : Lasts IsEndOf
 ends_last = record { station = λ e v h. h.station; steps = steps }
   where
-    steps : (e : SessionEnd) (v : StationEnd) → IsEndOf e v → (down : List (List ℕ)) (step : Step) → IsEndOf (stepped_end e down step) (stepped_station v down step)
+    steps : (e : SessionEnd) (v : StationEnd) → IsEndOf e v → (down : List (List ℕ)) (step : Step)
+        → IsEndOf (stepped_end e down step) (stepped_station v down step)
     steps e v h down step =
         let b = step.notes.up in
         let n = begun_by b e.begun in
@@ -144,17 +153,20 @@ ends_last = record { station = λ e v h. h.station; steps = steps }
         record {
           station = refl;
           down = ap (λ x. x ++ down) (h.down ∙ sym (all_begun e.down e.begun b h.later_down)) ∙ sym (all_extended e.down n down);
-          up = ap (λ x. x ++ option_to_list step.packet) (h.up ∙ sym (all_begun e.up e.begun b h.later_up)) ∙ sym (all_extended e.up n (option_to_list step.packet));
+          up = ap (λ x. x ++ option_to_list step.packet) (h.up ∙ sym (all_begun e.up e.begun b h.later_up))
+              ∙ sym (all_extended e.up n (option_to_list step.packet));
           later_down = λ m less. extended_other e.down n m down (λ is. omega (arith, is, less)) ∙ h.later_down m (omega (arith, high, less));
           later_up = λ m less. extended_other e.up n m (option_to_list step.packet) (λ is. omega (arith, is, less)) ∙ h.later_up m (omega (arith, high, less));
         }
 
 pub sessions_are_links : SessionsAreStations
 sessions_are_links c d es w v h =
-    let k = runs_alike IsEndOf IsEndOf (Unit {0}) ends_last ends_last c d es w v (record { near = h.near; far = h.far; out = h.out; back = h.back; sent = λ _. h.sent }) in
+    let k = runs_alike IsEndOf IsEndOf (Unit {0}) ends_last ends_last c d es w v
+    (record { near = h.near; far = h.far; out = h.out; back = h.back; sent = λ _. h.sent }) in
     record { near = k.near; far = k.far; out = k.out; back = k.back; sent = k.sent tt }
 
 pub set_up_is_the_start : SetUpIsTheStart
 set_up_is_the_start =
-    let fresh : IsEndOf from_set_up.near start.near = record { station = refl; down = refl; up = refl; later_down = λ n less. refl; later_up = λ n less. refl } in
+    let fresh : IsEndOf from_set_up.near start.near = record { station = refl; down = refl; up = refl; later_down = λ n less. refl; later_up = λ n less. refl }
+    in
     record { near = fresh; far = fresh; out = refl; back = refl; sent = refl }

@@ -6,7 +6,8 @@ use Rattle.x25_frame.specs.declared.error.FrameError.TheVariants.{Undefined, NoI
 use Rattle.x25_link.specs.{Station.{Settings, is_up}, Hearing.{other}, Link.{is_idle}, laws.WindowLaw.{IsRunning}}
 use Rattle.x25_line.specs.{laws.InWindow.{IsPrefix}, laws.StationClaims.{number_in}, laws.Said.{said, Odd}}
 use Rattle.x25_line.specs.laws.Sessions.{Entry, Meeting, Sessions, swapped, sabm_in, ua_in, disc_in, how_many, run}
-use Rattle.x25_line.specs.laws.SessionClaims.{Throughout, AllOf, Each, SomeMet, IsInOrder, MeetInStep, MetAreInOrder, UnmetHandNothingUp, OnlyBegunHaveLists, EachHearsLatest, EachMeetsLatest, IdleHasArrived}
+use Rattle.x25_line.specs.laws.SessionClaims.{Throughout, AllOf, Each, SomeMet, IsInOrder, MeetInStep, MetAreInOrder, UnmetHandNothingUp, OnlyBegunHaveLists}
+use Rattle.x25_line.specs.laws.SessionClaims.{EachHearsLatest, EachMeetsLatest, IdleHasArrived}
 use Rattle.x25_line.specs.{laws.LawsBelow.{SessionLaws}, laws.PeerSessions.{PeerEnd, as_end, with_peer, AllAskedIn, stand_of, letters, ReachedInSessions}}
 use Rattle.x25_line.specs.{laws.Ends.{letter, OfSabm, OfTells}, laws.PeerSessionClaims.{frmr_in}}
 use Rattle.x25_line.proofs.{sessions.SessionWith.{NoneOdd}, StationAway.{is_up_phase}, StationLines.{consed, IsOrderly}, sessions.SessionLines.{Read, numbers}}
@@ -16,7 +17,8 @@ use Rattle.x25_line.proofs.{sessions.SessionSeenRuns.{end, tags_there, Both, bot
 use Rattle.x25_line.proofs.{ends.Lines.{AllTold, Never, Of, AllTags, IsAsked, AllAsked}, ends.Sessions.{far_high}}
 
 -- what is of the session that stands is of the latest, where that is begun
-hears : (from : Role) (n1 q : ℕ) {begun : ℕ} → begun ≤ q → (es : List Entry) → AllTold (Of q) (letters from n1 es) → AllTags begun (letters from n1 es) → AllOf from n1 begun es
+hears : (from : Role) (n1 q : ℕ) {begun : ℕ} → begun ≤ q → (es : List Entry) → AllTold (Of q) (letters from n1 es) → AllTags begun (letters from n1 es)
+    → AllOf from n1 begun es
 hears from n1 q high [] told tags = tt
 hears from n1 q {begun} high (e ∷ es) told tags = (one (frame_of from n1 e.octets) told.0, hears from n1 q high es told.1 tags.1)
   where
@@ -41,12 +43,14 @@ none_told from n1 [] h = refl
 none_told from n1 (e ∷ es) h = none_here (frame_of from n1 e.octets) (numbers from n1 es) h.0 (none_told from n1 es h.1)
 
 -- an end told nothing behind a SABM of its present session
-quiet_behind : (N O : Type 0) (from : Role) (n1 b q : ℕ) (all : List Entry) (e : Entry) (es : List Entry) → all ≡ e ∷ es → AllAsked N O b q (letters from n1 all) → AllAskedIn from n1 b all → sabm_in (frame_of from n1 e.octets) ≡ 1
+quiet_behind : (N O : Type 0) (from : Role) (n1 b q : ℕ) (all : List Entry) (e : Entry) (es : List Entry) → all ≡ e ∷ es
+    → AllAsked N O b q (letters from n1 all) → AllAskedIn from n1 b all → sabm_in (frame_of from n1 e.octets) ≡ 1
     → numbers from n1 es ≡ []
 quiet_behind N O from n1 b q all e es is asked tags one =
     go (frame_of from n1 e.octets) (subst (λ xs. AllAsked N O b q (letters from n1 xs)) is asked).0 (subst (AllAskedIn from n1 b) is tags).0 one
   where
-    go : (r : Read) → OfSabm (said r) (IsAsked N O b q (letter e.session (said r)) (letters from n1 es)) → (sabm_in r ≡ 0) ⊎ (e.session ≡ b) → sabm_in r ≡ 1 → numbers from n1 es ≡ []
+    go : (r : Read) → OfSabm (said r) (IsAsked N O b q (letter e.session (said r)) (letters from n1 es)) → (sabm_in r ≡ 0) ⊎ (e.session ≡ b) → sabm_in r ≡ 1
+        → numbers from n1 es ≡ []
     go (Ok (sabm p)) a t one = none_told from n1 es (elim a [
       | inl now ↦ now.2
       | inr old ↦ (elim t [ inl none ↦ absurd (omega (arith, none)) | inr is ↦ absurd (omega (arith, is, old.1)) ])
@@ -102,7 +106,8 @@ module _ (reads : ReadsSpelled) (rests : SessionLaws) where
         let k = latest_is reads rests h.joined.near_high reached in
         record { near = k.near; far = λ up. k.peer (ap stand_of (is_up_phase w.far.station.phase up)) }
 
-    pub idle : is_idle w.near.station ≡ true → (is_up w.far.station.phase ≡ true) ⊎ SomeMet (λ (m : Meeting). m.near ≡ w.near.begun) w.met → w.far.up w.far.begun ≡ w.near.down w.near.begun
+    pub idle : is_idle w.near.station ≡ true → (is_up w.far.station.phase ≡ true) ⊎ SomeMet (λ (m : Meeting). m.near ≡ w.near.begun) w.met
+        → w.far.up w.far.begun ≡ w.near.down w.near.begun
     idle is which =
         sym (h.far.taken w.far.begun) ∙ idle_is reads rests h.joined.near_high reached is
         (elim which [ inl up ↦ inl (ap stand_of (is_up_phase w.far.station.phase up)) | inr some ↦ inr some ])
@@ -111,15 +116,19 @@ module _ (reads : ReadsSpelled) (rests : SessionLaws) where
     pub running : is_up w.near.station.phase ≡ true → IsRunning c.window w.near.station
     running up = record { up = up; sound = (h.near.up up).sound }
 
-    near_owes : Owes w.near.station.phase (how_many sabm_in (other d.role) d.longest w.out + how_many ua_in (other c.role) c.longest w.back) (how_many disc_in (other d.role) d.longest w.out)
+    near_owes : Owes w.near.station.phase (how_many sabm_in (other d.role) d.longest w.out + how_many ua_in (other c.role) c.longest w.back)
+        (how_many disc_in (other d.role) d.longest w.out)
     near_owes =
-        subst (λ n1. Owes w.near.station.phase (how_many sabm_in (other d.role) n1 w.out + how_many ua_in (other c.role) c.longest w.back) (how_many disc_in (other d.role) n1 w.out)) h.joined.longest
+        subst (λ n1. Owes w.near.station.phase (how_many sabm_in (other d.role) n1 w.out + how_many ua_in (other c.role) c.longest w.back)
+        (how_many disc_in (other d.role) n1 w.out)) h.joined.longest
         (rw h.joined.near_role (owes_is reads rests h.joined.near_high reached))
 
-    quiet : (e : Entry) (es : List Entry) → w.back ≡ e ∷ es → sabm_in (frame_of (other c.role) c.longest e.octets) ≡ 1 → numbers (other c.role) c.longest es ≡ []
+    quiet : (e : Entry) (es : List Entry) → w.back ≡ e ∷ es → sabm_in (frame_of (other c.role) c.longest e.octets) ≡ 1 → numbers (other c.role) c.longest es
+        ≡ []
     quiet e es is one =
         let all = all_of reads rests h.joined.near_high reached in
-        quiet_behind _ _ (other c.role) c.longest w.far.begun all.held.q w.back e es is all.held.near.asked (tags_there c d h.joined reads rests w.far.begun w.back h.far.tags) one
+        quiet_behind _ _ (other c.role) c.longest w.far.begun all.held.q w.back e es is all.held.near.asked
+        (tags_there c d h.joined reads rests w.far.begun w.back h.far.tags) one
 
     -- no FRMR is on the line from it, and nothing on that to it is answered by FRMR
     no_frmr : how_many frmr_in c.role c.longest w.out ≡ 0
@@ -157,7 +166,14 @@ module _ (reads : ReadsSpelled) (rests : SessionLaws) where
   -- what the rules of both say of the line
   pub on_line : {c d : Settings} {w : Sessions} → Both c d w → OnLine c d w
   on_line {c} {d} {w} h =
-      record { near_owes = near_owes c d w h; far_owes = near_owes d c (swapped w) (both_swapped h); quiet = quiet c d w h; fine = fine c d w h; near_next = h.near.later (suc w.near.begun) (omega arith); far_next = h.far.later (suc w.far.begun) (omega arith) }
+      record {
+        near_owes = near_owes c d w h;
+        far_owes = near_owes d c (swapped w) (both_swapped h);
+        quiet = quiet c d w h;
+        fine = fine c d w h;
+        near_next = h.near.later (suc w.near.begun) (omega arith);
+        far_next = h.far.later (suc w.far.begun) (omega arith);
+      }
 
   -- ---- the claims
 

@@ -8,7 +8,8 @@ use Rattle.x25_line.specs.{laws.Sessions.{Entry}, laws.Peer.{taking, hearing}}
 use Rattle.x25_line.specs.laws.PeerSessions.{begins, now, with_now, letters, untouched, without, nothing, put}
 use Rattle.x25_line.specs.{laws.Ends.{Out, Asking, letter, listens, moves, leaves, asks, loses, hears, takes_ua, takes_sabm}, laws.Said.{said}}
 use Rattle.x25_station.specs.{Config.{link_settings}, Entry.{connect_asked}}
-use Rattle.x25_peer.specs.laws.BesideSessions.{BesideSessions, start, followed, heard_here, links_of, Connects, Fires, Receives, Damages, Links, ReachedBeside, at_start, goes_on}
+use Rattle.x25_peer.specs.laws.BesideSessions.{BesideSessions, start, followed, heard_here, links_of, Connects, Fires, Receives, Damages, Links, ReachedBeside}
+use Rattle.x25_peer.specs.laws.BesideSessions.{at_start, goes_on}
 use Rattle.x25_peer.specs.rows.BesideSessionRows.{dte, sabm_octets, sent, LostSabmGoesAgain, DamagedUaIsMissing, LeavingPeerAsks}
 
 -- ---- octets on the line

@@ -6,8 +6,11 @@ use Rattle.x25_handshakes.specs.{laws.Handshake.{At}, laws.PeerLayer.{PeerChanne
 use Rattle.x25_layer.specs.{Layer.{goes_up}, laws.Transcript.{name_of}, laws.Quiet.{AreNoFaults}, laws.TwoLayers.{End, started}}
 use Rattle.x25_layer.specs.laws.PeerClaims.{peer_call, peer_stretch, peer_name, of_call, StretchIsInOrder, CallIsInOrder, OpenHaveArrived}
 use Rattle.x25_station.specs.{Config.{Settings, link_settings, layer_settings}, Entry.{layer_entries}, laws.ReadLaw.{IsReachedByOctets}}
-use Rattle.x25_peer.specs.laws.BesideSessions.{ReadAs, Own, BesideSessions, their_now, their_layer, start, HappensBeside, Asks, AsksWith, Connects, Disconnects, Probes, Relinks, Fires, Receives, Abandons, Loses, Damages, Links, LayerDoes, LayerHears, LayerHearsChannel, ReachedBeside}
-use Rattle.x25_peer.specs.laws.BesideSessionClaims.{WithAnyPeer, MeetInStep, IsInOrder, MetAreInOrder, UnmetAreToldNothing, EachMeetsLatest, UpIsLatest, IdleHasArrived, FindsNoError}
+use Rattle.x25_peer.specs.laws.BesideSessions.{ReadAs, Own, BesideSessions, their_now, their_layer, start, HappensBeside, Asks, AsksWith, Connects, Disconnects}
+use Rattle.x25_peer.specs.laws.BesideSessions.{Probes, Relinks, Fires, Receives, Abandons, Loses, Damages, Links, LayerDoes, LayerHears, LayerHearsChannel}
+use Rattle.x25_peer.specs.laws.BesideSessions.{ReachedBeside}
+use Rattle.x25_peer.specs.laws.BesideSessionClaims.{WithAnyPeer, MeetInStep, IsInOrder, MetAreInOrder, UnmetAreToldNothing, EachMeetsLatest, UpIsLatest}
+use Rattle.x25_peer.specs.laws.BesideSessionClaims.{IdleHasArrived, FindsNoError}
 use Rattle.x25_peer.proofs.{ReadLemmas.{none_left}, sessions.Meetings.{CanMeet, all_both, met_can_meet, could_meet_some}, sessions.SessionLinks.{links_with}}
 use Rattle.x25_peer.proofs.sessions.Standing.{Below, Known, Stands}
 use Rattle.x25_peer.proofs.sessions.StationActs.{asks, asks_with, connects, disconnects, probes, relinks, fires, abandons_it, comes}
@@ -18,7 +21,8 @@ use Rattle.x25_layer.specs.laws.PeerClaims as layer_claims
 use Rattle.x25_station.specs.laws.ReadLaw as reached
 use Rattle.x25_peer.specs.laws.BesideSessions as beside
 
-forget : (c : Settings) {w : layer_peer.Joined} → IsReachedByOctets c.wide c.role c.long_data c.channels w → layer_peer.IsReached c.role c.long_data c.channels w
+forget : (c : Settings) {w : layer_peer.Joined} → IsReachedByOctets c.wide c.role c.long_data c.channels w
+    → layer_peer.IsReached c.role c.long_data c.channels w
 forget c reached.at_start = layer_peer.at_start
 forget c (reached.goes_on u v h e octets) = layer_peer.goes_on u v (forget c h) e
 
@@ -48,7 +52,8 @@ module _ (below : Below) (c : Settings) (low : 1 ≤ c.window) (high : c.window 
   step_on {w} h (Damages place octets visible) = damages below c low high w h place octets visible
   step_on {w} h (Links links happens) = theirs below c low high w h happens
   step_on {w} h (LayerDoes deed p octets stand may is configured reads) = layer_does below c low high w h deed p octets stand may is configured reads
-  step_on {w} h (LayerHears p read behind packets all stand reads waits answered read_all) = layer_hears below c low high w h p read behind packets all stand reads waits answered read_all
+  step_on {w} h (LayerHears p read behind packets all stand reads waits answered read_all) =
+      layer_hears below c low high w h p read behind packets all stand reads waits answered read_all
   step_on {w} h (LayerHearsChannel y p read passed behind packets all stand live has apart reads waits answered read_all) =
       layer_hears_channel below c low high w h y p read passed behind packets all stand live has apart reads waits answered read_all
 
@@ -82,14 +87,18 @@ module _ (below : Below) (c : Settings) (low : 1 ≤ c.window) (high : c.window 
   in_step {w} h = below.step (link_settings c) low high (linked w h) h.link.reached
 
   -- the latest sessions of both ends met each other, or none
-  latest_can_meet : (w : BesideSessions) (h : Stands c w) → is_up w.near.link.phase ≡ true → (w.peer.stand ≡ In) ⊎ SomeMet (λ (m : Meeting). m.near ≡ w.begun) w.met → CanMeet w.begun w.peer.begun w.met
+  latest_can_meet : (w : BesideSessions) (h : Stands c w) → is_up w.near.link.phase ≡ true → (w.peer.stand ≡ In)
+      ⊎ SomeMet (λ (m : Meeting). m.near ≡ w.begun) w.met → CanMeet w.begun w.peer.begun w.met
   latest_can_meet w h up which =
       let agree = below.agree (link_settings c) low high (linked w h) h.link.reached in
       elim which [
-        | inl stand ↦ all_both (λ m. m.near ≡ w.begun → m.far ≡ w.peer.begun) (λ m. m.far ≡ w.peer.begun → m.near ≡ w.begun) w.met (agree.near up) (agree.peer stand)
-        | inr some ↦ all_some (λ p. CanMeet p.near p.far w.met × (p.near ≡ w.begun → p.far ≡ w.peer.begun)) (λ p. p.near ≡ w.begun) (CanMeet w.begun w.peer.begun w.met)
+        | inl stand ↦ all_both (λ m. m.near ≡ w.begun → m.far ≡ w.peer.begun) (λ m. m.far ≡ w.peer.begun → m.near ≡ w.begun) w.met (agree.near up)
+            (agree.peer stand)
+        | inr some ↦ all_some (λ p. CanMeet p.near p.far w.met × (p.near ≡ w.begun → p.far ≡ w.peer.begun)) (λ p. p.near ≡ w.begun)
+            (CanMeet w.begun w.peer.begun w.met)
             (λ (p : Meeting) both is. subst (λ n. CanMeet n w.peer.begun w.met) is (subst (λ m. CanMeet p.near m w.met) (both.1 is) both.0)) w.met
-            (all_both (λ p. CanMeet p.near p.far w.met) (λ p. p.near ≡ w.begun → p.far ≡ w.peer.begun) w.met (met_can_meet w.met (in_step h)) (agree.near up)) some
+            (all_both (λ p. CanMeet p.near p.far w.met) (λ p. p.near ≡ w.begun → p.far ≡ w.peer.begun) w.met (met_can_meet w.met (in_step h)) (agree.near up))
+            some
       ]
 
 pub meet_in_step : Below → WithAnyPeer MeetInStep
@@ -138,7 +147,8 @@ idle_has_arrived below law c low high few w r idle which took =
     let can = latest_can_meet below c low high few w h up which in
     let taken = below.idle (link_settings c) low high (linked below c low high few w h) h.link.reached idle which ∙ h.link.is_down w.begun in
     let read : ReadAs c (now w.peer).taken k.end.given = subst (λ os. ReadAs c os k.end.given) (sym taken) (h.now up).handed in
-    let none = ap (λ l. l ++ drop (their_now w).heard k.end.given) took.passed ∙ none_left c (their_now w).heard (now w.peer).taken k.end.given took.heard read in
+    let none = ap (λ l. l ++ drop (their_now w).heard k.end.given) took.passed
+    ∙ none_left c (their_now w).heard (now w.peer).taken k.end.given took.heard read in
     let all = law c.role c.long_data c.channels _ (forget c (h.pairs w.begun w.peer.begun can)) none in
     subst (λ es. OpenHaveArrived w.near.layer es (their_layer w)) (h.each w.begun).entries
     (subst (λ l. OpenHaveArrived l k.end.entries (their_layer w)) (h.now up).layer all)

@@ -1,5 +1,6 @@
 -- Sessions that meet one to one.
-use Rattle.std.proofs.Common.{◌≡◌, ℕ, suc, ◌+◌, ◌==◌, ◌<◌, ◌⊎◌, inl, inr, List, [], ◌∷◌, Bool, true, false, refl, sym, subst, ◌∙◌, Option, Some, None, eq-eqb, arith}
+use Rattle.std.proofs.Common.{◌≡◌, ℕ, suc, ◌+◌, ◌==◌, ◌<◌, ◌⊎◌, inl, inr, List, [], ◌∷◌, Bool, true, false, refl, sym, subst, ◌∙◌, Option, Some, None, eq-eqb}
+use Rattle.std.proofs.Common.{arith}
 use Rattle.std.proofs.lemmas.Bool.{eqb-true}
 use Rattle.x25_frame.specs.Frame.{PlainFrame}
 use Rattle.x25_line.specs.{laws.Sessions.{Meeting, heard}, laws.SessionClaims.{Each, SomeMet, IsNoEarlier, InStep}}
@@ -42,7 +43,8 @@ met_can_meet (x ∷ met) h =
     let before = all_no_earlier x met h in
     (((λ _. refl, λ _. refl), all_map (IsNoEarlier x) (AreOne x.near x.far) (as_one x) met before), more met before (met_can_meet met h.1))
   where
-    more : (ps : List Meeting) → Each (IsNoEarlier x) ps → Each (λ (p : Meeting). CanMeet p.near p.far met) ps → Each (λ (p : Meeting). CanMeet p.near p.far (x ∷ met)) ps
+    more : (ps : List Meeting) → Each (IsNoEarlier x) ps → Each (λ (p : Meeting). CanMeet p.near p.far met) ps
+        → Each (λ (p : Meeting). CanMeet p.near p.far (x ∷ met)) ps
     more [] f g = tt
     more (p ∷ ps) f g = ((back_as_one f.0, g.0), more ps f.1 g.1)
 
@@ -65,7 +67,8 @@ over (p ∷ met) = suc (p.far + over met)
 
 below_over : (top : ℕ) (met : List Meeting) → over met < suc top → Each (λ (p : Meeting). p.far < top) met
 below_over top [] low = tt
-below_over top (p ∷ met) low = (let is : over (p ∷ met) ≡ suc (p.far + over met) = refl in (omega (arith, low, is), below_over top met (omega (arith, low, is))))
+below_over top (p ∷ met) low = (let is : over (p ∷ met) ≡ suc (p.far + over met) = refl in
+    (omega (arith, low, is), below_over top met (omega (arith, low, is))))
 
 pub could_meet_some : (n : ℕ) (met : List Meeting) → InStep met → (m : ℕ) × CanMeet n m met
 could_meet_some n met h = elim (finds n met) [
@@ -73,7 +76,8 @@ could_meet_some n met h = elim (finds n met) [
       (λ (p : Meeting) can is. (p.far, subst (λ k. CanMeet k p.far met) is can)) met (met_can_meet met h) some
   | inr none ↦ (
     over met,
-    all_map (λ p. (p.near ≡ n → ⊥) × (p.far < over met)) (AreOne n (over met)) (λ (p : Meeting) apart. (λ is. absurd (apart.0 is), λ is. absurd (omega (arith, is, apart.1)))) met
+    all_map (λ p. (p.near ≡ n → ⊥) × (p.far < over met)) (AreOne n (over met))
+        (λ (p : Meeting) apart. (λ is. absurd (apart.0 is), λ is. absurd (omega (arith, is, apart.1)))) met
         (all_both (λ p. p.near ≡ n → ⊥) (λ p. p.far < over met) met none (below_over (over met) met (omega arith))),
   )
 ]

@@ -6,7 +6,8 @@ use Rattle.x25_packet.specs.Packet.{PlainPacket}
 use Rattle.x25_handshakes.specs.{laws.Handshake.{At}, laws.PeerLayer.{PeerChannels}}
 use Rattle.x25_layer.specs.{declared.ranges.Ranges.{Ranges}, Layer.{LayerSettings, is_channel}}
 use Rattle.x25_layer.specs.Calls.{LayerRequest, LayerOutcome, Accepted, Declined, layer_outcome, LayerPulled, layer_pulled}
-use Rattle.x25_layer.specs.laws.TwoLayers.{End, TwoLayers, Move, Requests, Pulls, HandsUp, GoesDown, requested, pulled_in, moves_in, moves, settings_of, handed_up}
+use Rattle.x25_layer.specs.laws.TwoLayers.{End, TwoLayers, Move, Requests, Pulls, HandsUp, GoesDown, requested, pulled_in, moves_in, moves, settings_of}
+use Rattle.x25_layer.specs.laws.TwoLayers.{handed_up}
 use Rattle.x25_layer.specs.{laws.RoundLaw.{moves_all, pulls_of}, laws.PeerJoined.{our_end, with_peer, StaysUp, Ours}}
 use Rattle.x25_station.specs.laws.ReadLaw.{IsReachedByOctets, MovesOctets, goes_on}
 
@@ -14,7 +15,8 @@ use Rattle.x25_station.specs.laws.ReadLaw.{IsReachedByOctets, MovesOctets, goes_
 abbrev with_far : End → TwoLayers → TwoLayers
 with_far f w = record w { far = f }
 
-requested_far : (c : LayerSettings) (f : End) (w : TwoLayers) (request : LayerRequest) (o : LayerOutcome) → requested c (with_far f w) request o ≡ with_far f (requested c w request o)
+requested_far : (c : LayerSettings) (f : End) (w : TwoLayers) (request : LayerRequest) (o : LayerOutcome) → requested c (with_far f w) request o
+    ≡ with_far f (requested c w request o)
 requested_far c f w request (Accepted next packet) = refl
 requested_far c f w request (Declined e) = refl
 
@@ -22,7 +24,9 @@ handed_far : (c : LayerSettings) (f : End) (w : TwoLayers) (back : List PlainPac
 handed_far c f w [] = refl
 handed_far c f w (p ∷ back) = refl
 
-pulled_far : (c : LayerSettings) (f : End) (w : TwoLayers) (h : ℕ) (b : Bool) → (if b then pulled_in (with_far f w) (layer_pulled c w.near.layer h) else with_far f w) ≡ with_far f (if b then pulled_in w (layer_pulled c w.near.layer h) else w)
+pulled_far : (c : LayerSettings) (f : End) (w : TwoLayers) (h : ℕ) (b : Bool)
+    → (if b then pulled_in (with_far f w) (layer_pulled c w.near.layer h) else with_far f w)
+    ≡ with_far f (if b then pulled_in w (layer_pulled c w.near.layer h) else w)
 pulled_far c f w h true = refl
 pulled_far c f w h false = refl
 
@@ -41,7 +45,8 @@ pub pulls_stay : (wide : Bool) (pulled : List ℕ) → AllStay wide (pulls_of pu
 pulls_stay wide [] = tt
 pulls_stay wide (h ∷ pulled) = (tt, tt, pulls_stay wide pulled)
 
-pub moves_reached : {wide : Bool} {r : Role} {long_data : Bool} {n : Ranges} (y : At PeerChannels) (v : TwoLayers) (ms : List Move) → AllStay wide ms → IsReachedByOctets wide r long_data n (with_peer y v)
+pub moves_reached : {wide : Bool} {r : Role} {long_data : Bool} {n : Ranges} (y : At PeerChannels) (v : TwoLayers) (ms : List Move) → AllStay wide ms
+    → IsReachedByOctets wide r long_data n (with_peer y v)
     → IsReachedByOctets wide r long_data n (with_peer y (moves_all (settings_of r long_data n) v ms))
 moves_reached y v [] stay h = h
 moves_reached {wide} {r} {long_data} {n} y v (m ∷ ms) stay h =
@@ -74,37 +79,44 @@ pub pulls_asked : (pulled : List ℕ) → AreAsked (pulls_of pulled)
 pulls_asked [] = tt
 pulls_asked (h ∷ pulled) = (tt, pulls_asked pulled)
 
-requested_beside : (c : LayerSettings) (o b : List PlainPacket) (w : TwoLayers) (request : LayerRequest) (x : LayerOutcome) → requested c (beside o b w) request x ≡ beside o b (requested c w request x)
-requested_beside c o b w request (Accepted next packet) = ap (λ l. record (beside o b (requested c w request (Accepted next packet))) { out = l }) (append_assoc o w.out (option_to_list packet))
+requested_beside : (c : LayerSettings) (o b : List PlainPacket) (w : TwoLayers) (request : LayerRequest) (x : LayerOutcome)
+    → requested c (beside o b w) request x ≡ beside o b (requested c w request x)
+requested_beside c o b w request (Accepted next packet) = ap (λ l. record (beside o b (requested c w request (Accepted next packet))) { out = l })
+    (append_assoc o w.out (option_to_list packet))
 requested_beside c o b w request (Declined e) = refl
 
-pulled_beside : (c : LayerSettings) (o b : List PlainPacket) (w : TwoLayers) (x : LayerPulled) → pulled_in (beside o b w) x ≡ beside o b (pulled_in w x)
-pulled_beside c o b w x = ap (λ l. record (beside o b (pulled_in w x)) { out = l }) (append_assoc o w.out (option_to_list x.packet))
-
-pulls_beside : (c : LayerSettings) (o b : List PlainPacket) (w : TwoLayers) (h : ℕ) (yes : Bool) → (if yes then pulled_in (beside o b w) (layer_pulled c w.near.layer h) else beside o b w) ≡ beside o b (if yes then pulled_in w (layer_pulled c w.near.layer h) else w)
-pulls_beside c o b w h true = pulled_beside c o b w (layer_pulled c w.near.layer h)
+pulls_beside : (c : LayerSettings) (o b : List PlainPacket) (w : TwoLayers) (h : ℕ) (yes : Bool)
+    → (if yes then pulled_in (beside o b w) (layer_pulled c w.near.layer h) else beside o b w)
+    ≡ beside o b (if yes then pulled_in w (layer_pulled c w.near.layer h) else w)
+pulls_beside c o b w h true = (ap (λ l. record (beside o b (pulled_in w (layer_pulled c w.near.layer h))) { out = l })
+    (append_assoc o w.out (option_to_list (layer_pulled c w.near.layer h).packet)))
 pulls_beside c o b w h false = refl
 
-move_beside : (c : LayerSettings) (o b : List PlainPacket) (w : TwoLayers) (gone : Bool) (m : Move) → IsAsked m → moves_in c (beside o b w) gone m ≡ beside o b (moves_in c w gone m)
+move_beside : (c : LayerSettings) (o b : List PlainPacket) (w : TwoLayers) (gone : Bool) (m : Move) → IsAsked m → moves_in c (beside o b w) gone m
+    ≡ beside o b (moves_in c w gone m)
 move_beside c o b w true m asked = refl
 move_beside c o b w false (Requests full request) asked = requested_beside c o b w request (layer_outcome c full w.near.layer request)
 move_beside c o b w false (Pulls h) asked = pulls_beside c o b w h (is_channel c.channels h)
 move_beside c o b w false m asked = absurd asked
 
-moves_beside : (c : LayerSettings) (o b : List PlainPacket) (w : TwoLayers) (ms : List Move) → AreAsked ms → moves_all c (beside o b w) ms ≡ beside o b (moves_all c w ms)
+moves_beside : (c : LayerSettings) (o b : List PlainPacket) (w : TwoLayers) (ms : List Move) → AreAsked ms → moves_all c (beside o b w) ms
+    ≡ beside o b (moves_all c w ms)
 moves_beside c o b w [] asked = refl
 moves_beside c o b w (m ∷ ms) asked =
     ap (λ v. moves_all c v ms) (move_beside c o b w w.near.is_out m asked.0) ∙ moves_beside c o b (moves c w m) ms asked.1
 
 -- beside any peer that it is reached with, the end goes where it goes by itself
-pub asked_reached : {wide : Bool} {r : Role} {long_data : Bool} {n : Ranges} (y : At PeerChannels) (e : End) (o b : List PlainPacket) (ms : List Move) → AreAsked ms → AllStay wide ms
+pub asked_reached : {wide : Bool} {r : Role} {long_data : Bool} {n : Ranges} (y : At PeerChannels) (e : End) (o b : List PlainPacket) (ms : List Move)
+    → AreAsked ms → AllStay wide ms
     → IsReachedByOctets wide r long_data n (record { near = e; peer = y; out = o; back = b })
-    → (let v = moves_all (settings_of r long_data n) (alone_at e) ms in IsReachedByOctets wide r long_data n (record { near = v.near; peer = y; out = o ++ v.out; back = b }))
+    → (let v = moves_all (settings_of r long_data n) (alone_at e) ms in
+    IsReachedByOctets wide r long_data n (record { near = v.near; peer = y; out = o ++ v.out; back = b }))
 asked_reached {wide} {r} {long_data} {n} y e o b ms asked stay h =
     let c = settings_of r long_data n in
     let start = beside o b (alone_at e) in
     let moved = moves_reached y start ms stay (rw (append-nil o) h) in
-    subst (λ v. IsReachedByOctets wide r long_data n (record { near = v.near; peer = y; out = v.out; back = v.back })) (moves_beside c o b (alone_at e) ms asked) moved
+    subst (λ v. IsReachedByOctets wide r long_data n (record { near = v.near; peer = y; out = v.out; back = v.back }))
+    (moves_beside c o b (alone_at e) ms asked) moved
 
 -- ---- by such moves it takes nothing, and tells the user nothing
 

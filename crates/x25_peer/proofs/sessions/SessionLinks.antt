@@ -13,7 +13,8 @@ links_with link begun down up peer out back met =
     record { near = record { station = link; begun = begun; down = down; up = up }; peer = peer; out = out; back = back; met = met }
 
 -- this link is reached beside this peer's, where these were handed down and handed up in each session
-pub record LinkReached (c : LinkSettings) (link : LinkStation) (begun : ℕ) (down up : ℕ → List (List ℕ)) (peer : PeerEnd) (out back : List Entry) (met : List Meeting) : Type 0 where
+pub record LinkReached (c : LinkSettings) (link : LinkStation) (begun : ℕ) (down up : ℕ → List (List ℕ)) (peer : PeerEnd) (out back : List Entry)
+    (met : List Meeting) : Type 0 where
   pub downs : ℕ → List (List ℕ)
   pub ups : ℕ → List (List ℕ)
   pub reached : ReachedInSessions (Unit {0}) c (links_with link begun downs ups peer out back met)
@@ -24,14 +25,20 @@ pub record LinkReached (c : LinkSettings) (link : LinkStation) (begun : ℕ) (do
 abbrev pub Reach : LinkSettings → PeerEnd → Sessions → Type 0
 Reach c peer v = ReachedInSessions (Unit {0}) c (with_peer peer v)
 
-pub acts_reach : {c : LinkSettings} {peer : PeerEnd} (act : line.Act) (v : Sessions) → IsTimely c act (with_peer peer v) → Reach c peer v → Reach c peer (acts c act v)
+pub acts_reach : {c : LinkSettings} {peer : PeerEnd} (act : line.Act) (v : Sessions) → IsTimely c act (with_peer peer v) → Reach c peer v
+    → Reach c peer (acts c act v)
 acts_reach {c} {peer} act v timely h =
-    subst (ReachedInSessions (Unit {0}) c) (sym (alike c peer act v)) (goes_on (with_peer peer v) (with_peer peer (acts c act (both_ends (with_peer peer v)))) h (Ours act timely))
+    subst (ReachedInSessions (Unit {0}) c) (sym (alike c peer act v))
+    (goes_on (with_peer peer v) (with_peer peer (acts c act (both_ends (with_peer peer v)))) h (Ours act timely))
 
 -- to which the station's has gone so
-pub goes_reached : {c : LinkSettings} {peer : PeerEnd} (w : PeerSessions) (down up down₂ up₂ : ℕ → List (List ℕ)) {v : Sessions} {session : ℕ} {link : LinkStation} {frames : List PlainFrame} {handed lifted : List (List ℕ)} {left : List Entry} {met : List Meeting}
-    → Reach c peer v → SessionGoes c (both_ends w) v session link frames handed lifted left met → ((n : ℕ) → w.near.down n ≡ down n) → ((n : ℕ) → w.near.up n ≡ up n)
-    → ((n : ℕ) → extended down session handed n ≡ down₂ n) → ((n : ℕ) → extended up session lifted n ≡ up₂ n) → LinkReached c link session down₂ up₂ peer (w.out ++ sent_in session c.role frames) left met
+pub goes_reached : {c : LinkSettings} {peer : PeerEnd} (w : PeerSessions)
+    (down up down₂ up₂ : ℕ → List (List ℕ)) {v : Sessions} {session : ℕ} {link : LinkStation} {frames : List PlainFrame} {handed lifted : List
+    (List ℕ)} {left : List Entry} {met : List Meeting}
+    → Reach c peer v → SessionGoes c (both_ends w) v session link frames handed lifted left met → ((n : ℕ) → w.near.down n ≡ down n)
+    → ((n : ℕ) → w.near.up n ≡ up n)
+    → ((n : ℕ) → extended down session handed n ≡ down₂ n) → ((n : ℕ) → extended up session lifted n ≡ up₂ n)
+    → LinkReached c link session down₂ up₂ peer (w.out ++ sent_in session c.role frames) left met
 goes_reached {c} {peer} w down up down₂ up₂ {v} {session} {link} {frames} {handed} {lifted} {left} {met} reach g is_down is_up more_down more_up = record {
   downs = v.near.down;
   ups = v.near.up;

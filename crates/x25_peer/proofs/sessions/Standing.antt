@@ -1,6 +1,7 @@
 -- What stands of a station and a peer over sessions: their links are joined as `x25_line` has it, and the layers of each session of the one and
 -- each of the other that it met, or may meet yet, as `x25_layer` has it.
-use Rattle.std.proofs.Common.{◌≡◌, ℕ, ◌==◌, ◌≤◌, ◌<◌, inl, inr, List, [], ◌++◌, length, drop, Bool, true, false, if◌then◌else◌, refl, sym, ap, subst, ◌∙◌, append_assoc, eq-eqb, arith}
+use Rattle.std.proofs.Common.{◌≡◌, ℕ, ◌==◌, ◌≤◌, ◌<◌, inl, inr, List, [], ◌++◌, length, drop, Bool, true, false, if◌then◌else◌, refl, sym, ap, subst, ◌∙◌}
+use Rattle.std.proofs.Common.{append_assoc, eq-eqb, arith}
 use Rattle.std.proofs.{lemmas.Bool.{eqb-true, ne_eqb}, lemmas.List.{drop-append-le}}
 use Rattle.x25_packet.specs.Packet.{PlainPacket}
 use Rattle.x25_link.specs.Station.{Settings as LinkSettings, LinkStation, is_up}
@@ -58,14 +59,16 @@ in_here {A} s x all = ap (λ b. if b then x else all s) (eq-eqb s s refl)
 pub in_other : {A : Type 0} (s n : ℕ) (x : A) (all : ℕ → A) → (n ≡ s → ⊥) → in_session s x all n ≡ all n
 in_other {A} s n x all differs = ap (λ b. if b then x else all n) (ne_eqb n s differs)
 
-pub in_cases : {A : Type 0} (P : ℕ → A → Type 0) (s : ℕ) (x : A) (all : ℕ → A) → P s x → ((n : ℕ) → (n ≡ s → ⊥) → P n (all n)) → (n : ℕ) → P n (in_session s x all n)
+pub in_cases : {A : Type 0} (P : ℕ → A → Type 0) (s : ℕ) (x : A) (all : ℕ → A) → P s x → ((n : ℕ) → (n ≡ s → ⊥) → P n (all n)) → (n : ℕ)
+    → P n (in_session s x all n)
 in_cases {A} P s x all here others n = by (n == s) refl
   where
     by : (b : Bool) → (n == s) ≡ b → P n (if b then x else all n)
     by true is = subst (λ k. P k x) (sym (eqb-true n s is)) here
     by false is = others n (λ e. true_false (sym (eq-eqb n s e) ∙ is))
 
-pub both_cases : {A B : Type 0} (P : ℕ → A → B → Type 0) (s : ℕ) (x : A) (all : ℕ → A) (y : B) (each : ℕ → B) → P s x y → ((n : ℕ) → (n ≡ s → ⊥) → P n (all n) (each n)) → (n : ℕ)
+pub both_cases : {A B : Type 0} (P : ℕ → A → B → Type 0) (s : ℕ) (x : A) (all : ℕ → A) (y : B) (each : ℕ → B) → P s x y
+    → ((n : ℕ) → (n ≡ s → ⊥) → P n (all n) (each n)) → (n : ℕ)
     → P n (in_session s x all n) (in_session s y each n)
 both_cases {A} {B} P s x all y each here others n = by (n == s) refl
   where
@@ -110,7 +113,8 @@ way_more t given more few = append_assoc t.passed (drop t.heard given) more ∙ 
 
 -- a session of the station and one of the peer, whose layer put these packets, as they are read
 abbrev pub PairReached : Settings → Known → Theirs → List PlainPacket → Type 0
-PairReached c k t puts = IsReachedByOctets c.wide c.role c.long_data c.channels (record { near = k.end; peer = t.layer; out = way t k.end.given; back = drop (length k.up) puts })
+PairReached c k t puts = IsReachedByOctets c.wide c.role c.long_data c.channels
+    (record { near = k.end; peer = t.layer; out = way t k.end.given; back = drop (length k.up) puts })
 
 -- of the peer's sessions
 pub record IsRead (c : Settings) (p : Peer) (t : Theirs) (puts : List PlainPacket) : Type 0 where
@@ -140,7 +144,8 @@ pub record Stands (c : Settings) (w : BesideSessions) : Type 0 where
 
 -- ---- the lists of what is known
 
-pub into : (list : Known → List (List ℕ)) (known : ℕ → Known) (s : ℕ) (k : Known) (more : List (List ℕ)) → list k ≡ list (known s) ++ more → (n : ℕ) → extended (λ i. list (known i)) s more n ≡ list (in_session s k known n)
+pub into : (list : Known → List (List ℕ)) (known : ℕ → Known) (s : ℕ) (k : Known) (more : List (List ℕ)) → list k ≡ list (known s) ++ more → (n : ℕ)
+    → extended (λ i. list (known i)) s more n ≡ list (in_session s k known n)
 into list known s k more same n = by (n == s) refl
   where
     by : (b : Bool) → (n == s) ≡ b → (if b then list (known n) ++ more else list (known n)) ≡ list (if b then k else known n)
@@ -155,7 +160,8 @@ pub record BothBegin (down up : List (List ℕ)) (p : Peer) : Type 0 where
   pub back : IsPrefix up p.given
 
 module _ (below : Below) (c : LinkSettings) (low : 1 ≤ c.window) (high : c.window ≤ 7) where
-  module _ (link : LinkStation) (begun : ℕ) (down up : ℕ → List (List ℕ)) (peer : PeerEnd) (out back : List Entry) (met : List Meeting) (l : LinkReached c link begun down up peer out back met) where
+  module _ (link : LinkStation) (begun : ℕ) (down up : ℕ → List (List ℕ)) (peer : PeerEnd) (out back : List Entry) (met : List Meeting)
+      (l : LinkReached c link begun down up peer out back met) where
     abbrev links : PeerSessions
     links = links_with link begun l.downs l.ups peer out back met
 
@@ -172,35 +178,38 @@ module _ (below : Below) (c : LinkSettings) (low : 1 ≤ c.window) (high : c.win
             | inl none ↦ subst (λ t. IsPrefix t (down n)) (sym none) (down n, refl)
             | inr some ↦ all_some (λ p. IsInOrder links.near (as_end peer) p × IsOne n m p) (λ p. p.far ≡ m) (IsPrefix (peer.of_session m).taken (down n))
                 (λ (p : Meeting) h is. subst (λ d. IsPrefix (peer.of_session m).taken d) (l.is_down n)
-                (subst (λ i. IsPrefix (peer.of_session m).taken (l.downs i)) (h.1.1 is) (subst (λ i. IsPrefix (peer.of_session i).taken (l.downs p.near)) is h.0.there))) met both some
+                (subst (λ i. IsPrefix (peer.of_session m).taken (l.downs i)) (h.1.1 is)
+                (subst (λ i. IsPrefix (peer.of_session i).taken (l.downs p.near)) is h.0.there))) met both some
           ];
           back = elim (unmet.near n) [
             | inl none ↦ subst (λ u. IsPrefix u (peer.of_session m).given) (sym none ∙ l.is_up n) ((peer.of_session m).given, refl)
             | inr some ↦ all_some (λ p. IsInOrder links.near (as_end peer) p × IsOne n m p) (λ p. p.near ≡ n) (IsPrefix (up n) (peer.of_session m).given)
                 (λ (p : Meeting) h is. subst (λ u. IsPrefix u (peer.of_session m).given) (l.is_up n)
-                (subst (λ i. IsPrefix (l.ups n) (peer.of_session i).given) (h.1.0 is) (subst (λ i. IsPrefix (l.ups i) (peer.of_session p.far).given) is h.0.back))) met both some
+                (subst (λ i. IsPrefix (l.ups n) (peer.of_session i).given) (h.1.0 is)
+                (subst (λ i. IsPrefix (l.ups i) (peer.of_session p.far).given) is h.0.back))) met both some
           ];
         }
 
 -- ---- of two sessions that met, or may meet yet
 
-module _ (below : Below) (c : Settings) (low : 1 ≤ c.window) (high : c.window ≤ 7) (w : BesideSessions) (h : Stands c w) (n m : ℕ) (can : CanMeet n m w.met) where
-  pub pair_begins : BothBegin (h.known n).down (h.known n).up (w.peer.of_session m)
-  pair_begins = both_begin below (link_settings c) low high w.near.link w.begun (downs_of h.known) (ups_of h.known) w.peer w.out w.back w.met h.link can
+module _ (below : Below) (c : Settings) (low : 1 ≤ c.window) (high : c.window ≤ 7) (w : BesideSessions) (h : Stands c w) (n m : ℕ) (can : CanMeet n m w.met)
+  where
+    pub pair_begins : BothBegin (h.known n).down (h.known n).up (w.peer.of_session m)
+    pair_begins = both_begin below (link_settings c) low high w.near.link w.begun (downs_of h.known) (ups_of h.known) w.peer w.out w.back w.met h.link can
 
-  -- what the peer's link took is read as the first of what our layer put
-  pub taken_begins : ReadFirst c (w.peer.of_session m).taken (h.known n).end.given
-  taken_begins =
-      first_front c (w.peer.of_session m).taken pair_begins.there.0 (h.known n).end.given
-      (subst (λ d. ReadFirst c d (h.known n).end.given) (sym pair_begins.there.1) (h.each n).begins)
+    -- what the peer's link took is read as the first of what our layer put
+    pub taken_begins : ReadFirst c (w.peer.of_session m).taken (h.known n).end.given
+    taken_begins =
+        first_front c (w.peer.of_session m).taken pair_begins.there.0 (h.known n).end.given
+        (subst (λ d. ReadFirst c d (h.known n).end.given) (sym pair_begins.there.1) (h.each n).begins)
 
-  pub heard_few : (w.theirs m).heard ≤ length (h.known n).end.given
-  heard_few =
-      let some : (w.theirs m).heard ≤ length (w.peer.of_session m).taken = (h.peers m).heard in
-      omega (arith, some, first_length c (w.peer.of_session m).taken (h.known n).end.given taken_begins)
+    pub heard_few : (w.theirs m).heard ≤ length (h.known n).end.given
+    heard_few =
+        let some : (w.theirs m).heard ≤ length (w.peer.of_session m).taken = (h.peers m).heard in
+        omega (arith, some, first_length c (w.peer.of_session m).taken (h.known n).end.given taken_begins)
 
-  pub up_few : length (h.known n).up ≤ length (h.puts m)
-  up_few =
-      let prefix = pair_begins.back in
-      let whole = read_first c (w.peer.of_session m).given (h.puts m) (h.peers m).reads in
-      first_length c (h.known n).up (h.puts m) (first_front c (h.known n).up prefix.0 (h.puts m) (subst (λ g. ReadFirst c g (h.puts m)) (sym prefix.1) whole))
+    pub up_few : length (h.known n).up ≤ length (h.puts m)
+    up_few =
+        let prefix = pair_begins.back in
+        let whole = read_first c (w.peer.of_session m).given (h.puts m) (h.peers m).reads in
+        first_length c (h.known n).up (h.puts m) (first_front c (h.known n).up prefix.0 (h.puts m) (subst (λ g. ReadFirst c g (h.puts m)) (sym prefix.1) whole))

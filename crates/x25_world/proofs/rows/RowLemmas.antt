@@ -16,7 +16,28 @@ more_arrives = (
   },
   (tt, (tt, (tt, (tt, (tt, (tt, (tt, (tt, (tt, (tt, (tt, tt))))))))))),
   (
-    (tt, ((refl, (refl, refl)), ((refl, (refl, refl)), ((refl, (refl, refl)), ((refl, (refl, refl)), ((refl, (refl, refl)), ((refl, (refl, refl)), ((refl, (refl, refl)), ((refl, (refl, refl)), ((refl, (refl, refl)), ((refl, (refl, refl)), (refl, refl)))))))))))),
+    (
+      tt,
+      (
+        (refl, (refl, refl)),
+        (
+          (refl, (refl, refl)),
+          (
+            (refl, (refl, refl)),
+            (
+              (refl, (refl, refl)),
+              (
+                (refl, (refl, refl)),
+                (
+                  (refl, (refl, refl)),
+                  ((refl, (refl, refl)), ((refl, (refl, refl)), ((refl, (refl, refl)), ((refl, (refl, refl)), (refl, refl))))),
+                ),
+              ),
+            ),
+          ),
+        ),
+      ),
+    ),
     (record { out = refl; back = refl }, refl),
   ),
 )

@@ -1,6 +1,7 @@
 -- What octets bring beside a packet: of those that a link is handed down what its user gave, in order, and of those that it hands up what its user
 -- is told.
-use Rattle.std.proofs.Common.{◌≡◌, ℕ, ◌==◌, ◌≤◌, inl, inr, List, [], ◌∷◌, ◌++◌, length, Bool, true, false, nat_lt, ◌+◌, if◌then◌else◌, Option, Some, None, option_to_list, Result, Ok, Err, refl, sym, ap, ap₂, ◌∙◌, subst, append_assoc, append-nil, arith}
+use Rattle.std.proofs.Common.{◌≡◌, ℕ, ◌==◌, ◌≤◌, inl, inr, List, [], ◌∷◌, ◌++◌, length, Bool, true, false, nat_lt, ◌+◌, if◌then◌else◌, Option, Some, None}
+use Rattle.std.proofs.Common.{option_to_list, Result, Ok, Err, refl, sym, ap, ap₂, ◌∙◌, subst, append_assoc, append-nil, arith}
 use Rattle.std.proofs.{lemmas.Bool.{cond_both, eqb-true}, lemmas.List.{append_cancel_left}}
 use Rattle.x25_packet.specs.{Facilities.{IsFacilityField}, Packet.{PlainPacket, call, accept, clear, user_data}, declared.marks.Marks.{Marks}}
 use Rattle.x25_packet.specs.{Reading.{packet_of}, Spelling.{IsInRange, IsWithoutD, channel_of, longest_user, spelling_of}}
@@ -12,7 +13,8 @@ use Rattle.x25_circuit.specs.declared.state.State.TheVariants.{Free, Calling, Ar
 use Rattle.x25_circuit.specs.declared.error.CircuitError.TheVariants.{BadParameter}
 use Rattle.x25_layer.specs.{declared.error.LayerError.{LayerError}, declared.error.LayerError.TheVariants.{NoSuchChannel}}
 use Rattle.x25_layer.specs.Layer.{LayerSettings, Layer, is_channel}
-use Rattle.x25_layer.specs.Calls.{LayerRequest, Asks, Dials, LayerOutcome, Accepted, Declined, free_channel, outcome_on, where_room, dialled, outcome_in, layer_outcome, layer_pulled}
+use Rattle.x25_layer.specs.Calls.{LayerRequest, Asks, Dials, LayerOutcome, Accepted, Declined, free_channel, outcome_on, where_room, dialled, outcome_in}
+use Rattle.x25_layer.specs.Calls.{layer_outcome, layer_pulled}
 use Rattle.x25_layer.specs.{laws.TwoLayers.{pulled_in, moves_in, requested}, laws.RoundLaw.{moves_all, pulls_of}, laws.Apart.{alone}}
 use Rattle.x25_station.specs.Beside.{PlainBeside, nothing, fields, of_fields, beside_kind, beside_in, beside_or_none, unless_written}
 use Rattle.x25_station.specs.{declared.config.Cfg.{Cfg}, Command.{said_by}, Giving.{suits}, laws.GivenLaw.{GivesOctets, told}}
@@ -35,7 +37,8 @@ module _ {A B : Type 0} (IsOf : A → B → Type 0) where
   pub some_append : (xs us : List A) (ys vs : List B) → AreSomeOf IsOf xs ys → AreSomeOf IsOf us vs → AreSomeOf IsOf (xs ++ us) (ys ++ vs)
   some_append [] us ys vs h g = some_later us ys vs g
   some_append (x ∷ xs) us [] vs h g = absurd h
-  some_append (x ∷ xs) us (y ∷ ys) vs h g = elim h [ inl both ↦ inl (both.0, some_append xs us ys vs both.1 g) | inr rest ↦ inr (some_append (x ∷ xs) us ys vs rest g) ]
+  some_append (x ∷ xs) us (y ∷ ys) vs h g = elim h
+      [ inl both ↦ inl (both.0, some_append xs us ys vs both.1 g) | inr rest ↦ inr (some_append (x ∷ xs) us ys vs rest g) ]
 
   pub some_begin : (xs us : List A) (ys : List B) → AreSomeOf IsOf (xs ++ us) ys → AreSomeOf IsOf xs ys
   some_begin [] us ys h = tt
@@ -74,7 +77,8 @@ brought cfg (octets ∷ rest) = brought_by cfg octets ++ brought cfg rest
 
 pub brought_append : (cfg : Cfg) (xs ys : List (List ℕ)) → brought cfg (xs ++ ys) ≡ brought cfg xs ++ brought cfg ys
 brought_append cfg [] ys = refl
-brought_append cfg (x ∷ xs) ys = ap (λ l. brought_by cfg x ++ l) (brought_append cfg xs ys) ∙ sym (append_assoc (brought_by cfg x) (brought cfg xs) (brought cfg ys))
+brought_append cfg (x ∷ xs) ys = ap (λ l. brought_by cfg x ++ l) (brought_append cfg xs ys)
+    ∙ sym (append_assoc (brought_by cfg x) (brought cfg xs) (brought cfg ys))
 
 pub came_append : (xs ys : List StationEntry) → came_in (xs ++ ys) ≡ came_in xs ++ came_in ys
 came_append [] ys = refl
@@ -84,7 +88,8 @@ abbrev pub AreTold : List Came → List Came → Type 0
 AreTold xs ys = AreSomeOf (λ x y. x ≡ y) xs ys
 
 -- as more is told, and more octets are handed up
-pub told_more : (cfg : Cfg) (before es all : List StationEntry) (up came up₂ : List (List ℕ)) → AreTold (came_in before) (brought cfg up) → AreTold (came_in es) (brought cfg came) → all ≡ before ++ es → up₂ ≡ up ++ came
+pub told_more : (cfg : Cfg) (before es all : List StationEntry) (up came up₂ : List (List ℕ)) → AreTold (came_in before) (brought cfg up)
+    → AreTold (came_in es) (brought cfg came) → all ≡ before ++ es → up₂ ≡ up ++ came
     → AreTold (came_in all) (brought cfg up₂)
 told_more cfg before es all up came up₂ old new is more =
     rw is (subst (λ os. AreTold (came_in (before ++ es)) (brought cfg os)) (sym more)
@@ -102,7 +107,8 @@ pub record MoreIs (cfg : Cfg) (old new : List (List ℕ)) (gave : List Gave) : T
 pub none_more : (cfg : Cfg) (old new : List (List ℕ)) (gave : List Gave) → new ≡ old → MoreIs cfg old new gave
 none_more cfg old new gave same = record { more = []; is = same ∙ sym (append-nil old); given = tt }
 
-pub more_again : {cfg : Cfg} {old new newer : List (List ℕ)} {xs ys : List Gave} → MoreIs cfg old new xs → MoreIs cfg new newer ys → MoreIs cfg old newer (xs ++ ys)
+pub more_again : {cfg : Cfg} {old new newer : List (List ℕ)} {xs ys : List Gave} → MoreIs cfg old new xs → MoreIs cfg new newer ys
+    → MoreIs cfg old newer (xs ++ ys)
 more_again {cfg} {old} {xs} {ys} f g = record {
   more = f.more ++ g.more;
   is = g.is ∙ ap (λ l. l ++ g.more) f.is ∙ append_assoc old f.more g.more;
@@ -121,7 +127,8 @@ user_short true = omega arith
 user_short false = omega arith
 
 -- what is read as a data packet brings nothing
-data_brings : (h : ℕ) (marks : Marks) (m : Bool) (ps pr : ℕ) (user : List ℕ) (w : PlainForm) (field : Result (List ℕ) PacketError) → narrowed w field ≡ Ok (user_data h marks m ps pr user) → beside_kind w.kind ≡ nothing
+data_brings : (h : ℕ) (marks : Marks) (m : Bool) (ps pr : ℕ) (user : List ℕ) (w : PlainForm) (field : Result (List ℕ) PacketError) → narrowed w field
+    ≡ Ok (user_data h marks m ps pr user) → beside_kind w.kind ≡ nothing
 data_brings h marks m ps pr user w (Err e) is = absurd (cc)
 data_brings h marks m ps pr user w (Ok field) is = by w.kind is
   where
@@ -143,7 +150,8 @@ module _ (laws : Laws) (cfg : Cfg) where
   plain_beside : (p : PlainPacket) → IsWithoutD p → IsReadable cfg.wide cfg.long_data p → beside_in true (spelling_of p) ≡ nothing
   plain_beside p without r = ap (λ read. unless_written read (beside_or_none (form_in 128 (spelling_of p)))) (read_plain p without r)
 
-  data_beside : (h : ℕ) (marks : Marks) (m : Bool) (ps pr : ℕ) (user : List ℕ) → IsReadable cfg.wide cfg.long_data (user_data h marks m ps pr user) → beside_in true (spelling_of (user_data h marks m ps pr user)) ≡ nothing
+  data_beside : (h : ℕ) (marks : Marks) (m : Bool) (ps pr : ℕ) (user : List ℕ) → IsReadable cfg.wide cfg.long_data (user_data h marks m ps pr user)
+      → beside_in true (spelling_of (user_data h marks m ps pr user)) ≡ nothing
   data_beside h marks m ps pr user r = by (packet_of 128 o) (form_in 128 o) (laws.taken 128 p (omega arith) r.octets (in_range p r))
     where
       p : PlainPacket
@@ -152,7 +160,8 @@ module _ (laws : Laws) (cfg : Cfg) where
       o : List ℕ
       o = spelling_of p
 
-      by : (read : Result PlainPacket PacketError) (wide : Result PlainForm PacketError) → taken_of wide ≡ Ok p → unless_written read (beside_or_none wide) ≡ nothing
+      by : (read : Result PlainPacket PacketError) (wide : Result PlainForm PacketError) → taken_of wide ≡ Ok p → unless_written read (beside_or_none wide)
+          ≡ nothing
       by (Ok u) wide is = refl
       by (Err e) (Err f) is = refl
       by (Err e) (Ok w) is = data_brings h marks m ps pr user w (field_in w.kind) is
@@ -193,21 +202,27 @@ module _ (laws : Laws) (cfg : Cfg) (g : PlainGiven) (channel : Option ℕ) (wide
   gave = record { channel = channel; given = g } ∷ []
 
   -- fields that aren't both empty
-  some_fields : (p : PlainPacket) (facilities user : List ℕ) → ((h : ℕ) → h ≡ channel_of p → IsGiven (record { channel = h; facilities = facilities; user = user }) (record { channel = channel; given = g }))
+  some_fields : (p : PlainPacket) (facilities user : List ℕ)
+      → ((h : ℕ) → h ≡ channel_of p → IsGiven (record { channel = h; facilities = facilities; user = user }) (record { channel = channel; given = g }))
       → AreSomeOf IsGiven (brought_as (Ok p) (of_fields (Some (record { facilities = facilities; user = user })))) gave
   some_fields p facilities user is =
-      cond_both (nat_lt 0 (length facilities + length user)) (fields facilities user) nothing (λ b. AreSomeOf IsGiven (brought_as (Ok p) b) gave) (λ _. inl (is (channel_of p) refl, tt)) (λ _. tt)
+      cond_both (nat_lt 0 (length facilities + length user)) (fields facilities user) nothing (λ b. AreSomeOf IsGiven (brought_as (Ok p) b) gave)
+      (λ _. inl (is (channel_of p) refl, tt)) (λ _. tt)
 
   told_brings : (p : PlainPacket) → MayGoOn g channel p → IsInRange 128 p → AreSomeOf IsGiven (brought_as (Ok p) (told g p)) gave
   told_brings (call h called calling field user) may range =
-      some_fields (call h called calling field user) (field ++ g.facilities) [] (λ k same. record { channel = may.0 ∙ ap (λ n. Some n) (sym same); own = field; of_own = range.3; facilities = refl; user = sym may.1 })
+      some_fields (call h called calling field user) (field ++ g.facilities) []
+      (λ k same. record { channel = may.0 ∙ ap (λ n. Some n) (sym same); own = field; of_own = range.3; facilities = refl; user = sym may.1 })
   told_brings (accept h field) may range =
-      some_fields (accept h field) (field ++ g.facilities) g.user (λ k same. record { channel = may ∙ ap (λ n. Some n) (sym same); own = field; of_own = range.1; facilities = refl; user = refl })
+      some_fields (accept h field) (field ++ g.facilities) g.user
+      (λ k same. record { channel = may ∙ ap (λ n. Some n) (sym same); own = field; of_own = range.1; facilities = refl; user = refl })
   told_brings (clear h cause diagnostic) may range =
-      some_fields (clear h cause diagnostic) g.facilities g.user (λ k same. record { channel = may ∙ ap (λ n. Some n) (sym same); own = []; of_own = no_field; facilities = refl; user = refl })
+      some_fields (clear h cause diagnostic) g.facilities g.user
+      (λ k same. record { channel = may ∙ ap (λ n. Some n) (sym same); own = []; of_own = no_field; facilities = refl; user = refl })
   told_brings p may range = tt
 
-  form_brings : (p : PlainPacket) → IsWithoutD p → MayGoOn g channel p → IsReadable cfg.wide cfg.long_data p → AreSomeOf IsGiven (brought_by cfg (write g (spelling_of p))) gave
+  form_brings : (p : PlainPacket) → IsWithoutD p → MayGoOn g channel p → IsReadable cfg.wide cfg.long_data p
+      → AreSomeOf IsGiven (brought_by cfg (write g (spelling_of p))) gave
   form_brings p without may r = by (packet_of 128 o) refl
     where
       o : List ℕ
@@ -225,27 +240,32 @@ module _ (laws : Laws) (cfg : Cfg) (g : PlainGiven) (channel : Option ℕ) (wide
       err_ok : {A : Type 0} (e : PacketError) → Err e ≡ Ok p → A
       err_ok e is = absurd (cc)
 
-      brings : (beside : PlainBeside) → beside_in cfg.wide o ≡ beside → AreSomeOf IsGiven (brought_as (Ok p) beside) gave → AreSomeOf IsGiven (brought_by cfg o) gave
+      brings : (beside : PlainBeside) → beside_in cfg.wide o ≡ beside → AreSomeOf IsGiven (brought_as (Ok p) beside) gave
+          → AreSomeOf IsGiven (brought_by cfg o) gave
       brings beside is h = rw (ap₂ brought_as reads is) h
 
       by : (read : Result PlainPacket PacketError) → packet_of 128 o ≡ read → AreSomeOf IsGiven (brought_by cfg o) gave
       by (Ok u) is = brings nothing (ap (λ b. beside_in b o) wide ∙ ap (λ read. unless_written read (beside_or_none (form_in 128 o))) is) tt
       by (Err e) is = brings (told g p)
           (ap (λ b. beside_in b o) wide ∙ ap (λ os. beside_in true os) is_written
-          ∙ laws.given_told g p allowed (in_range laws cfg p r) of_written (λ same. err_ok e (sym is ∙ ap (λ os. packet_of 128 os) (is_written ∙ same) ∙ read_plain laws cfg p without r)))
+          ∙ laws.given_told g p allowed (in_range laws cfg p r) of_written
+          (λ same. err_ok e (sym is ∙ ap (λ os. packet_of 128 os) (is_written ∙ same) ∙ read_plain laws cfg p without r)))
           (told_brings p may (in_range laws cfg p r))
 
-  with_brings : (p : PlainPacket) → MayGoOn g channel p → IsReadable cfg.wide cfg.long_data p → AreSomeOf IsGiven (brought_by cfg (write g (spelling_of p))) gave
+  with_brings : (p : PlainPacket) → MayGoOn g channel p → IsReadable cfg.wide cfg.long_data p
+      → AreSomeOf IsGiven (brought_by cfg (write g (spelling_of p))) gave
   with_brings (user_data h marks m ps pr user) may r =
       let p = user_data h marks m ps pr user in
       subst (λ l. AreSomeOf IsGiven l gave)
       (sym (ap (brought_by cfg) (laws.given_written g p (in_range laws cfg p r) r.octets) ∙ plain_brings laws cfg p r)) tt
   with_brings p may r = form_brings p tt may r
 
-  pub spelled_with_bring : (packets : List PlainPacket) → FirstMayGo g channel packets → AreReadable cfg.wide cfg.long_data packets → AreSomeOf IsGiven (brought cfg (spelled_with g packets)) gave
+  pub spelled_with_bring : (packets : List PlainPacket) → FirstMayGo g channel packets → AreReadable cfg.wide cfg.long_data packets
+      → AreSomeOf IsGiven (brought cfg (spelled_with g packets)) gave
   spelled_with_bring [] may h = tt
   spelled_with_bring (p ∷ packets) may h =
-      rw (spelled_bring laws cfg packets h.1) (subst (λ l. AreSomeOf IsGiven l gave) (sym (append-nil (brought_by cfg (write g (spelling_of p))))) (with_brings p may h.0))
+      rw (spelled_bring laws cfg packets h.1)
+      (subst (λ l. AreSomeOf IsGiven l gave) (sym (append-nil (brought_by cfg (write g (spelling_of p))))) (with_brings p may h.0))
 
 -- ---- the layer puts the packet of such a command first
 
@@ -261,7 +281,8 @@ if_room : (g : PlainGiven) (channel : Option ℕ) (full : Bool) (o : LayerOutcom
 if_room g channel true o h = tt
 if_room g channel false o h = h
 
-if_own : (g : PlainGiven) (channel : Option ℕ) (b : Bool) (o : LayerOutcome) (e : LayerError) → PutsOwn g channel o → PutsOwn g channel (if b then o else Declined e)
+if_own : (g : PlainGiven) (channel : Option ℕ) (b : Bool) (o : LayerOutcome) (e : LayerError) → PutsOwn g channel o
+    → PutsOwn g channel (if b then o else Declined e)
 if_own g channel true o e h = h
 if_own g channel false o e h = tt
 
@@ -272,7 +293,8 @@ module _ (c : LayerSettings) (g : PlainGiven) (restarts : ℕ) (circuits : ℕ �
   accepts_own : (answer : Option Proposal) → PutsOwn g (Some h) (on_h (circuit.outcome c.circuit (circuits h) (circuit.Accepts answer)))
   accepts_own answer = by (circuits h).state
     where
-      if_may : (b : Bool) (p : Proposal) → PutsOwn g (Some h) (on_h (if b then circuit.does (circuits h) Open p.params false (accept 1 (field_for (circuits h).params p)) else circuit.Refused BadParameter))
+      if_may : (b : Bool) (p : Proposal) → PutsOwn g (Some h)
+          (on_h (if b then circuit.does (circuits h) Open p.params false (accept 1 (field_for (circuits h).params p)) else circuit.Refused BadParameter))
       if_may true p = refl
       if_may false p = tt
 
@@ -287,7 +309,8 @@ module _ (c : LayerSettings) (g : PlainGiven) (restarts : ℕ) (circuits : ℕ �
   clears_own : (cause diagnostic : ℕ) → PutsOwn g (Some h) (on_h (circuit.outcome c.circuit (circuits h) (circuit.Clears cause diagnostic)))
   clears_own cause diagnostic = by (circuits h).state
     where
-      if_may : (b : Bool) → PutsOwn g (Some h) (on_h (if b then circuit.does (circuits h) Clearing default_params false (clear 1 cause diagnostic) else circuit.Refused BadParameter))
+      if_may : (b : Bool) → PutsOwn g (Some h)
+          (on_h (if b then circuit.does (circuits h) Clearing default_params false (clear 1 cause diagnostic) else circuit.Refused BadParameter))
       if_may true = refl
       if_may false = tt
 
@@ -296,10 +319,13 @@ module _ (c : LayerSettings) (g : PlainGiven) (restarts : ℕ) (circuits : ℕ �
       by Clearing = tt
       by s = if_may (may_clear_for c.circuit.role cause)
 
-  calls_own : (called calling user : List ℕ) (proposal : Proposal) → g.user ≡ [] → PutsOwn g (Some h) (on_h (circuit.outcome c.circuit (circuits h) (circuit.Calls called calling user proposal)))
+  calls_own : (called calling user : List ℕ) (proposal : Proposal) → g.user ≡ []
+      → PutsOwn g (Some h) (on_h (circuit.outcome c.circuit (circuits h) (circuit.Calls called calling user proposal)))
   calls_own called calling user proposal none = by (circuits h).state
     where
-      if_may : (b : Bool) → PutsOwn g (Some h) (on_h (if b then circuit.does (circuits h) Calling proposal.params true (circuit.call_sent called calling user proposal) else circuit.Refused BadParameter))
+      if_may : (b : Bool) → PutsOwn g (Some h)
+          (on_h (if b then circuit.does (circuits h) Calling proposal.params true (circuit.call_sent called calling user proposal)
+          else circuit.Refused BadParameter))
       if_may true = (refl, none)
       if_may false = tt
 
@@ -311,7 +337,8 @@ none_long : (xs : List ℕ) → (length xs == 0) ≡ true → xs ≡ []
 none_long [] e = refl
 none_long (x ∷ xs) e = let is = eqb-true (length (x ∷ xs)) 0 e in absurd (omega (arith, is))
 
-puts_own : (c : LayerSettings) (g : PlainGiven) (l : Layer) (full : Bool) (request : LayerRequest) → suits g request ≡ true → PutsOwn g (channel_for c l request) (layer_outcome c full l request)
+puts_own : (c : LayerSettings) (g : PlainGiven) (l : Layer) (full : Bool) (request : LayerRequest) → suits g request ≡ true
+    → PutsOwn g (channel_for c l request) (layer_outcome c full l request)
 puts_own c g l full request is = by l.restarting
   where
     ready : (request : LayerRequest) → suits g request ≡ true → PutsOwn g (channel_for c l request) (outcome_in c full false l.restarts l.circuits request)
@@ -337,7 +364,8 @@ said_channel c l says request = refl
 
 -- ---- and behind it what waits
 
-pulls_put : (c : LayerSettings) (w : layer.TwoLayers) (channels : List ℕ) → (rest : List PlainPacket) × ((moves_all c w (pulls_of channels)).near.given ≡ w.near.given ++ rest)
+pulls_put : (c : LayerSettings) (w : layer.TwoLayers) (channels : List ℕ) → (rest : List PlainPacket)
+    × ((moves_all c w (pulls_of channels)).near.given ≡ w.near.given ++ rest)
 pulls_put c w [] = ([], sym (append-nil w.near.given))
 pulls_put c w (h ∷ channels) =
     let one = first w.near.is_out (is_channel c.channels h) in
@@ -358,9 +386,11 @@ pulls_put c w (h ∷ channels) =
     first false b = if_channel (is_channel c.channels h)
 
 -- an accepted command puts its own packet first
-pub own_goes_first : (c : LayerSettings) (g : PlainGiven) (e : layer.End) (full : Bool) (request : LayerRequest) (channels : List ℕ) (packets : List PlainPacket) → e.is_out ≡ false → suits g request ≡ true
+pub own_goes_first : (c : LayerSettings) (g : PlainGiven) (e : layer.End) (full : Bool) (request : LayerRequest) (channels : List ℕ)
+    (packets : List PlainPacket) → e.is_out ≡ false → suits g request ≡ true
     → (next : Layer) (own : Option PlainPacket) → layer_outcome c full e.layer request ≡ Accepted next own
-    → (moves_all c (alone e []) (layer.Requests full request ∷ pulls_of channels)).near.given ≡ e.given ++ packets → FirstMayGo g (channel_for c e.layer request) packets
+    → (moves_all c (alone e []) (layer.Requests full request ∷ pulls_of channels)).near.given ≡ e.given ++ packets
+    → FirstMayGo g (channel_for c e.layer request) packets
 own_goes_first c g e full request channels packets out suit next own accepted given =
     by own (subst (PutsOwn g (channel_for c e.layer request)) accepted (puts_own c g e.layer full request suit)) put
   where
@@ -368,7 +398,8 @@ own_goes_first c g e full request channels packets out suit next own accepted gi
     asked = layer.moves c (alone e []) (layer.Requests full request)
 
     asked_given : asked.near.given ≡ e.given ++ option_to_list own
-    asked_given = ap (λ gone. (moves_in c (alone e []) gone (layer.Requests full request)).near.given) out ∙ ap (λ o. (requested c (alone e []) request o).near.given) accepted
+    asked_given = ap (λ gone. (moves_in c (alone e []) gone (layer.Requests full request)).near.given) out
+        ∙ ap (λ o. (requested c (alone e []) request o).near.given) accepted
 
     rest : (rest : List PlainPacket) × ((moves_all c asked (pulls_of channels)).near.given ≡ asked.near.given ++ rest)
     rest = pulls_put c asked channels
@@ -377,6 +408,7 @@ own_goes_first c g e full request channels packets out suit next own accepted gi
     put = append_cancel_left e.given packets (option_to_list own ++ rest.0)
         (sym given ∙ rest.1 ∙ ap (λ l. l ++ rest.0) asked_given ∙ append_assoc e.given (option_to_list own) rest.0)
 
-    by : (o : Option PlainPacket) → OwnMayGo g (channel_for c e.layer request) o → packets ≡ option_to_list o ++ rest.0 → FirstMayGo g (channel_for c e.layer request) packets
+    by : (o : Option PlainPacket) → OwnMayGo g (channel_for c e.layer request) o → packets ≡ option_to_list o ++ rest.0
+        → FirstMayGo g (channel_for c e.layer request) packets
     by None may is = absurd may
     by (Some p) may is = subst (FirstMayGo g (channel_for c e.layer request)) (sym is) may

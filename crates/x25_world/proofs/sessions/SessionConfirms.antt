@@ -1,5 +1,6 @@
 -- Of two layers in order: as many messages as an end's moves confirm of a stretch, of those whose confirmation was asked, the other end has handed up.
-use Rattle.std.proofs.Common.{◌≡◌, ◌⊎◌, inl, inr, ℕ, zero, suc, ◌+◌, ◌-◌, ◌≤◌, List, [], ◌∷◌, ◌++◌, length, take, drop, Bool, true, false, ◌==◌, if◌then◌else◌, refl, sym, ap, subst, ◌∙◌, arith, append_assoc}
+use Rattle.std.proofs.Common.{◌≡◌, ◌⊎◌, inl, inr, ℕ, zero, suc, ◌+◌, ◌-◌, ◌≤◌, List, [], ◌∷◌, ◌++◌, length, take, drop, Bool, true, false, ◌==◌, if◌then◌else◌}
+use Rattle.std.proofs.Common.{refl, sym, ap, subst, ◌∙◌, arith, append_assoc}
 use Rattle.std.proofs.{lemmas.Bool.{and_parts, eqb-true}, lemmas.List.{take-append-drop, drop-append-le}}
 use Rattle.x25_bits.specs.{declared.role.Role.{Role}, declared.role.Role.TheVariants.{Dte, Dce}}
 use Rattle.x25_link.specs.Hearing.{other}
@@ -54,7 +55,8 @@ abbrev acknowledged : Circuit → ℕ
 acknowledged x = asked_in (take x.talk.acked x.talk.sent)
 
 -- by a packet that acknowledges more, so many more
-more_acknowledged : (x y : Circuit) (n : ℕ) → Hears x y → y.talk.acked ≤ length y.talk.sent → n ≤ acknowledged x → n + (unconfirmed x - unconfirmed y) ≤ acknowledged y
+more_acknowledged : (x y : Circuit) (n : ℕ) → Hears x y → y.talk.acked ≤ length y.talk.sent → n ≤ acknowledged x → n + (unconfirmed x - unconfirmed y)
+    ≤ acknowledged y
 more_acknowledged x y n h low few =
     let s = x.talk.sent in
     let r = x.talk.rest in
@@ -64,20 +66,23 @@ more_acknowledged x y n h low few =
     let high : b ≤ length s = subst (λ l. b ≤ length l) h.sent low in
     let here : unconfirmed x ≡ asked_in (drop a s) + asked_in r = ap asked_in (drop-append-le a s r (omega (arith, up, high))) ∙ asked_append (drop a s) r in
     let there : unconfirmed y ≡ asked_in (drop b s) + asked_in r =
-    ap (λ l. asked_in (drop b (l ++ y.talk.rest))) h.sent ∙ ap (λ l. asked_in (drop b (s ++ l))) h.rest ∙ ap asked_in (drop-append-le b s r high) ∙ asked_append (drop b s) r in
+    ap (λ l. asked_in (drop b (l ++ y.talk.rest))) h.sent ∙ ap (λ l. asked_in (drop b (s ++ l))) h.rest ∙ ap asked_in (drop-append-le b s r high)
+    ∙ asked_append (drop b s) r in
     let now : acknowledged y ≡ asked_in (take b s) = ap (λ l. asked_in (take b l)) h.sent in
     omega (arith, here, there, asked_of_take a s, asked_of_take b s, asked_take a b s up, now, few)
 
 -- ---- transcripts that grow
 
-under_append : (k : ℕ) (name : Name) (xs ys : List Entry) → (rest : List Message) × ((messages_in (under k name (xs ++ ys))).down ≡ (messages_in (under k name xs)).down ++ rest)
+under_append : (k : ℕ) (name : Name) (xs ys : List Entry) → (rest : List Message)
+    × ((messages_in (under k name (xs ++ ys))).down ≡ (messages_in (under k name xs)).down ++ rest)
 under_append k name [] ys = ((messages_in (under k name ys)).down, refl)
 under_append k name (x ∷ xs) ys =
     let more = under_append k name xs ys in
     let one : Handed = if both (k == x.channel) (same_name name x.name) then says x.said else nothing_handed in
     (more.0, ap (λ l. one.down ++ l) more.1 ∙ sym (append_assoc one.down (messages_in (under k name xs)).down more.0))
 
-up_append : (k : ℕ) (name : Name) (xs ys : List Entry) → (rest : List Message) × ((messages_in (under k name (xs ++ ys))).up ≡ (messages_in (under k name xs)).up ++ rest)
+up_append : (k : ℕ) (name : Name) (xs ys : List Entry) → (rest : List Message)
+    × ((messages_in (under k name (xs ++ ys))).up ≡ (messages_in (under k name xs)).up ++ rest)
 up_append k name [] ys = ((messages_in (under k name ys)).up, refl)
 up_append k name (x ∷ xs) ys =
     let more = up_append k name xs ys in
@@ -95,7 +100,8 @@ down_grows c k name e what =
     let more = end_enters c e what in
     let here = under_append k name e.entries more.0 in
     let is : down_of k name (own_moves c e what) ≡ down_of k name e + asked_among here.0 =
-    ap (λ es. asked_among (messages_in (under k name es)).down) more.1 ∙ ap asked_among here.1 ∙ among_append (messages_in (under k name e.entries)).down here.0 in
+    ap (λ es. asked_among (messages_in (under k name es)).down) more.1 ∙ ap asked_among here.1
+    ∙ among_append (messages_in (under k name e.entries)).down here.0 in
     omega (arith, is)
 
 up_grows : (c : LayerSettings) (k : ℕ) (name : Name) (e : layer.End) (what : OwnMove) → up_of k name e ≤ up_of k name (own_moves c e what)
@@ -122,12 +128,14 @@ same_name_is : (m n : Name) → same_name m n ≡ true → m ≡ n
 same_name_is m n h =
     let a = both_are (m.restarts == n.restarts) (both (m.clears == n.clears) (m.resets == n.resets)) h in
     let b = both_are (m.clears == n.clears) (m.resets == n.resets) a.1 in
-    name_eq m.restarts m.clears m.resets n.restarts n.clears n.resets (eqb-true m.restarts n.restarts a.0) (eqb-true m.clears n.clears b.0) (eqb-true m.resets n.resets b.1)
+    name_eq m.restarts m.clears m.resets n.restarts n.clears n.resets (eqb-true m.restarts n.restarts a.0) (eqb-true m.clears n.clears b.0)
+    (eqb-true m.resets n.resets b.1)
 
 -- where the stretch goes on, it has this name in both
 same_stretch : (l next : Layer) (k : ℕ) → next.restarts ≡ l.restarts → Same (l.circuits k) (next.circuits k) → name_of l k ≡ name_of next k
 same_stretch l next k restarts same =
-    name_eq l.restarts (l.circuits k).clears (l.circuits k).resets next.restarts (next.circuits k).clears (next.circuits k).resets (sym restarts) (sym same.clears) (sym same.resets)
+    name_eq l.restarts (l.circuits k).clears (l.circuits k).resets next.restarts (next.circuits k).clears (next.circuits k).resets (sym restarts)
+    (sym same.clears) (sym same.resets)
 
 open_there : (b o : Bool) → (if b then o else false) ≡ true → o ≡ true
 open_there true o is = is
@@ -140,7 +148,8 @@ not_on c l next k begins on =
     let others = and_parts (is_open_at c next k) (same_name (name_of l k) (name_of next k)) opened.1 in
     elim begins.new [
       | inl closed ↦ true_false (sym (open_there (is_channel c.channels k) (is_open (l.circuits k)) opened.0) ∙ closed)
-      | inr more ↦ (let e : suc (l.circuits k).resets ≡ (l.circuits k).resets = sym (ap (λ n. n.resets) (same_name_is (name_of l k) (name_of next k) others.1) ∙ more) in omega (arith, e))
+      | inr more ↦ (let e : suc (l.circuits k).resets
+          ≡ (l.circuits k).resets = sym (ap (λ n. n.resets) (same_name_is (name_of l k) (name_of next k) others.1) ∙ more) in omega (arith, e))
     ]
 
 -- ---- what is kept of an end, where it was told of so many, and the other
@@ -154,21 +163,26 @@ abbrev KnownAt : ℕ → layer.End → layer.End → Type 0
 KnownAt k e f = is_open (e.layer.circuits k) ≡ true → AcknowledgedAreUp k (name_of e.layer k) (e.layer.circuits k).talk e f
 
 -- those that are acknowledged
-acked_down : {k : ℕ} {e f : layer.End} → AcknowledgedAreUp k (name_of e.layer k) (e.layer.circuits k).talk e f → acknowledged (e.layer.circuits k) ≤ down_of k (name_of e.layer k) e
+acked_down : {k : ℕ} {e f : layer.End} → AcknowledgedAreUp k (name_of e.layer k) (e.layer.circuits k).talk e f → acknowledged (e.layer.circuits k)
+    ≤ down_of k (name_of e.layer k) e
 acked_down {k} {e} h =
     let t : Talk = (e.layer.circuits k).talk in
-    let is : down_of k (name_of e.layer k) e ≡ asked_in t.sent + asked_in t.rest = ap asked_among h.down ∙ asked_carried no_part (t.sent ++ t.rest) ∙ asked_append t.sent t.rest in
+    let is : down_of k (name_of e.layer k) e ≡ asked_in t.sent + asked_in t.rest =
+    ap asked_among h.down ∙ asked_carried no_part (t.sent ++ t.rest) ∙ asked_append t.sent t.rest in
     omega (arith, is, asked_of_take t.acked t.sent)
 
-acked_up : {k : ℕ} {e f : layer.End} → AcknowledgedAreUp k (name_of e.layer k) (e.layer.circuits k).talk e f → acknowledged (e.layer.circuits k) ≤ up_of k (name_of e.layer k) f
+acked_up : {k : ℕ} {e f : layer.End} → AcknowledgedAreUp k (name_of e.layer k) (e.layer.circuits k).talk e f → acknowledged (e.layer.circuits k)
+    ≤ up_of k (name_of e.layer k) f
 acked_up {k} {e} {f} h =
     let t : Talk = (e.layer.circuits k).talk in
     let is : up_of k (name_of e.layer k) f ≡ acknowledged (e.layer.circuits k) + asked_among h.first.0 =
-    ap asked_among (sym h.first.1) ∙ among_append (carried (take t.acked t.sent)) h.first.0 ∙ ap (λ n. n + asked_among h.first.0) (asked_carried no_part (take t.acked t.sent)) in
+    ap asked_among (sym h.first.1) ∙ among_append (carried (take t.acked t.sent)) h.first.0
+    ∙ ap (λ n. n + asked_among h.first.0) (asked_carried no_part (take t.acked t.sent)) in
     omega (arith, is)
 
 -- nothing was handed down in a stretch that begins
-none_down : {k : ℕ} {e f : layer.End} → AcknowledgedAreUp k (name_of e.layer k) (e.layer.circuits k).talk e f → (e.layer.circuits k).talk ≡ silent → down_of k (name_of e.layer k) e ≡ 0
+none_down : {k : ℕ} {e f : layer.End} → AcknowledgedAreUp k (name_of e.layer k) (e.layer.circuits k).talk e f → (e.layer.circuits k).talk ≡ silent
+    → down_of k (name_of e.layer k) e ≡ 0
 none_down h is = ap asked_among (h.down ∙ ap (λ t. carried (t.sent ++ t.rest)) is)
 
 module _ (c : LayerSettings) (k : ℕ) (name : Name) (n : ℕ) (e f : layer.End) (h : Bounded k name n e f) where
@@ -283,80 +297,91 @@ module _ (c : LayerSettings) (k : ℕ) (name : Name) (n : ℕ) (e f : layer.End)
 
 -- ---- runs
 
-module _ (long_data : Bool) (channels : Ranges) (behind : EventsRunOn) (law : AlwaysApart AcknowledgedAreHandedUp long_data channels) (k : ℕ) (name : Name) where
-  abbrev start : Ends
-  start = apart_start long_data channels
+module _ (long_data : Bool) (channels : Ranges) (behind : EventsRunOn) (law : AlwaysApart AcknowledgedAreHandedUp long_data channels) (k : ℕ) (name : Name)
+  where
+    abbrev start : Ends
+    start = apart_start long_data channels
 
-  abbrev then_run : List ApartEvent → Ends
-  then_run done = apart_run long_data channels done start
+    abbrev then_run : List ApartEvent → Ends
+    then_run done = apart_run long_data channels done start
 
-  abbrev happened : Ends → ApartEvent → Ends
-  happened ends e = apart_happens long_data channels ends e
+    abbrev happened : Ends → ApartEvent → Ends
+    happened ends e = apart_happens long_data channels ends e
 
-  abbrev settings : Role → LayerSettings
-  settings end = settings_of end long_data channels
+    abbrev settings : Role → LayerSettings
+    settings end = settings_of end long_data channels
 
-  -- by one event more
-  one_more : (done : List ApartEvent) (e : ApartEvent) → AreInOrder long_data channels done start → IsInOrder (then_run done) e
-      → AreInOrder long_data channels (done ++ e ∷ []) start × (then_run (done ++ e ∷ []) ≡ happened (then_run done) e)
-  one_more done e order next = (let r = behind long_data channels done (e ∷ []) start in (r.order order (next, tt), r.run))
+    -- by one event more
+    one_more : (done : List ApartEvent) (e : ApartEvent) → AreInOrder long_data channels done start → IsInOrder (then_run done) e
+        → AreInOrder long_data channels (done ++ e ∷ []) start × (then_run (done ++ e ∷ []) ≡ happened (then_run done) e)
+    one_more done e order next = (let r = behind long_data channels done (e ∷ []) start in (r.order order (next, tt), r.run))
 
-  -- of an end and the other
-  abbrev KnownIn : Role → Ends → Type 0
-  KnownIn end ends = KnownAt k (here_in end ends) (here_in (other end) ends)
+    -- of an end and the other
+    abbrev KnownIn : Role → Ends → Type 0
+    KnownIn end ends = KnownAt k (here_in end ends) (here_in (other end) ends)
 
-  abbrev BoundedIn : Role → ℕ → Ends → Type 0
-  BoundedIn end n ends = Bounded k name n (here_in end ends) (here_in (other end) ends)
+    abbrev BoundedIn : Role → ℕ → Ends → Type 0
+    BoundedIn end n ends = Bounded k name n (here_in end ends) (here_in (other end) ends)
 
-  known_in : (end : Role) (done : List ApartEvent) → AreInOrder long_data channels done start → KnownIn end (then_run done)
-  known_in Dte done order = (law done order).near k
-  known_in Dce done order = (law done order).far k
+    known_in : (end : Role) (done : List ApartEvent) → AreInOrder long_data channels done start → KnownIn end (then_run done)
+    known_in Dte done order = (law done order).near k
+    known_in Dce done order = (law done order).far k
 
-  -- what an event confirms to an end
-  abbrev added : Role → Ends → ApartEvent → ℕ
-  added Dte ends e = if e.first then counted_by (settings Dte) k name ends.near e.what else 0
-  added Dce ends e = if e.first then 0 else counted_by (settings Dce) k name ends.far e.what
+    -- what an event confirms to an end
+    abbrev added : Role → Ends → ApartEvent → ℕ
+    added Dte ends e = if e.first then counted_by (settings Dte) k name ends.near e.what else 0
+    added Dce ends e = if e.first then 0 else counted_by (settings Dce) k name ends.far e.what
 
-  after_event : (end : Role) (ends : Ends) (e : ApartEvent) (n : ℕ) → KnownIn end (happened ends e) → BoundedIn end n ends → BoundedIn end (n + added end ends e) (happened ends e)
-  after_event end ends e n known h = by end e.first known h
-    where
-      no_more : n ≡ n + 0
-      no_more = omega arith
+    after_event : (end : Role) (ends : Ends) (e : ApartEvent) (n : ℕ) → KnownIn end (happened ends e) → BoundedIn end n ends
+        → BoundedIn end (n + added end ends e) (happened ends e)
+    after_event end ends e n known h = by end e.first known h
+      where
+        no_more : n ≡ n + 0
+        no_more = omega arith
 
-      by : (end : Role) (b : Bool) → (let d : ApartEvent = record { first = b; what = e.what } in KnownIn end (happened ends d) → BoundedIn end n ends → BoundedIn end (n + added end ends d) (happened ends d))
-      by Dte true known h = own_bounded (settings Dte) k name n ends.near ends.far h e.what known
-      by Dce false known h = own_bounded (settings Dce) k name n ends.far ends.near h e.what known
-      by Dte false known h = subst (λ m. Bounded k name m ends.near (own_moves (settings Dce) ends.far e.what)) no_more (other_bounded (settings Dte) k name n ends.near ends.far h (settings Dce) e.what)
-      by Dce true known h = rw (sym no_more) (other_bounded (settings Dce) k name n ends.far ends.near h (settings Dte) e.what)
+        by : (end : Role) (b : Bool) → (let d : ApartEvent = record { first = b; what = e.what } in KnownIn end (happened ends d) → BoundedIn end n ends
+            → BoundedIn end (n + added end ends d) (happened ends d))
+        by Dte true known h = own_bounded (settings Dte) k name n ends.near ends.far h e.what known
+        by Dce false known h = own_bounded (settings Dce) k name n ends.far ends.near h e.what known
+        by Dte false known h = subst (λ m. Bounded k name m ends.near (own_moves (settings Dce) ends.far e.what)) no_more
+            (other_bounded (settings Dte) k name n ends.near ends.far h (settings Dce) e.what)
+        by Dce true known h = rw (sym no_more) (other_bounded (settings Dce) k name n ends.far ends.near h (settings Dte) e.what)
 
-  counts : (end : Role) (ends : Ends) (e : ApartEvent) (rest : List ApartEvent)
-      → counted_in (settings end) k name (moves_of end (e ∷ rest)) (here_in end ends) ≡ added end ends e + counted_in (settings end) k name (moves_of end rest) (here_in end (happened ends e))
-  counts end ends e rest = by end e.first
-    where
-      by : (end : Role) (b : Bool) → (let d : ApartEvent = record { first = b; what = e.what } in
-          counted_in (settings end) k name (moves_of end (d ∷ rest)) (here_in end ends) ≡ added end ends d + counted_in (settings end) k name (moves_of end rest) (here_in end (happened ends d)))
-      by Dte false = omega arith
-      by Dce true = omega arith
-      by end b = refl
+    counts : (end : Role) (ends : Ends) (e : ApartEvent) (rest : List ApartEvent)
+        → counted_in (settings end) k name (moves_of end (e ∷ rest)) (here_in end ends) ≡ added end ends e
+        + counted_in (settings end) k name (moves_of end rest) (here_in end (happened ends e))
+    counts end ends e rest = by end e.first
+      where
+        by : (end : Role) (b : Bool) → (let d : ApartEvent = record { first = b; what = e.what } in
+            counted_in (settings end) k name (moves_of end (d ∷ rest)) (here_in end ends) ≡ added end ends d
+            + counted_in (settings end) k name (moves_of end rest) (here_in end (happened ends d)))
+        by Dte false = omega arith
+        by Dce true = omega arith
+        by end b = refl
 
-  -- what the events to come confirm, behind those that were
-  abbrev Confirms : Role → ℕ → List ApartEvent → Ends → Type 0
-  Confirms end n rest ends = n + counted_in (settings end) k name (moves_of end rest) (here_in end ends) ≤ up_of k name (here_in (other end) (apart_run long_data channels rest ends))
+    -- what the events to come confirm, behind those that were
+    abbrev Confirms : Role → ℕ → List ApartEvent → Ends → Type 0
+    Confirms end n rest ends = n + counted_in (settings end) k name (moves_of end rest) (here_in end ends)
+        ≤ up_of k name (here_in (other end) (apart_run long_data channels rest ends))
 
-  run_confirms : (end : Role) (done rest : List ApartEvent) {n : ℕ} → AreInOrder long_data channels done start → AreInOrder long_data channels rest (then_run done) → BoundedIn end n (then_run done) → Confirms end n rest (then_run done)
-  run_confirms Dte done [] order next h = (omega (arith, h.up))
-  run_confirms Dce done [] order next h = (omega (arith, h.up))
-  run_confirms end done (e ∷ rest) {n} order next h =
-      let more = one_more done e order next.0 in
-      let known : KnownIn end (happened (then_run done) e) = subst (KnownIn end) more.1 (known_in end (done ++ e ∷ []) more.0) in
-      let m = n + added end (then_run done) e in
-      let others : Confirms end m rest (happened (then_run done) e) =
-      subst (λ ends. AreInOrder long_data channels rest ends → BoundedIn end m ends → Confirms end m rest ends) more.1 (run_confirms end (done ++ e ∷ []) rest more.0) next.1 (after_event end (then_run done) e n known h) in
-      omega (arith, others, counts end (then_run done) e rest)
+    run_confirms : (end : Role) (done rest : List ApartEvent) {n : ℕ} → AreInOrder long_data channels done start
+        → AreInOrder long_data channels rest (then_run done) → BoundedIn end n (then_run done) → Confirms end n rest (then_run done)
+    run_confirms Dte done [] order next h = (omega (arith, h.up))
+    run_confirms Dce done [] order next h = (omega (arith, h.up))
+    run_confirms end done (e ∷ rest) {n} order next h =
+        let more = one_more done e order next.0 in
+        let known : KnownIn end (happened (then_run done) e) = subst (KnownIn end) more.1 (known_in end (done ++ e ∷ []) more.0) in
+        let m = n + added end (then_run done) e in
+        let others : Confirms end m rest (happened (then_run done) e) =
+        subst (λ ends. AreInOrder long_data channels rest ends → BoundedIn end m ends → Confirms end m rest ends) more.1
+        (run_confirms end (done ++ e ∷ []) rest more.0) next.1 (after_event end (then_run done) e n known h) in
+        omega (arith, others, counts end (then_run done) e rest)
 
-  -- before anything happened
-  nothing_yet : (e f : layer.End) → Bounded k name 0 e f
-  nothing_yet e f = record { opened = λ is named. omega arith; down = omega arith; up = omega arith }
+    -- before anything happened
+    nothing_yet : (e f : layer.End) → Bounded k name 0 e f
+    nothing_yet e f = record { opened = λ is named. omega arith; down = omega arith; up = omega arith }
 
-  pub confirms : (end : Role) (events : List ApartEvent) → AreInOrder long_data channels events start → counted_in (settings end) k name (moves_of end events) (here_in end start) ≤ up_of k name (here_in (other end) (then_run events))
-  confirms end events order = let all = run_confirms end [] events tt order (nothing_yet (here_in end start) (here_in (other end) start)) in omega (arith, all)
+    pub confirms : (end : Role) (events : List ApartEvent) → AreInOrder long_data channels events start
+        → counted_in (settings end) k name (moves_of end events) (here_in end start) ≤ up_of k name (here_in (other end) (then_run events))
+    confirms end events order = let all = run_confirms end [] events tt order (nothing_yet (here_in end start) (here_in (other end) start)) in
+        omega (arith, all)

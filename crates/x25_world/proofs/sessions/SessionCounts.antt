@@ -21,7 +21,8 @@ abbrev pub counted_in : LayerSettings → ℕ → Name → List OwnMove → laye
 counted_in c k name [] e = 0
 counted_in c k name (what ∷ rest) e = counted_by c k name e what + counted_in c k name rest (own_moves c e what)
 
-pub counted_append : (c : LayerSettings) (k : ℕ) (name : Name) (xs ys : List OwnMove) (e : layer.End) → counted_in c k name (xs ++ ys) e ≡ counted_in c k name xs e + counted_in c k name ys (own_run c xs e)
+pub counted_append : (c : LayerSettings) (k : ℕ) (name : Name) (xs ys : List OwnMove) (e : layer.End) → counted_in c k name (xs ++ ys) e
+    ≡ counted_in c k name xs e + counted_in c k name ys (own_run c xs e)
 counted_append c k name [] ys e = omega arith
 counted_append c k name (x ∷ xs) ys e = omega (arith, counted_append c k name xs ys (own_moves c e x))
 
@@ -40,28 +41,36 @@ confirmed_append k name (x ∷ xs) ys = omega (arith, confirmed_append k name xs
 -- ---- the entries of a session tell of no more than its moves confirm
 
 abbrev pub IsCounted : Cfg → Role → ℕ → List Done → List StationEntry → Type 0
-IsCounted cfg end n trace es = (k : ℕ) (name : Name) → confirmed_in k name es ≤ counted_in (layer_of cfg end) k name (own_in end n trace) (started (goes_up (layer_of cfg end)))
+IsCounted cfg end n trace es = (k : ℕ) (name : Name) → confirmed_in k name es
+    ≤ counted_in (layer_of cfg end) k name (own_in end n trace) (started (goes_up (layer_of cfg end)))
 
 -- entries tell of none
 abbrev pub CountNone : List StationEntry → Type 0
 CountNone es = (k : ℕ) (name : Name) → confirmed_in k name es ≡ 0
 
 -- by the same moves
-pub counted_same : (cfg : Cfg) (end : Role) (n : ℕ) (trace trace₂ : List Done) (es : List StationEntry) → own_in end n trace₂ ≡ own_in end n trace → IsCounted cfg end n trace es → IsCounted cfg end n trace₂ es
+pub counted_same : (cfg : Cfg) (end : Role) (n : ℕ) (trace trace₂ : List Done) (es : List StationEntry) → own_in end n trace₂ ≡ own_in end n trace
+    → IsCounted cfg end n trace es → IsCounted cfg end n trace₂ es
 counted_same cfg end n trace trace₂ es same counted k name =
     rw same (counted k name)
 
-pub counted_rests : (cfg : Cfg) (end : Role) (n : ℕ) (trace : List Done) (before more all : List StationEntry) → IsCounted cfg end n trace before → all ≡ before ++ more → CountNone more → IsCounted cfg end n trace all
+pub counted_rests : (cfg : Cfg) (end : Role) (n : ℕ) (trace : List Done) (before more all : List StationEntry) → IsCounted cfg end n trace before → all
+    ≡ before ++ more → CountNone more → IsCounted cfg end n trace all
 counted_rests cfg end n trace before more all counted is none k name =
-    let sum : confirmed_in k name all ≡ confirmed_in k name before + confirmed_in k name more = ap (confirmed_in k name) is ∙ confirmed_append k name before more in
+    let sum : confirmed_in k name all ≡ confirmed_in k name before + confirmed_in k name more =
+    ap (confirmed_in k name) is ∙ confirmed_append k name before more in
     omega (arith, counted k name, none k name, sum)
 
-pub counted_goes : (cfg : Cfg) (end : Role) (n : ℕ) (trace : List Done) (moves : List OwnMove) (before more all : List StationEntry) → IsCounted cfg end n trace before → all ≡ before ++ more
-    → ((k : ℕ) (name : Name) → confirmed_in k name more ≤ counted_in (layer_of cfg end) k name moves (own cfg end n trace)) → IsCounted cfg end n (trace ++ moved end n moves) all
+pub counted_goes : (cfg : Cfg) (end : Role) (n : ℕ) (trace : List Done) (moves : List OwnMove) (before more all : List StationEntry)
+    → IsCounted cfg end n trace before → all ≡ before ++ more
+    → ((k : ℕ) (name : Name) → confirmed_in k name more ≤ counted_in (layer_of cfg end) k name moves (own cfg end n trace))
+    → IsCounted cfg end n (trace ++ moved end n moves) all
 counted_goes cfg end n trace moves before more all counted is counts k name =
     let c = layer_of cfg end in
     let start = started (goes_up c) in
-    let sum : confirmed_in k name all ≡ confirmed_in k name before + confirmed_in k name more = ap (confirmed_in k name) is ∙ confirmed_append k name before more in
-    let together : counted_in c k name (own_in end n (trace ++ moved end n moves)) start ≡ counted_in c k name (own_in end n trace) start + counted_in c k name moves (own cfg end n trace) =
+    let sum : confirmed_in k name all ≡ confirmed_in k name before + confirmed_in k name more =
+    ap (confirmed_in k name) is ∙ confirmed_append k name before more in
+    let together : counted_in c k name (own_in end n (trace ++ moved end n moves)) start ≡ counted_in c k name (own_in end n trace) start
+    + counted_in c k name moves (own cfg end n trace) =
     ap (λ l. counted_in c k name l start) (own_more end n trace moves) ∙ counted_append c k name (own_in end n trace) moves start in
     omega (arith, counted k name, counts k name, sum, together)

@@ -1,21 +1,26 @@
 -- What entries that an end's step adds say of its sessions, and of whom they meet.
-use Rattle.std.proofs.Common.{◌≡◌, ℕ, zero, suc, ◌+◌, ◌≤◌, ◌==◌, List, [], ◌∷◌, ◌++◌, inl, Bool, true, false, if◌then◌else◌, Option, Some, None, Ok, refl, sym, ap, ap₂, ◌∙◌, subst, append_assoc, append-nil, arith}
+use Rattle.std.proofs.Common.{◌≡◌, ℕ, zero, suc, ◌+◌, ◌≤◌, ◌==◌, List, [], ◌∷◌, ◌++◌, inl, Bool, true, false, if◌then◌else◌, Option, Some, None, Ok, refl, sym}
+use Rattle.std.proofs.Common.{ap, ap₂, ◌∙◌, subst, append_assoc, append-nil, arith}
 use Rattle.std.proofs.lemmas.Bool.{eqb-true, cond_both}
 use Rattle.x25_handshakes.specs.laws.Names.{Name, both, same_name}
 use Rattle.x25_bits.specs.{declared.role.Role.{Role}, declared.role.Role.TheVariants.{Dte, Dce}}
 use Rattle.x25_link.specs.{Hearing.{other, Step as LinkStep}, laws.NoteLaw.{IsQuiet}}
 use Rattle.x25_packet.specs.{Packet.{PlainPacket, restart, restart_conf}, Spelling.{channel_of}}
 use Rattle.x25_circuit.specs.{Hearing.{Answer, answers}, Notice.{PlainNotice}}
-use Rattle.x25_layer.specs.Layer.{LayerSettings, Layer, LayerNotice, on_channel, restarted, restart_done, layer_fault, is_channel, notices_on, answers_on, drops, answers_in, layer_answers}
+use Rattle.x25_layer.specs.Layer.{LayerSettings, Layer, LayerNotice, on_channel, restarted, restart_done, layer_fault, is_channel, notices_on, answers_on}
+use Rattle.x25_layer.specs.Layer.{drops, answers_in, layer_answers}
 use Rattle.x25_layer.specs.{Receiving.{answer_to}, Calls.{LayerRequest, Asks, Dials, Restarts, PullsAll, LayerOutcome, Accepted, Declined}}
 use Rattle.x25_layer.specs.{laws.Transcript.{Entry, Said, Asked, Told, name_of}, laws.TwoLayers.{entries_asked}, laws.ApartLaw.{BeginsRestarted}}
 use Rattle.x25_station.specs.{Confirming.{named_by, confirmed}, Beside.{PlainBeside, nothing, fields, diagnosed, beside_in}, declared.config.Cfg.{Cfg}}
 use Rattle.x25_station.specs.Config.{Settings, settings_from, layer_settings}
-use Rattle.x25_station.specs.Entry.{StationEntry, of_channel, restart_asked, connect_asked, disconnect_asked, relink_asked, link_up, link_down, was_restarted, restart_confirmed, at_fault, came_beside, was_diagnosed, was_confirmed, may_bring, bringing, entries_beside, entries_behind, of_channels, station_told, entries_noted, notice_of, layer_entries, layer_notices}
+use Rattle.x25_station.specs.Entry.{StationEntry, of_channel, restart_asked, connect_asked, disconnect_asked, relink_asked, link_up, link_down, was_restarted}
+use Rattle.x25_station.specs.Entry.{restart_confirmed, at_fault, came_beside, was_diagnosed, was_confirmed, may_bring, bringing, entries_beside, entries_behind}
+use Rattle.x25_station.specs.Entry.{of_channels, station_told, entries_noted, notice_of, layer_entries, layer_notices}
 use Rattle.x25_station.specs.Step.{entries_of_outcome, layer_answer, confirmed_by, entries_of_packet, entries_heard, follows}
 use Rattle.x25_world.specs.{World.{AtEnd, entered}, laws.BesideClaims.{Came, came_in}, laws.ConfirmedClaims.{confirmed_in}}
 use Rattle.x25_world.specs.laws.Claims.{entry_of_end, entries_at}
-use Rattle.x25_world.specs.laws.Sessions.{Progress, none_begun, after_entry, after_entries, is_in, entry_if, session_from, first_of, met_at, met_by, meets_from, meets}
+use Rattle.x25_world.specs.laws.Sessions.{Progress, none_begun, after_entry, after_entries, is_in, entry_if, session_from, first_of, met_at, met_by, meets_from}
+use Rattle.x25_world.specs.laws.Sessions.{meets}
 use Rattle.x25_world.proofs.{Growing.{read_by}, sessions.SessionCounts.{counted_at, CountNone}}
 use Rattle.x25_world.proofs.sessions.SessionBeside.{brought_as, brought_by, brought, AreTold}
 
@@ -25,18 +30,22 @@ pub after_append : (p : Progress) (xs ys : List StationEntry) → after_entries 
 after_append p [] ys = refl
 after_append p (x ∷ xs) ys = after_append (after_entry p x) xs ys
 
-pub session_append : (n : ℕ) (p : Progress) (xs ys : List StationEntry) → session_from n p (xs ++ ys) ≡ session_from n p xs ++ session_from n (after_entries p xs) ys
+pub session_append : (n : ℕ) (p : Progress) (xs ys : List StationEntry) → session_from n p (xs ++ ys) ≡ session_from n p xs
+    ++ session_from n (after_entries p xs) ys
 session_append n p [] ys = refl
 session_append n p (x ∷ xs) ys =
     let q = after_entry p x in
-    ap (λ l. entry_if (is_in n q) x ++ l) (session_append n q xs ys) ∙ sym (append_assoc (entry_if (is_in n q) x) (session_from n q xs) (session_from n (after_entries q xs) ys))
+    ap (λ l. entry_if (is_in n q) x ++ l) (session_append n q xs ys)
+    ∙ sym (append_assoc (entry_if (is_in n q) x) (session_from n q xs) (session_from n (after_entries q xs) ys))
 
 first_assoc : (a b c : Option ℕ) → first_of a (first_of b c) ≡ first_of (first_of a b) c
 first_assoc None b c = refl
 first_assoc (Some m) b c = refl
 
 met_append : (end : Role) (n : ℕ) (here there : Progress) (xs ys : List AtEnd)
-    → meets_from end n here there (xs ++ ys) ≡ first_of (meets_from end n here there xs) (meets_from end n (after_entries here (entries_at end xs)) (after_entries there (entries_at (other end) xs)) ys)
+    → meets_from end n here there (xs ++ ys)
+    ≡ first_of (meets_from end n here there xs)
+    (meets_from end n (after_entries here (entries_at end xs)) (after_entries there (entries_at (other end) xs)) ys)
 met_append end n here there [] ys = refl
 met_append end n here there (x ∷ xs) ys =
     let own = entry_of_end end x.at x.entry in
@@ -44,8 +53,10 @@ met_append end n here there (x ∷ xs) ys =
     let h = after_entries here own in
     let t = after_entries there others in
     ap (λ o. first_of (met_by n here there own) o) (met_append end n h t xs ys)
-    ∙ first_assoc (met_by n here there own) (meets_from end n h t xs) (meets_from end n (after_entries h (entries_at end xs)) (after_entries t (entries_at (other end) xs)) ys)
-    ∙ ap₂ (λ p q. first_of (first_of (met_by n here there own) (meets_from end n h t xs)) (meets_from end n p q ys)) (sym (after_append here own (entries_at end xs)))
+    ∙ first_assoc (met_by n here there own) (meets_from end n h t xs)
+    (meets_from end n (after_entries h (entries_at end xs)) (after_entries t (entries_at (other end) xs)) ys)
+    ∙ ap₂ (λ p q. first_of (first_of (met_by n here there own) (meets_from end n h t xs)) (meets_from end n p q ys))
+    (sym (after_append here own (entries_at end xs)))
     (sym (after_append there others (entries_at (other end) xs)))
 
 first_none : (a : Option ℕ) → first_of a None ≡ a
@@ -57,7 +68,8 @@ one_met n here there e = first_none (met_at n here there e)
 
 -- entries of the end itself
 
-met_entered : (end : Role) (n : ℕ) (here there : Progress) (entries : List StationEntry) → meets_from end n here there (entered end entries) ≡ met_by n here there entries
+met_entered : (end : Role) (n : ℕ) (here there : Progress) (entries : List StationEntry) → meets_from end n here there (entered end entries)
+    ≡ met_by n here there entries
 met_entered end n here there [] = refl
 met_entered Dte n here there (e ∷ entries) = ap₂ (λ a b. first_of a b) (one_met n here there e) (met_entered Dte n (after_entry here e) there entries)
 met_entered Dce n here there (e ∷ entries) = ap₂ (λ a b. first_of a b) (one_met n here there e) (met_entered Dce n (after_entry here e) there entries)
@@ -69,17 +81,21 @@ none_entered Dce n here there (e ∷ entries) = none_entered Dce n here (after_e
 
 pub meets_more : (end : Role) (n : ℕ) (transcript : List AtEnd) (entries : List StationEntry)
     → meets end n (transcript ++ entered end entries)
-    ≡ first_of (meets end n transcript) (met_by n (after_entries none_begun (entries_at end transcript)) (after_entries none_begun (entries_at (other end) transcript)) entries)
+    ≡ first_of (meets end n transcript) (met_by n (after_entries none_begun (entries_at end transcript))
+    (after_entries none_begun (entries_at (other end) transcript)) entries)
 meets_more end n transcript entries =
     met_append end n none_begun none_begun transcript (entered end entries)
-    ∙ ap (λ o. first_of (meets end n transcript) o) (met_entered end n (after_entries none_begun (entries_at end transcript)) (after_entries none_begun (entries_at (other end) transcript)) entries)
+    ∙ ap (λ o. first_of (meets end n transcript) o)
+    (met_entered end n (after_entries none_begun (entries_at end transcript)) (after_entries none_begun (entries_at (other end) transcript)) entries)
 
 -- entries of the other end
-pub meets_other : (end : Role) (n : ℕ) (transcript : List AtEnd) (entries : List StationEntry) → meets (other end) n (transcript ++ entered end entries) ≡ meets (other end) n transcript
+pub meets_other : (end : Role) (n : ℕ) (transcript : List AtEnd) (entries : List StationEntry) → meets (other end) n (transcript ++ entered end entries)
+    ≡ meets (other end) n transcript
 meets_other end n transcript entries =
     met_append (other end) n none_begun none_begun transcript (entered end entries)
     ∙ ap (λ o. first_of (meets (other end) n transcript) o)
-    (none_entered end n (after_entries none_begun (entries_at (other end) transcript)) (after_entries none_begun (entries_at (other (other end)) transcript)) entries)
+    (none_entered end n (after_entries none_begun (entries_at (other end) transcript)) (after_entries none_begun (entries_at (other (other end)) transcript))
+    entries)
     ∙ first_none (meets (other end) n transcript)
 
 -- ---- whether they tell of a restart by the other end
@@ -130,10 +146,12 @@ plain_here n p (e ∷ entries) h here =
 pub plain_elsewhere : (n : ℕ) (p : Progress) (entries : List StationEntry) → ArePlain entries → is_in n p ≡ false → session_from n p entries ≡ []
 plain_elsewhere n p [] h out = refl
 plain_elsewhere n p (e ∷ entries) h out =
-    ap (λ q. entry_if (is_in n q) e ++ session_from n q entries) (plain_after p e h.0) ∙ ap₂ (λ b l. entry_if b e ++ l) out (plain_elsewhere n p entries h.1 out)
+    ap (λ q. entry_if (is_in n q) e ++ session_from n q entries) (plain_after p e h.0)
+    ∙ ap₂ (λ b l. entry_if b e ++ l) out (plain_elsewhere n p entries h.1 out)
 
 -- where the first notice is a restart by the other end, its latest session is met
-pub restart_met : (n : ℕ) (here there : Progress) (entries : List StationEntry) → ArePlain entries → is_in n here ≡ true → BeginsRestarted (layer_notices entries) → met_by n here there entries ≡ Some there.begun
+pub restart_met : (n : ℕ) (here there : Progress) (entries : List StationEntry) → ArePlain entries → is_in n here ≡ true
+    → BeginsRestarted (layer_notices entries) → met_by n here there entries ≡ Some there.begun
 restart_met n here there [] plain is begins = absurd begins
 restart_met n here there (of_channel e ∷ entries) plain is begins = restart_met n here there entries plain.1 is (by e.said begins)
   where
@@ -152,7 +170,8 @@ restart_met n here there (other ∷ entries) plain is begins = restart_met n her
 pub elsewhere_met : (n : ℕ) (here there : Progress) (entries : List StationEntry) → ArePlain entries → is_in n here ≡ false → met_by n here there entries ≡ None
 elsewhere_met n here there [] plain out = refl
 elsewhere_met n here there (e ∷ entries) plain out =
-    ap₂ (λ a b. first_of a b) (at_one e plain.0) (ap (λ p. met_by n p there entries) (plain_after here e plain.0) ∙ elsewhere_met n here there entries plain.1 out)
+    ap₂ (λ a b. first_of a b) (at_one e plain.0)
+    (ap (λ p. met_by n p there entries) (plain_after here e plain.0) ∙ elsewhere_met n here there entries plain.1 out)
   where
     at_one : (e : StationEntry) → IsPlain e → met_at n here there e ≡ None
     at_one (of_channel e) h = refl
@@ -215,7 +234,8 @@ mute_in n p (e ∷ entries) h =
 -- ---- those of a step that notes nothing are such
 
 -- what is so of the entries of a command of a user: they are of channels, or one of its RESTART
-outcome_all : (P : List StationEntry → Type 0) → P [] → ((e : Entry) (es : List StationEntry) → P es → P (of_channel e ∷ es)) → ((cause diagnostic : ℕ) → P (restart_asked cause diagnostic ∷ []))
+outcome_all : (P : List StationEntry → Type 0) → P [] → ((e : Entry) (es : List StationEntry) → P es → P (of_channel e ∷ es))
+    → ((cause diagnostic : ℕ) → P (restart_asked cause diagnostic ∷ []))
     → (c : LayerSettings) (l : Layer) (request : LayerRequest) (o : LayerOutcome) → P (entries_of_outcome c l request o)
 outcome_all P none more one c l request (Declined e) = none
 outcome_all P none more one c l request (Accepted next packet) = by request
@@ -262,11 +282,13 @@ heard_plain c l k octets some quiet =
     (sym (ap (λ o. entries_noted k.notes ++ entries_heard (layer_settings c) c.wide l o k.notes.down k.notes.up) some
     ∙ ap (λ n. entries_noted n ++ entries_heard (layer_settings c) c.wide l (Some octets) n.down n.up) quiet))
     (let a = layer_answer (layer_settings c) c.wide l octets in
-    told_plain a.next a.notices _ (behind_plain a.next (named_by octets) (confirmed_by (layer_settings c) c.wide l a.next (named_by octets)) _ (beside_plain (beside_in c.wide octets) (bringing a.notices))))
+    told_plain a.next a.notices _ (behind_plain a.next (named_by octets) (confirmed_by (layer_settings c) c.wide l a.next (named_by octets))
+    _ (beside_plain (beside_in c.wide octets) (bringing a.notices))))
 
 -- ---- what is confirmed
 
-told_counts : (l : Layer) (notices : List LayerNotice) (es : List StationEntry) (k : ℕ) (name : Name) → confirmed_in k name (station_told l notices ++ es) ≡ confirmed_in k name es
+told_counts : (l : Layer) (notices : List LayerNotice) (es : List StationEntry) (k : ℕ) (name : Name) → confirmed_in k name (station_told l notices ++ es)
+    ≡ confirmed_in k name es
 told_counts l [] es k name = refl
 told_counts l (on_channel h notice ∷ notices) es k name = omega (arith, told_counts l notices es k name)
 told_counts l (other ∷ notices) es k name = omega (arith, told_counts l notices es k name)
@@ -287,17 +309,21 @@ behind_counts c true l next named es k name none = by (confirmed c l next named)
     here true m e = omega (arith, e)
     here false m e = omega arith
 
-    at : (b : Bool) (m : ℕ) → confirmed c l next named ≡ suc m → (k == named) ≡ b → (if both b (same_name name (name_of next named)) then suc m else 0) + 0 ≤ counted_at c k name l next
+    at : (b : Bool) (m : ℕ) → confirmed c l next named ≡ suc m → (k == named) ≡ b → (if both b (same_name name (name_of next named)) then suc m else 0) + 0
+        ≤ counted_at c k name l next
     at true m e is =
-        subst (λ j. (if both true (same_name name (name_of next named)) then suc m else 0) + 0 ≤ counted_at c j name l next) (sym (eqb-true k named is)) (here (same_name name (name_of next named)) m e)
+        subst (λ j. (if both true (same_name name (name_of next named)) then suc m else 0) + 0 ≤ counted_at c j name l next) (sym (eqb-true k named is))
+        (here (same_name name (name_of next named)) m e)
     at false m e is = omega arith
 
     by : (n : ℕ) → confirmed c l next named ≡ n → confirmed_in k name (entries_behind next named n es) ≤ counted_at c k name l next
     by zero e = omega (arith, none k name)
     by (suc m) e = at (k == named) m e refl
 
-pub heard_confirms : (cfg : Cfg) (end : Role) (l : Layer) (k : LinkStep) (octets : List ℕ) (p : PlainPacket) → k.packet ≡ Some octets → IsQuiet k → read_by cfg octets ≡ Ok p → (h : ℕ) (name : Name)
-    → (let c = layer_settings (settings_from end cfg) in confirmed_in h name (follows (settings_from end cfg) l k).entries ≤ counted_at c h name l (layer_answers c l p).next)
+pub heard_confirms : (cfg : Cfg) (end : Role) (l : Layer) (k : LinkStep) (octets : List ℕ) (p : PlainPacket) → k.packet ≡ Some octets → IsQuiet k
+    → read_by cfg octets ≡ Ok p → (h : ℕ) (name : Name)
+    → (let c = layer_settings (settings_from end cfg) in confirmed_in h name (follows (settings_from end cfg) l k).entries
+    ≤ counted_at c h name l (layer_answers c l p).next)
 heard_confirms cfg end l k octets p some quiet reads h name =
     let c = settings_from end cfg in
     let a = layer_answer (layer_settings c) c.wide l octets in
@@ -307,7 +333,8 @@ heard_confirms cfg end l k octets p some quiet reads h name =
     ap (λ o. entries_noted k.notes ++ entries_heard (layer_settings c) c.wide l o k.notes.down k.notes.up) some
     ∙ ap (λ n. entries_noted n ++ entries_heard (layer_settings c) c.wide l (Some octets) n.down n.up) quiet in
     let answered : a ≡ layer_answers (layer_settings c) l p = ap (λ r. answer_to (layer_settings c) l octets r) reads in
-    let is : confirmed_in h name (follows c l k).entries ≡ confirmed_in h name behind = ap (confirmed_in h name) entries ∙ told_counts a.next a.notices behind h name in
+    let is : confirmed_in h name (follows c l k).entries ≡ confirmed_in h name behind =
+    ap (confirmed_in h name) entries ∙ told_counts a.next a.notices behind h name in
     let low : confirmed_in h name behind ≤ counted_at (layer_settings c) h name l (layer_answers (layer_settings c) l p).next =
     subst (λ x. confirmed_in h name behind ≤ counted_at (layer_settings c) h name l x.next) answered
     (behind_counts (layer_settings c) c.wide l a.next (named_by octets) es h name (beside_counts (beside_in c.wide octets) (bringing a.notices))) in
@@ -323,7 +350,8 @@ told_beside l (other ∷ notices) es = told_beside l notices es
 -- a notice is of the channel of its packet
 bringing_on : (h k : ℕ) (notices : List PlainNotice) → bringing (notices_on k notices) ≡ Some h → k ≡ h
 bringing_on h k [] e = absurd (cc)
-bringing_on h k (notice ∷ notices) e = cond_both (may_bring notice) (Some k) (bringing (notices_on k notices)) (λ o. o ≡ Some h → k ≡ h) (λ _ first. cc) (λ _. bringing_on h k notices) e
+bringing_on h k (notice ∷ notices) e = cond_both (may_bring notice) (Some k) (bringing (notices_on k notices)) (λ o. o ≡ Some h → k ≡ h) (λ _ first. cc)
+    (λ _. bringing_on h k notices) e
 
 answer_on : (c : LayerSettings) (l : Layer) (p : PlainPacket) (h : ℕ) → bringing (layer_answers c l p).notices ≡ Some h → channel_of p ≡ h
 answer_on c l p h = by l.restarting p
@@ -331,7 +359,8 @@ answer_on c l p h = by l.restarting p
     none : {A : Type 0} → None ≡ Some h → A
     none e = absurd (cc)
 
-    if_channel : (b : Bool) (k : ℕ) (a : Answer) → bringing (if b then answers_on l.restarts l.circuits k a else drops false l.restarts l.circuits).notices ≡ Some h → k ≡ h
+    if_channel : (b : Bool) (k : ℕ) (a : Answer) → bringing (if b then answers_on l.restarts l.circuits k a else drops false l.restarts l.circuits).notices
+        ≡ Some h → k ≡ h
     if_channel true k a e = bringing_on h k a.notices e
     if_channel false k a e = none e
 
@@ -343,17 +372,20 @@ answer_on c l p h = by l.restarting p
     by false restart_conf e = none e
     by false p e = if_channel (is_channel c.channels (channel_of p)) (channel_of p) (answers c.circuit (l.circuits (channel_of p)) p) e
 
-brings_told : (p : PlainPacket) (b : PlainBeside) (o : Option ℕ) → ((h : ℕ) → o ≡ Some h → channel_of p ≡ h) → AreTold (came_in (entries_beside b o)) (brought_as (Ok p) b)
+brings_told : (p : PlainPacket) (b : PlainBeside) (o : Option ℕ) → ((h : ℕ) → o ≡ Some h → channel_of p ≡ h)
+    → AreTold (came_in (entries_beside b o)) (brought_as (Ok p) b)
 brings_told p (fields facilities user) (Some h) is = inl (ap (λ k. record { channel = k; facilities = facilities; user = user }) (sym (is h refl)), tt)
 brings_told p b o_2 is = tt
 
 -- in the place of it may be told what the packet confirms
-behind_told : (l : Layer) (h count : ℕ) (es : List StationEntry) (brought : List Came) → AreTold (came_in es) brought → AreTold (came_in (entries_behind l h count es)) brought
+behind_told : (l : Layer) (h count : ℕ) (es : List StationEntry) (brought : List Came) → AreTold (came_in es) brought
+    → AreTold (came_in (entries_behind l h count es)) brought
 behind_told l h zero es brought told = told
 behind_told l h (suc count) es brought told = tt
 
 -- what is told of a packet that is handed up is what its octets bring, or nothing
-pub heard_beside : (cfg : Cfg) (end : Role) (l : Layer) (k : LinkStep) (octets : List ℕ) (p : PlainPacket) → k.packet ≡ Some octets → IsQuiet k → read_by cfg octets ≡ Ok p
+pub heard_beside : (cfg : Cfg) (end : Role) (l : Layer) (k : LinkStep) (octets : List ℕ) (p : PlainPacket) → k.packet ≡ Some octets → IsQuiet k
+    → read_by cfg octets ≡ Ok p
     → AreTold (came_in (follows (settings_from end cfg) l k).entries) (brought cfg (octets ∷ []))
 heard_beside cfg end l k octets p some quiet reads =
     let c = settings_from end cfg in
@@ -367,5 +399,7 @@ heard_beside cfg end l k octets p some quiet reads =
     let count = confirmed_by (layer_settings c) c.wide l a.next (named_by octets) in
     let es = entries_beside (beside_in c.wide octets) (bringing a.notices) in
     subst (λ xs. AreTold (came_in (follows c l k).entries) xs) (sym all)
-    (rw (ap came_in entries ∙ told_beside a.next a.notices (entries_behind a.next (named_by octets) count es)) (behind_told a.next (named_by octets) count es (brought_as (Ok p) (beside_in c.wide octets))
-    (brings_told p (beside_in c.wide octets) (bringing a.notices) (λ h e. answer_on (layer_settings c) l p h (ap (λ x. bringing x.notices) (sym answered) ∙ e)))))
+    (rw (ap came_in entries ∙ told_beside a.next a.notices (entries_behind a.next (named_by octets) count es))
+    (behind_told a.next (named_by octets) count es (brought_as (Ok p) (beside_in c.wide octets))
+    (brings_told p (beside_in c.wide octets) (bringing a.notices)
+    (λ h e. answer_on (layer_settings c) l p h (ap (λ x. bringing x.notices) (sym answered) ∙ e)))))

@@ -40,9 +40,15 @@ lead_of relink = relink_asked ∷ []
 -- ---- entries that aren't the layer's
 
 -- where one of them alone is of a session, which is that of r
-asked_silent : (p r : Progress) (still : Bool) (e : StationEntry) {es : List StationEntry} → after_entries p es ≡ record { begun = r.begun; stands = still } → ((n : ℕ) → session_from n p es ≡ entry_if (is_in n r) e ++ [])
+asked_silent : (p r : Progress) (still : Bool) (e : StationEntry) {es : List StationEntry} → after_entries p es ≡ record { begun = r.begun; stands = still }
+    → ((n : ℕ) → session_from n p es ≡ entry_if (is_in n r) e ++ [])
     → AreMute es → IsSilent p (record { begun = r.begun; stands = still }) es
-asked_silent p r still e progress is mute = record { progress = progress; mute = mute; later = λ n differs. is n ∙ ap (λ b. entry_if b e ++ []) (not_in n r differs) }
+asked_silent p r still e progress is mute = record {
+  progress = progress;
+  mute = mute;
+  later = λ n differs. is n
+      ∙ ap (λ b. entry_if b e ++ []) (not_in n r differs);
+}
 
 -- where nothing is noted
 quiet_silent : (lead : Lead) (p : Progress) (still : Bool) → p.stands ≡ still → IsSilent p (record { begun = p.begun; stands = still }) (lead_of lead ++ [])
@@ -59,14 +65,16 @@ down_silent disconnect p reason = asked_silent p p false disconnect_asked refl (
 down_silent relink p reason = asked_silent p p false relink_asked refl (λ n. refl) (tt, (tt, tt))
 
 -- LinkUp, after LinkDown or alone
-up_begins : (p : Progress) (down : Option Reason) → IsSilent p (record { begun = suc p.begun; stands = true }) (entries_noted (record { down = down; up = true }))
+up_begins : (p : Progress) (down : Option Reason)
+    → IsSilent p (record { begun = suc p.begun; stands = true }) (entries_noted (record { down = down; up = true }))
 up_begins p None = asked_silent p (record { begun = suc p.begun; stands = true }) true link_up refl (λ n. refl) (tt, tt)
 up_begins p (Some reason) = asked_silent p (record { begun = suc p.begun; stands = true }) true link_up refl (λ n. refl) (tt, (tt, tt))
 
 -- ---- what is put
 
 -- nothing where the link hands nothing up and notes no LinkUp
-pub silent : (view : LinkView) (c : LayerSettings) (wide : Bool) (l : Layer) (packet : Option (List ℕ)) (down : Option Reason) (up : Bool) → packet ≡ None → up ≡ false → (layer_at view c wide l packet down up).put ≡ []
+pub silent : (view : LinkView) (c : LayerSettings) (wide : Bool) (l : Layer) (packet : Option (List ℕ)) (down : Option Reason) (up : Bool) → packet ≡ None → up
+    ≡ false → (layer_at view c wide l packet down up).put ≡ []
 silent view c wide l packet down up none not_up =
     rw none (subst (λ b. (layer_at view c wide l None down b).put ≡ []) (sym not_up) (by down))
   where
@@ -74,14 +82,20 @@ silent view c wide l packet down up none not_up =
     by None = refl
     by (Some reason) = refl
 
-pub silent_puts : (cfg : Cfg) (end : Role) (l : Layer) (k : LinkStep) → k.packet ≡ None → k.notes.up ≡ false → HasPut (settings_from end cfg) k.side (follows (settings_from end cfg) l k)
+pub silent_puts : (cfg : Cfg) (end : Role) (l : Layer) (k : LinkStep) → k.packet ≡ None → k.notes.up ≡ false
+    → HasPut (settings_from end cfg) k.side (follows (settings_from end cfg) l k)
 silent_puts cfg end l k none not_up =
     let c = settings_from end cfg in
     let nothing = silent (view_of (link_settings c) k.side.near) (layer_settings c) c.wide l k.packet k.notes.down k.notes.up none not_up in
     record {
       handed = [];
       packets = [];
-      put = record { accepted = tt; link = ap (λ ps. (all_put (link_settings c) ps k.side).near) nothing; out = ap (λ ps. (all_put (link_settings c) ps k.side).out) nothing; readable = tt };
+      put = record {
+        accepted = tt;
+        link = ap (λ ps. (all_put (link_settings c) ps k.side).near) nothing;
+        out = ap (λ ps. (all_put (link_settings c) ps k.side).out) nothing;
+        readable = tt;
+      };
     }
 
 -- RESTART where a session begins
@@ -97,9 +111,11 @@ module _ {since : Beginning} (laws : SessionLaws) (cfg : Cfg) (fine : IsConfigur
       let m = suc h.links.far.begun in
       subst (λ e. AreReadable cfg.wide cfg.long_data e.given) not_begun
       (own_readable laws cfg fine end n m h.trace
-      (nothing_in_order cfg end h.trace n m (subst TakeNothing (sym (h.near.later n (omega arith)).moves) tt) (subst TakeNothing (sym (h.far.later m (omega arith)).moves) tt)) h.octets)
+      (nothing_in_order cfg end h.trace n m (subst TakeNothing (sym (h.near.later n (omega arith)).moves) tt)
+      (subst TakeNothing (sym (h.far.later m (omega arith)).moves) tt)) h.octets)
 
-  pub up_puts : {k : LinkStep} → Tells w.near.link k → k.notes.up ≡ true → HasPut (settings_from end cfg) k.side (follows (settings_from end cfg) w.near.layer k)
+  pub up_puts : {k : LinkStep} → Tells w.near.link k → k.notes.up ≡ true
+      → HasPut (settings_from end cfg) k.side (follows (settings_from end cfg) w.near.layer k)
   up_puts {k} tells up =
       let packets = restart (restart_cause end) 0 ∷ [] in
       record {
@@ -110,8 +126,10 @@ module _ {since : Beginning} (laws : SessionLaws) (cfg : Cfg) (fine : IsConfigur
 
 -- ---- the link's step, at `v`, and the layer's
 
-module _ {since : Beginning} (laws : SessionLaws) (cfg : Cfg) (fine : IsConfigured cfg) (end : Role) (w : World) (h : SessionsJoined since cfg end w) (lead : Lead) (left : List links.Entry) (k : LinkStep) (v : Sessions) (met : List Meeting)
-    (reach : SessionsReach since cfg end v) (pairs : PairsAreInOrder cfg end h.trace met) (more : (n m : ℕ) → HasMet n m h.links.met → HasMet n m met) (tells : Tells w.near.link k) (g : StepGoes (link_of cfg end) h.links v k left met) where
+module _ {since : Beginning} (laws : SessionLaws) (cfg : Cfg) (fine : IsConfigured cfg) (end : Role) (w : World) (h : SessionsJoined since cfg end w)
+    (lead : Lead) (left : List links.Entry) (k : LinkStep) (v : Sessions) (met : List Meeting)
+    (reach : SessionsReach since cfg end v) (pairs : PairsAreInOrder cfg end h.trace met) (more : (n m : ℕ) → HasMet n m h.links.met → HasMet n m met)
+    (tells : Tells w.near.link k) (g : StepGoes (link_of cfg end) h.links v k left met) where
   abbrev ours : Settings
   ours = settings_from end cfg
 
@@ -122,7 +140,8 @@ module _ {since : Beginning} (laws : SessionLaws) (cfg : Cfg) (fine : IsConfigur
   abbrev whole_step : Step
   whole_step = led_by (lead_of lead) (follows ours w.near.layer k)
 
-  goes_at : (up : Bool) → k.notes.up ≡ up → k.packet ≡ None → SessionGoes (link_of cfg end) h.links v (begun_by up h.links.near.begun) k.side.near k.side.out [] [] left met
+  goes_at : (up : Bool) → k.notes.up ≡ up → k.packet ≡ None
+      → SessionGoes (link_of cfg end) h.links v (begun_by up h.links.near.begun) k.side.near k.side.out [] [] left met
   goes_at up is none = step_as k up None is none g
 
   abbrev standing : Progress
@@ -134,7 +153,8 @@ module _ {since : Beginning} (laws : SessionLaws) (cfg : Cfg) (fine : IsConfigur
       let step : Step = record { near = station_with k.side.near w.near.layer; out = k.side.out; entries = lead_of lead ++ [] } in
       let same : step ≡ whole_step = ap (λ s. led_by (lead_of lead) s) (sym is) in
       subst (λ s. To (after_step ours w (octets_of left) s)) same
-      (rests cfg end w h step left v met (goes_at false (ap (λ n. n.up) quiet) none) (quiet_silent lead standing (is_up k.side.near.phase) (sym (tells.stays quiet))) (λ still. (sym (tells.stays quiet) ∙ still, refl))
+      (rests cfg end w h step left v met (goes_at false (ap (λ n. n.up) quiet) none)
+      (quiet_silent lead standing (is_up k.side.near.phase) (sym (tells.stays quiet))) (λ still. (sym (tells.stays quiet) ∙ still, refl))
       (subst (λ s. IsKept s.near) (sym same) kept) reach pairs more)
 
   down_step : k.packet ≡ None → IsKept whole_step.near → (reason : Reason) → k.notes ≡ record { down = Some reason; up = false }
@@ -145,7 +165,8 @@ module _ {since : Beginning} (laws : SessionLaws) (cfg : Cfg) (fine : IsConfigur
       let same : step ≡ whole_step = ap (λ s. led_by (lead_of lead) s) (sym is) in
       let off = tells.left reason (ap (λ n. n.down) noted) (ap (λ n. n.up) noted) in
       subst (λ s. To (after_step ours w (octets_of left) s)) same
-      (rests cfg end w h step left v met (goes_at false (ap (λ n. n.up) noted) none) (rw off (down_silent lead standing reason)) (λ still. true_false (sym still ∙ off))
+      (rests cfg end w h step left v met (goes_at false (ap (λ n. n.up) noted) none) (rw off (down_silent lead standing reason))
+      (λ still. true_false (sym still ∙ off))
       (subst (λ s. IsKept s.near) (sym same) kept) reach pairs more)
 
   pub follows_silent : k.notes.up ≡ false → k.packet ≡ None → IsKept whole_step.near → To (after_step ours w (octets_of left) whole_step)
@@ -167,7 +188,10 @@ module _ {since : Beginning} (laws : SessionLaws) (cfg : Cfg) (fine : IsConfigur
       let r = puts_go c h.links v (suc h.links.near.begun) packets handed k.side step [] left met (goes_at true up none) p in
       let still = puts_up laws.stations.put_tells p (ap (λ s. is_up s.phase) (tells.fresh_up up)) in
       let begins : IsSilent standing (record { begun = suc h.links.near.begun; stands = true }) step.entries =
-      subst (λ es. IsSilent standing (record { begun = suc h.links.near.begun; stands = true }) es) (sym (u.entries ∙ ap (λ b. entries_noted (record { down = k.notes.down; up = b })) up)) (up_begins standing k.notes.down) in
+      subst (λ es. IsSilent standing (record { begun = suc h.links.near.begun; stands = true }) es)
+      (sym (u.entries ∙ ap (λ b. entries_noted (record { down = k.notes.down; up = b })) up)) (up_begins standing k.notes.down) in
       let known = known_sessions OnlyBegunHaveLists laws.begun fine h.reach in
-      begins_session cfg end w h step left (all_act (link_of cfg end) (puts_of handed) v) met handed (back_read cfg handed packets p.readable) (back_octets cfg handed packets p.readable)
-      (spelled_bring laws.stations cfg packets (restart_readable laws cfg fine end w h)) r begins known.near still u.layer kept (puts_reach laws.unasked cfg fine end handed v asks reach) pairs more
+      begins_session cfg end w h step left (all_act (link_of cfg end) (puts_of handed) v) met handed (back_read cfg handed packets p.readable)
+      (back_octets cfg handed packets p.readable)
+      (spelled_bring laws.stations cfg packets (restart_readable laws cfg fine end w h)) r begins known.near still u.layer kept
+      (puts_reach laws.unasked cfg fine end handed v asks reach) pairs more

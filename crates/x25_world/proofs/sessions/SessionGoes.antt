@@ -1,5 +1,6 @@
 -- A step of the near end, joined of a step of its link and moves of its layer: in the session that stands, at rest, or as a session begins.
-use Rattle.std.proofs.Common.{◌≡◌, ℕ, suc, ◌==◌, ◌≤◌, ◌<◌, ◌⊎◌, inl, inr, List, [], ◌∷◌, ◌++◌, map, true, false, ◌&&◌, if◌then◌else◌, Option, Some, None, refl, sym, ap, ap₂, ◌∙◌, subst, append-nil, arith}
+use Rattle.std.proofs.Common.{◌≡◌, ℕ, suc, ◌==◌, ◌≤◌, ◌<◌, ◌⊎◌, inl, inr, List, [], ◌∷◌, ◌++◌, map, true, false, ◌&&◌, if◌then◌else◌, Option, Some, None, refl}
+use Rattle.std.proofs.Common.{sym, ap, ap₂, ◌∙◌, subst, append-nil, arith}
 use Rattle.std.proofs.lemmas.Bool.{ne_eqb, cases_eq, and_right}
 use Rattle.x25_bits.specs.{declared.role.Role.{Role}, declared.role.Role.TheVariants.{Dte, Dce}}
 use Rattle.x25_frame.specs.{Spelling.{spelling_of}}
@@ -14,12 +15,15 @@ use Rattle.x25_station.specs.{Step.{Step}, laws.KeepLaw.{IsKept}}
 use Rattle.x25_world.specs.{World.{World, entered, after_step}, laws.Claims.{entries_at, link_of}}
 use Rattle.x25_world.specs.laws.Sessions.{Progress, none_begun, after_entries, is_in, session_from, first_of, met_by, meets}
 use Rattle.x25_world.specs.{laws.BesideClaims.{came_in, Gave, IsGiven, AreSomeOf}, laws.ConfirmedClaims.{confirmed_in}}
-use Rattle.x25_world.proofs.Growing.{all_read, as_read, none_read, nothing_read, grown, AllAreOctets, all_octets_append, entries_more, entries_other, on_tap, octets_put}
-use Rattle.x25_world.proofs.sessions.SessionTrace.{layer_of, Done, moved, own_in, own, own_more, own_same, own_other, own_goes, same_number, TakeNothing, nothing_append, BringOctets, octets_append}
+use Rattle.x25_world.proofs.Growing.{all_read, as_read, none_read, nothing_read, grown, AllAreOctets, all_octets_append, entries_more, entries_other, on_tap}
+use Rattle.x25_world.proofs.Growing.{octets_put}
+use Rattle.x25_world.proofs.sessions.SessionTrace.{layer_of, Done, moved, own_in, own, own_more, own_same, own_other, own_goes, same_number, TakeNothing}
+use Rattle.x25_world.proofs.sessions.SessionTrace.{nothing_append, BringOctets, octets_append}
 use Rattle.x25_world.proofs.sessions.SessionCounts.{counted_in, IsCounted, counted_same, counted_rests, counted_goes}
 use Rattle.x25_world.proofs.{sessions.SessionReaches.{Beginning, SessionsReach}, sessions.SessionBeside.{brought, AreTold, told_more, MoreIs, none_more}}
 use Rattle.x25_world.proofs.sessions.SessionJoined.{HaveAll, IsSession, IsLayer, IsEnd, HasMet, Meets, Hears, PairsAreInOrder, SessionsJoined, Goes, gave_none}
-use Rattle.x25_world.proofs.sessions.SessionEntries.{after_append, session_append, meets_more, meets_other, none_met, AreMute, TellNothing, mute_tell, mute_in, ArePlain, plain_progress, plain_here, plain_elsewhere, restart_met, elsewhere_met}
+use Rattle.x25_world.proofs.sessions.SessionEntries.{after_append, session_append, meets_more, meets_other, none_met, AreMute, TellNothing, mute_tell, mute_in}
+use Rattle.x25_world.proofs.sessions.SessionEntries.{ArePlain, plain_progress, plain_here, plain_elsewhere, restart_met, elsewhere_met}
 use Rattle.x25_peer.proofs.{ReadLemmas.{layer_append, notices_append}, sessions.LinkSteps.{SessionGoes, extended_none}}
 use Rattle.x25_line.specs.laws.Sessions as links
 use Rattle.x25_layer.specs.laws.TwoLayers as layer
@@ -66,7 +70,8 @@ pub record OwnGoes (e f : layer.End) (l : Layer) (put lifted : List PlainPacket)
   pub entries : f.entries ≡ e.entries ++ layer_entries es
   pub told : f.told ≡ e.told ++ layer_notices es
 
-session_goes : (cfg : Cfg) (e f : layer.End) (l : Layer) (put lifted : List PlainPacket) (handed came : List (List ℕ)) (es before all : List StationEntry) (down up down₂ up₂ : List (List ℕ)) → OwnGoes e f l put lifted es
+session_goes : (cfg : Cfg) (e f : layer.End) (l : Layer) (put lifted : List PlainPacket) (handed came : List (List ℕ)) (es before all : List StationEntry)
+    (down up down₂ up₂ : List (List ℕ)) → OwnGoes e f l put lifted es
     → IsSession cfg e down up before → all_read cfg handed ≡ as_read put → all_read cfg came ≡ as_read lifted → AreTold (came_in es) (brought cfg came)
     → all ≡ before ++ es → down₂ ≡ down ++ handed → up₂ ≡ up ++ came → IsSession cfg f down₂ up₂ all
 session_goes cfg e f l put lifted handed came es before all down up down₂ up₂ o h puts took tells is more_down more_up = record {
@@ -78,7 +83,8 @@ session_goes cfg e f l put lifted handed came es before all down up down₂ up�
 }
 
 -- with nothing put or taken, and entries that aren't the layer's
-session_rests : (cfg : Cfg) (e f : layer.End) (before all more : List StationEntry) (down up down₂ up₂ : List (List ℕ)) → f ≡ e → IsSession cfg e down up before → all ≡ before ++ more → TellNothing more
+session_rests : (cfg : Cfg) (e f : layer.End) (before all more : List StationEntry) (down up down₂ up₂ : List (List ℕ)) → f ≡ e
+    → IsSession cfg e down up before → all ≡ before ++ more → TellNothing more
     → down₂ ≡ down → up₂ ≡ up → IsSession cfg f down₂ up₂ all
 session_rests cfg e f before all more down up down₂ up₂ same h is none same_down same_up = record {
   down = ap (all_read cfg) same_down ∙ h.down ∙ ap (λ x. as_read x.given) (sym same);
@@ -97,7 +103,8 @@ none_behind (x ∷ xs) ys e = absurd (cc)
 -- ---- the other end
 
 -- its own moves are the same
-end_stays : {cfg : Cfg} {end : Role} {s : Station} {k : SessionEnd} {t : List Done} (t₂ : List Done) {es : List StationEntry} → ((n : ℕ) → own_in end n t₂ ≡ own_in end n t) → IsEnd cfg end s k t es → IsEnd cfg end s k t₂ es
+end_stays : {cfg : Cfg} {end : Role} {s : Station} {k : SessionEnd} {t : List Done} (t₂ : List Done) {es : List StationEntry}
+    → ((n : ℕ) → own_in end n t₂ ≡ own_in end n t) → IsEnd cfg end s k t es → IsEnd cfg end s k t₂ es
 end_stays {cfg} {end} {k} {t} t₂ {es} same h = record {
   link = h.link;
   kept = h.kept;
@@ -119,14 +126,20 @@ end_stays {cfg} {end} {k} {t} t₂ {es} same h = record {
 
 -- ---- who is met
 
-hears_more : (Met Met₂ : ℕ → ℕ → Type 0) {n : ℕ} {up : List (List ℕ)} (up₂ : List (List ℕ)) {old : Option ℕ} (found all : Option ℕ) → ((m : ℕ) → Met n m → Met₂ n m) → all ≡ first_of old found
+hears_more : (Met Met₂ : ℕ → ℕ → Type 0) {n : ℕ} {up : List (List ℕ)} (up₂ : List (List ℕ)) {old : Option ℕ} (found all : Option ℕ)
+    → ((m : ℕ) → Met n m → Met₂ n m) → all ≡ first_of old found
     → (up ≡ [] → ((up₂ ≡ []) × (found ≡ None)) ⊎ Meets Met₂ n found) → Hears Met n up old → Hears Met₂ n up₂ all
 hears_more Met Met₂ up₂ found all more is now h = elim h [
   | inl none ↦ elim (now none.0) [
     | inl still ↦ inl (still.0, is ∙ ap (λ o. first_of o found) none.1 ∙ still.1)
     | inr some ↦ inr (record { session = some.session; told = is ∙ ap (λ o. first_of o found) none.1 ∙ some.told; has_met = some.has_met; begun = some.begun })
   ]
-  | inr some ↦ inr (record { session = some.session; told = is ∙ ap (λ o. first_of o found) some.told; has_met = more some.session some.has_met; begun = some.begun })
+  | inr some ↦ inr (record {
+    session = some.session;
+    told = is ∙ ap (λ o. first_of o found) some.told;
+    has_met = more some.session some.has_met;
+    begun = some.begun;
+  })
 ]
 
 -- the session that stands is restarted by the other end's latest one
@@ -135,7 +148,8 @@ pub record IsNews (n m : ℕ) (met : List Meeting) (notices : List LayerNotice) 
   pub restarts : BeginsRestarted notices
   pub begun : 1 ≤ m
 
-module _ {since : Beginning} (cfg : Cfg) (end : Role) (w : World) (h : SessionsJoined since cfg end w) (step : Step) (left : List links.Entry) (v : Sessions) (met : List Meeting) where
+module _ {since : Beginning} (cfg : Cfg) (end : Role) (w : World) (h : SessionsJoined since cfg end w) (step : Step) (left : List links.Entry) (v : Sessions)
+    (met : List Meeting) where
   abbrev session : ℕ
   session = h.links.near.begun
 
@@ -149,7 +163,8 @@ module _ {since : Beginning} (cfg : Cfg) (end : Role) (w : World) (h : SessionsJ
   standing = record { begun = session; stands = is_up w.near.link.phase }
 
   -- the entries of a session
-  session_more : (n : ℕ) → session_from n none_begun (told_before ++ step.entries) ≡ session_from n none_begun told_before ++ session_from n standing step.entries
+  session_more : (n : ℕ) → session_from n none_begun (told_before ++ step.entries) ≡ session_from n none_begun told_before
+      ++ session_from n standing step.entries
   session_more n =
       session_append n none_begun told_before step.entries
       ∙ ap (λ p. session_from n none_begun told_before ++ session_from n p step.entries) h.near.progress
@@ -169,13 +184,17 @@ module _ {since : Beginning} (cfg : Cfg) (end : Role) (w : World) (h : SessionsJ
     silent_in n = mute_tell (session_from n standing step.entries) (mute_in n standing step.entries mute)
 
     silent_all : HaveAll (session_from 1 standing step.entries) step.entries
-    silent_all = (let all = mute_tell step.entries mute in record { entries = (silent_in 1).entered ∙ sym all.entered; told = (silent_in 1).told ∙ sym all.told })
+    silent_all = (let all = mute_tell step.entries mute in
+        record { entries = (silent_in 1).entered ∙ sym all.entered; told = (silent_in 1).told ∙ sym all.told })
 
     silent_faults : AreNoFaults (layer_notices (told_before ++ step.entries))
-    silent_faults = subst AreNoFaults (sym (notices_append told_before step.entries ∙ ap (λ ns. layer_notices told_before ++ ns) (mute_tell step.entries mute).told ∙ append-nil (layer_notices told_before))) h.near.no_fault
+    silent_faults = subst AreNoFaults (sym
+        (notices_append told_before step.entries ∙ ap (λ ns. layer_notices told_before ++ ns) (mute_tell step.entries mute).told
+        ∙ append-nil (layer_notices told_before))) h.near.no_fault
 
     silent_counts : (n : ℕ) → IsCounted cfg end n h.trace (session_from n none_begun (told_before ++ step.entries))
-    silent_counts n = counted_rests cfg end n h.trace (session_from n none_begun told_before) (session_from n standing step.entries) (session_from n none_begun (told_before ++ step.entries)) (h.near.confirmed n) (session_more n) (silent_in n).confirmed
+    silent_counts n = counted_rests cfg end n h.trace (session_from n none_begun told_before) (session_from n standing step.entries)
+        (session_from n none_begun (told_before ++ step.entries)) (h.near.confirmed n) (session_more n) (silent_in n).confirmed
 
   progress_more : after_entries none_begun (told_before ++ step.entries) ≡ after_entries standing step.entries
   progress_more = after_append none_begun told_before step.entries ∙ ap (λ p. after_entries p step.entries) h.near.progress
@@ -188,8 +207,10 @@ module _ {since : Beginning} (cfg : Cfg) (end : Role) (w : World) (h : SessionsJ
       ∙ ap (λ p. first_of (meets end n w.transcript) (met_by n p (after_entries none_begun told_there) step.entries)) h.near.progress
 
   -- the sessions of both ends, where the near end's part is known
-  joined_of : (moves : List OwnMove) (at : ℕ) → SessionsReach since cfg end v → v.far ≡ h.links.far → v.out ≡ h.links.out ++ sent_in at end step.out → v.back ≡ left
-      → v.sent ≡ h.links.sent ++ step.out → v.met ≡ met → IsEnd cfg end step.near v.near (h.trace ++ moved end at moves) (told_before ++ step.entries) → BringOctets cfg.wide (moved end at moves)
+  joined_of : (moves : List OwnMove) (at : ℕ) → SessionsReach since cfg end v → v.far ≡ h.links.far → v.out ≡ h.links.out ++ sent_in at end step.out → v.back
+      ≡ left
+      → v.sent ≡ h.links.sent ++ step.out → v.met ≡ met → IsEnd cfg end step.near v.near (h.trace ++ moved end at moves) (told_before ++ step.entries)
+      → BringOctets cfg.wide (moved end at moves)
       → PairsAreInOrder cfg end (h.trace ++ moved end at moves) met → ((n m : ℕ) → HasMet n m h.links.met → HasMet n m met)
       → ((n : ℕ) → Hears (λ n m. HasMet n m met) n (v.near.up n) (meets end n (w.transcript ++ entered end step.entries)))
       → SessionsJoined since cfg end (after_step (settings_from end cfg) w (octets_of left) step)
@@ -207,7 +228,8 @@ module _ {since : Beginning} (cfg : Cfg) (end : Role) (w : World) (h : SessionsJ
     pairs = subst (PairsAreInOrder cfg end (h.trace ++ moved end at moves)) (sym same_met) pairs;
     near_hears = λ n. rw same_met (hears n);
     far_hears = λ n. rw same_met (hears_more (λ n m. HasMet m n h.links.met) (λ n m. HasMet m n met) (v.far.up n) None
-        (meets (other end) n (w.transcript ++ entered end step.entries)) (λ m has. more m n has) (meets_other end n w.transcript step.entries ∙ sym (with_none (meets (other end) n w.transcript)))
+        (meets (other end) n (w.transcript ++ entered end step.entries)) (λ m has. more m n has)
+        (meets_other end n w.transcript step.entries ∙ sym (with_none (meets (other end) n w.transcript)))
         (λ none. inl (ap (λ k. k.up n) far ∙ none, refl)) (h.far_hears n));
   }
     where
@@ -235,9 +257,11 @@ module _ {since : Beginning} (cfg : Cfg) (end : Role) (w : World) (h : SessionsJ
 
   -- ---- in the session that stands
 
-  module _ (moves : List OwnMove) (packets lifted : List PlainPacket) (handed came : List (List ℕ)) (puts : all_read cfg handed ≡ as_read packets) (took : all_read cfg came ≡ as_read lifted) (in_octets : AllAreOctets handed)
+  module _ (moves : List OwnMove) (packets lifted : List PlainPacket) (handed came : List (List ℕ)) (puts : all_read cfg handed ≡ as_read packets)
+      (took : all_read cfg came ≡ as_read lifted) (in_octets : AllAreOctets handed)
       (g : SessionGoes (link_of cfg end) h.links v session step.near.link step.out handed came left met)
-      (o : OwnGoes (own cfg end session h.trace) (own_run (layer_of cfg end) moves (own cfg end session h.trace)) step.near.layer packets lifted step.entries) (up : is_up w.near.link.phase ≡ true)
+      (o : OwnGoes (own cfg end session h.trace) (own_run (layer_of cfg end) moves (own cfg end session h.trace)) step.near.layer packets lifted step.entries)
+      (up : is_up w.near.link.phase ≡ true)
       (still : is_up step.near.link.phase ≡ true) (plain : ArePlain step.entries) (kept : IsKept step.near)
       (tells : AreTold (came_in step.entries) (brought cfg came)) (gave : ℕ → List Gave) (gives : AreSomeOf IsGiven (brought cfg handed) (gave session))
       (counts : (k : ℕ) (name : Name) → confirmed_in k name step.entries ≤ counted_in (layer_of cfg end) k name moves (own cfg end session h.trace)) where
@@ -264,8 +288,10 @@ module _ {since : Beginning} (cfg : Cfg) (end : Role) (w : World) (h : SessionsJ
 
     session_here : IsSessionOn session
     session_here =
-        session_goes cfg (own cfg end session h.trace) (own cfg end session trace_on) step.near.layer packets lifted handed came step.entries (session_from session none_begun told_before)
-        (session_from session none_begun (told_before ++ step.entries)) (h.links.near.down session) (h.links.near.up session) (v.near.down session) (v.near.up session)
+        session_goes cfg (own cfg end session h.trace) (own cfg end session trace_on) step.near.layer packets lifted handed came step.entries
+        (session_from session none_begun told_before)
+        (session_from session none_begun (told_before ++ step.entries)) (h.links.near.down session) (h.links.near.up session) (v.near.down session)
+        (v.near.up session)
         (rw (own_goes cfg end session h.trace moves) o)
         (h.near.sessions session (h.near.first up) (omega arith)) puts took tells
         (session_more session ∙ ap (λ l. session_from session none_begun told_before ++ l) (plain_here session standing step.entries plain stands_here))
@@ -273,7 +299,8 @@ module _ {since : Beginning} (cfg : Cfg) (end : Role) (w : World) (h : SessionsJ
 
     session_elsewhere : (n : ℕ) → 1 ≤ n → n ≤ session → (n ≡ session → ⊥) → IsSessionOn n
     session_elsewhere n low high differs =
-        session_rests cfg (own cfg end n h.trace) (own cfg end n trace_on) (session_from n none_begun told_before) (session_from n none_begun (told_before ++ step.entries)) []
+        session_rests cfg (own cfg end n h.trace) (own cfg end n trace_on) (session_from n none_begun told_before)
+        (session_from n none_begun (told_before ++ step.entries)) []
         (h.links.near.down n) (h.links.near.up n) (v.near.down n) (v.near.up n) (own_elsewhere n differs) (h.near.sessions n low high)
         (session_more n ∙ ap (λ l. session_from n none_begun told_before ++ l) (plain_elsewhere n standing step.entries plain (not_in n standing differs)))
         (mute_tell [] tt) (down_elsewhere n differs) (up_elsewhere n differs)
@@ -281,11 +308,16 @@ module _ {since : Beginning} (cfg : Cfg) (end : Role) (w : World) (h : SessionsJ
     -- what is told as confirmed the moves confirm
     counted_on : (n : ℕ) → IsCounted cfg end n trace_on (session_from n none_begun (told_before ++ step.entries))
     counted_on n = same_or_not n session
-        (λ is. rw is (counted_goes cfg end session h.trace moves (session_from session none_begun told_before) step.entries (session_from session none_begun (told_before ++ step.entries)) (h.near.confirmed session)
-        (session_more session ∙ ap (λ l. session_from session none_begun told_before ++ l) (plain_here session standing step.entries plain stands_here)) counts))
-        (λ differs. counted_same cfg end n h.trace trace_on (session_from n none_begun (told_before ++ step.entries)) (own_same end n session h.trace moves differs)
-        (counted_rests cfg end n h.trace (session_from n none_begun told_before) [] (session_from n none_begun (told_before ++ step.entries)) (h.near.confirmed n)
-        (session_more n ∙ ap (λ l. session_from n none_begun told_before ++ l) (plain_elsewhere n standing step.entries plain (not_in n standing differs))) (λ k name. refl)))
+        (λ is. rw is (counted_goes cfg end session h.trace moves (session_from session none_begun told_before) step.entries
+        (session_from session none_begun (told_before ++ step.entries)) (h.near.confirmed session)
+        (session_more session ∙ ap (λ l. session_from session none_begun told_before ++ l) (plain_here session standing step.entries plain stands_here))
+        counts))
+        (λ differs. counted_same cfg end n h.trace trace_on (session_from n none_begun (told_before ++ step.entries))
+        (own_same end n session h.trace moves differs)
+        (counted_rests cfg end n h.trace (session_from n none_begun told_before) [] (session_from n none_begun (told_before ++ step.entries))
+        (h.near.confirmed n)
+        (session_more n ∙ ap (λ l. session_from n none_begun told_before ++ l) (plain_elsewhere n standing step.entries plain (not_in n standing differs)))
+        (λ k name. refl)))
 
     nothing_taken : (lifted ≡ [] → TakeNothing moves) → (n : ℕ) → v.near.up n ≡ [] → TakeNothing (own_in end n trace_on)
     nothing_taken alone n none = same_or_not n session here elsewhere
@@ -303,7 +335,8 @@ module _ {since : Beginning} (cfg : Cfg) (end : Role) (w : World) (h : SessionsJ
         here : n ≡ session → TakeNothing (own_in end n trace_on)
         here is = rw is (at_session (ap v.near.up (sym is) ∙ none))
 
-    near_goes_on : (lifted ≡ [] → TakeNothing moves) → AreNoFaults (layer_notices step.entries) → IsEnd cfg end step.near v.near trace_on (told_before ++ step.entries)
+    near_goes_on : (lifted ≡ [] → TakeNothing moves) → AreNoFaults (layer_notices step.entries)
+        → IsEnd cfg end step.near v.near trace_on (told_before ++ step.entries)
     near_goes_on alone no_fault = record {
       link = g.station;
       kept = kept;
@@ -326,7 +359,8 @@ module _ {since : Beginning} (cfg : Cfg) (end : Role) (w : World) (h : SessionsJ
           });
       now = λ _. rw g.begun (subst (λ e. IsLayer e step.near) (sym (own_goes cfg end session h.trace moves)) (record { layer = o.layer; out = o.out }));
       alone = nothing_taken alone;
-      no_fault = subst AreNoFaults (sym (notices_append told_before step.entries)) (no_faults_append (layer_notices told_before) (layer_notices step.entries) h.near.no_fault no_fault);
+      no_fault = subst AreNoFaults (sym (notices_append told_before step.entries))
+          (no_faults_append (layer_notices told_before) (layer_notices step.entries) h.near.no_fault no_fault);
       first_has_all = λ low. (let most = subst (λ n. n ≤ 1) g.begun low in
           let one : session ≡ 1 = omega (arith, h.near.first up, most) in
           let all = plain_here 1 standing step.entries plain (rw (sym one) stands_here) in
@@ -342,9 +376,11 @@ module _ {since : Beginning} (cfg : Cfg) (end : Role) (w : World) (h : SessionsJ
     abbrev all_of : ℕ → Option ℕ
     all_of n = meets end n (w.transcript ++ entered end step.entries)
 
-    pub goes_on : SessionsReach since cfg end v → (lifted ≡ [] → TakeNothing moves) → AreNoFaults (layer_notices step.entries) → BringOctets cfg.wide (moved end session moves)
+    pub goes_on : SessionsReach since cfg end v → (lifted ≡ [] → TakeNothing moves) → AreNoFaults (layer_notices step.entries)
+        → BringOctets cfg.wide (moved end session moves)
         → PairsAreInOrder cfg end trace_on met → ((n m : ℕ) → HasMet n m h.links.met → HasMet n m met)
-        → ((own cfg end session h.trace).taken ≡ [] → ((lifted ≡ []) × (layer_notices step.entries ≡ [])) ⊎ IsNews session h.links.far.begun met (layer_notices step.entries))
+        → ((own cfg end session h.trace).taken ≡ [] → ((lifted ≡ []) × (layer_notices step.entries ≡ []))
+        ⊎ IsNews session h.links.far.begun met (layer_notices step.entries))
         → Goes since cfg end h.links gave (after_step (settings_from end cfg) w (octets_of left) step)
     unfolding joined_of
     goes_on reach alone no_fault octets pairs more news = record {
@@ -357,18 +393,20 @@ module _ {since : Beginning} (cfg : Cfg) (end : Role) (w : World) (h : SessionsJ
         far_begun = ap (λ p. p.begun) h.far.progress
 
         here : h.links.near.up session ≡ [] → ((v.near.up session ≡ []) × (found session ≡ None)) ⊎ Meets HasMetOn session (found session)
-        here none = elim (news (none_read (own cfg end session h.trace).taken (sym (h.near.sessions session (h.near.first up) (omega arith)).up ∙ ap (all_read cfg) none))) [
-          | inl still ↦ inl (
-            up_here ∙ ap₂ (λ xs ys. xs ++ ys) none (nothing_read cfg came (took ∙ ap as_read still.0)),
-            none_met session standing (after_entries none_begun told_there) step.entries still.1,
-          )
-          | inr new ↦ inr (record {
-            session = h.links.far.begun;
-            told = restart_met session standing (after_entries none_begun told_there) step.entries plain stands_here new.restarts ∙ ap (λ m. Some m) far_begun;
-            has_met = new.has_met;
-            begun = (h.near.first up, new.begun);
-          })
-        ]
+        here none = elim (news (none_read (own cfg end session h.trace).taken
+            (sym (h.near.sessions session (h.near.first up) (omega arith)).up ∙ ap (all_read cfg) none))) [
+              | inl still ↦ inl (
+                up_here ∙ ap₂ (λ xs ys. xs ++ ys) none (nothing_read cfg came (took ∙ ap as_read still.0)),
+                none_met session standing (after_entries none_begun told_there) step.entries still.1,
+              )
+              | inr new ↦ inr (record {
+                session = h.links.far.begun;
+                told = restart_met session standing (after_entries none_begun told_there) step.entries plain stands_here new.restarts
+                    ∙ ap (λ m. Some m) far_begun;
+                has_met = new.has_met;
+                begun = (h.near.first up, new.begun);
+              })
+            ]
 
         elsewhere : (n : ℕ) → (n ≡ session → ⊥) → h.links.near.up n ≡ [] → ((v.near.up n ≡ []) × (found n ≡ None)) ⊎ Meets HasMetOn n (found n)
         elsewhere n differs none =
@@ -387,7 +425,8 @@ module _ {since : Beginning} (cfg : Cfg) (end : Role) (w : World) (h : SessionsJ
   -- ---- where nothing is asked of the layer
 
   -- Entries that aren't the layer's: this session stands then, or none, and these octets were handed down in it.
-  module _ (b : ℕ) (handed : List (List ℕ)) (g : SessionGoes (link_of cfg end) h.links v b step.near.link step.out handed [] left met) (silent : IsSilent standing (record { begun = b; stands = is_up step.near.link.phase }) step.entries) where
+  module _ (b : ℕ) (handed : List (List ℕ)) (g : SessionGoes (link_of cfg end) h.links v b step.near.link step.out handed [] left met)
+      (silent : IsSilent standing (record { begun = b; stands = is_up step.near.link.phase }) step.entries) where
     up_same : (n : ℕ) → v.near.up n ≡ h.links.near.up n
     up_same n = g.up n ∙ extended_none h.links.near.up b n
 
@@ -396,10 +435,13 @@ module _ {since : Beginning} (cfg : Cfg) (end : Role) (w : World) (h : SessionsJ
 
     session_stays : (n : ℕ) → 1 ≤ n → n ≤ session → v.near.down n ≡ h.links.near.down n → IsSessionThen n
     session_stays n low high same_down =
-        session_rests cfg (own cfg end n h.trace) (own cfg end n h.trace) (session_from n none_begun told_before) (session_from n none_begun (told_before ++ step.entries)) (session_from n standing step.entries)
-        (h.links.near.down n) (h.links.near.up n) (v.near.down n) (v.near.up n) refl (h.near.sessions n low high) (session_more n) (silent_in silent.mute n) same_down (up_same n)
+        session_rests cfg (own cfg end n h.trace) (own cfg end n h.trace) (session_from n none_begun told_before)
+        (session_from n none_begun (told_before ++ step.entries)) (session_from n standing step.entries)
+        (h.links.near.down n) (h.links.near.up n) (v.near.down n) (v.near.up n) refl (h.near.sessions n low high) (session_more n) (silent_in silent.mute n)
+        same_down (up_same n)
 
-    module _ (in_octets : AllAreOctets handed) (latest : session ≤ b) (one_more : b ≤ suc session) (before : v.near.down 0 ≡ h.links.near.down 0) (here : 1 ≤ b → IsSessionThen b)
+    module _ (in_octets : AllAreOctets handed) (latest : session ≤ b) (one_more : b ≤ suc session) (before : v.near.down 0 ≡ h.links.near.down 0)
+        (here : 1 ≤ b → IsSessionThen b)
         (stands : is_up step.near.link.phase ≡ true → (1 ≤ b) × IsLayer (own cfg end b h.trace) step.near) (kept : IsKept step.near) where
       near_quietly : IsEnd cfg end step.near v.near h.trace (told_before ++ step.entries)
       near_quietly = record {
@@ -415,14 +457,20 @@ module _ {since : Beginning} (cfg : Cfg) (end : Role) (w : World) (h : SessionsJ
         confirmed = silent_counts silent.mute;
         later = λ n more. (let above = subst (λ m. m < n) g.begun more in
             let nothing = h.near.later n (omega (arith, above, latest)) in
-            record { moves = nothing.moves; entries = session_more n ∙ ap₂ (λ xs ys. xs ++ ys) nothing.entries (silent.later n (λ is. omega (arith, above, is))) });
+            record {
+              moves = nothing.moves;
+              entries = session_more n
+                  ∙ ap₂ (λ xs ys. xs ++ ys) nothing.entries (silent.later n (λ is. omega (arith, above, is)));
+            });
         now = λ still. rw g.begun (stands still).1;
         alone = λ n none. h.near.alone n (sym (up_same n) ∙ none);
         no_fault = silent_faults silent.mute;
-        first_has_all = λ low. (let most = subst (λ n. n ≤ 1) g.begun low in all_more (h.near.first_has_all (omega (arith, most, latest))) (silent_all silent.mute));
+        first_has_all = λ low. (let most = subst (λ n. n ≤ 1) g.begun low in
+            all_more (h.near.first_has_all (omega (arith, most, latest))) (silent_all silent.mute));
       }
 
-      quietly : SessionsReach since cfg end v → PairsAreInOrder cfg end h.trace met → ((n m : ℕ) → HasMet n m h.links.met → HasMet n m met) → brought cfg handed ≡ []
+      quietly : SessionsReach since cfg end v → PairsAreInOrder cfg end h.trace met → ((n m : ℕ) → HasMet n m h.links.met → HasMet n m met)
+          → brought cfg handed ≡ []
           → Goes since cfg end h.links gave_none (after_step (settings_from end cfg) w (octets_of left) step)
       unfolding joined_of
       quietly reach pairs more bring_none = record {
@@ -430,24 +478,31 @@ module _ {since : Beginning} (cfg : Cfg) (end : Role) (w : World) (h : SessionsJ
             (rw (append-nil h.trace) pairs) more
             (λ n. hears_more (λ n m. HasMet n m h.links.met) (λ n m. HasMet n m met) (v.near.up n) (found n)
             (meets end n (w.transcript ++ entered end step.entries)) (λ m has. more n m has) (meets_now n)
-            (λ none. inl (up_same n ∙ none, none_met n standing (after_entries none_begun told_there) step.entries (mute_tell step.entries silent.mute).told)) (h.near_hears n));
+            (λ none. inl (up_same n ∙ none, none_met n standing (after_entries none_begun told_there) step.entries (mute_tell step.entries silent.mute).told))
+            (h.near_hears n));
         down = more_then b handed g.down gave_none (rw bring_none tt);
         far = g.far;
       }
 
   -- the session that stands has gone on so
-  pub rests : SessionGoes (link_of cfg end) h.links v session step.near.link step.out [] [] left met → IsSilent standing (record { begun = session; stands = is_up step.near.link.phase }) step.entries
-      → (is_up step.near.link.phase ≡ true → (is_up w.near.link.phase ≡ true) × (step.near.layer ≡ w.near.layer)) → IsKept step.near → SessionsReach since cfg end v → PairsAreInOrder cfg end h.trace met
-      → ((n m : ℕ) → HasMet n m h.links.met → HasMet n m met) → Goes since cfg end h.links gave_none (after_step (settings_from end cfg) w (octets_of left) step)
+  pub rests : SessionGoes (link_of cfg end) h.links v session step.near.link step.out [] [] left met
+      → IsSilent standing (record { begun = session; stands = is_up step.near.link.phase }) step.entries
+      → (is_up step.near.link.phase ≡ true → (is_up w.near.link.phase ≡ true) × (step.near.layer ≡ w.near.layer)) → IsKept step.near
+      → SessionsReach since cfg end v → PairsAreInOrder cfg end h.trace met
+      → ((n m : ℕ) → HasMet n m h.links.met → HasMet n m met)
+      → Goes since cfg end h.links gave_none (after_step (settings_from end cfg) w (octets_of left) step)
   rests g silent layer_stays kept reach pairs more =
       let same : (n : ℕ) → v.near.down n ≡ h.links.near.down n = λ n. g.down n ∙ extended_none h.links.near.down session n in
       quietly session [] g silent tt (omega arith) (omega arith) (same 0) (λ low. session_stays session [] g silent session low (omega arith) (same session))
-      (λ still. (let before = layer_stays still in let old = h.near.now before.0 in (h.near.first before.0, record { layer = old.layer ∙ sym before.1; out = old.out }))) kept reach pairs more refl
+      (λ still. (let before = layer_stays still in let old = h.near.now before.0 in
+      (h.near.first before.0, record { layer = old.layer ∙ sym before.1; out = old.out }))) kept reach pairs more refl
 
   -- or the next begins
-  module _ (handed : List (List ℕ)) (puts : all_read cfg handed ≡ as_read (restart (restart_cause end) 0 ∷ [])) (in_octets : AllAreOctets handed) (bring_none : brought cfg handed ≡ [])
+  module _ (handed : List (List ℕ)) (puts : all_read cfg handed ≡ as_read (restart (restart_cause end) 0 ∷ [])) (in_octets : AllAreOctets handed)
+      (bring_none : brought cfg handed ≡ [])
       (g : SessionGoes (link_of cfg end) h.links v (suc session) step.near.link step.out handed [] left met)
-      (begins : IsSilent standing (record { begun = suc session; stands = true }) step.entries) (fresh : (n : ℕ) → session < n → (h.links.near.down n ≡ []) × (h.links.near.up n ≡ [])) (still : is_up step.near.link.phase ≡ true)
+      (begins : IsSilent standing (record { begun = suc session; stands = true }) step.entries)
+      (fresh : (n : ℕ) → session < n → (h.links.near.down n ≡ []) × (h.links.near.up n ≡ [])) (still : is_up step.near.link.phase ≡ true)
       (layer_begins : step.near.layer ≡ (goes_up (layer_of cfg end)).next) (kept : IsKept step.near) where
     abbrev the_next : ℕ
     the_next = suc session
@@ -455,13 +510,15 @@ module _ {since : Beginning} (cfg : Cfg) (end : Role) (w : World) (h : SessionsJ
     own_afresh : own cfg end the_next h.trace ≡ started (goes_up (layer_of cfg end))
     own_afresh = ap (λ l. own_run (layer_of cfg end) l (started (goes_up (layer_of cfg end)))) (h.near.later the_next (omega arith)).moves
 
-    next_session : IsSession cfg (own cfg end the_next h.trace) (v.near.down the_next) (v.near.up the_next) (session_from the_next none_begun (told_before ++ step.entries))
+    next_session : IsSession cfg (own cfg end the_next h.trace) (v.near.down the_next) (v.near.up the_next)
+        (session_from the_next none_begun (told_before ++ step.entries))
     next_session =
         let nothing = fresh the_next (omega arith) in
         let up = g.up the_next ∙ extended_none h.links.near.up the_next the_next ∙ nothing.1 in
         let all : session_from the_next none_begun (told_before ++ step.entries) ≡ session_from the_next standing step.entries =
         session_more the_next ∙ ap (λ l. l ++ session_from the_next standing step.entries) (h.near.later the_next (omega arith)).entries in
-        subst (λ e. IsSession cfg e (v.near.down the_next) (v.near.up the_next) (session_from the_next none_begun (told_before ++ step.entries))) (sym own_afresh) (record {
+        subst (λ e. IsSession cfg e (v.near.down the_next) (v.near.up the_next) (session_from the_next none_begun (told_before ++ step.entries)))
+        (sym own_afresh) (record {
           down = ap (all_read cfg) (down_here the_next handed g.down ∙ ap (λ l. l ++ handed) nothing.0) ∙ puts ∙ by_role end;
           up = ap (all_read cfg) up;
           entries = sym (ap layer_entries all ∙ (silent_in begins.mute the_next).entered);
@@ -473,8 +530,10 @@ module _ {since : Beginning} (cfg : Cfg) (end : Role) (w : World) (h : SessionsJ
         by_role Dte = refl
         by_role Dce = refl
 
-    pub begins_session : SessionsReach since cfg end v → PairsAreInOrder cfg end h.trace met → ((n m : ℕ) → HasMet n m h.links.met → HasMet n m met) → Goes since cfg end h.links gave_none (after_step (settings_from end cfg) w (octets_of left) step)
+    pub begins_session : SessionsReach since cfg end v → PairsAreInOrder cfg end h.trace met → ((n m : ℕ) → HasMet n m h.links.met → HasMet n m met)
+        → Goes since cfg end h.links gave_none (after_step (settings_from end cfg) w (octets_of left) step)
     begins_session reach pairs more =
         quietly the_next handed g (rw still begins) in_octets (omega arith) (omega arith)
         (down_apart the_next handed g.down 0 (λ is. omega (arith, is))) (λ low. next_session)
-        (λ up. (omega arith, subst (λ e. IsLayer e step.near) (sym own_afresh) (record { layer = sym layer_begins; out = refl }))) kept reach pairs more bring_none
+        (λ up. (omega arith, subst (λ e. IsLayer e step.near) (sym own_afresh) (record { layer = sym layer_begins; out = refl }))) kept reach pairs more
+        bring_none

@@ -98,7 +98,8 @@ pub record SessionsJoined (since : Beginning) (cfg : Cfg) (end : Role) (w : Worl
   pub far_hears : (n : ℕ) → Hears (λ (n m : ℕ). HasMet m n links.met) n (links.far.up n) (meets (other end) n w.transcript)
 
 -- the same, with this left on the line to the near end, and its run told otherwise
-abbrev pub relined : {since told : Beginning} (cfg : Cfg) (end : Role) (w : World) (h : SessionsJoined since cfg end w) (es : List links.Entry) (left : List (List ℕ)) → octets_of es ≡ left
+abbrev pub relined : {since told : Beginning} (cfg : Cfg) (end : Role) (w : World) (h : SessionsJoined since cfg end w) (es : List links.Entry)
+    (left : List (List ℕ)) → octets_of es ≡ left
     → SessionsReach told cfg end (record h.links { back = es }) → SessionsJoined told cfg end (record w { back = left })
 relined cfg end w h es left same reach = record {
   links = record h.links { back = es };
@@ -115,7 +116,8 @@ relined cfg end w h es left same reach = record {
   far_hears = h.far_hears;
 }
 
-abbrev pub retold : {since told : Beginning} (cfg : Cfg) (end : Role) (w : World) (h : SessionsJoined since cfg end w) → SessionsReach told cfg end h.links → SessionsJoined told cfg end w
+abbrev pub retold : {since told : Beginning} (cfg : Cfg) (end : Role) (w : World) (h : SessionsJoined since cfg end w) → SessionsReach told cfg end h.links
+    → SessionsJoined told cfg end w
 retold cfg end w h reach = relined cfg end w h h.links.back w.back h.back reach
 
 -- ---- a step of the near end
@@ -130,7 +132,8 @@ abbrev pub gave_none : ℕ → List Gave
 gave_none n = []
 
 -- nothing happened
-pub stays : {since : Beginning} {cfg : Cfg} {end : Role} {w : World} (h : SessionsJoined since cfg end w) (gave : ℕ → List Gave) → Goes since cfg end h.links gave w
+pub stays : {since : Beginning} {cfg : Cfg} {end : Role} {w : World} (h : SessionsJoined since cfg end w) (gave : ℕ → List Gave)
+    → Goes since cfg end h.links gave w
 stays {cfg} h gave = record { joined = h; down = λ n. none_more cfg (h.links.near.down n) (h.links.near.down n) (gave n) refl; far = refl }
 
 -- ---- as the other end sees it
@@ -139,21 +142,28 @@ pub met_turned : (n m : ℕ) (met : List Meeting) → HasMet n m met → HasMet 
 met_turned n m [] h = absurd h
 met_turned n m (p ∷ met) h = elim h [ inl here ↦ inl (here.1, here.0) | inr there ↦ inr (met_turned n m met there) ]
 
-pub pairs_turned : (cfg : Cfg) (end : Role) (trace : List Done) (met : List Meeting) → PairsAreInOrder cfg end trace met → PairsAreInOrder cfg (other end) trace (map turned met)
+pub pairs_turned : (cfg : Cfg) (end : Role) (trace : List Done) (met : List Meeting) → PairsAreInOrder cfg end trace met
+    → PairsAreInOrder cfg (other end) trace (map turned met)
 pairs_turned cfg end trace [] h = tt
 pairs_turned cfg end trace (p ∷ met) h = (
   subst (λ es. AreInOrder cfg.long_data cfg.channels es (apart_start cfg.long_data cfg.channels)) (sym (pair_turned end p.near p.far trace)) h.0,
   pairs_turned cfg end trace met h.1,
 )
 
-pub hears_as : (Met Met₂ : ℕ → ℕ → Type 0) {n : ℕ} {up : List (List ℕ)} {met : Option ℕ} → ((m : ℕ) → Met n m → Met₂ n m) → Hears Met n up met → Hears Met₂ n up met
-hears_as Met Met₂ turn h = elim h [ inl none ↦ inl none | inr some ↦ inr (record { session = some.session; told = some.told; has_met = turn some.session some.has_met; begun = some.begun }) ]
+pub hears_as : (Met Met₂ : ℕ → ℕ → Type 0) {n : ℕ} {up : List (List ℕ)} {met : Option ℕ} → ((m : ℕ) → Met n m → Met₂ n m) → Hears Met n up met
+    → Hears Met₂ n up met
+hears_as Met Met₂ turn h = elim h [
+  | inl none ↦ inl none
+  | inr some ↦ inr
+      (record { session = some.session; told = some.told; has_met = turn some.session some.has_met; begun = some.begun })
+]
 
 pub twice : (end : Role) (P : Role → Type 0) → P end → P (other (other end))
 twice Dte P h = h
 twice Dce P h = h
 
-unfoldable pub sessions_swapped : {since : Beginning} {cfg : Cfg} {end : Role} {w : World} → SessionsJoined since cfg end w → SessionsJoined since cfg (other end) (mirrored w)
+unfoldable pub sessions_swapped : {since : Beginning} {cfg : Cfg} {end : Role} {w : World} → SessionsJoined since cfg end w
+    → SessionsJoined since cfg (other end) (mirrored w)
 sessions_swapped {cfg} {end} {w} h = record {
   links = links.swapped h.links;
   trace = h.trace;
@@ -170,6 +180,7 @@ sessions_swapped {cfg} {end} {w} h = record {
       (hears_as _ _ (λ m. met_turned n m h.links.met) (h.near_hears n));
 }
 
-pub links_swapped : {since : Beginning} {cfg : Cfg} {end : Role} {w : World} (h : SessionsJoined since cfg end w) → (sessions_swapped h).links ≡ links.swapped h.links
+pub links_swapped : {since : Beginning} {cfg : Cfg} {end : Role} {w : World} (h : SessionsJoined since cfg end w) → (sessions_swapped h).links
+    ≡ links.swapped h.links
 unfolding sessions_swapped
 links_swapped h = refl

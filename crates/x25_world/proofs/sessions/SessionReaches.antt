@@ -28,11 +28,13 @@ abbrev all_flipped : List line.LinkEvent → List line.LinkEvent
 all_flipped [] = []
 all_flipped (e ∷ es) = flipped e ∷ all_flipped es
 
-event_flipped : (c d : LinkSettings) (e : line.LinkEvent) (w : Sessions) → links.happens d c (flipped e) (links.swapped w) ≡ links.swapped (links.happens c d e w)
+event_flipped : (c d : LinkSettings) (e : line.LinkEvent) (w : Sessions) → links.happens d c (flipped e) (links.swapped w)
+    ≡ links.swapped (links.happens c d e w)
 event_flipped c d (line.Near act) w = ap (λ x. links.swapped (links.acts c act x)) (twice w)
 event_flipped c d (line.Far act) w = sym (twice (links.acts d act (links.swapped w)))
 
-run_flipped : (c d : LinkSettings) (es : List line.LinkEvent) (w : Sessions) → links.run d c (all_flipped es) (links.swapped w) ≡ links.swapped (links.run c d es w)
+run_flipped : (c d : LinkSettings) (es : List line.LinkEvent) (w : Sessions) → links.run d c (all_flipped es) (links.swapped w)
+    ≡ links.swapped (links.run c d es w)
 run_flipped c d [] w = refl
 run_flipped c d (e ∷ es) w = ap (λ x. links.run d c (all_flipped es) x) (event_flipped c d e w) ∙ run_flipped c d es (links.happens c d e w)
 
@@ -81,19 +83,22 @@ pub record SessionsReach (since : Beginning) (cfg : Cfg) (end : Role) (v : Sessi
   pub first : since ≡ set_up → AreInFirst cfg end v
   pub grown : (before : Sessions) (e : Event) → since ≡ at_event before e → Grown cfg e end before v
 
-pub reach_swapped : {since : Beginning} (cfg : Cfg) (end : Role) (v : Sessions) → SessionsReach since cfg end v → SessionsReach since cfg (other end) (links.swapped v)
+pub reach_swapped : {since : Beginning} (cfg : Cfg) (end : Role) (v : Sessions) → SessionsReach since cfg end v
+    → SessionsReach since cfg (other end) (links.swapped v)
 reach_swapped cfg Dte v h = record {
   events = all_flipped h.events;
   timely = timely_flipped (link_of cfg Dte) (link_of cfg Dce) h.events from_nothing h.timely;
   run = run_flipped (link_of cfg Dte) (link_of cfg Dce) h.events from_nothing ∙ ap links.swapped h.run;
-  first = λ is. (let f = h.first is in let u = f.unasked in record { unasked = record { near = u.far; far = u.near; out = u.back; back = u.out }; near = f.far; far = f.near });
+  first = λ is. (let f = h.first is in let u = f.unasked in
+      record { unasked = record { near = u.far; far = u.near; out = u.back; back = u.out }; near = f.far; far = f.near });
   grown = λ before e is. (let g = h.grown before e is in record { asked = g.asked; may = g.may; timely = g.timely; run = g.run ∙ sym (twice v) });
 }
 reach_swapped cfg Dce v h = record {
   events = all_flipped h.events;
   timely = timely_flipped (link_of cfg Dce) (link_of cfg Dte) h.events from_nothing h.timely;
   run = run_flipped (link_of cfg Dce) (link_of cfg Dte) h.events from_nothing ∙ ap links.swapped h.run;
-  first = λ is. (let f = h.first is in let u = f.unasked in record { unasked = record { near = u.far; far = u.near; out = u.back; back = u.out }; near = f.far; far = f.near });
+  first = λ is. (let f = h.first is in let u = f.unasked in
+      record { unasked = record { near = u.far; far = u.near; out = u.back; back = u.out }; near = f.far; far = f.near });
   grown = λ before e is. (let g = h.grown before e is in record { asked = g.asked; may = g.may; timely = g.timely; run = g.run });
 }
 
@@ -101,7 +106,8 @@ pub links_append : (c d : LinkSettings) (xs ys : List line.LinkEvent) (v : Sessi
 links_append c d [] ys v = refl
 links_append c d (x ∷ xs) ys v = links_append c d xs ys (links.happens c d x v)
 
-pub timely_append : (c d : LinkSettings) (xs ys : List line.LinkEvent) (v : Sessions) → AreTimely c d xs v → AreTimely c d ys (links.run c d xs v) → AreTimely c d (xs ++ ys) v
+pub timely_append : (c d : LinkSettings) (xs ys : List line.LinkEvent) (v : Sessions) → AreTimely c d xs v → AreTimely c d ys (links.run c d xs v)
+    → AreTimely c d (xs ++ ys) v
 timely_append c d [] ys v f g = g
 timely_append c d (x ∷ xs) ys v f g = (f.0, timely_append c d xs ys (links.happens c d x v) f.1 g)
 
@@ -135,11 +141,13 @@ seen_acts : (cfg : Cfg) (end : Role) (act : line.Act) (v : Sessions)
 seen_acts cfg Dte act v = refl
 seen_acts cfg Dce act v = ap (λ x. links.swapped (links.acts (link_of cfg Dce) act x)) (twice v)
 
-seen_timely : (cfg : Cfg) (end : Role) (act : line.Act) (v : Sessions) → IsTimely (link_of cfg end) (link_of cfg (other end)) act v → IsTimelyAt (link_of cfg Dte) (link_of cfg Dce) (at_end end act) (seen_from end v)
+seen_timely : (cfg : Cfg) (end : Role) (act : line.Act) (v : Sessions) → IsTimely (link_of cfg end) (link_of cfg (other end)) act v
+    → IsTimelyAt (link_of cfg Dte) (link_of cfg Dce) (at_end end act) (seen_from end v)
 seen_timely cfg Dte act v h = h
 seen_timely cfg Dce act v h = rw (twice v) h
 
-grow : {cfg : Cfg} {end : Role} (act : line.Act) {v before : Sessions} {e : Event} → IsTimely (link_of cfg end) (link_of cfg (other end)) act v → (e.at ≡ end) × Asks e.act act → Grown cfg e end before v
+grow : {cfg : Cfg} {end : Role} (act : line.Act) {v before : Sessions} {e : Event} → IsTimely (link_of cfg end) (link_of cfg (other end)) act v → (e.at ≡ end)
+    × Asks e.act act → Grown cfg e end before v
     → Grown cfg e end before (links.acts (link_of cfg end) act v)
 grow {cfg} {end} act {v} {before} {e} timely asks g =
     let c = link_of cfg Dte in
@@ -160,16 +168,34 @@ grow {cfg} {end} act {v} {before} {e} timely asks g =
     }
 
 pub joined_at : {cfg : Cfg} (end : Role) → IsConfigured cfg → AreJoined (link_of cfg end) (link_of cfg (other end))
-joined_at Dte fine = record { near_role = refl; far_role = refl; longest = refl; near_low = fine.low; near_high = fine.high; far_low = fine.low; far_high = fine.high }
-joined_at Dce fine = record { near_role = refl; far_role = refl; longest = refl; near_low = fine.low; near_high = fine.high; far_low = fine.low; far_high = fine.high }
+joined_at Dte fine = record {
+  near_role = refl;
+  far_role = refl;
+  longest = refl;
+  near_low = fine.low;
+  near_high = fine.high;
+  far_low = fine.low;
+  far_high = fine.high;
+}
+joined_at Dce fine = record {
+  near_role = refl;
+  far_role = refl;
+  longest = refl;
+  near_low = fine.low;
+  near_high = fine.high;
+  far_low = fine.low;
+  far_high = fine.high;
+}
 
 -- what always holds of two links
-pub known_sessions : {since : Beginning} (P : _) → Throughout P → {cfg : Cfg} → IsConfigured cfg → {end : Role} {v : Sessions} → SessionsReach since cfg end v → P (link_of cfg end) (link_of cfg (other end)) v
+pub known_sessions : {since : Beginning} (P : _) → Throughout P → {cfg : Cfg} → IsConfigured cfg → {end : Role} {v : Sessions} → SessionsReach since cfg end v
+    → P (link_of cfg end) (link_of cfg (other end)) v
 known_sessions P law {cfg} fine {end} h =
     rw (sym h.run) (law (link_of cfg end) (link_of cfg (other end)) (joined_at end fine) from_nothing (inl refl) h.events h.timely)
 
 -- one act more of the end
-pub sessions_act : {since : Beginning} → Throughout NoneBeginUnasked → {cfg : Cfg} → IsConfigured cfg → {end : Role} {act : line.Act} {v : Sessions} → IsTimely (link_of cfg end) (link_of cfg (other end)) act v → MayAct since act v → MayAsk since end act → SessionsReach since cfg end v
+pub sessions_act : {since : Beginning} → Throughout NoneBeginUnasked → {cfg : Cfg} → IsConfigured cfg → {end : Role} {act : line.Act} {v : Sessions}
+    → IsTimely (link_of cfg end) (link_of cfg (other end)) act v → MayAct since act v → MayAsk since end act → SessionsReach since cfg end v
     → SessionsReach since cfg end (links.acts (link_of cfg end) act v)
 sessions_act law {cfg} fine {end} {act} {v} timely may asks h =
     let c = link_of cfg end in
@@ -186,6 +212,8 @@ sessions_act law {cfg} fine {end} {act} {v} timely may asks h =
     }
 
 -- and octets that are handed down
-pub puts_reach : {since : Beginning} → Throughout NoneBeginUnasked → (cfg : Cfg) → IsConfigured cfg → (end : Role) (os : List (List ℕ)) (v : Sessions) → ((octets : List ℕ) → MayAsk since end (line.Put octets)) → SessionsReach since cfg end v
+pub puts_reach : {since : Beginning} → Throughout NoneBeginUnasked → (cfg : Cfg) → IsConfigured cfg → (end : Role) (os : List (List ℕ)) (v : Sessions)
+    → ((octets : List ℕ) → MayAsk since end (line.Put octets)) → SessionsReach since cfg end v
     → SessionsReach since cfg end (all_act (link_of cfg end) (puts_of os) v)
-puts_reach {since} law cfg fine end os v asks = puts_last (link_of cfg end) (SessionsReach since cfg end) (λ o x reach. sessions_act law fine tt (λ off. tt) (asks o) reach) os
+puts_reach {since} law cfg fine end os v asks = puts_last (link_of cfg end) (SessionsReach since cfg end)
+    (λ o x reach. sessions_act law fine tt (λ off. tt) (asks o) reach) os

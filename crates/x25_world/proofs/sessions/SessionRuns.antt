@@ -6,7 +6,8 @@ use Rattle.x25_line.specs.{laws.Sessions.{Sessions, from_nothing}, laws.SessionE
 use Rattle.x25_station.specs.{declared.config.Cfg.{Cfg}, Config.{settings_from, config_refusal}, Entry.{link_up}}
 use Rattle.x25_station.specs.{Command.{Requests, RequestsWith, Connects, Disconnects, Probes, Relinks, said_by}, Station.{new_station}}
 use Rattle.x25_station.specs.laws.KeepLaw.{ConnectKeeps}
-use Rattle.x25_world.specs.World.{AtEnd, World, mirrored, WorldOutcome, Happened, Declined, swapped_back, Act, Commands, Receives, Fires, Loses, Damages, acts, Event, happens, refusal_of, after, run, start, connected, established}
+use Rattle.x25_world.specs.World.{AtEnd, World, mirrored, WorldOutcome, Happened, Declined, swapped_back, Act, Commands, Receives, Fires, Loses, Damages, acts}
+use Rattle.x25_world.specs.World.{Event, happens, refusal_of, after, run, start, connected, established}
 use Rattle.x25_world.specs.laws.Claims.{ActsInOctets, AreInOctets, IsBeginning, IsUpAtMostOnce, UntilSecondUp, IsNoConnect, NoneConnects}
 use Rattle.x25_world.specs.laws.Sessions.{Progress, progress_at, last_session}
 use Rattle.x25_world.specs.{laws.SessionClaims.{Throughout, ThroughoutAlong}, laws.BesideClaims.{Gave, gave_where, gave_by, gave_at, gave_in}}
@@ -15,7 +16,8 @@ use Rattle.x25_world.proofs.{Known.{IsConfigured, is_configured}, Established.{k
 use Rattle.x25_world.proofs.{sessions.SessionReaches.{Beginning, both_down, set_up, at_event, IsAt, known_sessions}, sessions.SessionTrace.{layer_of}}
 use Rattle.x25_world.proofs.sessions.SessionBeside.{MoreIs, none_more, more_again, said_channel}
 use Rattle.x25_world.proofs.sessions.SessionJoined.{IsEnd, SessionsJoined, retold, Goes, gave_none, sessions_swapped}
-use Rattle.x25_world.proofs.sessions.acts.SessionTimers.{lost_joined, damaged_joined, fired_joined, connects_joined, connects_alone_joined, disconnects_joined, probes_joined, relinks_joined}
+use Rattle.x25_world.proofs.sessions.acts.SessionTimers.{lost_joined, damaged_joined, fired_joined, connects_joined, connects_alone_joined, disconnects_joined}
+use Rattle.x25_world.proofs.sessions.acts.SessionTimers.{probes_joined, relinks_joined}
 use Rattle.x25_world.proofs.{sessions.acts.SessionRequests.{requests_joined, gives_joined, said_octets}, sessions.acts.SessionReceives.{receives_joined}}
 use Rattle.x25_line.specs.laws.Sessions as links
 
@@ -37,7 +39,8 @@ down_at_none before e is = cc
 set_up_at_none : IsAtNone set_up
 set_up_at_none before e is = cc
 
-one_up : (end : Role) (transcript : List AtEnd) → transcript ≡ record { at = Dce; entry = link_up } ∷ record { at = Dte; entry = link_up } ∷ [] → (progress_at end transcript).begun ≡ 1
+one_up : (end : Role) (transcript : List AtEnd) → transcript ≡ record { at = Dce; entry = link_up } ∷ record { at = Dte; entry = link_up } ∷ []
+    → (progress_at end transcript).begun ≡ 1
 one_up Dte transcript is = ap (λ t. (progress_at Dte t).begun) is
 one_up Dce transcript is = ap (λ t. (progress_at Dce t).begun) is
 
@@ -53,7 +56,8 @@ abbrev begun_in : Progress → ℕ
 begun_in p = p.begun
 
 -- a run behind another
-behind : {since : Beginning} {cfg : Cfg} {w : World} (v u : Sessions) (dte dte_more dce dce_more : ℕ → List Gave) → ((n : ℕ) → MoreIs cfg (v.near.down n) (u.near.down n) (dte n)) → ((n : ℕ) → MoreIs cfg (v.far.down n) (u.far.down n) (dce n))
+behind : {since : Beginning} {cfg : Cfg} {w : World} (v u : Sessions) (dte dte_more dce dce_more : ℕ → List Gave)
+    → ((n : ℕ) → MoreIs cfg (v.near.down n) (u.near.down n) (dte n)) → ((n : ℕ) → MoreIs cfg (v.far.down n) (u.far.down n) (dce n))
     → RunGoes since cfg u dte_more dce_more w → RunGoes since cfg v (λ n. dte n ++ dte_more n) (λ n. dce n ++ dce_more n) w
 behind {cfg} v u dte dte_more dce dce_more near far r = record {
   joined = r.joined;
@@ -65,11 +69,13 @@ module _ (laws : SessionLaws) (cfg : Cfg) (fine : IsConfigured cfg) where
   acts_joined : {since : Beginning} (end : Role) (w : World) (h : SessionsJoined since cfg end w) (act : Act) → IsAt since end act → ActsInOctets act
       → (let o = acts (settings_from end cfg) w act in (since ≡ set_up → IsNoConnect act (refusal_of o))
       → Goes since cfg end h.links (λ n. gave_by (layer_of cfg end) w.near.layer (n == h.links.near.begun) act (refusal_of o)) (after w o))
-  acts_joined end w h (Commands (Requests request)) is_at octets none = requests_joined laws cfg fine end w h request (said_by cfg.say_sizes w.near.layer request) is_at (said_octets cfg.say_sizes w.near.layer request octets)
+  acts_joined end w h (Commands (Requests request)) is_at octets none =
+      requests_joined laws cfg fine end w h request (said_by cfg.say_sizes w.near.layer request) is_at (said_octets cfg.say_sizes w.near.layer request octets)
   acts_joined {since} end w h (Commands (RequestsWith given request)) is_at octets none =
       let said = said_by cfg.say_sizes w.near.layer request in
       let o = acts (settings_from end cfg) w (Commands (RequestsWith given request)) in
-      subst (λ k. Goes since cfg end h.links (λ n. gave_where (n == h.links.near.begun) (refusal_of o) (record { channel = k; given = given })) (after w o)) (said_channel (layer_of cfg end) w.near.layer cfg.say_sizes request)
+      subst (λ k. Goes since cfg end h.links (λ n. gave_where (n == h.links.near.begun) (refusal_of o) (record { channel = k; given = given })) (after w o))
+      (said_channel (layer_of cfg end) w.near.layer cfg.say_sizes request)
       (gives_joined laws cfg fine end w h given request said is_at octets.0 (said_octets cfg.say_sizes w.near.layer request octets.1))
   acts_joined end w h (Commands Connects) is_at octets none = connects_joined laws fine h is_at none
   acts_joined end w h (Commands Disconnects) is_at octets none = disconnects_joined laws fine h is_at
@@ -82,13 +88,17 @@ module _ (laws : SessionLaws) (cfg : Cfg) (fine : IsConfigured cfg) where
 
   -- a step of the far end
   far_goes : {since : Beginning} {w : World} (h : SessionsJoined since cfg Dte w) (act : Act) (o : WorldOutcome)
-      → Goes since cfg Dce (links.swapped h.links) (λ n. gave_by (layer_of cfg Dce) w.far.layer (n == h.links.far.begun) act (refusal_of o)) (after (mirrored w) o)
-      → RunGoes since cfg h.links (λ n. []) (λ n. gave_by (layer_of cfg Dce) w.far.layer (n == last_session Dce w) act (refusal_of (swapped_back o))) (mirrored (after (mirrored w) o))
+      → Goes since cfg Dce (links.swapped h.links) (λ n. gave_by (layer_of cfg Dce) w.far.layer (n == h.links.far.begun) act (refusal_of o))
+      (after (mirrored w) o)
+      → RunGoes since cfg h.links (λ n. []) (λ n. gave_by (layer_of cfg Dce) w.far.layer (n == last_session Dce w) act (refusal_of (swapped_back o)))
+      (mirrored (after (mirrored w) o))
   unfolding sessions_swapped
   far_goes {w} h act o s = record {
     joined = sessions_swapped s.joined;
     near = λ n. none_more cfg (h.links.near.down n) (s.joined.links.far.down n) [] (ap (λ k. k.down n) s.far);
-    far = λ n. rw (ap begun_in h.far.progress) (subst (λ r. MoreIs cfg (h.links.far.down n) (s.joined.links.near.down n) (gave_by (layer_of cfg Dce) w.far.layer (n == h.links.far.begun) act r)) (sym (refusal-swapped o)) (s.down n));
+    far = λ n. rw (ap begun_in h.far.progress)
+        (subst (λ r. MoreIs cfg (h.links.far.down n) (s.joined.links.near.down n) (gave_by (layer_of cfg Dce) w.far.layer (n == h.links.far.begun) act r))
+        (sym (refusal-swapped o)) (s.down n));
   }
 
   pub event_joined : {since : Beginning} (at : Role) (act : Act) (w : World) → IsAt since at act → ActsInOctets act
@@ -109,7 +119,8 @@ module _ (laws : SessionLaws) (cfg : Cfg) (fine : IsConfigured cfg) where
       subst (λ x. RunGoes since cfg h.links (λ n. gave_at cfg Dte n w e) (λ n. gave_at cfg Dce n w e) x) (sym (back_after w o))
       (far_goes h act o (acts_joined Dce (mirrored w) (sessions_swapped h) act is_at octets (λ free. subst (IsNoConnect act) (refusal-swapped o) (none free))))
 
-  run_joined : {since : Beginning} (events : List Event) {w : World} → IsAtNone since → AreInOctets events → (since ≡ set_up → NoneConnects cfg events w) → (h : SessionsJoined since cfg Dte w)
+  run_joined : {since : Beginning} (events : List Event) {w : World} → IsAtNone since → AreInOctets events → (since ≡ set_up → NoneConnects cfg events w)
+      → (h : SessionsJoined since cfg Dte w)
       → RunGoes since cfg h.links (λ n. gave_in cfg Dte n events w) (λ n. gave_in cfg Dce n events w) (run cfg events w)
   run_joined [] never octets none h = record {
     joined = h;
@@ -119,7 +130,8 @@ module _ (laws : SessionLaws) (cfg : Cfg) (fine : IsConfigured cfg) where
   run_joined (e ∷ events) {w} never octets none h =
       let next = after w (happens cfg w e) in
       let one = event_joined e.at e.act w (λ before x is. absurd (never before x is)) octets.0 (λ free. (none free).0) h in
-      behind h.links one.joined.links (λ n. gave_at cfg Dte n w e) (λ n. gave_in cfg Dte n events next) (λ n. gave_at cfg Dce n w e) (λ n. gave_in cfg Dce n events next) one.near one.far
+      behind h.links one.joined.links (λ n. gave_at cfg Dte n w e) (λ n. gave_in cfg Dte n events next) (λ n. gave_at cfg Dce n w e)
+      (λ n. gave_in cfg Dce n events next) one.near one.far
       (run_joined events never octets.1 (λ free. (none free).1) one.joined)
 
   -- ---- how a run begins
@@ -192,7 +204,8 @@ module _ (laws : SessionLaws) (cfg : Cfg) (fine : IsConfigured cfg) where
         timely = h.reach.timely;
         run = h.reach.run;
         first = λ is. record {
-          unasked = (known_sessions NoneBeginUnasked laws.unasked fine h.reach).up (ap (λ s. is_up s.phase) h.near.link ∙ up.near) (ap (λ s. is_up s.phase) h.far.link ∙ up.far);
+          unasked = (known_sessions NoneBeginUnasked laws.unasked fine h.reach).up (ap (λ s. is_up s.phase) h.near.link ∙ up.near)
+              (ap (λ s. is_up s.phase) h.far.link ∙ up.far);
           near = sym (ap (λ p. p.begun) h.near.progress) ∙ one Dte;
           far = sym (ap (λ p. p.begun) h.far.progress) ∙ one Dce;
         };
@@ -200,7 +213,8 @@ module _ (laws : SessionLaws) (cfg : Cfg) (fine : IsConfigured cfg) where
       })
 
 -- at any beginning
-begin_goes : (laws : SessionLaws) → ConnectKeeps → {cfg : Cfg} (fine : IsConfigured cfg) {begin : World} → IsBeginning cfg begin → RunGoes both_down cfg from_nothing gave_none gave_none begin
+begin_goes : (laws : SessionLaws) → ConnectKeeps → {cfg : Cfg} (fine : IsConfigured cfg) {begin : World} → IsBeginning cfg begin
+    → RunGoes both_down cfg from_nothing gave_none gave_none begin
 begin_goes laws keeps {cfg} fine is = elim is [
   | inl same ↦ subst (BeginsSo laws cfg fine) (sym same) (start_goes laws cfg fine)
   | inr rest ↦ elim rest [
@@ -209,7 +223,8 @@ begin_goes laws keeps {cfg} fine is = elim is [
   ]
 ]
 
-pub begin_joined : (laws : SessionLaws) → ConnectKeeps → {cfg : Cfg} → IsConfigured cfg → {begin : World} → IsBeginning cfg begin → SessionsJoined both_down cfg Dte begin
+pub begin_joined : (laws : SessionLaws) → ConnectKeeps → {cfg : Cfg} → IsConfigured cfg → {begin : World} → IsBeginning cfg begin
+    → SessionsJoined both_down cfg Dte begin
 begin_joined laws keeps {cfg} fine {begin} is = (begin_goes laws keeps fine is).joined
 
 -- at each world of a run from there
@@ -224,12 +239,16 @@ pub throughout_joined : (laws : SessionLaws) → ConnectKeeps → Throughout (λ
 throughout_joined laws keeps cfg fine begin is events octets = (throughout_goes laws keeps cfg fine begin is events octets).joined
 
 -- so what follows of what is kept holds there
-pub throughout : (laws : SessionLaws) → ConnectKeeps → (Holds : Cfg → World → Type 0) → ((cfg : Cfg) → IsConfigured cfg → (w : World) → SessionsJoined both_down cfg Dte w → Holds cfg w) → Throughout Holds
-throughout laws keeps Holds holds cfg fine begin is events octets = holds cfg (is_configured cfg fine) (run cfg events begin) (throughout_joined laws keeps cfg fine begin is events octets)
+pub throughout : (laws : SessionLaws) → ConnectKeeps → (Holds : Cfg → World → Type 0)
+    → ((cfg : Cfg) → IsConfigured cfg → (w : World) → SessionsJoined both_down cfg Dte w → Holds cfg w) → Throughout Holds
+throughout laws keeps Holds holds cfg fine begin is events octets =
+    holds cfg (is_configured cfg fine) (run cfg events begin) (throughout_joined laws keeps cfg fine begin is events octets)
 
-pub until_second : (laws : SessionLaws) → ConnectKeeps → (Holds : Cfg → World → Type 0) → ((cfg : Cfg) → IsConfigured cfg → (w : World) → SessionsJoined both_down cfg Dte w → IsUpAtMostOnce cfg w → Holds cfg w)
+pub until_second : (laws : SessionLaws) → ConnectKeeps → (Holds : Cfg → World → Type 0)
+    → ((cfg : Cfg) → IsConfigured cfg → (w : World) → SessionsJoined both_down cfg Dte w → IsUpAtMostOnce cfg w → Holds cfg w)
     → UntilSecondUp Holds
-until_second laws keeps Holds holds cfg fine begin is events octets once = throughout laws keeps (λ c w. IsUpAtMostOnce c w → Holds c w) holds cfg fine begin is events octets once
+until_second laws keeps Holds holds cfg fine begin is events octets once =
+    throughout laws keeps (λ c w. IsUpAtMostOnce c w → Holds c w) holds cfg fine begin is events octets once
 
 -- at each world of a run from a link just set up, after which no `connect` is accepted
 pub set_up_throughout : (laws : SessionLaws) → ConnectKeeps → (cfg : Cfg) → config_refusal cfg ≡ None → (events : List Event) → AreInOctets events

@@ -5,7 +5,8 @@ use Rattle.std.proofs.lemmas.Bool.{eq-eqb, ne_eqb}
 use Rattle.x25_bits.specs.{declared.role.Role.{Role}, declared.role.Role.TheVariants.{Dte, Dce}}
 use Rattle.x25_link.specs.Hearing.{other}
 use Rattle.x25_layer.specs.{declared.ranges.Ranges.{Ranges}, Layer.{LayerSettings, goes_up, is_channel}, laws.TwoLayers.{started, pulled_in, moves_in}}
-use Rattle.x25_layer.specs.laws.Apart.{OwnMove, Takes, as_move, own_moves, own_run, Ends, ApartEvent, apart_happens, near_moves, far_moves, IsNext, IsInOrder, AreInOrder, Pulls, alone}
+use Rattle.x25_layer.specs.laws.Apart.{OwnMove, Takes, as_move, own_moves, own_run, Ends, ApartEvent, apart_happens, near_moves, far_moves, IsNext, IsInOrder}
+use Rattle.x25_layer.specs.laws.Apart.{AreInOrder, Pulls, alone}
 use Rattle.x25_layer.specs.{Calls.{layer_pulled}, laws.RoundLaw.{moves_all, pulls_of}}
 use Rattle.x25_station.specs.{declared.config.Cfg.{Cfg}, Config.{settings_from, layer_settings}, laws.ReadLaw.{MovesOctets}}
 use Rattle.x25_packet.specs.Packet.{PlainPacket}
@@ -45,7 +46,8 @@ own cfg end n trace = own_run (layer_of cfg end) (own_in end n trace) (started (
 pub own_append : (end : Role) (n : ℕ) (xs ys : List Done) → own_in end n (xs ++ ys) ≡ own_in end n xs ++ own_in end n ys
 own_append end n [] ys = refl
 own_append end n (x ∷ xs) ys =
-    ap (λ l. own_one end n x.at x.session x.what ++ l) (own_append end n xs ys) ∙ sym (append_assoc (own_one end n x.at x.session x.what) (own_in end n xs) (own_in end n ys))
+    ap (λ l. own_one end n x.at x.session x.what ++ l) (own_append end n xs ys)
+    ∙ sym (append_assoc (own_one end n x.at x.session x.what) (own_in end n xs) (own_in end n ys))
 
 pub same_number : (n : ℕ) → (n == n) ≡ true
 same_number n = eq-eqb n n refl
@@ -83,15 +85,18 @@ pub own_same : (end : Role) (n m : ℕ) (trace : List Done) (moves : List OwnMov
 own_same end n m trace moves differs =
     own_append end n trace (moved end m moves) ∙ ap (λ l. own_in end n trace ++ l) (own_elsewhere end n m moves differs) ∙ append-nil (own_in end n trace)
 
-pub own_other : (end : Role) (n m : ℕ) (trace : List Done) (moves : List OwnMove) → own_in (other end) n (trace ++ moved end m moves) ≡ own_in (other end) n trace
+pub own_other : (end : Role) (n m : ℕ) (trace : List Done) (moves : List OwnMove) → own_in (other end) n (trace ++ moved end m moves)
+    ≡ own_in (other end) n trace
 own_other end n m trace moves =
-    own_append (other end) n trace (moved end m moves) ∙ ap (λ l. own_in (other end) n trace ++ l) (own_there end n m moves) ∙ append-nil (own_in (other end) n trace)
+    own_append (other end) n trace (moved end m moves) ∙ ap (λ l. own_in (other end) n trace ++ l) (own_there end n m moves)
+    ∙ append-nil (own_in (other end) n trace)
 
 run_append : (c : LayerSettings) (xs ys : List OwnMove) (e : layer.End) → own_run c (xs ++ ys) e ≡ own_run c ys (own_run c xs e)
 run_append c [] ys e = refl
 run_append c (x ∷ xs) ys e = run_append c xs ys (own_moves c e x)
 
-pub own_goes : (cfg : Cfg) (end : Role) (n : ℕ) (trace : List Done) (moves : List OwnMove) → own cfg end n (trace ++ moved end n moves) ≡ own_run (layer_of cfg end) moves (own cfg end n trace)
+pub own_goes : (cfg : Cfg) (end : Role) (n : ℕ) (trace : List Done) (moves : List OwnMove) → own cfg end n (trace ++ moved end n moves)
+    ≡ own_run (layer_of cfg end) moves (own cfg end n trace)
 own_goes cfg end n trace moves =
     ap (λ l. own_run (layer_of cfg end) l (started (goes_up (layer_of cfg end)))) (own_more end n trace moves)
     ∙ run_append (layer_of cfg end) (own_in end n trace) moves (started (goes_up (layer_of cfg end)))
@@ -133,7 +138,8 @@ pair_turned Dce n m trace = refl
 module _ (number : Role → ℕ) (end : Role) where
   pair_append : (xs ys : List Done) → pair_in number (xs ++ ys) ≡ pair_in number xs ++ pair_in number ys
   pair_append [] ys = refl
-  pair_append (x ∷ xs) ys = ap (λ l. pair_one number x.at x.session x.what ++ l) (pair_append xs ys) ∙ sym (append_assoc (pair_one number x.at x.session x.what) (pair_in number xs) (pair_in number ys))
+  pair_append (x ∷ xs) ys = ap (λ l. pair_one number x.at x.session x.what ++ l) (pair_append xs ys)
+      ∙ sym (append_assoc (pair_one number x.at x.session x.what) (pair_in number xs) (pair_in number ys))
 
   pair_moved : (session : ℕ) (moves : List OwnMove) → (number end == session) ≡ true → pair_in number (moved end session moves) ≡ events_of end moves
   pair_moved session [] is = refl
@@ -144,17 +150,22 @@ module _ (number : Role → ℕ) (end : Role) where
   pair_elsewhere session (what ∷ moves) differs = ap₂ (λ b l. (if b then event_of end what ∷ [] else []) ++ l) differs (pair_elsewhere session moves differs)
 
   in_more : (trace : List Done) (moves : List OwnMove) → pair_in number (trace ++ moved end (number end) moves) ≡ pair_in number trace ++ events_of end moves
-  in_more trace moves = pair_append trace (moved end (number end) moves) ∙ ap (λ l. pair_in number trace ++ l) (pair_moved (number end) moves (same_number (number end)))
+  in_more trace moves = pair_append trace (moved end (number end) moves)
+      ∙ ap (λ l. pair_in number trace ++ l) (pair_moved (number end) moves (same_number (number end)))
 
-  in_same : (session : ℕ) (trace : List Done) (moves : List OwnMove) → (number end ≡ session → ⊥) → pair_in number (trace ++ moved end session moves) ≡ pair_in number trace
+  in_same : (session : ℕ) (trace : List Done) (moves : List OwnMove) → (number end ≡ session → ⊥) → pair_in number (trace ++ moved end session moves)
+      ≡ pair_in number trace
   in_same session trace moves differs =
-      pair_append trace (moved end session moves) ∙ ap (λ l. pair_in number trace ++ l) (pair_elsewhere session moves (ne_eqb (number end) session differs)) ∙ append-nil (pair_in number trace)
+      pair_append trace (moved end session moves) ∙ ap (λ l. pair_in number trace ++ l) (pair_elsewhere session moves (ne_eqb (number end) session differs))
+      ∙ append-nil (pair_in number trace)
 
-pub pair_more : (end : Role) (n m : ℕ) (trace : List Done) (moves : List OwnMove) → pair_at end n m (trace ++ moved end n moves) ≡ pair_at end n m trace ++ events_of end moves
+pub pair_more : (end : Role) (n m : ℕ) (trace : List Done) (moves : List OwnMove) → pair_at end n m (trace ++ moved end n moves) ≡ pair_at end n m trace
+    ++ events_of end moves
 pair_more Dte n m trace moves = in_more (numbers n m) Dte trace moves
 pair_more Dce n m trace moves = in_more (numbers m n) Dce trace moves
 
-pub pair_same : (end : Role) (n m session : ℕ) (trace : List Done) (moves : List OwnMove) → (n ≡ session → ⊥) → pair_at end n m (trace ++ moved end session moves) ≡ pair_at end n m trace
+pub pair_same : (end : Role) (n m session : ℕ) (trace : List Done) (moves : List OwnMove) → (n ≡ session → ⊥)
+    → pair_at end n m (trace ++ moved end session moves) ≡ pair_at end n m trace
 pair_same Dte n m session trace moves differs = in_same (numbers n m) Dte session trace moves differs
 pair_same Dce n m session trace moves differs = in_same (numbers m n) Dce session trace moves differs
 
@@ -164,7 +175,8 @@ abbrev pub moves_of : Role → List ApartEvent → List OwnMove
 moves_of Dte es = near_moves es
 moves_of Dce es = far_moves es
 
-moves_if : (end at : Role) (b : Bool) (what : OwnMove) (es : List ApartEvent) → moves_of end ((if b then event_of at what ∷ [] else []) ++ es) ≡ own_if end at b what ++ moves_of end es
+moves_if : (end at : Role) (b : Bool) (what : OwnMove) (es : List ApartEvent) → moves_of end ((if b then event_of at what ∷ [] else []) ++ es)
+    ≡ own_if end at b what ++ moves_of end es
 moves_if Dte Dte true what es = refl
 moves_if Dte Dte false what es = refl
 moves_if Dte Dce true what es = refl
@@ -174,7 +186,8 @@ moves_if Dce Dte false what es = refl
 moves_if Dce Dce true what es = refl
 moves_if Dce Dce false what es = refl
 
-first_of_pair : (number : Role → ℕ) (end at : Role) (session : ℕ) (what : OwnMove) (es : List ApartEvent) → moves_of end (pair_one number at session what ++ es) ≡ own_one end (number end) at session what ++ moves_of end es
+first_of_pair : (number : Role → ℕ) (end at : Role) (session : ℕ) (what : OwnMove) (es : List ApartEvent)
+    → moves_of end (pair_one number at session what ++ es) ≡ own_one end (number end) at session what ++ moves_of end es
 first_of_pair number Dte Dte session what es = moves_if Dte Dte (number Dte == session) what es
 first_of_pair number Dte Dce session what es = moves_if Dte Dce (number Dce == session) what es
 first_of_pair number Dce Dte session what es = moves_if Dce Dte (number Dte == session) what es
@@ -184,7 +197,8 @@ pub moves_of_pair : (number : Role → ℕ) (end : Role) (trace : List Done) →
 moves_of_pair number Dte [] = refl
 moves_of_pair number Dce [] = refl
 moves_of_pair number end (t ∷ trace) =
-    first_of_pair number end t.at t.session t.what (pair_in number trace) ∙ ap (λ l. own_one end (number end) t.at t.session t.what ++ l) (moves_of_pair number end trace)
+    first_of_pair number end t.at t.session t.what (pair_in number trace)
+    ∙ ap (λ l. own_one end (number end) t.at t.session t.what ++ l) (moves_of_pair number end trace)
 
 -- ---- moves that take nothing
 
@@ -205,7 +219,8 @@ next_of_none taker giver (Takes packet) h = absurd h
 next_of_none taker giver what h = tt
 
 -- where neither end takes anything, all is in order
-pub order_of_nothing : (long_data : Bool) (channels : Ranges) (es : List ApartEvent) (ends : Ends) → TakeNothing (near_moves es) → TakeNothing (far_moves es) → AreInOrder long_data channels es ends
+pub order_of_nothing : (long_data : Bool) (channels : Ranges) (es : List ApartEvent) (ends : Ends) → TakeNothing (near_moves es) → TakeNothing (far_moves es)
+    → AreInOrder long_data channels es ends
 order_of_nothing long_data channels [] ends f g = tt
 order_of_nothing long_data channels (e ∷ es) ends f g = by e.first f g (order_of_nothing long_data channels es (apart_happens long_data channels ends e))
   where
@@ -216,7 +231,8 @@ order_of_nothing long_data channels (e ∷ es) ends f g = by e.first f g (order_
     by false f g rest = (next_of_none ends.far ends.near e.what g.0, rest f g.1)
 
 -- so are moves of an end that takes nothing
-pub nothing_goes : (long_data : Bool) (channels : Ranges) (end : Role) (moves : List OwnMove) (ends : Ends) → TakeNothing moves → AreInOrder long_data channels (events_of end moves) ends
+pub nothing_goes : (long_data : Bool) (channels : Ranges) (end : Role) (moves : List OwnMove) (ends : Ends) → TakeNothing moves
+    → AreInOrder long_data channels (events_of end moves) ends
 nothing_goes long_data channels end [] ends h = tt
 nothing_goes long_data channels Dte (what ∷ moves) ends h =
     (next_of_none ends.near ends.far what h.0, nothing_goes long_data channels Dte moves (apart_happens long_data channels ends (event_of Dte what)) h.1)
@@ -249,7 +265,8 @@ pull_near : (c : LayerSettings) (w : layer.TwoLayers) (h : ℕ) → (layer.moves
 pull_near c w h = by w.near.is_out (is_channel c.channels h)
   where
     if_channel : (b : Bool)
-        → (if b then pulled_in w (layer_pulled c w.near.layer h) else w).near ≡ (if b then pulled_in (alone w.near []) (layer_pulled c w.near.layer h) else alone w.near []).near
+        → (if b then pulled_in w (layer_pulled c w.near.layer h) else w).near
+        ≡ (if b then pulled_in (alone w.near []) (layer_pulled c w.near.layer h) else alone w.near []).near
     if_channel true = refl
     if_channel false = refl
 
@@ -257,13 +274,15 @@ pull_near c w h = by w.near.is_out (is_channel c.channels h)
     by true b = refl
     by false b = if_channel (is_channel c.channels h)
 
-pub near_pulls : (c : LayerSettings) (w : layer.TwoLayers) (channels : List ℕ) → (moves_all c w (pulls_of channels)).near ≡ own_run c (own_pulls channels) w.near
+pub near_pulls : (c : LayerSettings) (w : layer.TwoLayers) (channels : List ℕ) → (moves_all c w (pulls_of channels)).near
+    ≡ own_run c (own_pulls channels) w.near
 near_pulls c w [] = refl
 near_pulls c w (h ∷ channels) = near_pulls c (layer.moves c w (layer.Pulls h)) channels ∙ ap (λ e. own_run c (own_pulls channels) e) (pull_near c w h)
 
 -- ---- what is taken
 
-pub take_takes : (c : LayerSettings) (e : layer.End) (packet : PlainPacket) (channels : List ℕ) → e.is_out ≡ false → (own_run c (Takes packet ∷ own_pulls channels) e).taken ≡ e.taken ++ packet ∷ []
+pub take_takes : (c : LayerSettings) (e : layer.End) (packet : PlainPacket) (channels : List ℕ) → e.is_out ≡ false
+    → (own_run c (Takes packet ∷ own_pulls channels) e).taken ≡ e.taken ++ packet ∷ []
 take_takes c e packet channels out =
     let x = alone (own_moves c e (Takes packet)) [] in
     ap (λ f. f.taken) (sym (near_pulls c x channels)) ∙ (asked_leaves c x (pulls_of channels) (pulls_asked channels)).taken

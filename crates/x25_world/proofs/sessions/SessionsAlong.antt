@@ -9,11 +9,13 @@ use Rattle.x25_line.specs.laws.Sessions.{SessionEnd, Sessions, from_nothing, sab
 use Rattle.x25_line.specs.laws.SessionClaims.{Each, octets_of}
 use Rattle.x25_line.specs.laws.SessionNumbers.{Standing, standing_happens, standing_run, standing_at, EachUpStandsWith, StandingGoesAlong}
 use Rattle.x25_station.specs.{declared.config.Cfg.{Cfg}, Config.{config_refusal}, laws.KeepLaw.{ConnectKeeps}}
-use Rattle.x25_world.specs.{World.{World, Event, happens, after, run}, laws.Claims.{ActsInOctets, AreInOctets, IsBeginning, link_of}, laws.SessionWindow.{Asks, all_at}}
+use Rattle.x25_world.specs.{World.{World, Event, happens, after, run}, laws.Claims.{ActsInOctets, AreInOctets, IsBeginning, link_of}}
+use Rattle.x25_world.specs.laws.SessionWindow.{Asks, all_at}
 use Rattle.x25_world.specs.{laws.SessionWindow.{StandsInWindow, SessionsGoAlong, SessionsStayInWindow}, laws.SessionClaims.{ThroughoutAlong}}
 use Rattle.x25_world.specs.laws.LawsBelow.{SessionLaws}
 use Rattle.x25_world.proofs.{Known.{IsConfigured, is_configured}, WorldLemmas.{run_append}}
-use Rattle.x25_world.proofs.{sessions.SessionReaches.{Beginning, both_down, set_up, at_event, links_append, timely_append, joined_at}, sessions.SessionJoined.{SessionsJoined, retold}}
+use Rattle.x25_world.proofs.sessions.SessionReaches.{Beginning, both_down, set_up, at_event, links_append, timely_append, joined_at}
+use Rattle.x25_world.proofs.sessions.SessionJoined.{SessionsJoined, retold}
 use Rattle.x25_world.proofs.sessions.SessionRuns.{event_joined, down_at_none, not_set_up, begin_joined, throughout_joined}
 use Rattle.x25_line.proofs.sessions.SessionsForgotten.{Lasts, Alike, happens_alike, runs_alike, turned_alike}
 use Rattle.x25_line.specs.laws.Stations as line
@@ -50,7 +52,8 @@ module _ (laws : SessionLaws) {cfg : Cfg} (fine : IsConfigured cfg) where
         first = λ is. event_is_none h.links e is;
         grown = λ before x is. record { asked = []; may = tt; timely = tt; run = sym (ap (λ b. links_in b h.links) is) };
       }) in
-      let j = (event_joined laws cfg fine e.at e.act w (λ before x is. sym (ap (λ b. event_in b e) is)) octets (λ free. event_is_none h.links e free) within).joined in
+      let j = (event_joined laws cfg fine e.at e.act w (λ before x is. sym (ap (λ b. event_in b e) is)) octets (λ free. event_is_none h.links e free)
+      within).joined in
       let g = j.reach.grown h.links e refl in
       record {
         joined = retold cfg Dte (after w (happens cfg w e)) j (record {
@@ -91,27 +94,32 @@ abbrev many_in : (Result PlainFrame FrameError → ℕ) → Role → ℕ → Lis
 many_in kind from n1 [] = 0
 many_in kind from n1 (octets ∷ line) = kind (frame_of from n1 octets) + many_in kind from n1 line
 
-many_is : (kind : Result PlainFrame FrameError → ℕ) (from : Role) (n1 : ℕ) (es : List links.Entry) → how_many kind from n1 es ≡ many_in kind from n1 (octets_of es)
+many_is : (kind : Result PlainFrame FrameError → ℕ) (from : Role) (n1 : ℕ) (es : List links.Entry) → how_many kind from n1 es
+    ≡ many_in kind from n1 (octets_of es)
 many_is kind from n1 [] = refl
 many_is kind from n1 (e ∷ es) = ap (λ n. kind (frame_of from n1 e.octets) + n) (many_is kind from n1 es)
 
-many_same : (kind : Result PlainFrame FrameError → ℕ) (from : Role) (n1 : ℕ) (es fs : List links.Entry) → octets_of fs ≡ octets_of es → how_many kind from n1 fs ≡ how_many kind from n1 es
+many_same : (kind : Result PlainFrame FrameError → ℕ) (from : Role) (n1 : ℕ) (es fs : List links.Entry) → octets_of fs ≡ octets_of es
+    → how_many kind from n1 fs ≡ how_many kind from n1 es
 many_same kind from n1 es fs is = many_is kind from n1 fs ∙ ap (many_in kind from n1) is ∙ sym (many_is kind from n1 es)
 
 asked_same : (c d : LinkSettings) {v x : Sessions} {s : line.Stations} → AreOf v s → AreOf x s → asked c d x ≡ asked c d v
 asked_same c d {v} {x} f g =
-    ap₂ (λ n m. n + m) (many_same sabm_in (other d.role) d.longest v.out x.out (sym g.out ∙ f.out)) (many_same ua_in (other c.role) c.longest v.back x.back (sym g.back ∙ f.back))
+    ap₂ (λ n m. n + m) (many_same sabm_in (other d.role) d.longest v.out x.out (sym g.out ∙ f.out))
+    (many_same ua_in (other c.role) c.longest v.back x.back (sym g.back ∙ f.back))
 
 timely_same : (c d : LinkSettings) (act : line.Act) {v x : Sessions} {s : line.Stations} → AreOf v s → AreOf x s → IsTimely c d act v → IsTimely c d act x
 timely_same c d line.T1 {v} {x} {s} f g timely = λ waiting. asked_same c d f g ∙ timely (ap (λ t. t.phase) (sym f.near ∙ g.near) ∙ waiting)
 timely_same c d act f g timely = tt
 
-timely_at_same : (c d : LinkSettings) (e : line.LinkEvent) (v x : Sessions) (s : line.Stations) → AreOf v s → AreOf x s → IsTimelyAt c d e v → IsTimelyAt c d e x
+timely_at_same : (c d : LinkSettings) (e : line.LinkEvent) (v x : Sessions) (s : line.Stations) → AreOf v s → AreOf x s → IsTimelyAt c d e v
+    → IsTimelyAt c d e x
 timely_at_same c d (line.Near act) v x s f g timely = timely_same c d act f g timely
 timely_at_same c d (line.Far act) v x s f g timely =
     timely_same d c act (turned_alike IsOf IsOf ⊥ v s f) (turned_alike IsOf IsOf ⊥ x s g) timely
 
-all_timely_same : (c d : LinkSettings) (es : List line.LinkEvent) {v x : Sessions} {s : line.Stations} → AreOf v s → AreOf x s → AreTimely c d es v → AreTimely c d es x
+all_timely_same : (c d : LinkSettings) (es : List line.LinkEvent) {v x : Sessions} {s : line.Stations} → AreOf v s → AreOf x s → AreTimely c d es v
+    → AreTimely c d es x
 all_timely_same c d [] f g timely = tt
 all_timely_same c d (e ∷ es) {v} {x} {s} f g timely = (
   timely_at_same c d e v x s f g timely.0,
@@ -120,7 +128,8 @@ all_timely_same c d (e ∷ es) {v} {x} {s} f g timely = (
 
 -- ---- a run, and more behind it
 
-standing_append : (P : Standing → Type 0) (c d : LinkSettings) (xs ys : List line.LinkEvent) (v : Sessions) (s : Standing) → P (standing_run c d ys (links.run c d xs v) (standing_run c d xs v s)) → P (standing_run c d (xs ++ ys) v s)
+standing_append : (P : Standing → Type 0) (c d : LinkSettings) (xs ys : List line.LinkEvent) (v : Sessions) (s : Standing)
+    → P (standing_run c d ys (links.run c d xs v) (standing_run c d xs v s)) → P (standing_run c d (xs ++ ys) v s)
 standing_append P c d [] ys v s h = h
 standing_append P c d (x ∷ xs) ys v s h = standing_append P c d xs ys (links.happens c d x v) (standing_happens c d x v s) h
 
@@ -144,27 +153,46 @@ module _ (laws : SessionLaws) (law : StandingGoesAlong) (cfg : Cfg) (fine : IsCo
   abbrev first : Standing
   first = standing_at c d from_nothing
 
-  stood : (events : List line.LinkEvent) (v : Sessions) (s : Standing) → AreTimely c d events from_nothing → links.run c d events from_nothing ≡ v → standing_run c d events from_nothing first ≡ s → EachUpStandsWith c d v s
+  stood : (events : List line.LinkEvent) (v : Sessions) (s : Standing) → AreTimely c d events from_nothing → links.run c d events from_nothing ≡ v
+      → standing_run c d events from_nothing first ≡ s → EachUpStandsWith c d v s
   stood events v s timely runs stands =
-      rw (sym stands) (subst (λ x. EachUpStandsWith c d x (standing_run c d events from_nothing first)) runs (law c d (joined_at Dte fine) from_nothing (inl refl) events timely))
+      rw (sym stands) (subst (λ x. EachUpStandsWith c d x (standing_run c d events from_nothing first)) runs
+      (law c d (joined_at Dte fine) from_nothing (inl refl) events timely))
 
   -- some two links are behind each world of a run
   pub some_stand : {w : World} (h : SessionsJoined both_down cfg Dte w) → StandsInWindow cfg w h.links (standing_run c d h.reach.events from_nothing first)
   some_stand h = (
-    record { events = h.reach.events; timely = h.reach.timely; run = h.reach.run; standing = refl; near = h.near.link; far = h.far.link; out = h.out; back = h.back },
+    record {
+      events = h.reach.events;
+      timely = h.reach.timely;
+      run = h.reach.run;
+      standing = refl;
+      near = h.near.link;
+      far = h.far.link;
+      out = h.out;
+      back = h.back;
+    },
     stood h.reach.events h.links (standing_run c d h.reach.events from_nothing first) h.reach.timely h.reach.run refl,
   )
 
   -- any that are go on by an event
-  stand_next : (w : World) (h : SessionsJoined both_down cfg Dte w) (e : Event) (n : Next cfg w h.links e) (v : Sessions) (s : Standing) → StandsInWindow cfg w v s
+  stand_next : (w : World) (h : SessionsJoined both_down cfg Dte w) (e : Event) (n : Next cfg w h.links e) (v : Sessions) (s : Standing)
+      → StandsInWindow cfg w v s
       → StandsInWindow cfg (after w (happens cfg w e)) (links.run c d (all_at e.at n.asked) v) (standing_run c d (all_at e.at n.asked) v s)
   stand_next w h e n v s st =
       let r = st.0 in
       let es = all_at e.at n.asked in
       let seen = seen_in w in
-      let before : AreOf h.links seen = record { near = sym h.near.link; far = sym h.far.link; out = sym h.out; back = sym h.back; sent = λ never. absurd never } in
+      let before : AreOf h.links seen = record {
+        near = sym h.near.link;
+        far = sym h.far.link;
+        out = sym h.out;
+        back = sym h.back;
+        sent = λ never. absurd never;
+      } in
       let also : AreOf v seen = record { near = sym r.near; far = sym r.far; out = sym r.out; back = sym r.back; sent = λ never. absurd never } in
-      let behind : AreOf n.joined.links (line.run c d es seen) = subst (λ x. AreOf x (line.run c d es seen)) n.run (runs_alike IsOf IsOf ⊥ of_lasts of_lasts c d es h.links seen before) in
+      let behind : AreOf n.joined.links (line.run c d es seen) =
+      subst (λ x. AreOf x (line.run c d es seen)) n.run (runs_alike IsOf IsOf ⊥ of_lasts of_lasts c d es h.links seen before) in
       let now = runs_alike IsOf IsOf ⊥ of_lasts of_lasts c d es v seen also in
       let timely : AreTimely c d (r.events ++ es) from_nothing =
       timely_append c d r.events es from_nothing r.timely (rw r.run (all_timely_same c d es before also n.timely)) in
@@ -185,7 +213,8 @@ module _ (laws : SessionLaws) (law : StandingGoesAlong) (cfg : Cfg) (fine : IsCo
         stood (r.events ++ es) (links.run c d es v) (standing_run c d es v s) timely runs stands,
       )
 
-  pub along : (here : World) (events : List Event) (w : World) → SessionsJoined both_down cfg Dte w → AreInOctets events → run cfg events w ≡ here → (v : Sessions) (s : Standing) → StandsInWindow cfg w v s
+  pub along : (here : World) (events : List Event) (w : World) → SessionsJoined both_down cfg Dte w → AreInOctets events → run cfg events w ≡ here
+      → (v : Sessions) (s : Standing) → StandsInWindow cfg w v s
       → SessionsGoAlong cfg here events w v s
   along here [] w h octets is v s st = rw (sym is) st
   along here (e ∷ events) w h octets is v s st =
@@ -193,13 +222,17 @@ module _ (laws : SessionLaws) (law : StandingGoesAlong) (cfg : Cfg) (fine : IsCo
         st,
         n.asked,
         n.may,
-        along here events (after w (happens cfg w e)) n.joined octets.1 is (links.run c d (all_at e.at n.asked) v) (standing_run c d (all_at e.at n.asked) v s) (stand_next w h e n v s st),
+        along here events (after w (happens cfg w e)) n.joined octets.1 is (links.run c d (all_at e.at n.asked) v) (standing_run c d (all_at e.at n.asked) v s)
+            (stand_next w h e n v s st),
       )
 
-any_goes_on : (laws : SessionLaws) → ConnectKeeps → StandingGoesAlong → {cfg : Cfg} → config_refusal cfg ≡ None → {begin : World} → IsBeginning cfg begin → (past more : List Event) → AreInOctets (past ++ more)
-    → {v : Sessions} {s : Standing} → StandsInWindow cfg (run cfg past begin) v s → SessionsGoAlong cfg (run cfg (past ++ more) begin) more (run cfg past begin) v s
+any_goes_on : (laws : SessionLaws) → ConnectKeeps → StandingGoesAlong → {cfg : Cfg} → config_refusal cfg ≡ None → {begin : World} → IsBeginning cfg begin
+    → (past more : List Event) → AreInOctets (past ++ more)
+    → {v : Sessions} {s : Standing} → StandsInWindow cfg (run cfg past begin) v s
+    → SessionsGoAlong cfg (run cfg (past ++ more) begin) more (run cfg past begin) v s
 any_goes_on laws keeps law {cfg} fine {begin} is past more octets {v} {s} st =
-    along laws law cfg (is_configured cfg fine) (run cfg (past ++ more) begin) more (run cfg past begin) (throughout_joined laws keeps cfg fine begin is past (octets_before past more octets))
+    along laws law cfg (is_configured cfg fine) (run cfg (past ++ more) begin) more (run cfg past begin)
+    (throughout_joined laws keeps cfg fine begin is past (octets_before past more octets))
     (octets_behind past more octets) (sym (run_append cfg past more begin)) v s st
 
 pub sessions_stay : (laws : SessionLaws) → ConnectKeeps → StandingGoesAlong → ThroughoutAlong SessionsStayInWindow
@@ -207,7 +240,11 @@ sessions_stay laws keeps law cfg fine begin is events octets =
     let h = begin_joined laws keeps (is_configured cfg fine) is in
     let first = standing_at (link_of cfg Dte) (link_of cfg Dce) from_nothing in
     record {
-      begins = (h.links, standing_run (link_of cfg Dte) (link_of cfg Dce) h.reach.events from_nothing first, some_stand laws law cfg (is_configured cfg fine) h);
+      begins = (
+        h.links,
+        standing_run (link_of cfg Dte) (link_of cfg Dce) h.reach.events from_nothing first,
+        some_stand laws law cfg (is_configured cfg fine) h,
+      );
       goes_on = λ past more all v s st.
           subst (λ es. SessionsGoAlong cfg (run cfg es begin) more (run cfg past begin) v s) all
           (any_goes_on laws keeps law fine is past more (subst AreInOctets (sym all) octets) st);

@@ -11,7 +11,15 @@ returns c =
     let answer = c.asks_and_answers.ensures in
     let busy = c.tells_whether_busy.ensures in
     let laws : Laws = record {
-      window = record { take = law.take; put = law.put; timer = law.timer; disconnect = law.disconnect; abandon = law.abandon; take_out = law.take_out; disconnect_out = law.disconnect_out };
+      window = record {
+        take = law.take;
+        put = law.put;
+        timer = law.timer;
+        disconnect = law.disconnect;
+        abandon = law.abandon;
+        take_out = law.take_out;
+        disconnect_out = law.disconnect_out;
+      };
       set_up = record { waits = rows.waits; sets_up = rows.sets_up; connects = rows.connects; timer = rows.timer; disconnects = rows.disconnects };
       take_tells = notes.take;
       timer_tells = notes.timer;
@@ -22,8 +30,28 @@ returns c =
       reads = c.reads_what_is_spelled.ensures.reads;
       healing = record {
         sessions = record { laws = laws; continues = notes.take_continues };
-        rest = record { take = rest.take; put = rest.put; timer = rest.timer; connect = rest.connect; disconnect = rest.disconnect; abandon = rest.abandon; no_timer = rest.no_timer; all_heard = rest.all_heard; only_then = rest.only_then };
-        answers = record { timer = answer.timer; poll = answer.poll; recovery = answer.recovery; ready = answer.ready; rej = answer.rej; wanted = answer.wanted; other = answer.other; out = answer.out; dm = answer.dm };
+        rest = record {
+          take = rest.take;
+          put = rest.put;
+          timer = rest.timer;
+          connect = rest.connect;
+          disconnect = rest.disconnect;
+          abandon = rest.abandon;
+          no_timer = rest.no_timer;
+          all_heard = rest.all_heard;
+          only_then = rest.only_then;
+        };
+        answers = record {
+          timer = answer.timer;
+          poll = answer.poll;
+          recovery = answer.recovery;
+          ready = answer.ready;
+          rej = answer.rej;
+          wanted = answer.wanted;
+          other = answer.other;
+          out = answer.out;
+          dm = answer.dm;
+        };
       };
       hands_up = notes.take_hands_up;
       busy = record { take = busy.take; put = busy.put; timer = busy.timer };

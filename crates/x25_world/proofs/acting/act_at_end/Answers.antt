@@ -11,4 +11,5 @@ returns-in-Dte-clause-acted c = λ cfg w fits.
 pub returns-in-Dce-clause-acted : goal.returns-in-Dce-clause-acted
 returns-in-Dce-clause-acted c = λ cfg w fits.
     let at = sym c.at.ensures ∙ c.in-Dce.is in
-    dce_acted w _ c.act-in-Dce.result _ at fits.dte (c.act-in-Dce.ensures.acted cfg (mirrored w) (record { near = fits.dce; out = fits.to_dte; back = fits.to_dce }))
+    dce_acted w _ c.act-in-Dce.result _ at fits.dte
+    (c.act-in-Dce.ensures.acted cfg (mirrored w) (record { near = fits.dce; out = fits.to_dte; back = fits.to_dce }))

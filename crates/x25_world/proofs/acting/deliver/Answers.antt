@@ -37,4 +37,5 @@ returns-clause-acted c = λ cfg w side.
     }
 
 pub returns-clause-places : goal.returns-clause-places
-returns-clause-places c = rw (c.put.ensures.line, c.remove.ensures) (few_put 9 c.args.line.now _ c.args.at _ (few_changed 9 c.args.line.now c.reserve_frames.new.line c.args.at _ c.reserve_frames.ensures.few))
+returns-clause-places c = rw (c.put.ensures.line, c.remove.ensures)
+    (few_put 9 c.args.line.now _ c.args.at _ (few_changed 9 c.args.line.now c.reserve_frames.new.line c.args.at _ c.reserve_frames.ensures.few))

@@ -1,6 +1,8 @@
 -- Octets come, over set-up and re-set-up: the link takes them, and the layer the packet that the link hands up, which is the next of those that
 -- the other end gave in its latest session.
-use Rattle.std.proofs.{Common.{◌≡◌, ℕ, zero, suc, ◌≤◌, ◌<◌, inl, inr, List, [], ◌∷◌, ◌++◌, remove, Bool, true, false, if◌then◌else◌, Option, Some, None, Ok, refl, sym, ap, ◌∙◌, subst, append_assoc, arith}, lemmas.Bool.{and_parts}}
+use Rattle.std.proofs.Common.{◌≡◌, ℕ, zero, suc, ◌≤◌, ◌<◌, inl, inr, List, [], ◌∷◌, ◌++◌, remove, Bool, true, false, if◌then◌else◌, Option, Some, None, Ok}
+use Rattle.std.proofs.Common.{refl, sym, ap, ◌∙◌, subst, append_assoc, arith}
+use Rattle.std.proofs.lemmas.Bool.{and_parts}
 use Rattle.std.proofs.lemmas.List.{append_cancel_left, map-append}
 use Rattle.x25_bits.specs.{declared.role.Role.{Role}, declared.role.Role.TheVariants.{Dte, Dce}}
 use Rattle.x25_packet.specs.Packet.{PlainPacket}
@@ -18,7 +20,8 @@ use Rattle.x25_station.specs.laws.ReadLaw.{AreReadable}
 use Rattle.x25_world.specs.{World.{World, Receives, delivered, after, after_step}}
 use Rattle.x25_world.specs.{laws.ConfirmedClaims.{confirmed_in}, laws.Claims.{link_of}, laws.LawsBelow.{SessionLaws}}
 use Rattle.x25_world.proofs.{Known.{IsConfigured, true_false}, Growing.{read_by, all_read, is_read, as_read, first_read, FrontEntry, front_entry}}
-use Rattle.x25_world.proofs.sessions.SessionTrace.{layer_of, Done, moved, own, own_goes, events_of, nothing_goes, own_pulls, pulls_take_nothing, pulls_bring_octets, near_pulls, take_takes}
+use Rattle.x25_world.proofs.sessions.SessionTrace.{layer_of, Done, moved, own, own_goes, events_of, nothing_goes, own_pulls, pulls_take_nothing}
+use Rattle.x25_world.proofs.sessions.SessionTrace.{pulls_bring_octets, near_pulls, take_takes}
 use Rattle.x25_world.proofs.sessions.SessionCounts.{counted_at, counted_by, counted_in}
 use Rattle.x25_world.proofs.sessions.SessionReaches.{Beginning, SessionsReach, IsAt, may_ask, known_sessions, sessions_act}
 use Rattle.x25_world.proofs.sessions.SessionJoined.{HasMet, PairIsInOrder, PairsAreInOrder, SessionsJoined, Goes, gave_none, stays}
@@ -43,14 +46,21 @@ record Front (cfg : Cfg) (octets : List ℕ) (flight : List PlainPacket) : Type 
   pub is : flight ≡ packet ∷ others
   pub reads : read_by cfg octets ≡ Ok packet
 
-front_of : (cfg : Cfg) (octets : List ℕ) (rest : List (List ℕ)) (flight : List PlainPacket) → all_read cfg (octets ∷ rest) ≡ as_read flight → Front cfg octets flight
+front_of : (cfg : Cfg) (octets : List ℕ) (rest : List (List ℕ)) (flight : List PlainPacket) → all_read cfg (octets ∷ rest) ≡ as_read flight
+    → Front cfg octets flight
 front_of cfg octets rest [] is = absurd (cc)
-front_of cfg octets rest (p ∷ flight) is = record { packet = p; others = flight; is = refl; reads = first_read (read_by cfg octets) (Ok p) (all_read cfg rest) (as_read flight) is }
+front_of cfg octets rest (p ∷ flight) is = record {
+  packet = p;
+  others = flight;
+  is = refl;
+  reads = first_read (read_by cfg octets) (Ok p) (all_read cfg rest) (as_read flight) is;
+}
 
 -- ---- meetings
 
 -- where one of the two met before, they met each other
-met_again : (number : Meeting → ℕ) (m : Meeting) → ((p : Meeting) → (p.near < m.near) × (p.far < m.far) → number p < number m) → (ms : List Meeting) → Each (IsNoEarlier m) ms
+met_again : (number : Meeting → ℕ) (m : Meeting) → ((p : Meeting) → (p.near < m.near) × (p.far < m.far) → number p < number m) → (ms : List Meeting)
+    → Each (IsNoEarlier m) ms
     → SomeMet (λ p. number p ≡ number m) ms → HasMet m.near m.far ms
 met_again number m lower [] all some = absurd some
 met_again number m lower (p ∷ ms) all some = elim some [
@@ -61,12 +71,14 @@ met_again number m lower (p ∷ ms) all some = elim some [
 -- ---- packets
 
 -- the packet that an end takes is the next, and its pulls take none
-next_at : (cfg : Cfg) (end : Role) (ends : Ends) (packet : PlainPacket) (channels : List ℕ) → IsPrefix ((here_in end ends).taken ++ packet ∷ []) (here_in (other end) ends).given
+next_at : (cfg : Cfg) (end : Role) (ends : Ends) (packet : PlainPacket) (channels : List ℕ)
+    → IsPrefix ((here_in end ends).taken ++ packet ∷ []) (here_in (other end) ends).given
     → AreInOrder cfg.long_data cfg.channels (events_of end (Takes packet ∷ own_pulls channels)) ends
 next_at cfg Dte ends packet channels begins = (λ out. begins, nothing_goes cfg.long_data cfg.channels Dte (own_pulls channels) _ (pulls_take_nothing channels))
 next_at cfg Dce ends packet channels begins = (λ out. begins, nothing_goes cfg.long_data cfg.channels Dce (own_pulls channels) _ (pulls_take_nothing channels))
 
-module _ {since : Beginning} (laws : SessionLaws) (cfg : Cfg) (fine : IsConfigured cfg) (end : Role) (w : World) (h : SessionsJoined since cfg end w) (is_at : IsAt since end Receives) where
+module _ {since : Beginning} (laws : SessionLaws) (cfg : Cfg) (fine : IsConfigured cfg) (end : Role) (w : World) (h : SessionsJoined since cfg end w)
+    (is_at : IsAt since end Receives) where
   abbrev ours : Settings
   ours = settings_from end cfg
 
@@ -190,9 +202,11 @@ module _ {since : Beginning} (laws : SessionLaws) (cfg : Cfg) (fine : IsConfigur
       -- what was handed up is a beginning of what the other was handed down
       begins_down : (rest : List (List ℕ)) × (h.links.near.up here ++ (packet_octets ∷ rest) ≡ h.links.far.down there)
       begins_down =
-          let order = (subst (Each (met.IsInOrder after_taken.near after_taken.far)) met_now (known_sessions MetAreInOrder laws.order fine reach_taken)).0.back in (
+          let order = (subst (Each (met.IsInOrder after_taken.near after_taken.far)) met_now (known_sessions MetAreInOrder laws.order fine reach_taken)).0.back
+          in (
             order.0,
-            sym (append_assoc (h.links.near.up here) (packet_octets ∷ []) order.0) ∙ ap (λ l. l ++ order.0) (sym up_more) ∙ order.1 ∙ ap (λ e. e.down there) goes_up_one.far,
+            sym (append_assoc (h.links.near.up here) (packet_octets ∷ []) order.0) ∙ ap (λ l. l ++ order.0) (sym up_more) ∙ order.1
+                ∙ ap (λ e. e.down there) goes_up_one.far,
           )
 
       -- so it began a session
@@ -242,13 +256,18 @@ module _ {since : Beginning} (laws : SessionLaws) (cfg : Cfg) (fine : IsConfigur
         trace_on = h.trace ++ moved end here moves
 
         begins_own : IsPrefix (own_here.taken ++ in_front.packet ∷ []) own_there.given
-        begins_own = (in_front.others, append_assoc own_here.taken (in_front.packet ∷ []) in_front.others ∙ ap (λ l. own_here.taken ++ l) (sym in_front.is) ∙ sym given_is)
+        begins_own = (
+          in_front.others,
+          append_assoc own_here.taken (in_front.packet ∷ []) in_front.others ∙ ap (λ l. own_here.taken ++ l) (sym in_front.is)
+              ∙ sym given_is,
+        )
 
         pair_on : PairIsInOrder cfg end trace_on here there
         pair_on =
             pair_goes laws cfg end h.trace here moves there paired
             (next_at cfg end (pair_ends cfg end here there h.trace) in_front.packet channels
-            (rw (here_is laws cfg end here there h.trace) (subst (λ e. IsPrefix (own_here.taken ++ in_front.packet ∷ []) e.given) (sym (there_is laws cfg end here there h.trace)) begins_own)))
+            (rw (here_is laws cfg end here there h.trace)
+            (subst (λ e. IsPrefix (own_here.taken ++ in_front.packet ∷ []) e.given) (sym (there_is laws cfg end here there h.trace)) begins_own)))
 
         others_on : (ms : List Meeting) → Each (IsNoEarlier now_met) ms → PairsAreInOrder cfg end h.trace ms → PairsAreInOrder cfg end trace_on ms
         others_on [] earlier pairs = tt
@@ -261,14 +280,17 @@ module _ {since : Beginning} (laws : SessionLaws) (cfg : Cfg) (fine : IsConfigur
         )
 
         pairs_on : PairsAreInOrder cfg end trace_on after_taken.met
-        pairs_on = subst (PairsAreInOrder cfg end trace_on) (sym met_now) (pair_on, others_on h.links.met (all_no_earlier now_met h.links.met met_in_step) h.pairs)
+        pairs_on = subst (PairsAreInOrder cfg end trace_on) (sym met_now)
+            (pair_on, others_on h.links.met (all_no_earlier now_met h.links.met met_in_step) h.pairs)
 
         -- the first packet is told as a restart by the other end
-        restarts : (told : List LayerNotice) → (own cfg end here trace_on).taken ≡ own_here.taken ++ in_front.packet ∷ [] → (own cfg end here trace_on).told ≡ own_here.told ++ told → own_here.taken ≡ [] → BeginsRestarted told
+        restarts : (told : List LayerNotice) → (own cfg end here trace_on).taken ≡ own_here.taken ++ in_front.packet ∷ [] → (own cfg end here trace_on).told
+            ≡ own_here.told ++ told → own_here.taken ≡ [] → BeginsRestarted told
         restarts told taken_on told_on none =
             let before : own_here.told ≡ [] = subst (λ ps. IsToldFirst ps own_here.told) none (own_first laws cfg end here there h.trace paired) in
             subst (λ ns. IsToldFirst (in_front.packet ∷ []) ns) (told_on ∙ ap (λ ns. ns ++ told) before)
-            (subst (λ ps. IsToldFirst ps (own cfg end here trace_on).told) (taken_on ∙ ap (λ ps. ps ++ in_front.packet ∷ []) none) (own_first laws cfg end here there trace_on pair_on))
+            (subst (λ ps. IsToldFirst ps (own cfg end here trace_on).told) (taken_on ∙ ap (λ ps. ps ++ in_front.packet ∷ []) none)
+            (own_first laws cfg end here there trace_on pair_on))
 
       abbrev step : Step
       step = follows ours w.near.layer taken
@@ -297,7 +319,8 @@ module _ {since : Beginning} (laws : SessionLaws) (cfg : Cfg) (fine : IsConfigur
       joined_readable : (none : abandons ours w.near ≡ false) → AreReadable cfg.wide cfg.long_data (joined_on none).1.packets
       joined_readable none =
           let j = joined_on none in
-          puts_readable laws cfg fine end w h (moves j.0) j.1.packets (ap (λ e. e.given) (sym (near_on j.0)) ∙ j.1.layer.given) (tt, pulls_bring_octets cfg.wide end here j.0) (there, pair_on j.0)
+          puts_readable laws cfg fine end w h (moves j.0) j.1.packets (ap (λ e. e.given) (sym (near_on j.0)) ∙ j.1.layer.given)
+          (tt, pulls_bring_octets cfg.wide end here j.0) (there, pair_on j.0)
 
       packets_put : (none : abandons ours w.near ≡ false) → PutsRead ours taken.side (joined_on none).1.packets (spelled (joined_on none).1.packets) step
       packets_put none = (let j = joined_on none in puts_spelled j.1.link (joined_readable none))
@@ -306,7 +329,8 @@ module _ {since : Beginning} (laws : SessionLaws) (cfg : Cfg) (fine : IsConfigur
       handed_puts none = (let j = joined_on none in record { handed = spelled j.1.packets; packets = j.1.packets; put = packets_put none })
 
       -- what it confirms is told
-      counts_taken : (channels : List ℕ) → IsQuiet taken → (k : ℕ) (name : Name) → confirmed_in k name step.entries ≤ counted_in (layer_of cfg end) k name (moves channels) own_here
+      counts_taken : (channels : List ℕ) → IsQuiet taken → (k : ℕ) (name : Name) → confirmed_in k name step.entries
+          ≤ counted_in (layer_of cfg end) k name (moves channels) own_here
       counts_taken channels quiet k name =
           let c = layer_of cfg end in
           let p = in_front.packet in
@@ -327,14 +351,17 @@ module _ {since : Beginning} (laws : SessionLaws) (cfg : Cfg) (fine : IsConfigur
           let near = near_on j.0 in
           let takes = take_takes (layer_of cfg end) own_here f.packet j.0 (h.near.now up).out in
           let all = own_goes cfg end here h.trace (moves j.0) in
-          joins laws cfg fine end w h step after_taken taken.side (world_on j.0) (moves j.0) j.1.packets (f.packet ∷ []) (f.packet ∷ []) (spelled j.1.packets) (packet_octets ∷ [])
-          (ap (λ r. r ∷ []) f.reads) came.others goes_up_one up up_after (packets_put none) j.1.layer near takes (heard_plain ours w.near.layer taken packet_octets some quiet) kept (tt, pulls_bring_octets cfg.wide end here j.0) (there, pair_on j.0)
+          joins laws cfg fine end w h step after_taken taken.side (world_on j.0) (moves j.0) j.1.packets (f.packet ∷ []) (f.packet ∷ []) (spelled j.1.packets)
+          (packet_octets ∷ [])
+          (ap (λ r. r ∷ []) f.reads) came.others goes_up_one up up_after (packets_put none) j.1.layer near takes
+          (heard_plain ours w.near.layer taken packet_octets some quiet) kept (tt, pulls_bring_octets cfg.wide end here j.0) (there, pair_on j.0)
           (heard_beside cfg end w.near.layer taken packet_octets f.packet some quiet f.reads) gave_none
           (rw (spelled_bring laws.stations cfg j.1.packets (joined_readable none)) tt) (counts_taken j.0 quiet)
           (λ o. may_ask (line.Put o) is_at tt) reach_taken (λ nothing. absurd (cc)) (pairs_on j.0) met_taken.more
           (λ first. inr (record {
             has_met = rw met_now (inl (refl, refl));
-            restarts = restarts j.0 (layer_notices step.entries) (ap (λ e. e.taken) all ∙ takes) (ap (λ e. e.told) all ∙ ap (λ e. e.told) (sym near) ∙ j.1.layer.told) first;
+            restarts = restarts j.0 (layer_notices step.entries) (ap (λ e. e.taken) all ∙ takes)
+                (ap (λ e. e.told) all ∙ ap (λ e. e.told) (sym near) ∙ j.1.layer.told) first;
             begun = there_begun;
           }))
 
@@ -354,13 +381,16 @@ module _ {since : Beginning} (laws : SessionLaws) (cfg : Cfg) (fine : IsConfigur
         → To (after_step ours w (octets_of came.others) (follows ours w.near.layer taken))
     takes_joined none kept = by taken.notes.up taken.packet refl refl
       where
-        by : (up : Bool) (o : Option (List ℕ)) → taken.notes.up ≡ up → taken.packet ≡ o → To (after_step ours w (octets_of came.others) (follows ours w.near.layer taken))
+        by : (up : Bool) (o : Option (List ℕ)) → taken.notes.up ≡ up → taken.packet ≡ o
+            → To (after_step ours w (octets_of came.others) (follows ours w.near.layer taken))
         by true None up is =
-            follows_up laws cfg fine end w h no_command came.others taken after_taken after_taken.met reach_taken met_taken.pairs met_taken.more (laws.stations.take_tells lc octets w.near.link) goes_taken (λ o. may_ask (line.Put o) is_at tt) up is kept
+            follows_up laws cfg fine end w h no_command came.others taken after_taken after_taken.met reach_taken met_taken.pairs met_taken.more
+            (laws.stations.take_tells lc octets w.near.link) goes_taken (λ o. may_ask (line.Put o) is_at tt) up is kept
         by true (Some packet_octets) up is =
             true_false (sym up ∙ ap (λ n. n.up) ((laws.stations.take_hands_up lc octets w.near.link).quiet packet_octets is))
         by false None up is =
-            follows_silent laws cfg fine end w h no_command came.others taken after_taken after_taken.met reach_taken met_taken.pairs met_taken.more (laws.stations.take_tells lc octets w.near.link) goes_taken up is kept
+            follows_silent laws cfg fine end w h no_command came.others taken after_taken after_taken.met reach_taken met_taken.pairs met_taken.more
+            (laws.stations.take_tells lc octets w.near.link) goes_taken up is kept
         by false (Some packet_octets) up is = handed up packet_octets is none kept
 
     came_joined : To (after_step ours w back (receives ours w.near octets))

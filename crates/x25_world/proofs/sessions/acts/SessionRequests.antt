@@ -1,5 +1,7 @@
 -- A command to the layer in a session, without or with something given: its own packet is put, and then what waits.
-use Rattle.std.proofs.{Common.{◌≡◌, ℕ, suc, ◌==◌, ◌≤◌, ◌⊎◌, inl, inr, List, [], ◌∷◌, ◌++◌, Bool, true, Option, None, refl, sym, ap, ◌∙◌, subst, append-nil, arith, ◌&&◌}, lemmas.Bool.{and_parts}}
+use Rattle.std.proofs.Common.{◌≡◌, ℕ, suc, ◌==◌, ◌≤◌, ◌⊎◌, inl, inr, List, [], ◌∷◌, ◌++◌, Bool, true, Option, None, refl, sym, ap, ◌∙◌, subst, append-nil}
+use Rattle.std.proofs.Common.{arith, ◌&&◌}
+use Rattle.std.proofs.lemmas.Bool.{and_parts}
 use Rattle.std.proofs.lemmas.List.{append_cancel_left}
 use Rattle.x25_bits.specs.declared.role.Role.{Role}
 use Rattle.x25_packet.specs.Packet.{PlainPacket}
@@ -16,7 +18,8 @@ use Rattle.x25_world.specs.{declared.error.WorldError.{WorldError}, World.{World
 use Rattle.x25_world.specs.{laws.BesideClaims.{came_in, Gave, channel_for, gave_where, IsGiven, AreSomeOf}, laws.ConfirmedClaims.{confirmed_in}}
 use Rattle.x25_world.specs.{laws.Claims.{link_of}, laws.LawsBelow.{SessionLaws}}
 use Rattle.x25_world.proofs.{Known.{IsConfigured}, Growing.{all_read, as_read, back_read, back_octets}}
-use Rattle.x25_world.proofs.sessions.SessionTrace.{layer_of, Done, moved, own, own_goes, same_number, pair_at, events_of, pair_more, pair_same, TakeNothing, nothing_goes, BringOctets, octets_append, own_pulls, pulls_take_nothing, pulls_bring_octets, near_pulls}
+use Rattle.x25_world.proofs.sessions.SessionTrace.{layer_of, Done, moved, own, own_goes, same_number, pair_at, events_of, pair_more, pair_same, TakeNothing}
+use Rattle.x25_world.proofs.sessions.SessionTrace.{nothing_goes, BringOctets, octets_append, own_pulls, pulls_take_nothing, pulls_bring_octets, near_pulls}
 use Rattle.x25_world.proofs.sessions.SessionCounts.{counted_in, CountNone}
 use Rattle.x25_world.proofs.sessions.SessionReaches.{Beginning, MayAsk, IsAt, may_ask, SessionsReach, puts_reach}
 use Rattle.x25_world.proofs.sessions.SessionJoined.{HasMet, PairIsInOrder, PairsAreInOrder, SessionsJoined, Goes, gave_none, stays}
@@ -26,7 +29,8 @@ use Rattle.x25_world.proofs.sessions.SessionEntries.{ArePlain, outcome_plain, ou
 use Rattle.x25_world.proofs.sessions.SessionGoes.{same_or_not, IsNews, goes_on}
 use Rattle.x25_line.proofs.ends.Meetings.{all_map}
 use Rattle.x25_peer.proofs.{Granted.{did_granted, gave_granted, suits_asks}, ReadLemmas.{readable_behind}}
-use Rattle.x25_peer.proofs.sessions.LinkSteps.{SessionGoes, spelled, spelled_with, PutsRead, HasPut, puts_spelled, puts_spelled_with, puts_up, puts_of, all_act, puts_go, stays_goes}
+use Rattle.x25_peer.proofs.sessions.LinkSteps.{SessionGoes, spelled, spelled_with, PutsRead, HasPut, puts_spelled, puts_spelled_with, puts_up, puts_of, all_act}
+use Rattle.x25_peer.proofs.sessions.LinkSteps.{puts_go, stays_goes}
 use Rattle.x25_peer.proofs.sessions.SessionLayers.{pulls_asked, asked_leaves}
 use Rattle.x25_line.specs.laws.Stations as line
 use Rattle.x25_line.specs.laws.Sessions as links
@@ -52,9 +56,12 @@ module _ (laws : SessionLaws) (cfg : Cfg) (end : Role) (trace : List Done) (sess
   trace_on = trace ++ moved end session moves
 
   -- two sessions that are in order stay so
-  pub pair_goes : (m : ℕ) → PairIsInOrder cfg end trace session m → AreInOrder cfg.long_data cfg.channels (events_of end moves) (pair_ends cfg end session m trace) → PairIsInOrder cfg end trace_on session m
+  pub pair_goes : (m : ℕ) → PairIsInOrder cfg end trace session m
+      → AreInOrder cfg.long_data cfg.channels (events_of end moves) (pair_ends cfg end session m trace) → PairIsInOrder cfg end trace_on session m
   pair_goes m order next =
-      rw (pair_more end session m trace moves) ((laws.behind cfg.long_data cfg.channels (pair_at end session m trace) (events_of end moves) (apart_start cfg.long_data cfg.channels)).order order next)
+      rw (pair_more end session m trace moves)
+      ((laws.behind cfg.long_data cfg.channels (pair_at end session m trace) (events_of end moves) (apart_start cfg.long_data cfg.channels)).order order
+      next)
 
   pub pair_stays : (n m : ℕ) → (n ≡ session → ⊥) → PairIsInOrder cfg end trace n m → PairIsInOrder cfg end trace_on n m
   pair_stays n m differs order =
@@ -63,12 +70,14 @@ module _ (laws : SessionLaws) (cfg : Cfg) (end : Role) (trace : List Done) (sess
   -- where nothing is taken all are
   pub pair_goes_quietly : TakeNothing moves → (n m : ℕ) → PairIsInOrder cfg end trace n m → PairIsInOrder cfg end trace_on n m
   pair_goes_quietly nothing n m order = same_or_not n session
-      (λ is. rw is (pair_goes m (subst (λ k. PairIsInOrder cfg end trace k m) is order) (nothing_goes cfg.long_data cfg.channels end moves (pair_ends cfg end session m trace) nothing)))
+      (λ is. rw is (pair_goes m (subst (λ k. PairIsInOrder cfg end trace k m) is order)
+      (nothing_goes cfg.long_data cfg.channels end moves (pair_ends cfg end session m trace) nothing)))
       (λ differs. pair_stays n m differs order)
 
   pub pairs_go_quietly : TakeNothing moves → (met : List Meeting) → PairsAreInOrder cfg end trace met → PairsAreInOrder cfg end trace_on met
   pairs_go_quietly nothing met pairs =
-      all_map (λ p. PairIsInOrder cfg end trace p.near p.far) (λ p. PairIsInOrder cfg end trace_on p.near p.far) (λ (p : Meeting) order. pair_goes_quietly nothing p.near p.far order) met pairs
+      all_map (λ p. PairIsInOrder cfg end trace p.near p.far) (λ p. PairIsInOrder cfg end trace_on p.near p.far)
+      (λ (p : Meeting) order. pair_goes_quietly nothing p.near p.far order) met pairs
 
 module _ {since : Beginning} (laws : SessionLaws) (cfg : Cfg) (fine : IsConfigured cfg) (end : Role) (w : World) (h : SessionsJoined since cfg end w) where
   abbrev ours : Settings
@@ -83,22 +92,28 @@ module _ {since : Beginning} (laws : SessionLaws) (cfg : Cfg) (fine : IsConfigur
   -- each session is one of two in order: with the one that it meets, or with one that isn't begun
   pub session_pair : (n : ℕ) → (m : ℕ) × PairIsInOrder cfg end h.trace n m
   session_pair n = elim (h.near_hears n) [
-    | inl none ↦ (let m = suc h.links.far.begun in (m, nothing_in_order cfg end h.trace n m (h.near.alone n none.0) (subst TakeNothing (sym (h.far.later m (omega arith)).moves) tt)))
+    | inl none ↦ (let m = suc h.links.far.begun in
+        (m, nothing_in_order cfg end h.trace n m (h.near.alone n none.0) (subst TakeNothing (sym (h.far.later m (omega arith)).moves) tt)))
     | inr one ↦ (one.session, met_in_order cfg end h.trace h.links.met n one.session h.pairs one.has_met)
   ]
 
   -- what is put as the layer moves on in the session that stands is read again
-  pub puts_readable : (moves : List OwnMove) (packets : List PlainPacket) → (own_run (layer_of cfg end) moves own_now).given ≡ own_now.given ++ packets → BringOctets cfg.wide (moved end session moves)
+  pub puts_readable : (moves : List OwnMove) (packets : List PlainPacket) → (own_run (layer_of cfg end) moves own_now).given ≡ own_now.given ++ packets
+      → BringOctets cfg.wide (moved end session moves)
       → (m : ℕ) × PairIsInOrder cfg end (h.trace ++ moved end session moves) session m → AreReadable cfg.wide cfg.long_data packets
   puts_readable moves packets given octets paired =
       readable_behind cfg.wide cfg.long_data own_now.given packets
       (subst (AreReadable cfg.wide cfg.long_data) (ap (λ e. e.given) (own_goes cfg end session h.trace moves) ∙ given)
-      (own_readable laws cfg fine end session paired.0 (h.trace ++ moved end session moves) paired.1 (octets_append cfg.wide h.trace (moved end session moves) h.octets octets)))
+      (own_readable laws cfg fine end session paired.0 (h.trace ++ moved end session moves) paired.1
+      (octets_append cfg.wide h.trace (moved end session moves) h.octets octets)))
 
   -- the link's own step is at `v`, with the side `t`; behind it go the octets of the packets that the layer puts
-  module _ (step : Step) (v : Sessions) (t : Side) (u : layer.TwoLayers) (moves : List OwnMove) (packets lifted coming : List PlainPacket) (handed came : List (List ℕ)) (took : all_read cfg came ≡ as_read lifted) (left : List links.Entry)
-      (g : SessionGoes (link_of cfg end) h.links v session t.near t.out [] came left v.met) (up : is_up w.near.link.phase ≡ true) (up_after : is_up t.near.phase ≡ true)
-      (p : PutsRead ours t packets handed step) (m : MovesAs (apart.alone own_now coming) u packets step) (near : u.near ≡ own_run (layer_of cfg end) moves own_now)
+  module _ (step : Step) (v : Sessions) (t : Side) (u : layer.TwoLayers) (moves : List OwnMove) (packets lifted coming : List PlainPacket)
+      (handed came : List (List ℕ)) (took : all_read cfg came ≡ as_read lifted) (left : List links.Entry)
+      (g : SessionGoes (link_of cfg end) h.links v session t.near t.out [] came left v.met) (up : is_up w.near.link.phase ≡ true)
+      (up_after : is_up t.near.phase ≡ true)
+      (p : PutsRead ours t packets handed step) (m : MovesAs (apart.alone own_now coming) u packets step)
+      (near : u.near ≡ own_run (layer_of cfg end) moves own_now)
       (taken : (own_run (layer_of cfg end) moves own_now).taken ≡ own_now.taken ++ lifted) (plain : ArePlain step.entries) (kept : IsKept step.near)
       (octets : BringOctets cfg.wide (moved end session moves)) (paired : (m : ℕ) × PairIsInOrder cfg end (h.trace ++ moved end session moves) session m)
       (tells : AreTold (came_in step.entries) (brought cfg came)) (gave : ℕ → List Gave) (gives : AreSomeOf IsGiven (brought cfg handed) (gave session))
@@ -109,12 +124,14 @@ module _ {since : Beginning} (laws : SessionLaws) (cfg : Cfg) (fine : IsConfigur
     told_then : own_then.told ≡ own_now.told ++ layer_notices step.entries
     told_then = ap (λ e. e.told) (sym near) ∙ m.told
 
-    pub joins : ((octets : List ℕ) → MayAsk since end (line.Put octets)) → SessionsReach since cfg end v → (lifted ≡ [] → TakeNothing moves) → PairsAreInOrder cfg end (h.trace ++ moved end session moves) v.met → ((n m : ℕ) → HasMet n m h.links.met → HasMet n m v.met)
+    pub joins : ((octets : List ℕ) → MayAsk since end (line.Put octets)) → SessionsReach since cfg end v → (lifted ≡ [] → TakeNothing moves)
+        → PairsAreInOrder cfg end (h.trace ++ moved end session moves) v.met → ((n m : ℕ) → HasMet n m h.links.met → HasMet n m v.met)
         → (own_now.taken ≡ [] → ((lifted ≡ []) × (layer_notices step.entries ≡ [])) ⊎ IsNews session h.links.far.begun v.met (layer_notices step.entries))
         → Goes since cfg end h.links gave (after_step ours w (octets_of left) step)
     joins asks reach alone pairs more news =
         let r = puts_go ours h.links v session packets handed t step came left v.met g p in
-        goes_on cfg end w h step left (all_act (link_of cfg end) (puts_of handed) v) v.met moves packets lifted handed came (back_read cfg handed packets p.readable) took (back_octets cfg handed packets p.readable) r
+        goes_on cfg end w h step left (all_act (link_of cfg end) (puts_of handed) v) v.met moves packets lifted handed came
+        (back_read cfg handed packets p.readable) took (back_octets cfg handed packets p.readable) r
         (record {
           layer = ap (λ e. e.layer) (sym near) ∙ m.layer;
           out = ap (λ e. e.is_out) (sym near) ∙ m.up;
@@ -125,7 +142,8 @@ module _ {since : Beginning} (laws : SessionLaws) (cfg : Cfg) (fine : IsConfigur
         })
         up (puts_up laws.stations.put_tells p up_after) plain kept tells gave gives counts (puts_reach laws.unasked cfg fine end handed v asks reach) alone
         (no_faults_behind own_now.told (layer_notices step.entries)
-        (subst AreNoFaults (ap (λ e. e.told) (own_goes cfg end session h.trace moves) ∙ told_then) (own_quiet laws cfg end session paired.0 (h.trace ++ moved end session moves) paired.1).told))
+        (subst AreNoFaults (ap (λ e. e.told) (own_goes cfg end session h.trace moves) ∙ told_then)
+        (own_quiet laws cfg end session paired.0 (h.trace ++ moved end session moves) paired.1).told))
         octets pairs more news
 
   -- ---- a command
@@ -135,7 +153,8 @@ module _ {since : Beginning} (laws : SessionLaws) (cfg : Cfg) (fine : IsConfigur
     channels : List ℕ
     packets : List PlainPacket
     handed : List (List ℕ)
-    layer : MovesAs (apart.alone own_now []) (moves_all (layer_of cfg end) (apart.alone own_now []) (Requested (waits w.near.link.outgoing == 256) request ∷ pulls_of channels)) packets step
+    layer : MovesAs (apart.alone own_now [])
+        (moves_all (layer_of cfg end) (apart.alone own_now []) (Requested (waits w.near.link.outgoing == 256) request ∷ pulls_of channels)) packets step
     puts : AreReadable cfg.wide cfg.long_data packets → PutsRead ours (alone w.near.link) packets handed step
     up : is_up w.near.link.phase ≡ true
     may : command.may_ask cfg.wide request ≡ true
@@ -162,10 +181,12 @@ module _ {since : Beginning} (laws : SessionLaws) (cfg : Cfg) (fine : IsConfigur
     near_on = near_pulls (layer_of cfg end) (layer.moves (layer_of cfg end) begin (Requested full request)) a.channels
 
     pair_on : (m : ℕ) × PairIsInOrder cfg end (h.trace ++ moved end session moves) session m
-    pair_on = (let pair = session_pair session in (pair.0, pair_goes_quietly laws cfg end h.trace session moves (tt, pulls_take_nothing a.channels) session pair.0 pair.1))
+    pair_on = (let pair = session_pair session in
+        (pair.0, pair_goes_quietly laws cfg end h.trace session moves (tt, pulls_take_nothing a.channels) session pair.0 pair.1))
 
     asked_readable : AreReadable cfg.wide cfg.long_data a.packets
-    asked_readable = puts_readable moves a.packets (ap (λ e. e.given) (sym near_on) ∙ a.layer.given) ((octets, a.may), pulls_bring_octets cfg.wide end session a.channels) pair_on
+    asked_readable = puts_readable moves a.packets (ap (λ e. e.given) (sym near_on) ∙ a.layer.given)
+        ((octets, a.may), pulls_bring_octets cfg.wide end session a.channels) pair_on
 
     asked_puts : HasPut ours (alone w.near.link) step
     asked_puts = record { handed = a.handed; packets = a.packets; put = a.puts asked_readable }
@@ -177,9 +198,13 @@ module _ {since : Beginning} (laws : SessionLaws) (cfg : Cfg) (fine : IsConfigur
         let untold : layer_notices step.entries ≡ [] =
         append_cancel_left own_now.told (layer_notices step.entries) [] (sym a.layer.told ∙ leaves.told ∙ sym (append-nil own_now.told)) in
         subst (λ os. Goes since cfg end h.links gave (after_step ours w os step)) h.back
-        (joins step h.links (alone w.near.link) world_on moves a.packets [] [] a.handed [] refl h.links.back (stays_goes (link_of cfg end) h.links w.near.link h.near.link) a.up a.up (a.puts asked_readable) a.layer near_on (ap (λ e. e.taken) (sym near_on) ∙ leaves.taken ∙ sym (append-nil own_now.taken))
-        a.plain a.kept ((octets, a.may), pulls_bring_octets cfg.wide end session a.channels) pair_on (rw a.alone tt) gave (a.gives asked_readable) (λ k name. (omega (arith, a.uncounted k name)))
-        may h.reach (λ none. nothing) (pairs_go_quietly laws cfg end h.trace session moves nothing h.links.met h.pairs) (λ n m has. has) (λ none. inl (refl, untold)))
+        (joins step h.links (alone w.near.link) world_on moves a.packets [] [] a.handed [] refl h.links.back
+        (stays_goes (link_of cfg end) h.links w.near.link h.near.link) a.up a.up (a.puts asked_readable) a.layer near_on
+        (ap (λ e. e.taken) (sym near_on) ∙ leaves.taken ∙ sym (append-nil own_now.taken))
+        a.plain a.kept ((octets, a.may), pulls_bring_octets cfg.wide end session a.channels) pair_on (rw a.alone tt) gave (a.gives asked_readable)
+        (λ k name. (omega (arith, a.uncounted k name)))
+        may h.reach (λ none. nothing) (pairs_go_quietly laws cfg end h.trace session moves nothing h.links.met h.pairs) (λ n m has. has)
+        (λ none. inl (refl, untold)))
 
   -- ---- without anything given
 
@@ -188,7 +213,8 @@ module _ {since : Beginning} (laws : SessionLaws) (cfg : Cfg) (fine : IsConfigur
       let c = settings_from end cfg in
       let granted = did_granted c w.near request step is in
       let now = h.near.now granted.is_up in
-      let j = laws.stations.request c w.near.link (apart.alone own_now []) request step now.out h.near.kept.few (ap (λ l. requests c (station_with w.near.link l) request) now.layer ∙ is) in
+      let j = laws.stations.request c w.near.link (apart.alone own_now []) request step now.out h.near.kept.few
+      (ap (λ l. requests c (station_with w.near.link l) request) now.layer ∙ is) in
       record {
         channels = j.0;
         packets = j.2.packets;
@@ -204,11 +230,13 @@ module _ {since : Beginning} (laws : SessionLaws) (cfg : Cfg) (fine : IsConfigur
         kept = subst KeptBy is (laws.stations.request_keeps c w.near request h.near.kept);
       }
 
-  pub request_puts : (request : LayerRequest) → RequestsOctets request → (step : Step) → requests ours w.near request ≡ Did step → HasPut ours (alone w.near.link) step
+  pub request_puts : (request : LayerRequest) → RequestsOctets request → (step : Step) → requests ours w.near request ≡ Did step
+      → HasPut ours (alone w.near.link) step
   request_puts request octets step is = asked_puts request octets gave_none step (request_asked request step is)
 
   -- what is asked for may be said in full
-  pub requests_joined : (asked request : LayerRequest) → IsAt since end (Commands (command.Requests asked)) → RequestsOctets request → Goes since cfg end h.links gave_none (after w (of_station ours w (requests ours w.near request)))
+  pub requests_joined : (asked request : LayerRequest) → IsAt since end (Commands (command.Requests asked)) → RequestsOctets request
+      → Goes since cfg end h.links gave_none (after w (of_station ours w (requests ours w.near request)))
   requests_joined asked request is_at octets = by (requests ours w.near request) refl
     where
       by : (o : Outcome) → requests ours w.near request ≡ o → Goes since cfg end h.links gave_none (after w (of_station ours w o))
@@ -221,12 +249,14 @@ module _ {since : Beginning} (laws : SessionLaws) (cfg : Cfg) (fine : IsConfigur
   abbrev pub gave_by_request : PlainGiven → LayerRequest → Option WorldError → ℕ → List Gave
   gave_by_request g request refusal n = gave_where (n == session) refusal (record { channel = channel_for (layer_of cfg end) w.near.layer request; given = g })
 
-  given_asked : (g : PlainGiven) (request : LayerRequest) → GivesOctets g → (step : Step) → gives ours w.near g request ≡ Did step → IsAsked request (gave_by_request g request None session) step
+  given_asked : (g : PlainGiven) (request : LayerRequest) → GivesOctets g → (step : Step) → gives ours w.near g request ≡ Did step
+      → IsAsked request (gave_by_request g request None session) step
   given_asked g request of_given step is =
       let c = settings_from end cfg in
       let granted = gave_granted c w.near g request step is in
       let now = h.near.now granted.is_up in
-      let j = laws.stations.given c g w.near.link (apart.alone own_now []) request step now.out h.near.kept.few (ap (λ l. gives c (station_with w.near.link l) g request) now.layer ∙ is) in
+      let j = laws.stations.given c g w.near.link (apart.alone own_now []) request step now.out h.near.kept.few
+      (ap (λ l. gives c (station_with w.near.link l) g request) now.layer ∙ is) in
       let taken = and_parts c.wide (may_give g && suits g request) granted.is_taken in
       let may = and_parts (may_give g) (suits g request) taken.1 in
       let first = subst (λ l. FirstMayGo g (channel_for (layer_of cfg end) l request) j.2.packets) now.layer
@@ -245,15 +275,18 @@ module _ {since : Beginning} (laws : SessionLaws) (cfg : Cfg) (fine : IsConfigur
         uncounted = λ k name. ap (confirmed_in k name) granted.entries ∙ outcome_counts (layer_settings c) w.near.layer request _ k name;
         gives = λ readable.
             (let channel = channel_for (layer_of cfg end) w.near.layer request in
-            subst (λ b. AreSomeOf IsGiven (brought cfg (spelled_with g j.2.packets)) (gave_where b None (record { channel = channel; given = g }))) (sym (same_number session))
+            subst (λ b. AreSomeOf IsGiven (brought cfg (spelled_with g j.2.packets)) (gave_where b None (record { channel = channel; given = g })))
+            (sym (same_number session))
             (spelled_with_bring laws.stations cfg g channel taken.0 may.0 of_given j.2.packets first readable));
         kept = subst KeptBy is (laws.stations.given_keeps c w.near g request h.near.kept);
       }
 
-  pub given_puts : (g : PlainGiven) (request : LayerRequest) → GivesOctets g → RequestsOctets request → (step : Step) → gives ours w.near g request ≡ Did step → HasPut ours (alone w.near.link) step
+  pub given_puts : (g : PlainGiven) (request : LayerRequest) → GivesOctets g → RequestsOctets request → (step : Step) → gives ours w.near g request ≡ Did step
+      → HasPut ours (alone w.near.link) step
   given_puts g request of_given octets step is = asked_puts request octets (gave_by_request g request None) step (given_asked g request of_given step is)
 
-  pub gives_joined : (g : PlainGiven) (asked request : LayerRequest) → IsAt since end (Commands (command.RequestsWith g asked)) → GivesOctets g → RequestsOctets request
+  pub gives_joined : (g : PlainGiven) (asked request : LayerRequest) → IsAt since end (Commands (command.RequestsWith g asked)) → GivesOctets g
+      → RequestsOctets request
       → (let o = of_station ours w (gives ours w.near g request) in Goes since cfg end h.links (gave_by_request g request (refusal_of o)) (after w o))
   gives_joined g asked request is_at of_given octets = by (gives ours w.near g request) refl
     where

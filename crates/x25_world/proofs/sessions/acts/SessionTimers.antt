@@ -1,20 +1,24 @@
 -- Timer T1 runs out, the link is polled, connected, disconnected and set up anew, and octets on the line to an end are lost or damaged, over set-up
 -- and re-set-up.
-use Rattle.std.proofs.{Common.{◌≡◌, ℕ, ◌+◌, List, [], ◌∷◌, Bool, true, false, ◌&&◌, if◌then◌else◌, Option, Some, None, Result, Ok, refl, sym, ap, ◌∙◌, subst, arith, length, remove, nat_lt, Err}, lemmas.Bool.{cond_both, or_parts}}
+use Rattle.std.proofs.Common.{◌≡◌, ℕ, ◌+◌, List, [], ◌∷◌, Bool, true, false, ◌&&◌, if◌then◌else◌, Option, Some, None, Result, Ok, refl, sym, ap, ◌∙◌, subst}
+use Rattle.std.proofs.Common.{arith, length, remove, nat_lt, Err}
+use Rattle.std.proofs.lemmas.Bool.{cond_both, or_parts}
 use Rattle.std.specs.List.{list_any}
 use Rattle.x25_bits.specs.{declared.role.Role.{Role}, declared.role.Role.TheVariants.{Dte, Dce}}
 use Rattle.x25_frame.specs.{Frame.{PlainFrame, sabm, ua}, Reading.{frame_of}, declared.error.FrameError.{FrameError}}
 use Rattle.x25_frame.specs.declared.error.FrameError.TheVariants.{Short}
 use Rattle.x25_link.specs.{declared.error.LinkError.{LinkError}, Station.{LinkStation, awaits_ua, Settings as LinkSettings}, Hearing.{other, Step as LinkStep}}
 use Rattle.x25_link.specs.laws.NoteLaw.{Tells}
-use Rattle.x25_link.specs.Link.{timer_refusal, timer_step, connect_refusal, connect_step, disconnect_refusal, disconnect_step, probe_refusal, relink_refusal, relink_step}
+use Rattle.x25_link.specs.Link.{timer_refusal, timer_step, connect_refusal, connect_step, disconnect_refusal, disconnect_step, probe_refusal, relink_refusal}
+use Rattle.x25_link.specs.Link.{relink_step}
 use Rattle.x25_line.specs.{laws.Sessions.{begun_by, sabm_in, ua_in, how_many, IsTimely}, laws.SessionClaims.{octets_of}, laws.Stations.{is_visible}}
 use Rattle.x25_station.specs.{declared.config.Cfg.{Cfg}, Config.{Settings, settings_from, longest_packet}, Command.{Connects, Disconnects, Probes, Relinks}}
 use Rattle.x25_station.specs.Entry.{connect_asked, relink_asked}
 use Rattle.x25_station.specs.Step.{Step, follows, led_by, fires, connects, connects_asked, disconnects, probes, relinks, unless}
 use Rattle.x25_station.specs.laws.KeepLaw.{IsKept, KeptBy, ConnectKeeps}
 use Rattle.x25_world.specs.{SetUp.{is_a, reads_as, carries}, declared.set_up.SetUpFrame.{SetUpFrame}, declared.set_up.SetUpFrame.TheVariants.{Sabm, Ua}}
-use Rattle.x25_world.specs.World.{World, Declined, Commands, Fires, of_station, refusal_of, is_on_line, fired, after, after_step, Happened, Loses, Damages, on_line, lost, damaged}
+use Rattle.x25_world.specs.World.{World, Declined, Commands, Fires, of_station, refusal_of, is_on_line, fired, after, after_step, Happened, Loses, Damages}
+use Rattle.x25_world.specs.World.{on_line, lost, damaged}
 use Rattle.x25_world.specs.{laws.Claims.{link_of, IsNoConnect}, laws.LawsBelow.{SessionLaws}}
 use Rattle.x25_world.proofs.Known.{IsConfigured, true_false}
 use Rattle.x25_world.proofs.sessions.SessionReaches.{Beginning, set_up, MayAct, MayAsk, IsAt, may_ask, sessions_act, SessionsReach}
@@ -29,23 +33,35 @@ use Rattle.x25_line.specs.laws.Sessions as links
 use Rattle.x25_world.specs.declared.error.WorldError.TheVariants as error
 
 -- other octets are left on the line
-left_joined : {since : Beginning} {cfg : Cfg} {end : Role} {w : World} (h : SessionsJoined since cfg end w) (es : List links.Entry) (left : List (List ℕ)) → octets_of es ≡ left → SessionsReach since cfg end (record h.links { back = es })
+left_joined : {since : Beginning} {cfg : Cfg} {end : Role} {w : World} (h : SessionsJoined since cfg end w) (es : List links.Entry) (left : List (List ℕ))
+    → octets_of es ≡ left → SessionsReach since cfg end (record h.links { back = es })
     → Goes since cfg end h.links gave_none (on_line w left)
-left_joined {cfg} {end} {w} h es left same reach = record { joined = relined cfg end w h es left same reach; down = λ n. none_more cfg (h.links.near.down n) (h.links.near.down n) [] refl; far = refl }
+left_joined {cfg} {end} {w} h es left same reach = record {
+  joined = relined cfg end w h es left same reach;
+  down = λ n. none_more cfg (h.links.near.down n) (h.links.near.down n) [] refl;
+  far = refl;
+}
 
-pub lost_joined : {since : Beginning} (laws : SessionLaws) (cfg : Cfg) → IsConfigured cfg → (end : Role) (w : World) (h : SessionsJoined since cfg end w) (place : ℕ) → IsAt since end (Loses place) → Goes since cfg end h.links gave_none (after w (lost w place))
-lost_joined {since} laws cfg fine end w h place is_at = cond_both (nat_lt place (length w.back)) (Happened (on_line w (remove w.back place))) (Declined error.NoSuchFrame) (λ o. Goes since cfg end h.links gave_none (after w o))
+pub lost_joined : {since : Beginning} (laws : SessionLaws) (cfg : Cfg) → IsConfigured cfg
+    → (end : Role) (w : World) (h : SessionsJoined since cfg end w) (place : ℕ) → IsAt since end (Loses place)
+    → Goes since cfg end h.links gave_none (after w (lost w place))
+lost_joined {since} laws cfg fine end w h place is_at = cond_both (nat_lt place (length w.back)) (Happened (on_line w (remove w.back place)))
+    (Declined error.NoSuchFrame) (λ o. Goes since cfg end h.links gave_none (after w o))
     (λ _. left_joined h (remove h.links.back place) (remove w.back place) (sym (octets_removed h.links.back place) ∙ ap (λ l. remove l place) h.back)
     (sessions_act laws.unasked fine tt (λ off. tt) (may_ask (line.Lose place) is_at refl) h.reach))
     (λ _. stays h gave_none)
 
-pub damaged_joined : {since : Beginning} (laws : SessionLaws) (cfg : Cfg) → IsConfigured cfg → (end : Role) (w : World) (h : SessionsJoined since cfg end w) (place : ℕ) (octets : List ℕ) → IsAt since end (Damages place octets) → Goes since cfg end h.links gave_none (after w (damaged w place octets))
+pub damaged_joined : {since : Beginning} (laws : SessionLaws) (cfg : Cfg) → IsConfigured cfg
+    → (end : Role) (w : World) (h : SessionsJoined since cfg end w) (place : ℕ) (octets : List ℕ) → IsAt since end (Damages place octets)
+    → Goes since cfg end h.links gave_none (after w (damaged w place octets))
 damaged_joined {since} laws cfg fine end w h place octets is_at =
     by (nat_lt place (length w.back)) (is_visible octets)
     (sessions_act laws.unasked fine tt (λ off. tt) (may_ask (line.Damage place octets) is_at (refl, refl)) h.reach)
   where
     by : (b seen : Bool) → SessionsReach since cfg end (if seen then record h.links { back = links.replaced h.links.back place octets } else h.links)
-        → Goes since cfg end h.links gave_none (after w (if b then (if seen then Happened (on_line w (line.replaced w.back place octets)) else Declined error.Unseen) else Declined error.NoSuchFrame))
+        → Goes since cfg end h.links gave_none
+        (after w (if b then (if seen then Happened (on_line w (line.replaced w.back place octets)) else Declined error.Unseen)
+        else Declined error.NoSuchFrame))
     by true true reach = left_joined h (links.replaced h.links.back place octets) (line.replaced w.back place octets)
         (sym (octets_replaced h.links.back place octets) ∙ ap (λ l. line.replaced l place octets) h.back) reach
     by true false reach = stays h gave_none
@@ -63,7 +79,8 @@ not_ua (Ok (ua f)) e = true_false e
 not_ua (Err Short) e = refl
 not_ua read e = refl
 
-none_of : (frame : SetUpFrame) (count : Result PlainFrame FrameError → ℕ) → ((read : Result PlainFrame FrameError) → is_a frame read ≡ false → count read ≡ 0) → (from : Role) (es : List links.Entry)
+none_of : (frame : SetUpFrame) (count : Result PlainFrame FrameError → ℕ) → ((read : Result PlainFrame FrameError) → is_a frame read ≡ false → count read ≡ 0)
+    → (from : Role) (es : List links.Entry)
     → carries frame from (octets_of es) ≡ false → how_many count from longest_packet es ≡ 0
 none_of frame count none from [] e = refl
 none_of frame count none from (x ∷ es) e =
@@ -95,15 +112,18 @@ module _ {since : Beginning} (laws : SessionLaws) {cfg : Cfg} (fine : IsConfigur
   act_follows : (lead : Lead) (act : line.Act) (refusal : LinkStation → Option LinkError) (step : LinkStation → LinkStep)
       → links.acts lc act h.links
       ≡ links.unless (refusal h.links.near.station) h.links (links.after_step lc h.links h.links.back h.links.met [] (step h.links.near.station))
-      → (links.acts lc act h.links).near.begun ≡ h.links.near.begun → IsTimely lc (link_of cfg (other end)) act h.links → MayAct since act h.links → MayAsk since end act → refusal w.near.link ≡ None
-      → (step w.near.link).packet ≡ None → Tells w.near.link (step w.near.link) → IsKept (led_by (lead_of lead) (follows ours w.near.layer (step w.near.link))).near
+      → (links.acts lc act h.links).near.begun ≡ h.links.near.begun → IsTimely lc (link_of cfg (other end)) act h.links → MayAct since act h.links
+      → MayAsk since end act → refusal w.near.link ≡ None
+      → (step w.near.link).packet ≡ None → Tells w.near.link (step w.near.link)
+      → IsKept (led_by (lead_of lead) (follows ours w.near.layer (step w.near.link))).near
       → To (after_step ours w w.back (led_by (lead_of lead) (follows ours w.near.layer (step w.near.link))))
   act_follows lead act refusal step is same timely may asks accepted none tells kept =
       let c = link_of cfg end in
       let k = step w.near.link in
       let g = act_goes c h.links w.near.link act refusal step is h.near.link accepted in
       subst (λ os. To (after_step ours w os (led_by (lead_of lead) (follows ours w.near.layer k)))) h.back
-      (follows_silent laws cfg fine end w h lead h.links.back k (links.acts c act h.links) h.links.met (sessions_act laws.unasked fine timely may asks h.reach) h.pairs (λ n m has. has) tells g
+      (follows_silent laws cfg fine end w h lead h.links.back k (links.acts c act h.links) h.links.met (sessions_act laws.unasked fine timely may asks h.reach)
+      h.pairs (λ n m has. has) tells g
       (not_begun_by k.notes.up h.links.near.begun (sym g.begun ∙ same)) none kept)
 
   -- or that is refused
@@ -111,7 +131,8 @@ module _ {since : Beginning} (laws : SessionLaws) {cfg : Cfg} (fine : IsConfigur
       → links.acts lc act h.links
       ≡ links.unless (refusal h.links.near.station) h.links (links.after_step lc h.links h.links.back h.links.met [] (step h.links.near.station))
       → (links.acts lc act h.links).near.begun ≡ h.links.near.begun → IsTimely lc (link_of cfg (other end)) act h.links
-      → (refusal w.near.link ≡ None → MayAct since act h.links) → MayAsk since end act → (step w.near.link).packet ≡ None → (refusal w.near.link ≡ None → Tells w.near.link (step w.near.link))
+      → (refusal w.near.link ≡ None → MayAct since act h.links) → MayAsk since end act → (step w.near.link).packet ≡ None
+      → (refusal w.near.link ≡ None → Tells w.near.link (step w.near.link))
       → KeptBy (unless (refusal w.near.link) (led_by (lead_of lead) (follows ours w.near.layer (step w.near.link))))
       → To (after w (of_station ours w (unless (refusal w.near.link) (led_by (lead_of lead) (follows ours w.near.layer (step w.near.link))))))
   act_joined lead {act} refusal step is same timely may asks none tells = by (refusal w.near.link) refl
@@ -128,7 +149,8 @@ module _ {since : Beginning} (laws : SessionLaws) {cfg : Cfg} (fine : IsConfigur
   is_timely off waiting =
       let clear = only_second (awaits_ua w.near.link.phase) _ off (ap (λ s. awaits_ua s.phase) (sym h.near.link) ∙ ap awaits_ua waiting) in
       let sabms : carries Sabm end (octets_of h.links.out) ≡ false = ap (λ os. carries Sabm end os) h.out ∙ (or_parts (carries Sabm end w.out) _ clear).0 in
-      let uas : carries Ua (bits.other end) (octets_of h.links.back) ≡ false = ap (λ os. carries Ua (bits.other end) os) h.back ∙ (or_parts (carries Sabm end w.out) _ clear).1 in
+      let uas : carries Ua (bits.other end) (octets_of h.links.back) ≡ false =
+      ap (λ os. carries Ua (bits.other end) os) h.back ∙ (or_parts (carries Sabm end w.out) _ clear).1 in
       by end (omega (arith, none_of Sabm sabm_in not_sabm end h.links.out sabms, none_of Ua ua_in not_ua (bits.other end) h.links.back uas))
     where
       by : (e : Role) → how_many sabm_in e longest_packet h.links.out + how_many ua_in (bits.other e) longest_packet h.links.back ≡ 0
@@ -139,7 +161,8 @@ module _ {since : Beginning} (laws : SessionLaws) {cfg : Cfg} (fine : IsConfigur
   fires_joined : IsAt since end Fires → (awaits_ua w.near.link.phase && is_on_line ours w) ≡ false → To (after w (of_station ours w (fires ours w.near)))
   fires_joined is_at off =
       act_joined no_command timer_refusal (timer_step lc) refl (laws.hands lc lc (line.Near line.T1) h.links).0.begun (is_timely off) (λ accepted off. tt)
-      (may_ask line.T1 is_at tt) (timer_silent lc w.near.link).0 (λ accepted. laws.stations.timer_tells lc w.near.link) (laws.stations.timer_keeps ours w.near h.near.kept)
+      (may_ask line.T1 is_at tt) (timer_silent lc w.near.link).0 (λ accepted. laws.stations.timer_tells lc w.near.link)
+      (laws.stations.timer_keeps ours w.near h.near.kept)
 
   pub fired_joined : IsAt since end Fires → To (after w (fired ours w))
   fired_joined is_at = by (awaits_ua w.near.link.phase && is_on_line ours w) refl
@@ -150,17 +173,23 @@ module _ {since : Beginning} (laws : SessionLaws) {cfg : Cfg} (fine : IsConfigur
       by false is = fires_joined is_at is
 
   -- set-up is asked for, by a command or not
-  connecting : (lead : Lead) → MayAsk since end line.Connect → (since ≡ set_up → connect_refusal w.near.link.phase ≡ None → ⊥) → KeptBy (unless (connect_refusal w.near.link.phase) (led_by (lead_of lead) (follows ours w.near.layer (connect_step lc w.near.link))))
+  connecting : (lead : Lead) → MayAsk since end line.Connect → (since ≡ set_up → connect_refusal w.near.link.phase ≡ None → ⊥)
+      → KeptBy (unless (connect_refusal w.near.link.phase) (led_by (lead_of lead) (follows ours w.near.layer (connect_step lc w.near.link))))
       → To
-      (after w (of_station ours w (unless (connect_refusal w.near.link.phase) (led_by (lead_of lead) (follows ours w.near.layer (connect_step lc w.near.link))))))
+      (after w (of_station ours w (unless (connect_refusal w.near.link.phase)
+      (led_by (lead_of lead) (follows ours w.near.layer (connect_step lc w.near.link))))))
   connecting lead asks may =
       act_joined lead (λ s. connect_refusal s.phase) (connect_step lc) refl (laws.hands lc lc (line.Near line.Connect) h.links).0.begun tt
-      (λ accepted free is. may free (sym (ap (λ s. connect_refusal s.phase) h.near.link) ∙ is)) asks refl (λ accepted. laws.stations.connect_tells lc w.near.link (connects_in_down w.near.link.phase accepted))
+      (λ accepted free is. may free (sym (ap (λ s. connect_refusal s.phase) h.near.link) ∙ is)) asks refl
+      (λ accepted. laws.stations.connect_tells lc w.near.link (connects_in_down w.near.link.phase accepted))
 
-  pub connects_joined : IsAt since end (Commands Connects) → (since ≡ set_up → IsNoConnect (Commands Connects) (refusal_of (of_station ours w (connects_asked ours w.near))))
+  pub connects_joined : IsAt since end (Commands Connects)
+      → (since ≡ set_up → IsNoConnect (Commands Connects) (refusal_of (of_station ours w (connects_asked ours w.near))))
       → To (after w (of_station ours w (connects_asked ours w.near)))
-  connects_joined is_at none = connecting connect (may_ask line.Connect is_at tt) (λ free accepted. subst (λ o. IsNoConnect (Commands Connects) (refusal_of (of_station ours w (unless o
-      (led_by (connect_asked ∷ []) (follows ours w.near.layer (connect_step lc w.near.link))))))) accepted (none free)) (laws.stations.command_keeps ours w.near Connects h.near.kept)
+  connects_joined is_at none = connecting connect (may_ask line.Connect is_at tt)
+      (λ free accepted. subst (λ o. IsNoConnect (Commands Connects) (refusal_of (of_station ours w (unless o
+      (led_by (connect_asked ∷ []) (follows ours w.near.layer (connect_step lc w.near.link))))))) accepted (none free))
+      (laws.stations.command_keeps ours w.near Connects h.near.kept)
 
   pub connects_alone_joined : MayAsk since end line.Connect → (since ≡ set_up → ⊥) → ConnectKeeps → To (after w (of_station ours w (connects ours w.near)))
   connects_alone_joined asks unasked keeps = connecting no_command asks (λ free accepted. unasked free) (keeps ours w.near h.near.kept)
@@ -178,7 +207,8 @@ module _ {since : Beginning} (laws : SessionLaws) {cfg : Cfg} (fine : IsConfigur
       (laws.stations.command_keeps ours w.near Probes h.near.kept)
 
   -- the link is abandoned, and then connected
-  pub relinks_joined : IsAt since end (Commands Relinks) → (since ≡ set_up → IsNoConnect (Commands Relinks) (refusal_of (of_station ours w (relinks ours w.near))))
+  pub relinks_joined : IsAt since end (Commands Relinks)
+      → (since ≡ set_up → IsNoConnect (Commands Relinks) (refusal_of (of_station ours w (relinks ours w.near))))
       → To (after w (of_station ours w (relinks ours w.near)))
   relinks_joined is_at none = by (relink_refusal w.near.link.phase) refl none
     where
@@ -191,12 +221,15 @@ module _ {since : Beginning} (laws : SessionLaws) {cfg : Cfg} (fine : IsConfigur
       step : Step
       step = led_by (relink_asked ∷ []) (follows ours w.near.layer k)
 
-      by : (o : Option LinkError) → relink_refusal w.near.link.phase ≡ o → (since ≡ set_up → IsNoConnect (Commands Relinks) (refusal_of (of_station ours w (unless o step))))
+      by : (o : Option LinkError) → relink_refusal w.near.link.phase ≡ o
+          → (since ≡ set_up → IsNoConnect (Commands Relinks) (refusal_of (of_station ours w (unless o step))))
           → To (after w (of_station ours w (unless o step)))
       by (Some e) is none = stays h gave_none
       by None is none =
-          rw (sym h.back) (follows_silent laws cfg fine end w h relink h.links.back k (links.acts c line.Connect (links.acts c line.Abandon h.links)) h.links.met
+          rw (sym h.back) (follows_silent laws cfg fine end w h relink h.links.back k (links.acts c line.Connect (links.acts c line.Abandon h.links))
+          h.links.met
           (sessions_act laws.unasked fine tt (λ free. absurd (none free)) (may_ask line.Connect is_at tt)
           (sessions_act laws.unasked fine tt (λ off. tt) (may_ask line.Abandon is_at tt) h.reach))
-          h.pairs (λ n m has. has) (laws.stations.relink_tells c w.near.link) (relink_goes laws.stations.relinks c h.links w.near.link h.near.link (relinks_in_up w.near.link.phase is)) refl refl
+          h.pairs (λ n m has. has) (laws.stations.relink_tells c w.near.link)
+          (relink_goes laws.stations.relinks c h.links w.near.link h.near.link (relinks_in_up w.near.link.phase is)) refl refl
           (subst (λ o. KeptBy (unless o step)) is (laws.stations.command_keeps ours w.near Relinks h.near.kept)))

@@ -1,5 +1,6 @@
 -- Where a stretch is open, the sessions of both ends that stand meet each other; and where the one end is idle, all arrived.
-use Rattle.std.proofs.Common.{◌≡◌, ℕ, ◌≤◌, inl, inr, List, [], length, Bool, true, false, Some, refl, sym, ap, ◌∙◌, subst, arith, Option, None, if◌then◌else◌, ◌+◌, ◌==◌, zero, suc, nat_le}
+use Rattle.std.proofs.Common.{◌≡◌, ℕ, ◌≤◌, inl, inr, List, [], length, Bool, true, false, Some, refl, sym, ap, ◌∙◌, subst, arith, Option, None, if◌then◌else◌}
+use Rattle.std.proofs.Common.{◌+◌, ◌==◌, zero, suc, nat_le}
 use Rattle.std.proofs.lemmas.Bool.{eqb-true, eq-eqb, leb-true, and_parts, true_from_ne_false}
 use Rattle.x25_bits.specs.{declared.role.Role.{Role}, declared.role.Role.TheVariants.{Dte, Dce}}
 use Rattle.x25_link.specs.{Hearing.{other}, Station.{is_up}}
@@ -32,7 +33,8 @@ name_if b name = if b then Some name else None
 abbrev pub open_if : Bool → Bool → Bool
 open_if b o = if b then o else false
 
-pub stretch_of : (channels : Ranges) (l : Layer) (k : ℕ) (name : Name) → name_if (open_if (is_channel channels k) (is_open (l.circuits k))) (name_of l k) ≡ Some name → IsStretch channels l k name
+pub stretch_of : (channels : Ranges) (l : Layer) (k : ℕ) (name : Name) → name_if (open_if (is_channel channels k) (is_open (l.circuits k))) (name_of l k)
+    ≡ Some name → IsStretch channels l k name
 stretch_of channels l k name is = by (is_channel channels k) (is_open (l.circuits k)) refl refl is
   where
     some_is : (m n : Name) → Some m ≡ Some n → m ≡ n
@@ -65,15 +67,18 @@ link_idle : (cfg : Cfg) (end : Role) (s : Station) → is_idle (settings_from en
 link_idle cfg end s idle = (and_parts (link.is_idle s.link) (waits_up_to s.layer.circuits cfg.channels.count == 0) idle).0
 
 -- between an idle end and the other one, where all that its link was handed down arrived, and the same stretch is open at both
-idle_between : (cfg : Cfg) (end : Role) (s t : Station) (giver taker : layer.End) (k : ℕ) (name : Name) → giver.layer ≡ s.layer → taker.layer ≡ t.layer → is_idle (settings_from end cfg) s ≡ true
-    → stretch (settings_from end cfg) s k ≡ Some name → stretch (settings_from (other end) cfg) t k ≡ Some name → as_read taker.taken ≡ as_read giver.given → IsIdleTo k giver taker (length giver.given)
+idle_between : (cfg : Cfg) (end : Role) (s t : Station) (giver taker : layer.End) (k : ℕ) (name : Name) → giver.layer ≡ s.layer → taker.layer ≡ t.layer
+    → is_idle (settings_from end cfg) s ≡ true
+    → stretch (settings_from end cfg) s k ≡ Some name → stretch (settings_from (other end) cfg) t k ≡ Some name → as_read taker.taken ≡ as_read giver.given
+    → IsIdleTo k giver taker (length giver.given)
 idle_between cfg end s t giver taker k name of_giver of_taker idle here there all =
     let both = and_parts (link.is_idle s.link) (waits_up_to s.layer.circuits cfg.channels.count == 0) idle in
     let opened = stretch_of cfg.channels s.layer k name here in
     let opened_there = stretch_of cfg.channels t.layer k name there in
     let bounds = and_parts (nat_le 1 k) (nat_le k cfg.channels.count) opened.channel in
     let none : waits (s.layer.circuits k) ≡ 0 =
-    none_waits s.layer.circuits cfg.channels.count k (eqb-true (waits_up_to s.layer.circuits cfg.channels.count) 0 both.1) (leb-true 1 k bounds.0) (leb-true k cfg.channels.count bounds.1) in
+    none_waits s.layer.circuits cfg.channels.count k (eqb-true (waits_up_to s.layer.circuits cfg.channels.count) 0 both.1) (leb-true 1 k bounds.0)
+    (leb-true k cfg.channels.count bounds.1) in
     record {
       all_acked = refl;
       acked_taken = omega (arith, as_many taker.taken giver.given all);
@@ -103,8 +108,10 @@ module _ (laws : SessionLaws) (cfg : Cfg) where
   abbrev ArrivesFrom : Role → layer.End → layer.End → Type 0
   ArrivesFrom end giver taker = (k acked : ℕ) → IsIdleTo k giver taker acked → HasAllOf k (name_of giver.layer k) giver.entries taker.entries
 
-  own_arrives : (end : Role) (n m : ℕ) (trace : List Done) → PairIsInOrder cfg end trace n m → ArrivesFrom end (own cfg end n trace) (own cfg (other end) m trace)
-  own_arrives = of_either laws cfg ArrivesFrom (λ events order. (let both = laws.layers_arrive cfg.long_data cfg.channels events order in (both.near, both.far)))
+  own_arrives : (end : Role) (n m : ℕ) (trace : List Done) → PairIsInOrder cfg end trace n m
+      → ArrivesFrom end (own cfg end n trace) (own cfg (other end) m trace)
+  own_arrives = of_either laws cfg ArrivesFrom
+      (λ events order. (let both = laws.layers_arrive cfg.long_data cfg.channels events order in (both.near, both.far)))
 
 -- the sessions of both ends that stand meet each other, as the near end sees it
 pub record StandingMeet {since : Beginning} (cfg : Cfg) (end : Role) (w : World) (h : SessionsJoined since cfg end w) : Type 0 where
@@ -116,8 +123,10 @@ pub record StandingMeet {since : Beginning} (cfg : Cfg) (end : Role) (w : World)
 module _ (laws : SessionLaws) {cfg : Cfg} (fine : IsConfigured cfg) where
   -- ---- the sessions that stand
 
-  pub meet_from : {since : Beginning} {end : Role} {w : World} (h : SessionsJoined since cfg end w) (k : ℕ) (name : Name) → stretch (settings_from end cfg) w.near k ≡ Some name → StandingMeet cfg end w h
-  meet_from {end} {w} h k name here = elim (h.near_hears n) [ inl none ↦ absurd (not_silent none.0) | inr one ↦ standing one.session (is_latest one.session one.has_met) one.told one.has_met one.begun.1 ]
+  pub meet_from : {since : Beginning} {end : Role} {w : World} (h : SessionsJoined since cfg end w) (k : ℕ) (name : Name)
+      → stretch (settings_from end cfg) w.near k ≡ Some name → StandingMeet cfg end w h
+  meet_from {end} {w} h k name here = elim (h.near_hears n)
+      [ inl none ↦ absurd (not_silent none.0) | inr one ↦ standing one.session (is_latest one.session one.has_met) one.told one.has_met one.begun.1 ]
     where
       n : ℕ
       n = h.links.near.begun
@@ -138,7 +147,8 @@ module _ (laws : SessionLaws) {cfg : Cfg} (fine : IsConfigured cfg) where
 
       is_latest : (m : ℕ) → HasMet n m h.links.met → m ≡ h.links.far.begun
       is_latest m met =
-          all_some (λ p. p.near ≡ n → p.far ≡ h.links.far.begun) (λ p. (p.near ≡ n) × (p.far ≡ m)) (m ≡ h.links.far.begun) (λ (p : Meeting) only is. sym is.1 ∙ only is.0) h.links.met
+          all_some (λ p. p.near ≡ n → p.far ≡ h.links.far.begun) (λ p. (p.near ≡ n) × (p.far ≡ m)) (m ≡ h.links.far.begun)
+          (λ (p : Meeting) only is. sym is.1 ∙ only is.0) h.links.met
           ((known_sessions EachMeetsLatest laws.agree fine h.reach).near (ap (λ x. is_up x.phase) h.near.link ∙ up)) met
 
       standing : (m : ℕ) → m ≡ h.links.far.begun → meets end n w.transcript ≡ Some m → HasMet n m h.links.met → 1 ≤ m → StandingMeet cfg end w h
@@ -155,7 +165,8 @@ module _ (laws : SessionLaws) {cfg : Cfg} (fine : IsConfigured cfg) where
   pub latest_far : {since : Beginning} {end : Role} {w : World} (h : SessionsJoined since cfg end w) → h.links.far.begun ≡ last_session (other end) w
   latest_far h = sym (ap (λ p. p.begun) h.far.progress)
 
-  latest_meet : {since : Beginning} {end : Role} {w : World} (h : SessionsJoined since cfg end w) (k : ℕ) (name : Name) → stretch (settings_from end cfg) w.near k ≡ Some name
+  latest_meet : {since : Beginning} {end : Role} {w : World} (h : SessionsJoined since cfg end w) (k : ℕ) (name : Name)
+      → stretch (settings_from end cfg) w.near k ≡ Some name
       → meets end (last_session end w) w.transcript ≡ Some (last_session (other end) w)
   latest_meet {end} {w} h k name here =
       rw (sym (latest_near h)) ((meet_from h k name here).told ∙ ap (λ m. Some m) (latest_far h))
@@ -166,8 +177,10 @@ module _ (laws : SessionLaws) {cfg : Cfg} (fine : IsConfigured cfg) where
 
   -- ---- all arrived
 
-  arrives_from : {since : Beginning} {end : Role} {w : World} → SessionsJoined since cfg end w → (k : ℕ) (name : Name) → is_idle (settings_from end cfg) w.near ≡ true → stretch (settings_from end cfg) w.near k ≡ Some name
-      → stretch (settings_from (other end) cfg) w.far k ≡ Some name → HasAllOf k name (handed_in end (last_session end w) w) (handed_in (other end) (last_session (other end) w) w)
+  arrives_from : {since : Beginning} {end : Role} {w : World} → SessionsJoined since cfg end w → (k : ℕ) (name : Name) → is_idle (settings_from end cfg) w.near
+      ≡ true → stretch (settings_from end cfg) w.near k ≡ Some name
+      → stretch (settings_from (other end) cfg) w.far k ≡ Some name
+      → HasAllOf k name (handed_in end (last_session end w) w) (handed_in (other end) (last_session (other end) w) w)
   arrives_from {end} {w} h k name idle here there =
       let stands = meet_from h k name here in
       let n = h.links.near.begun in
@@ -179,11 +192,13 @@ module _ (laws : SessionLaws) {cfg : Cfg} (fine : IsConfigured cfg) where
       let near_session = h.near.sessions n stands.begun.0 (omega arith) in
       let far_session = h.far.sessions m stands.begun.1 (omega arith) in
       let met = some_map (λ p. p.near ≡ n) (λ (p : Meeting) is. is.0) h.links.met stands.has_met in
-      let arrived = (known_sessions IdleHasArrived laws.idle fine h.reach).near (ap (λ x. link.is_idle x) h.near.link ∙ link_idle cfg end w.near idle) (inr met) in
+      let arrived = (known_sessions IdleHasArrived laws.idle fine h.reach).near (ap (λ x. link.is_idle x) h.near.link ∙ link_idle cfg end w.near idle)
+      (inr met) in
       let all : as_read taker.taken ≡ as_read giver.given = sym far_session.up ∙ ap (all_read cfg) arrived ∙ near_session.down in
       let named : name_of giver.layer k ≡ name = ap (λ l. name_of l k) of_giver ∙ (stretch_of cfg.channels w.near.layer k name here).named in
       let order = met_in_order cfg end h.trace h.links.met n m h.pairs stands.has_met in
-      let has_all = own_arrives laws cfg end n m h.trace order k (length giver.given) (idle_between cfg end w.near w.far giver taker k name of_giver of_taker idle here there all) in
+      let has_all = own_arrives laws cfg end n m h.trace order k (length giver.given)
+      (idle_between cfg end w.near w.far giver taker k name of_giver of_taker idle here there all) in
       subst (λ x. HasAllOf k name (handed_in end x w) (handed_in (other end) (last_session (other end) w) w)) (latest_near h)
       (rw (sym (latest_far h)) (subst (λ x. HasAllOf k x (handed_in end n w) (handed_in (other end) m w)) named
       (subst (λ es. HasAllOf k (name_of giver.layer k) es (handed_in (other end) m w)) near_session.entries

@@ -1,6 +1,7 @@
 -- What is handed up and told in a session of an end: a beginning of what was handed down in the one that it meets, and nothing where it
 -- meets none. So what came beside a packet was given there, and what is told as confirmed was handed up.
-use Rattle.std.proofs.Common.{◌≡◌, ℕ, zero, suc, ◌==◌, ◌≤◌, ◌<◌, nat_le, ◌⊎◌, inl, inr, List, [], ◌∷◌, ◌++◌, Bool, true, false, ◌&&◌, Some, None, refl, sym, ap, ◌∙◌, subst, arith}
+use Rattle.std.proofs.Common.{◌≡◌, ℕ, zero, suc, ◌==◌, ◌≤◌, ◌<◌, nat_le, ◌⊎◌, inl, inr, List, [], ◌∷◌, ◌++◌, Bool, true, false, ◌&&◌, Some, None, refl, sym, ap}
+use Rattle.std.proofs.Common.{◌∙◌, subst, arith}
 use Rattle.std.proofs.lemmas.Bool.{eqb-true, leb-true, leb-false}
 use Rattle.x25_bits.specs.{declared.role.Role.{Role}, declared.role.Role.TheVariants.{Dte, Dce}}
 use Rattle.x25_link.specs.{Hearing.{other}, Station.{is_up}}
@@ -67,7 +68,8 @@ session_zero : (entries : List StationEntry) → session_from 0 none_begun entri
 session_zero entries = before_first entries (λ stands. absurd (cc))
 
 -- a session that isn't begun has no entry
-pub unbegun_nothing : {since : Beginning} {cfg : Cfg} {end : Role} {w : World} (h : SessionsJoined since cfg end w) (n : ℕ) → (n ≡ 0) ⊎ (h.links.near.begun < n) → session_at end n w.transcript ≡ []
+pub unbegun_nothing : {since : Beginning} {cfg : Cfg} {end : Role} {w : World} (h : SessionsJoined since cfg end w) (n : ℕ) → (n ≡ 0)
+    ⊎ (h.links.near.begun < n) → session_at end n w.transcript ≡ []
 unbegun_nothing {end} {w} h n never = elim never [
   | inl zeroth ↦ ap (λ k. session_from k none_begun (entries_at end w.transcript)) zeroth ∙ session_zero (entries_at end w.transcript)
   | inr later ↦ (h.near.later n later).entries
@@ -80,25 +82,30 @@ record MeetsBegun {since : Beginning} (cfg : Cfg) (end : Role) (w : World) (h : 
   near : (1 ≤ n) × (n ≤ h.links.near.begun)
   far : (1 ≤ m) × (m ≤ h.links.far.begun)
 
-meets_begun : {since : Beginning} (laws : SessionLaws) {cfg : Cfg} → IsConfigured cfg → {end : Role} {w : World} (h : SessionsJoined since cfg end w) (n m : ℕ) → meets end n w.transcript ≡ Some m → MeetsBegun cfg end w h n m
+meets_begun : {since : Beginning} (laws : SessionLaws) {cfg : Cfg} → IsConfigured cfg → {end : Role} {w : World} (h : SessionsJoined since cfg end w) (n m : ℕ)
+    → meets end n w.transcript ≡ Some m → MeetsBegun cfg end w h n m
 meets_begun laws {cfg} fine {end} {w} h n m told =
     let met = told_met (λ n m. HasMet n m h.links.met) m (h.near_hears n) told in
     let high = begun_both h.links.near.begun h.links.far.begun h.links.met (known_sessions OnlyBegunHaveLists laws.begun fine h.reach).met met.has_met in
     record { has_met = met.has_met; near = (met.begun.0, high.0); far = (met.begun.1, high.1) }
 
-nothing_up : {since : Beginning} {cfg : Cfg} {end : Role} {w : World} (h : SessionsJoined since cfg end w) (n : ℕ) → meets end n w.transcript ≡ None → h.links.near.up n ≡ []
+nothing_up : {since : Beginning} {cfg : Cfg} {end : Role} {w : World} (h : SessionsJoined since cfg end w) (n : ℕ) → meets end n w.transcript ≡ None
+    → h.links.near.up n ≡ []
 nothing_up {end} {w} h n unmet = unmet_up (λ n m. HasMet n m h.links.met) (h.near_hears n) unmet
 
 -- ---- of two layers in order
 
 module _ (laws : SessionLaws) (cfg : Cfg) where
-  pub own_lawful : (end : Role) (n m : ℕ) (trace : List Done) → PairIsInOrder cfg end trace n m → HandsUpLawfully (own cfg end n trace).entries (own cfg (other end) m trace).entries
-  own_lawful = of_either laws cfg (λ end e f. HandsUpLawfully e.entries f.entries) (λ events order. (let both = laws.layers_lawful cfg.long_data cfg.channels events order in (both.near, both.far)))
+  pub own_lawful : (end : Role) (n m : ℕ) (trace : List Done) → PairIsInOrder cfg end trace n m
+      → HandsUpLawfully (own cfg end n trace).entries (own cfg (other end) m trace).entries
+  own_lawful = of_either laws cfg (λ end e f. HandsUpLawfully e.entries f.entries)
+      (λ events order. (let both = laws.layers_lawful cfg.long_data cfg.channels events order in (both.near, both.far)))
 
 module _ (laws : SessionLaws) {cfg : Cfg} (fine : IsConfigured cfg) where
   -- ---- in a session that meets one
 
-  lawful_from : {since : Beginning} {end : Role} {w : World} → SessionsJoined since cfg end w → (n m : ℕ) → meets end n w.transcript ≡ Some m → HandsUpLawfully (handed_in end n w) (handed_in (other end) m w)
+  lawful_from : {since : Beginning} {end : Role} {w : World} → SessionsJoined since cfg end w → (n m : ℕ) → meets end n w.transcript ≡ Some m
+      → HandsUpLawfully (handed_in end n w) (handed_in (other end) m w)
   lawful_from {end} {w} h n m told =
       let met = meets_begun laws fine h n m told in
       let here = h.near.sessions n met.near.0 met.near.1 in
@@ -112,7 +119,8 @@ module _ (laws : SessionLaws) {cfg : Cfg} (fine : IsConfigured cfg) where
 
   -- ---- in one that meets none
 
-  untold_from : {since : Beginning} {end : Role} {w : World} → SessionsJoined since cfg end w → (n : ℕ) → meets end n w.transcript ≡ None → layer_notices (session_at end n w.transcript) ≡ []
+  untold_from : {since : Beginning} {end : Role} {w : World} → SessionsJoined since cfg end w → (n : ℕ) → meets end n w.transcript ≡ None
+      → layer_notices (session_at end n w.transcript) ≡ []
   untold_from {end} {w} h n unmet = elim (which_session h.links.near.begun n) [
     | inl never ↦ ap layer_notices (unbegun_nothing h n never)
     | inr begun ↦ at_session begun.0 begun.1
@@ -121,7 +129,8 @@ module _ (laws : SessionLaws) {cfg : Cfg} (fine : IsConfigured cfg) where
       at_session : 1 ≤ n → n ≤ h.links.near.begun → layer_notices (session_at end n w.transcript) ≡ []
       at_session low high =
           let session = h.near.sessions n low high in
-          sym session.told ∙ (laws.alone (layer_of cfg end) (own_in end n h.trace) (none_read (own cfg end n h.trace).taken (sym session.up ∙ ap (all_read cfg) (nothing_up h n unmet)))).told
+          sym session.told ∙ (laws.alone (layer_of cfg end) (own_in end n h.trace)
+          (none_read (own cfg end n h.trace).taken (sym session.up ∙ ap (all_read cfg) (nothing_up h n unmet)))).told
 
   pub unmet_told_nothing : {since : Beginning} (w : World) → SessionsJoined since cfg Dte w → UnmetAreToldNothing cfg w
   unmet_told_nothing w h Dte n unmet = untold_from h n unmet
@@ -131,7 +140,8 @@ module _ (laws : SessionLaws) {cfg : Cfg} (fine : IsConfigured cfg) where
 
 module _ (laws : SessionLaws) (cfg : Cfg) where
   own_counts : (end : Role) (n m : ℕ) (trace : List Done) → PairIsInOrder cfg end trace n m → IsCounted (own cfg end n trace)
-  own_counts = of_either laws cfg (λ end e f. IsCounted e) (λ events order. (let both = laws.layers_named cfg.long_data cfg.channels events order in (both.near, both.far)))
+  own_counts = of_either laws cfg (λ end e f. IsCounted e)
+      (λ events order. (let both = laws.layers_named cfg.long_data cfg.channels events order in (both.near, both.far)))
 
 module _ (laws : SessionLaws) {cfg : Cfg} (fine : IsConfigured cfg) where
   named_from : {since : Beginning} {end : Role} {w : World} → SessionsJoined since cfg end w → (k : ℕ) → is_up w.near.link.phase ≡ true
@@ -151,7 +161,8 @@ module _ (laws : SessionLaws) {cfg : Cfg} (fine : IsConfigured cfg) where
 -- ---- what came beside a packet the other user gave
 
 -- of octets of which these are a beginning
-begin_given : (cfg : Cfg) (told : List Came) (up : List (List ℕ)) {down : List (List ℕ)} (gave : List Gave) → AreTold told (brought cfg up) → IsPrefix up down → AreSomeOf IsGiven (brought cfg down) gave → AreSomeOf IsGiven told gave
+begin_given : (cfg : Cfg) (told : List Came) (up : List (List ℕ)) {down : List (List ℕ)} (gave : List Gave) → AreTold told (brought cfg up) → IsPrefix up down
+    → AreSomeOf IsGiven (brought cfg down) gave → AreSomeOf IsGiven told gave
 begin_given cfg told up gave tells begins given =
     some_of_same IsGiven told (brought cfg up) gave tells
     (some_begin IsGiven (brought cfg up) (brought cfg begins.0) gave
@@ -162,7 +173,8 @@ all_given : {cfg : Cfg} {down : List (List ℕ)} {gave : List Gave} → MoreIs c
 all_given m = rw m.is m.given
 
 module _ (laws : SessionLaws) {cfg : Cfg} (fine : IsConfigured cfg) {since : Beginning} {end : Role} {w : World} (h : SessionsJoined since cfg end w) where
-  given_from : (n m : ℕ) (gave : List Gave) → AreSomeOf IsGiven (brought cfg (h.links.far.down m)) gave → meets end n w.transcript ≡ Some m → AreSomeOf IsGiven (came_in (session_at end n w.transcript)) gave
+  given_from : (n m : ℕ) (gave : List Gave) → AreSomeOf IsGiven (brought cfg (h.links.far.down m)) gave → meets end n w.transcript ≡ Some m
+      → AreSomeOf IsGiven (came_in (session_at end n w.transcript)) gave
   given_from n m gave given told =
       let met = meets_begun laws fine h n m told in
       let begins = all_some (IsInOrder h.links.near h.links.far) (λ p. (p.near ≡ n) × (p.far ≡ m)) (IsPrefix (h.links.near.up n) (h.links.far.down m))
@@ -173,12 +185,14 @@ module _ (laws : SessionLaws) {cfg : Cfg} (fine : IsConfigured cfg) {since : Beg
   ungiven_from : (n : ℕ) → meets end n w.transcript ≡ None → came_in (session_at end n w.transcript) ≡ []
   ungiven_from n unmet = elim (which_session h.links.near.begun n) [
     | inl never ↦ ap came_in (unbegun_nothing h n never)
-    | inr begun ↦ some_of_none (λ x y. x ≡ y) (came_in (session_at end n w.transcript)) (subst (λ os. AreTold (came_in (session_at end n w.transcript)) (brought cfg os)) (nothing_up h n unmet) (h.near.sessions n begun.0 begun.1).beside)
+    | inr begun ↦ some_of_none (λ x y. x ≡ y) (came_in (session_at end n w.transcript))
+        (subst (λ os. AreTold (came_in (session_at end n w.transcript)) (brought cfg os)) (nothing_up h n unmet) (h.near.sessions n begun.0 begun.1).beside)
   ]
 
 module _ (laws : SessionLaws) {cfg : Cfg} (fine : IsConfigured cfg) (begin : World) (events : List Event) {w : World}
     (r : RunGoes both_down cfg from_nothing (λ n. gave_in cfg Dte n events begin) (λ n. gave_in cfg Dce n events begin) w) where
-  met_given : (end : Role) (n m : ℕ) → meets end n w.transcript ≡ Some m → AreSomeOf IsGiven (came_in (session_at end n w.transcript)) (gave_in cfg (other end) m events begin)
+  met_given : (end : Role) (n m : ℕ) → meets end n w.transcript ≡ Some m
+      → AreSomeOf IsGiven (came_in (session_at end n w.transcript)) (gave_in cfg (other end) m events begin)
   unfolding sessions_swapped
   met_given Dte n m told = given_from laws fine r.joined n m (gave_in cfg Dce m events begin) (all_given (r.far m)) told
   met_given Dce n m told =
@@ -200,13 +214,17 @@ module _ (laws : SessionLaws) (cfg : Cfg) (k : ℕ) (name : Name) where
   abbrev counted_at_end : Role → List OwnMove → ℕ
   counted_at_end end moves = counted_in (layer_of cfg end) k name moves (started (goes_up (layer_of cfg end)))
 
-  pair_confirms : (end : Role) (n m : ℕ) (trace : List Done) → PairIsInOrder cfg end trace n m → counted_at_end end (own_in end n trace) ≤ up_of k name (here_in (other end) (pair_ends cfg end n m trace))
+  pair_confirms : (end : Role) (n m : ℕ) (trace : List Done) → PairIsInOrder cfg end trace n m → counted_at_end end (own_in end n trace)
+      ≤ up_of k name (here_in (other end) (pair_ends cfg end n m trace))
   pair_confirms Dte n m trace order =
-      rw (sym (moves_of_pair (numbers n m) Dte trace)) (confirms cfg.long_data cfg.channels laws.behind (laws.layers_acknowledged cfg.long_data cfg.channels) k name Dte (pair_at Dte n m trace) order)
+      rw (sym (moves_of_pair (numbers n m) Dte trace))
+      (confirms cfg.long_data cfg.channels laws.behind (laws.layers_acknowledged cfg.long_data cfg.channels) k name Dte (pair_at Dte n m trace) order)
   pair_confirms Dce n m trace order =
-      rw (sym (moves_of_pair (numbers m n) Dce trace)) (confirms cfg.long_data cfg.channels laws.behind (laws.layers_acknowledged cfg.long_data cfg.channels) k name Dce (pair_at Dce n m trace) order)
+      rw (sym (moves_of_pair (numbers m n) Dce trace))
+      (confirms cfg.long_data cfg.channels laws.behind (laws.layers_acknowledged cfg.long_data cfg.channels) k name Dce (pair_at Dce n m trace) order)
 
-  own_confirms : (end : Role) (n m : ℕ) (trace : List Done) → PairIsInOrder cfg end trace n m → counted_at_end end (own_in end n trace) ≤ up_of k name (own cfg (other end) m trace)
+  own_confirms : (end : Role) (n m : ℕ) (trace : List Done) → PairIsInOrder cfg end trace n m → counted_at_end end (own_in end n trace)
+      ≤ up_of k name (own cfg (other end) m trace)
   own_confirms end n m trace order = rw (sym (there_is laws cfg end n m trace)) (pair_confirms end n m trace order)
 
 module _ (laws : SessionLaws) {cfg : Cfg} (fine : IsConfigured cfg) {since : Beginning} {end : Role} {w : World} (h : SessionsJoined since cfg end w) where

@@ -29,10 +29,15 @@ two_in_step [] step f g = absurd f
 two_in_step (x ∷ ms) step {n} {m} {p} {q} f g = elim f [
   | inl here ↦ elim g [
     | inl also ↦ inl (sym here.0 ∙ also.0, sym here.1 ∙ also.1)
-    | inr there ↦ elim (below x ms p q (all_no_earlier x ms step) there) [ inl same ↦ inl (sym here.0 ∙ sym same.0, sym here.1 ∙ sym same.1) | inr less ↦ inr (inr (higher p x.near n here.0 less.0, higher q x.far m here.1 less.1)) ]
+    | inr there ↦ elim (below x ms p q (all_no_earlier x ms step) there) [
+      | inl same ↦ inl (sym here.0 ∙ sym same.0, sym here.1 ∙ sym same.1)
+      | inr less ↦ inr
+          (inr (higher p x.near n here.0 less.0, higher q x.far m here.1 less.1))
+    ]
   ]
   | inr there ↦ elim g [
-    | inl here ↦ elim (below x ms n m (all_no_earlier x ms step) there) [ inl same ↦ inl (same.0 ∙ here.0, same.1 ∙ here.1) | inr less ↦ inr (inl (higher n x.near p here.0 less.0, higher m x.far q here.1 less.1)) ]
+    | inl here ↦ elim (below x ms n m (all_no_earlier x ms step) there)
+        [ inl same ↦ inl (same.0 ∙ here.0, same.1 ∙ here.1) | inr less ↦ inr (inl (higher n x.near p here.0 less.0, higher m x.far q here.1 less.1)) ]
     | inr also ↦ two_in_step ms step.1 there also
   ]
 ]
@@ -41,7 +46,8 @@ two_in_step (x ∷ ms) step {n} {m} {p} {q} f g = elim f [
     higher a b c e lt = omega (arith, e, lt)
 
 -- both were begun
-pub begun_both : (near far : ℕ) (met : List Meeting) {n m : ℕ} → Each (λ (p : Meeting). (p.near ≤ near) × (p.far ≤ far)) met → HasMet n m met → (n ≤ near) × (m ≤ far)
+pub begun_both : (near far : ℕ) (met : List Meeting) {n m : ℕ} → Each (λ (p : Meeting). (p.near ≤ near) × (p.far ≤ far)) met → HasMet n m met → (n ≤ near)
+    × (m ≤ far)
 begun_both near far met {n} {m} all some =
     all_some (λ p. (p.near ≤ near) × (p.far ≤ far)) (λ p. (p.near ≡ n) × (p.far ≡ m)) ((n ≤ near) × (m ≤ far))
     (λ (p : Meeting) le is. (omega (arith, is.0, le.0), omega (arith, is.1, le.1))) met all some

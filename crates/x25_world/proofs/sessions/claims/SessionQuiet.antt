@@ -20,10 +20,12 @@ use Rattle.x25_world.proofs.{sessions.claims.SessionLawful.{which_session}, sess
 abbrev IsQuietOctets : Cfg → List ℕ → Type 0
 IsQuietOctets cfg octets = IsQuietRead cfg.channels (read_by cfg octets)
 
-quiet_one : (cfg : Cfg) (o : List ℕ) (down : List (List ℕ)) (p : PlainPacket) (ps : List PlainPacket) → AreQuiet cfg.channels (p ∷ ps) → all_read cfg (o ∷ down) ≡ as_read (p ∷ ps) → IsQuietOctets cfg o
+quiet_one : (cfg : Cfg) (o : List ℕ) (down : List (List ℕ)) (p : PlainPacket) (ps : List PlainPacket) → AreQuiet cfg.channels (p ∷ ps)
+    → all_read cfg (o ∷ down) ≡ as_read (p ∷ ps) → IsQuietOctets cfg o
 quiet_one cfg o down p ps quiet reads = rw (first_read (read_by cfg o) (Ok p) (all_read cfg down) (as_read ps) reads) quiet.0
 
-quiet_octets : (cfg : Cfg) (down : List (List ℕ)) (ps : List PlainPacket) → AreQuiet cfg.channels ps → all_read cfg down ≡ as_read ps → AllAreOctets down → (octets : List ℕ) → Contains down octets → IsQuietOctets cfg octets
+quiet_octets : (cfg : Cfg) (down : List (List ℕ)) (ps : List PlainPacket) → AreQuiet cfg.channels ps → all_read cfg down ≡ as_read ps → AllAreOctets down
+    → (octets : List ℕ) → Contains down octets → IsQuietOctets cfg octets
 quiet_octets cfg [] ps quiet reads all octets (k, low, is) = absurd (omega (arith, low))
 quiet_octets cfg (o ∷ down) [] quiet reads all octets there = absurd (cc)
 quiet_octets cfg (o ∷ down) (p ∷ ps) quiet reads all octets (zero, low, is) = subst (IsQuietOctets cfg) is (quiet_one cfg o down p ps quiet reads)
@@ -32,19 +34,22 @@ quiet_octets cfg (o ∷ down) (p ∷ ps) quiet reads all octets (suc k, low, is)
 
 -- ---- frames
 
-quiet_frame : (cfg : Cfg) {given : List (List ℕ)} → ((octets : List ℕ) → Contains given octets → IsQuietOctets cfg octets) → (f : PlainFrame) (fs : List PlainFrame) → IsWhole longest_packet given f
+quiet_frame : (cfg : Cfg) {given : List (List ℕ)} → ((octets : List ℕ) → Contains given octets → IsQuietOctets cfg octets)
+    → (f : PlainFrame) (fs : List PlainFrame) → IsWhole longest_packet given f
     → NoFrmr (f ∷ fs) → IsQuietFrame cfg (Ok f) × NoFrmr fs
 quiet_frame cfg quiet (info ns nr p x) fs whole none = (quiet x whole.packet, none)
 quiet_frame cfg quiet (frmr f why) fs whole none = absurd none
 quiet_frame cfg quiet f fs whole none = (tt, none)
 
 -- octets that spell a frame read as it
-quiet_read : ReadsSpelled → (cfg : Cfg) (from : Role) {given : List (List ℕ)} {f : PlainFrame} (octets : List ℕ) → IsWhole longest_packet given f → octets ≡ spelling_of from f → IsQuietFrame cfg (Ok f)
+quiet_read : ReadsSpelled → (cfg : Cfg) (from : Role) {given : List (List ℕ)} {f : PlainFrame} (octets : List ℕ) → IsWhole longest_packet given f → octets
+    ≡ spelling_of from f → IsQuietFrame cfg (Ok f)
     → IsQuietFrame cfg (frame_of from longest_packet octets)
 quiet_read reads cfg from {f} octets whole is quiet =
     rw (reads from longest_packet f octets (record { in_range = whole.in_range; carries = whole.carries; within = whole.within; spelling = is })) quiet
 
-quiet_tap : ReadsSpelled → (cfg : Cfg) (given : List (List ℕ)) → ((octets : List ℕ) → Contains given octets → IsQuietOctets cfg octets) → (tap : List OnTap) (fs : List PlainFrame) → AreOnTap tap fs
+quiet_tap : ReadsSpelled → (cfg : Cfg) (given : List (List ℕ)) → ((octets : List ℕ) → Contains given octets → IsQuietOctets cfg octets)
+    → (tap : List OnTap) (fs : List PlainFrame) → AreOnTap tap fs
     → AreWhole longest_packet given fs → NoFrmr fs → IsQuietTap cfg tap
 quiet_tap reads cfg given quiet [] [] on whole none = tt
 quiet_tap reads cfg given quiet (t ∷ tap) (f ∷ fs) on whole none =
@@ -59,12 +64,15 @@ module _ (laws : SessionLaws) {cfg : Cfg} (fine : IsConfigured cfg) where
 
   -- what holds of all octets that are read as packets that tell of no error
   abbrev pub HoldsOfQuiet : (List ℕ → Type 0) → Type 0
-  HoldsOfQuiet P = (down : List (List ℕ)) (ps : List PlainPacket) → AreQuiet cfg.channels ps → all_read cfg down ≡ as_read ps → AllAreOctets down → (octets : List ℕ) → Contains down octets → P octets
+  HoldsOfQuiet P = (down : List (List ℕ)) (ps : List PlainPacket) → AreQuiet cfg.channels ps → all_read cfg down ≡ as_read ps → AllAreOctets down
+      → (octets : List ℕ) → Contains down octets → P octets
 
   nowhere : (P : List ℕ → Type 0) (octets : List ℕ) → Contains [] octets → P octets
   nowhere P octets (k, low, is) = absurd (omega (arith, low))
 
-  held_from : {P : List ℕ → Type 0} → HoldsOfQuiet P → {since : Beginning} {end : Role} {w : World} (h : SessionsJoined since cfg end w) (n : ℕ) (octets : List ℕ) → Contains (h.links.near.down n) octets → P octets
+  held_from : {P : List ℕ → Type 0} → HoldsOfQuiet P
+      → {since : Beginning} {end : Role} {w : World} (h : SessionsJoined since cfg end w) (n : ℕ) (octets : List ℕ) → Contains (h.links.near.down n) octets
+      → P octets
   held_from {P} holds {end} {w} h n octets there = elim (which_session h.links.near.begun n) [
     | inl never ↦ nowhere P octets (subst (λ l. Contains l octets) (nothing_down never) there)
     | inr begun ↦ at_session begun.0 begun.1
@@ -79,7 +87,8 @@ module _ (laws : SessionLaws) {cfg : Cfg} (fine : IsConfigured cfg) where
       at_session : 1 ≤ n → n ≤ h.links.near.begun → P octets
       at_session low high =
           let pair = session_pair laws cfg fine end w h n in
-          holds (h.links.near.down n) (own cfg end n h.trace).given (own_quiet laws cfg end n pair.0 h.trace pair.1).given (h.near.sessions n low high).down (h.near.octets n) octets there
+          holds (h.links.near.down n) (own cfg end n h.trace).given (own_quiet laws cfg end n pair.0 h.trace pair.1).given (h.near.sessions n low high).down
+          (h.near.octets n) octets there
 
   -- holds of each packet that an end was handed down
   pub held_of_given : {P : List ℕ → Type 0} → HoldsOfQuiet P → {since : Beginning} {w : World} (h : SessionsJoined since cfg Dte w) (octets : List ℕ)
@@ -108,13 +117,15 @@ module _ (laws : SessionLaws) {cfg : Cfg} (fine : IsConfigured cfg) where
 -- ---- all that is ever put on the line is octets, at most as many as a frame has
 
 -- a frame that was sent, and the others, of which none is FRMR
-frame_octets : {given : List (List ℕ)} → ((octets : List ℕ) → Contains given octets → AreOctets octets) → (f : PlainFrame) (fs : List PlainFrame) → IsWhole longest_packet given f → NoFrmr (f ∷ fs)
+frame_octets : {given : List (List ℕ)} → ((octets : List ℕ) → Contains given octets → AreOctets octets) → (f : PlainFrame) (fs : List PlainFrame)
+    → IsWhole longest_packet given f → NoFrmr (f ∷ fs)
     → AreOctets (information_of f) × NoFrmr fs
 frame_octets holds (info ns nr p x) fs whole none = (holds x whole.packet, none)
 frame_octets holds (frmr f why) fs whole none = absurd none
 frame_octets holds f fs whole none = (All-nil (λ octet. octet < 256), none)
 
-tap_octets : (given : List (List ℕ)) → ((octets : List ℕ) → Contains given octets → AreOctets octets) → (tap : List OnTap) (fs : List PlainFrame) → AreOnTap tap fs → AreWhole longest_packet given fs → NoFrmr fs → AreOfFrames tap
+tap_octets : (given : List (List ℕ)) → ((octets : List ℕ) → Contains given octets → AreOctets octets) → (tap : List OnTap) (fs : List PlainFrame)
+    → AreOnTap tap fs → AreWhole longest_packet given fs → NoFrmr fs → AreOfFrames tap
 tap_octets given holds [] [] on whole none = tt
 tap_octets given holds (t ∷ tap) (f ∷ fs) on whole none =
     let here = frame_octets holds f fs whole.0 none in (
@@ -123,8 +134,10 @@ tap_octets given holds (t ∷ tap) (f ∷ fs) on whole none =
     )
 tap_octets given holds tap fs on whole none = absurd on
 
-pub is_of_octets : (laws : SessionLaws) (cfg : Cfg) (fine : IsConfigured cfg) {since : Beginning} (w : World) → SessionsJoined since cfg Dte w → IsTapOfOctets cfg w
+pub is_of_octets : (laws : SessionLaws) (cfg : Cfg) (fine : IsConfigured cfg) {since : Beginning} (w : World) → SessionsJoined since cfg Dte w
+    → IsTapOfOctets cfg w
 is_of_octets laws cfg fine w h =
     let whole = known_sessions AllSessionsSendWhole laws.whole fine h.reach in
-    tap_octets whole.given (λ octets there. held_of_given laws fine (λ down ps quiet reads all. octets_in down all) h octets (whole.handed_down octets there)) w.tap h.links.sent h.tap whole.whole
+    tap_octets whole.given (λ octets there. held_of_given laws fine (λ down ps quiet reads all. octets_in down all) h octets (whole.handed_down octets there))
+    w.tap h.links.sent h.tap whole.whole
     (known_sessions NoSessionSendsFrmr laws.no_frmr fine h.reach)

@@ -15,7 +15,8 @@ loop-place-preserved c =
     let within = subst (λ n. c.loop-place.place < n) c.len-place-end.ensures c.loop-place-test.true in
     let frames = line_to c.args.line.now c.args.to in
     elim c.match-get.branch [
-      | in-Some+else-reads_as w ↦ not_found_yet (reads_as c.args.frame (other c.args.to)) frames c.loop-place.place w.in-Some.octets.now within w.in-Some.ensures c.loop-place.invariant
+      | in-Some+else-reads_as w ↦ not_found_yet (reads_as c.args.frame (other c.args.to)) frames c.loop-place.place w.in-Some.octets.now within
+          w.in-Some.ensures c.loop-place.invariant
           (sym (w.reads_as.ensures ∙ ap (λ from. reads_as c.args.frame from w.in-Some.octets.now) w.other.ensures) ∙ w.if-reads_as.false)
       | in_default w ↦ none_there frames c.loop-place.place within w.in_default.ensures
     ]

@@ -8,7 +8,8 @@ returns-clause-goes c = λ cfg w before fits.
 
 pub returns-in-Err-clause-goes : goal.returns-in-Err-clause-goes
 returns-in-Err-clause-goes c = λ cfg w before fits.
-    leaves_out (event_of c.args.event) c.unless_memory.result c.unless_memory.ensures.other (c.in-Err.ensures.refused cfg w fits.fits) (c.in-Err.ensures.stays cfg w before fits)
+    leaves_out (event_of c.args.event) c.unless_memory.result c.unless_memory.ensures.other (c.in-Err.ensures.refused cfg w fits.fits)
+    (c.in-Err.ensures.stays cfg w before fits)
 
 pub returns-in-Err-clause-stopped : goal.returns-in-Err-clause-stopped
 returns-in-Err-clause-stopped c = λ cfg w before fits.

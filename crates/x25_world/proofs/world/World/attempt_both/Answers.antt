@@ -22,5 +22,6 @@ returns-clause-stopped c = λ cfg w before fits.
     let x = run cfg one w in
     let two = if_accepted cfg (event_of c.args.second) x in
     let a = c.in_ok-attempt.ensures.goes cfg w before fits in
-    IfErr-weaker c.attempt-2.result (GoesPartly cfg two x (telling c.attempt-2.new.self c.attempt-2.new.told.items) before) (GoesPartly cfg (both_tried cfg (event_of c.args.first) (event_of c.args.second) w) w (telling c.attempt-2.new.self c.attempt-2.new.told.items) before)
+    IfErr-weaker c.attempt-2.result (GoesPartly cfg two x (telling c.attempt-2.new.self c.attempt-2.new.told.items) before)
+    (GoesPartly cfg (both_tried cfg (event_of c.args.first) (event_of c.args.second) w) w (telling c.attempt-2.new.self c.attempt-2.new.told.items) before)
     (λ e partly. stops_behind a partly) (c.attempt-2.ensures.stopped cfg x before a.fits)

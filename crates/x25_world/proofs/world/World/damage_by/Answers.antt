@@ -16,7 +16,8 @@ returns c =
       step = search rules;
       accepted = search rules;
       harmless = search rules;
-      refused = λ cfg w fits. refuses_bits c.args.direction c.args.place c.args.bits.now octets c.act_at_end.result fits there visible (c.act_at_end.ensures.acted cfg w (inside cfg w fits)).refused;
+      refused = λ cfg w fits. refuses_bits c.args.direction c.args.place c.args.bits.now octets c.act_at_end.result fits there visible
+          (c.act_at_end.ensures.acted cfg w (inside cfg w fits)).refused;
       stays = search rules;
       places = rw (← c.self.view_is) (record { to_dce = c.act_at_end.ensures.places.to_dce; to_dte = c.act_at_end.ensures.places.to_dte });
     }

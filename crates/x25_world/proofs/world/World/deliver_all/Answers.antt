@@ -29,7 +29,8 @@ loop-count-preserved c = (
   λ cfg w before fits.
       let l = c.loop-count.invariant.1 cfg w before fits in
       let x = run cfg (all_received l.done) w in
-      one_delivered (telling c.tell.new.self c.tell.new.told.items) (end_of c.in-Some.direction) (omega (arith, c.loop-count-test.true)) l (sym c.in-Some.ensures)
+      one_delivered (telling c.tell.new.self c.tell.new.told.items) (end_of c.in-Some.direction) (omega (arith, c.loop-count-test.true)) l
+      (sym c.in-Some.ensures)
       (c.in_ok-tell.ensures.step cfg x before l.goes.fits),
 )
 

@@ -42,4 +42,5 @@ returns-clause-counted c = λ cfg w before fits.
     let x = fired_at cfg v in
     let a = c.in_ok-before.ensures.goes cfg w before fits in
     let b = c.in_ok-attempt_both.ensures.goes cfg v before a.fits in
-    counts_both cfg most_times w c.in_ok-before.before c.in_ok-behind.behind c.from.result (c.in_ok-before.ensures.counted cfg w before fits) (c.in_ok-behind.ensures.counted cfg x before b.fits) c.from.ensures
+    counts_both cfg most_times w c.in_ok-before.before c.in_ok-behind.behind c.from.result (c.in_ok-before.ensures.counted cfg w before fits)
+    (c.in_ok-behind.ensures.counted cfg x before b.fits) c.from.ensures

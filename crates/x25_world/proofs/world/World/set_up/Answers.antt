@@ -7,7 +7,8 @@ pub returns-in_err-act_at_end-clause-refused : goal.returns-in_err-act_at_end-cl
 returns-in_err-act_at_end-clause-refused c = λ cfg fits.
     let inside = subst (λ v. FitsWorld cfg v (connected cfg)) (sym c.self.view_is) fits in
     let p = err_from_is_err_and c.from_residual.result c.from_residual.ensures.1 in
-    rw (p.1, p.2) (only_memory _ (Err c.in_err-act_at_end.field-0.0) (c.two_stations_keep_order.ensures.set_up cfg).0 (c.in_err-act_at_end.ensures.acted cfg (connected cfg) inside).refused)
+    rw (p.1, p.2) (only_memory _ (Err c.in_err-act_at_end.field-0.0) (c.two_stations_keep_order.ensures.set_up cfg).0
+    (c.in_err-act_at_end.ensures.acted cfg (connected cfg) inside).refused)
 
 pub returns-clause-fits : goal.returns-clause-fits
 returns-clause-fits c = λ cfg fits.
@@ -17,4 +18,5 @@ returns-clause-fits c = λ cfg fits.
 pub returns-clause-refused : goal.returns-clause-refused
 returns-clause-refused c = λ cfg fits.
     let inside = subst (λ v. FitsWorld cfg v (connected cfg)) (sym c.self.view_is) fits in
-    only_memory _ c.act_at_end-2.result (c.two_stations_keep_order.ensures.set_up cfg).1.0 (c.act_at_end-2.ensures.acted cfg _ (c.in_ok-act_at_end.ensures.acted cfg (connected cfg) inside).happened).refused
+    only_memory _ c.act_at_end-2.result (c.two_stations_keep_order.ensures.set_up cfg).1.0
+    (c.act_at_end-2.ensures.acted cfg _ (c.in_ok-act_at_end.ensures.acted cfg (connected cfg) inside).happened).refused

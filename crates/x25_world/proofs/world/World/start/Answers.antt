@@ -8,5 +8,6 @@ returns-clause-claims c =
     let two = c.two_stations_keep_order.ensures in
     let of = c.stations_meet_in_sessions.ensures in
     made_world c.args.cfg start (ClaimsOfNew c.args.cfg start) c.down.result c.down.ensures.refused c.down.ensures.fits
-    (λ v h. claims_of_new two.lawful two.named two.arrives two.up_once (all_of_sessions of.step of.lawful of.named of.arrives of.unmet of.stand of.quiet of.window) of.window of.beside
+    (λ v h. claims_of_new two.lawful two.named two.arrives two.up_once
+    (all_of_sessions of.step of.lawful of.named of.arrives of.unmet of.stand of.quiet of.window) of.window of.beside
     c.args.cfg start v (inl refl) (start_up c.args.cfg) h)

@@ -8,5 +8,10 @@ returns-clause-step c = λ cfg w before tells.
     let acted = c.in_ok-act_at_end.ensures.acted cfg w (subst (λ v. FitsWorld cfg v w) (sym c.self.view_is) tells.fits) in
     record {
       fits = acted.happened;
-      told = rw (c.enter.ensures.entries, c.into_vec-entries.ensures.entries ∙ ap (λ e. e.items) c.replace.ensures.value, c.reserve_entries.ensures.items, c.at.ensures) (told_behind w.transcript before _ _ _ tells.told acted.tells);
+      told = rw (
+        c.enter.ensures.entries,
+        c.into_vec-entries.ensures.entries ∙ ap (λ e. e.items) c.replace.ensures.value,
+        c.reserve_entries.ensures.items,
+        c.at.ensures,
+      ) (told_behind w.transcript before _ _ _ tells.told acted.tells);
     }
