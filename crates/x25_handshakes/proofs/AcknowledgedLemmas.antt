@@ -7,14 +7,13 @@ use Rattle.x25_handshakes.specs.{laws.Handshake.{Live, At, state_of, live}, laws
 use Rattle.x25_handshakes.specs.{laws.Calls.{Phase, Talking, Connection, fresh_call}, laws.Layers.{Channels, all_fresh, Pair}, laws.Names.{Name}}
 use Rattle.x25_handshakes.specs.laws.Histories.{Lists, messages, resets_in, held_in, circuit_at, name_at, held_at, histories_run, histories_start, IsPrefix}
 use Rattle.x25_handshakes.specs.{laws.Arrivals.{open_at}, laws.Acknowledged.{AcknowledgedAreUp, AcknowledgedAreHandedUp}}
-use Rattle.x25_handshakes.specs.{laws.PeerClaims.{InEpochs, transfer_of}, laws.LawsBelow.{Laws}}
+use Rattle.x25_handshakes.specs.{laws.PeerClaims.{InEpochs, transfer_of}, laws.LawsBelow.{Laws}, laws.Terms.{Terms}}
 use Rattle.x25_handshakes.proofs.{StretchRelation.{pieces, StretchesRelated}, TransferRelation.{stretch_level}, CallsRelation.{TalksRelated}}
 use Rattle.x25_handshakes.proofs.{ChannelRelation.{Seen, connection_level, ChannelRelated}, LayersRelation.{channels_level, LayersRelated, EndsRelated}}
 use Rattle.x25_handshakes.proofs.{HandshakeLemmas.{both_fresh}, TextLemmas.{carried-append}, LineLemmas.{heard_least}, PartLemmas.{Line-le}}
 use Rattle.x25_handshakes.proofs.{StretchLemmas.{StretchesRelated-fresh}, CallLemmas.{TalksRelated-flip}, JointLemmas.{joint_order}, NameLemmas.{name_eq}}
-use Rattle.x25_handshakes.proofs.{TurnLemmas.{Ends-meet}, StretchKindLemmas.{messages_handled}, LayerLemmas.{Stands, Stands-turned}}
-use Rattle.x25_handshakes.proofs.{LawLemmas.{always_holds}, ArrivalLemmas.{opened, name_opened}, PeerOrder.{in_epochs}}
-use Rattle.x25_handshakes.specs.laws.Terms.{Terms}
+use Rattle.x25_handshakes.proofs.{TurnLemmas.{Ends-meet}, StretchKindLemmas.{messages_handled}, LayerLemmas.{Stands, Stands-turned}, LawLemmas.{always_holds}}
+use Rattle.x25_handshakes.proofs.{ArrivalLemmas.{opened, name_opened}, PeerOrder.{in_epochs}}
 
 -- ---- level by level
 

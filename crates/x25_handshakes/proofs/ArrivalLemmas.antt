@@ -5,9 +5,9 @@ use Rattle.x25_bits.specs.declared.role.Role.{Role}
 use Rattle.x25_handshakes.specs.{laws.Handshake.{Side, Live, Left, At, state_of, live}, laws.Stretch.{Stretch}, laws.Calls.{Phase, Talking, Connection}}
 use Rattle.x25_handshakes.specs.{laws.Layers.{Channels, Pair, pair_run, pair_start}, laws.Names.{Name}, laws.Histories.{messages, name_at}}
 use Rattle.x25_handshakes.specs.{laws.Arrivals.{open_in, open_phase, open_call, open_channel, open_at, HasArrived, AllArrives}, laws.LawsBelow.{Laws}}
+use Rattle.x25_handshakes.specs.laws.Terms.{Terms}
 use Rattle.x25_handshakes.proofs.{LayersRelation.{EndsRelated}, LayerLemmas.{Stands, Stands-turned, Stands-run, Stands-start}}
 use Rattle.x25_handshakes.proofs.{StretchLemmas.{FollowsFrom-from_Dir}, ClaimLemmas.{open_stretch}, TextLemmas.{joining-append}}
-use Rattle.x25_handshakes.specs.laws.Terms.{Terms}
 
 -- an end of which the stretch x is open on channel k
 pub record Opened (s : Side (At Channels)) (k : ℕ) (x : Stretch) : Type 0 where
@@ -39,6 +39,7 @@ in_phase : (a : Phase) (x : Stretch) → open_phase a ≡ Some x → InPhase a x
 in_phase (Talking t b at) x is = record { resets = at.epoch; sends = t; takes = b; phase = ap (λ z. Talking t b z) (in_transfer at x is) }
 in_phase a x is = absurd (none-some x is)
 
+-- a circuit is open where its link is up and its channel in p4
 pub opened : (s : Side (At Channels)) (k : ℕ) (x : Stretch) → open_at s k ≡ Some x → Opened s k x
 opened (Left z) k x is = absurd (none-some x is)
 opened (Live z) k x is = ends z.epoch z.side is

@@ -7,17 +7,13 @@ use Rattle.x25_handshakes.specs.laws.Calls.{Phase, Unused, Waiting, Offered, Cro
 use Rattle.x25_handshakes.specs.laws.Calls.{is_answered, accepts, phase_takes, call_takes, CallAct, PlacesCall, AcceptsCall, Talks, phase_acts}
 use Rattle.x25_handshakes.specs.{laws.Histories.{calls, IsPrefix}, laws.Transfer.{fresh_transfer}}
 use Rattle.x25_handshakes.proofs.{CallsRelation.{TalksRelated}, JointLemmas.{joint_order}, ChannelRelation.{clear_mark, Seen}, CallLemmas.{Seen-takes}}
-use Rattle.x25_handshakes.proofs.{HistoryLemmas.{Stays, alike}, TurnLemmas.{MayIndicate, WithinCall, IsHandled}}
+use Rattle.x25_handshakes.proofs.{HistoryLemmas.{Stays, IsPrefix-refl}, TurnLemmas.{MayIndicate, WithinCall, IsHandled}}
 
 seen_begins : (r : Role) (x : Connection) (u v : List Packet) (y : Connection) → Seen r x u v y → IsPrefix x.indicated y.made
 seen_begins Dte x u v y h = (joint_order TalksRelated fresh_transfer fresh_transfer (λ a b. Unit {0}) tt (λ t k x u v t₂ k₂ y h. tt) x.phase y.phase x.made
     x.indicated y.made y.indicated u v h).0
 seen_begins Dce x u v y h = (joint_order TalksRelated fresh_transfer fresh_transfer (λ a b. Unit {0}) tt (λ t k x u v t₂ k₂ y h. tt) y.phase x.phase y.made
     y.indicated x.made x.indicated v u h).1
-
-indicated_begins : (r : Role) (c : Connection) (u : List Packet) (p : Packet) (v : List Packet) (y : Connection) → Seen r c u (p ∷ v) y
-    → IsPrefix (call_takes r c p).next.indicated y.made
-indicated_begins r c u p v y h = seen_begins r (call_takes r c p).next (u ++ (call_takes r c p).out) v y (Seen-takes r c u p v y h).1
 
 -- a packet makes no call
 answered_made : (a : Phase) (mine : Params) (m i : List CallRequest) (most : ℕ) (q : Params) → (is_answered a mine m i most q).next.made ≡ m
@@ -35,24 +31,25 @@ takes_made r a m i p = refl
 call_taken : (r : Role) (e : ℕ) (c : Connection) (u : List Packet) (p : Packet) (v : List Packet) (y : Connection) → clear_mark p ≡ Inner → Seen r c u (p ∷ v) y
     → WithinCall calls (MayIndicate calls c y) e c (call_takes r c p).next
 call_taken r e c u p v y inner h =
-    Stays refl refl ([], append-nil c.made ∙ sym (takes_made r c.phase c.made c.indicated p)) (inr (refl, indicated_begins r c u p v y h))
+    Stays refl refl ([], append-nil c.made ∙ sym (takes_made r c.phase c.made c.indicated p))
+    (inr (refl, (seen_begins r (call_takes r c p).next (u ++ (call_takes r c p).out) v y (Seen-takes r c u p v y h).1)))
 
 abbrev Acted : List CallRequest → List CallRequest → Step Connection Packet → Type 0
 Acted m i s = IsPrefix m s.next.made × (s.next.indicated ≡ i)
 
 accepted : (theirs : Params) (m i : List CallRequest) (answer : Option Proposal) (most : ℕ) → Acted m i (accepts theirs m i answer most)
-accepted theirs m i None most = (alike m, refl)
+accepted theirs m i None most = (IsPrefix-refl m, refl)
 accepted theirs m i (Some q) most =
     cond_both (may_answer theirs q.params) (goes (called_talk most q.params) m i (Accept (field_for theirs q) most ∷ [])) (goes (Offered theirs) m i [])
-    (λ s. Acted m i s) (λ _. (alike m, refl)) (λ _. (alike m, refl))
+    (λ s. Acted m i s) (λ _. (IsPrefix-refl m, refl)) (λ _. (IsPrefix-refl m, refl))
 
 acted : (a : Phase) (m i : List CallRequest) (act : CallAct) → Acted m i (phase_acts a m i act)
 acted Unused m i (PlacesCall n) =
     cond_both (may_propose n.params) (goes (Waiting n.params) (m ++ n ∷ []) i (Call n ∷ [])) (goes Unused m i []) (λ s. Acted m i s)
-    (λ _. ((n ∷ [], refl), refl)) (λ _. (alike m, refl))
+    (λ _. ((n ∷ [], refl), refl)) (λ _. (IsPrefix-refl m, refl))
 acted (Offered theirs) m i (AcceptsCall answer most) = accepted theirs m i answer most
-acted (Talking t b x) m i (Talks a) = (alike m, refl)
-acted a m i act = (alike m, refl)
+acted (Talking t b x) m i (Talks a) = (IsPrefix-refl m, refl)
+acted a m i act = (IsPrefix-refl m, refl)
 
 pub calls_handled : IsHandled calls
 calls_handled = record {

@@ -1,11 +1,10 @@
 -- What is kept of two circuits between two clears. The first of the two ends is the DTE, the second the DCE.
 use Rattle.std.proofs.Common.{◌≡◌, ◌⊎◌, ℕ, List, [], ◌∷◌, ◌++◌, None, true}
-use Rattle.x25_circuit.specs.{declared.params.Params.{Params}, Params.{may_propose, may_answer, said_in}}
-use Rattle.x25_circuit.specs.Notice.{CallRequest}
+use Rattle.x25_circuit.specs.{declared.params.Params.{Params}, Params.{may_propose, may_answer, said_in}, Notice.{CallRequest}}
 use Rattle.x25_handshakes.specs.{laws.Handshake.{At, Step}, laws.Stretch.{Packet, Call, Accept, Stretch, fresh}, laws.Transfer.{fresh_transfer}}
 use Rattle.x25_handshakes.specs.laws.Calls.{Phase, Unused, Waiting, Offered, Crossed, Talking, Connection, Stage}
-use Rattle.x25_handshakes.proofs.{TermsLemmas.{IsSound}, TransferRelation.{OwnTransfer}, StretchRelation.{StretchesRelated}}
 use Rattle.x25_handshakes.specs.laws.Terms.{Terms, called_terms, calling_terms}
+use Rattle.x25_handshakes.proofs.{TermsLemmas.{IsSound}, TransferRelation.{OwnTransfer}, StretchRelation.{StretchesRelated}}
 
 -- our own end and the other one in p4, of whatever kind: what the one sends by, the other takes by; R is kept in a
 -- stretch, and y₀ is the other end as one begins

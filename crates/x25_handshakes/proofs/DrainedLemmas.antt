@@ -1,21 +1,17 @@
 -- Where nothing is on the way, a stretch that is open at one end is open at the other, and all that either told is known.
-use Rattle.std.proofs.Common.{◌≡◌, ◌⊎◌, inl, inr, ℕ, ◌+◌, ◌%◌, ◌≤◌, List, [], ◌∷◌, ◌++◌, length, Some, Bool, true, false, nat_lt, if◌then◌else◌, refl, sym, ap}
-use Rattle.std.proofs.Common.{subst, ◌∙◌, arith}
-use Rattle.std.proofs.lemmas.Bool.{true≢false, lt-ltb}
+use Rattle.std.proofs.Common.{◌≡◌, ◌⊎◌, inl, inr, ℕ, ◌+◌, ◌%◌, ◌≤◌, List, [], ◌∷◌, ◌++◌, length, Bool, true, false, nat_lt, if◌then◌else◌, refl, sym, ap}
+use Rattle.std.proofs.{Common.{subst, ◌∙◌, arith}, lemmas.Bool.{true≢false, lt-ltb}}
 use Rattle.x25_circuit.specs.{Message.{Piece}, Notice.{CallRequest}}
 use Rattle.x25_bits.specs.{declared.role.Role.{Role}, declared.role.Role.TheVariants.{Dte, Dce}}
 use Rattle.x25_handshakes.specs.{laws.Handshake.{Side, Live, Left, At, state_of, Step, live}, laws.Stretch.{Data, Stretch, Pull, stretch_does, pulls, Packet}}
 use Rattle.x25_handshakes.specs.{laws.Transfer.{Inside, lifted}, laws.Calls.{Phase, Waiting, Crossed, Talking, Connection, Talks, in_transfer}}
-use Rattle.x25_handshakes.specs.laws.Channel.{Within, lifted_call, channel_acts}
-use Rattle.x25_handshakes.specs.{laws.Layers.{LayerPacket, Channels, addressed, Pair, pair_run, pair_start}, laws.Names.{Name}}
+use Rattle.x25_handshakes.specs.{laws.Channel.{Within, lifted_call, channel_acts}, laws.Layers.{LayerPacket, Channels, addressed, Pair, pair_run, pair_start}}
 use Rattle.x25_handshakes.specs.{laws.Histories.{messages, resets_in, name_at}, laws.Arrivals.{open_in, open_phase, open_call, open_channel, open_at}}
-use Rattle.x25_handshakes.specs.{laws.Drained.{is_up, pulled_at, IsOpenThere, AllIsKnown}, laws.LawsBelow.{Laws}}
-use Rattle.x25_handshakes.proofs.{HandshakeRelation.{Level, Handshake}, HandshakeLemmas.{cons≢nil}}
-use Rattle.x25_handshakes.proofs.{CallsRelation.{Joint}, ChannelRelation.{Seen, ChannelRelated}}
-use Rattle.x25_handshakes.proofs.{LayersRelation.{EndsRelated}, PartLemmas.{Line-le}, CallLemmas.{TalksRelated-flip}}
+use Rattle.x25_handshakes.specs.{laws.Drained.{is_up, pulled_at, IsOpenThere, AllIsKnown}, laws.LawsBelow.{Laws}, laws.Terms.{Terms}}
+use Rattle.x25_handshakes.proofs.{HandshakeRelation.{Level, Handshake}, HandshakeLemmas.{cons≢nil}, CallsRelation.{Joint}}
+use Rattle.x25_handshakes.proofs.{ChannelRelation.{Seen, ChannelRelated}, LayersRelation.{EndsRelated}, PartLemmas.{Line-le}, CallLemmas.{TalksRelated-flip}}
 use Rattle.x25_handshakes.proofs.{LayerLemmas.{Stands, Stands-turned, Stands-run, Stands-start}, ClaimLemmas.{BothTalk}}
 use Rattle.x25_handshakes.proofs.ArrivalLemmas.{Opened, opened, name_opened}
-use Rattle.x25_handshakes.specs.laws.Terms.{Terms}
 
 -- a live end of a handshake with nothing on the way: the other is live too, in the same epoch
 record AtRest {S T P : Type 0} (l : Level S T P) (ex ey : ℕ) (x : S) (y : Side T) : Type 0 where
@@ -77,12 +73,6 @@ not_ready : (x y : Stretch) → x.peer_ready ≡ y.own_ready → (x.rest ≡ [])
 not_ready x y same (inl none) = inl none
 not_ready x y same (inr not) = inr (sym same ∙ not)
 
--- the stretch that is open, level by level
-opened_by : (z : At Channels) (k : ℕ) (far : Side (At Channels)) (y : Channels) (c : Connection) (t b : Terms) (at : At Stretch) (q : Stretch)
-    → far ≡ Live z → z.side ≡ Live y → (y k).side ≡ Live c → c.phase ≡ Talking t b at → at.side ≡ Live q → open_at far k ≡ Some q
-opened_by z k far y c t b at q up restarts clears talks resets =
-    ap (λ s. open_at s k) up ∙ ap (λ s. open_channel s k) restarts ∙ ap open_call clears ∙ ap open_phase talks ∙ ap open_in resets
-
 -- the name of the stretch that is open
 named_by : (z : At Channels) (k : ℕ) (far : Side (At Channels)) (y : Channels) (c : Connection) (t b : Terms) (at : At Stretch)
     → far ≡ Live z → z.side ≡ Live y → (y k).side ≡ Live c → c.phase ≡ Talking t b at → name_at messages (state_of far) k
@@ -92,13 +82,6 @@ named_by z k far y c t b at up restarts clears talks =
     ∙ ap (λ s. record { restarts = z.epoch; clears = (state_of s k).epoch; resets = resets_in (state_of (state_of s k).side).phase }) restarts
     ∙ ap (λ s. record { restarts = z.epoch; clears = (y k).epoch; resets = resets_in (state_of s).phase }) clears
     ∙ ap (λ p. record { restarts = z.epoch; clears = (y k).epoch; resets = resets_in p }) talks
-
-name_same : (a b c d e f : ℕ) → a ≡ d → b ≡ e → c ≡ f
-    → ◌≡◌ {A = Name} (record { restarts = a; clears = b; resets = c }) (record { restarts = d; clears = e; resets = f })
-name_same a b c d e f p q r =
-    ap (λ n. record { restarts = n; clears = b; resets = c }) p
-    ∙ ap (λ n. record { restarts = d; clears = n; resets = c }) q
-    ∙ ap (λ n. record { restarts = d; clears = e; resets = n }) r
 
 known : {r : Role} {w : Pair} {k : ℕ} {x : Stretch} → Stands r w → (o : Opened w.near k x) → (z : At Channels) → w.far ≡ Live z → w.out ≡ [] → w.back ≡ []
     → IsOpenThere k w.near w.far x
@@ -120,8 +103,10 @@ known {r} {w} {k} {x} stands o z up out back =
     let acked : x.acked ≡ length x.sent = omega (arith, Line-le both.there.line, both.told.acks) in
     record {
       stretch = q;
-      opened = opened_by z k w.far y two.state talk.sends talk.takes at q up one.side two.side talk.phase three.side;
-      same_name = name_opened o ∙ name_same o.restarts o.clears o.resets z.epoch (y k).epoch at.epoch one.epochs two.epochs three.epochs
+      opened = ap (λ s. open_at s k) up ∙ ap (λ s. open_channel s k) one.side ∙ ap open_call two.side ∙ ap open_phase talk.phase ∙ ap open_in three.side;
+      same_name = name_opened o ∙ ap (λ n. record { restarts = n; clears = o.clears; resets = o.resets }) one.epochs
+          ∙ ap (λ n. record { restarts = z.epoch; clears = n; resets = o.resets }) two.epochs
+          ∙ ap (λ n. record { restarts = z.epoch; clears = (y k).epoch; resets = n }) three.epochs
           ∙ sym (named_by z k w.far y two.state talk.sends talk.takes at up one.side two.side talk.phase);
       acked = acked;
       ready = both.told.ready;

@@ -362,6 +362,7 @@ ext_flip l (Left x) u v (Live y) r = r
 ext_flip l (Live x) u v (Left y) r = r
 ext_flip l (Left x) u v (Left y) r = (r.1, r.0, r.2)
 
+-- the handshake as the second end has it
 pub hand_flip : {S T P : Type 0} {l : Level S T P} {ex ey : ℕ} {x : Side S} {y : Side T} {L K : List P} → Handshake l ex ey x y L K
     → Handshake (flip l) ey ex y x K L
 hand_flip {l} {x} {y} {L} {K} (inl same) =
@@ -383,6 +384,7 @@ hand_flip {l} {y} {K} (inr (inr later)) =
       inner = ext_flip l (Live l.fresh) [] (before l.mark (past l.mark K)) y later.inner;
     }))
 
+-- two ends afresh in the same epoch, with nothing on the lines
 pub both_fresh : {S T P : Type 0} (l : Level S T P) → l.related l.fresh [] [] l.fresh_there → (e : ℕ)
     → Handshake l e e (Live l.fresh) (Live l.fresh_there) [] []
 both_fresh l empty e = inl (record { epochs = refl; there = refl; back = refl; inner = empty })
@@ -414,6 +416,7 @@ ext_map gone gone_there R Q f (Left x) u v (Live y) r = (r.0, r.1, f x u r.0 y r
 ext_map gone gone_there R Q f (Live x) u v (Left y) r = (r.0, r.1, f x r.0 v y r.2)
 ext_map gone gone_there R Q f (Left x) u v (Left y) r = (r.0, r.1, f x r.0 r.1 y r.2)
 
+-- so it may in a handshake
 pub hand_map : {S T P : Type 0} {l : Level S T P} (Q : S → List P → List P → T → Type 0) → ((x : S) (u v : List P) (y : T) → l.related x u v y → Q x u v y)
     → {ex ey : ℕ} {x : Side S} {y : Side T} {L K : List P} → Handshake l ex ey x y L K
     → Handshake (record { mark = l.mark; fresh = l.fresh; fresh_there = l.fresh_there; gone = l.gone; gone_there = l.gone_there; related = Q }) ex ey x y L K

@@ -69,9 +69,11 @@ module _ {S T P : Type 0} (l : Level S T P) (Q : List P → Type 0) where
       → GoodStep l None (record { epoch = e; side = Left x }) (q ∷ []) L K y
   leaves q is e x gone {L} {K} {y} h = record { quiet = refl; kept = record { hand = leave q is x gone h.hand } }
 
+  -- or does nothing
   pub stays : {x : At S} {L K : List P} {y : At T} → Handshaken l x L K y → GoodStep l None x [] L K y
   stays {x} {L} {K} {y} h = record { quiet = refl; kept = still h }
 
+  -- what an end makes of the packet that comes is no error, and keeps the handshake
   pub answered : Q [] → l.related l.fresh [] [] l.fresh_there → {e : ℕ} {x : Side S} {p : P} {next : At S} {out : List P} {error : Option ℕ}
       → Answers e x p (l.mark p) next out error
       → {L : List P} (K : List P) {y : At T} → Handshaken l (record { epoch = e; side = x }) L (p ∷ K) y → Good error next out L K y

@@ -1,5 +1,5 @@
 -- Lawful histories are kept, where a step lets the name and what is held under it stay or grow.
-use Rattle.std.proofs.{Common.{◌≡◌, ◌⊎◌, inl, inr, ℕ, ◌<◌, List, [], ◌++◌, false, refl, sym, ap, subst, ◌∙◌, append_assoc}, lemmas.List.{append-nil}}
+use Rattle.std.proofs.{Common.{◌≡◌, ◌⊎◌, inl, inr, ℕ, ◌<◌, List, [], ◌++◌, refl, sym, ap, subst, ◌∙◌, append_assoc}, lemmas.List.{append-nil}}
 use Rattle.std.proofs.lemmas.Bool.{cond_both}
 use Rattle.x25_handshakes.specs.{laws.Handshake.{At}, laws.Layers.{Channels}, laws.Names.{Name, same_name, IsEarlier}}
 use Rattle.x25_handshakes.specs.laws.Histories.{Lists, none, Kind, name_at, held_at, ChannelView, written, channel_view, IsPrefix, IsLawful}
@@ -18,12 +18,6 @@ pub data Turn {M : Type 0} (kind : Kind M) (Allowed : List M → Type 0) (k : �
       (held_at kind y k) → Turn kind Allowed k x y
   Restarted : x.epoch < y.epoch → held_at kind y k ≡ none → Turn kind Allowed k x y
 
-written_here : {M : Type 0} (history : Name → Lists M) (n : Name) (l : Lists M) → written history n l n ≡ l
-written_here history n l = rw (same_name-refl n) refl
-
-written_other : {M : Type 0} (history : Name → Lists M) (n : Name) (l : Lists M) (m : Name) → same_name m n ≡ false → written history n l m ≡ history m
-written_other history n l m is = rw is refl
-
 abbrev rewritten : {M : Type 0} → ChannelView M → Name → Lists M → ChannelView M
 rewritten e n l = record { name = n; held = l; history = written e.history n l }
 
@@ -31,9 +25,9 @@ rewritten e n l = record { name = n; held = l; history = written e.history n l }
 rewritten_kept : {M : Type 0} (e f : ChannelView M) (n : Name) (l : Lists M) → IsLawful e f → ((m : Name) → IsEarlier n m → IsEarlier e.name m)
     → IsPrefix l.up (f.history n).down → IsPrefix (f.history n).up l.down → IsLawful (rewritten e n l) f
 rewritten_kept {M} e f n l k later up down = record {
-  held = written_here e.history n l;
+  held = rw (same_name-refl n) refl;
   held_there = k.held_there;
-  later = λ m less. written_other e.history n l m (earlier-differs n m less) ∙ k.later m (later m less);
+  later = λ m less. rw (earlier-differs n m less) (k.later m (later m less));
   later_there = k.later_there;
   begins = λ m. cond_both (same_name m n) l (e.history m) (λ x. IsPrefix x.up (f.history m).down)
       (λ is. rw (same_name-is m n is) up)
@@ -43,8 +37,8 @@ rewritten_kept {M} e f n l k later up down = record {
       (λ is. k.begins_there m);
 }
 
-pub alike : {T : Type 0} (l : List T) → IsPrefix l l
-alike l = ([], append-nil l)
+pub IsPrefix-refl : {T : Type 0} (l : List T) → IsPrefix l l
+IsPrefix-refl l = ([], append-nil l)
 
 IsPrefix-trans : {T : Type 0} (a : List T) {b c : List T} → IsPrefix a b → IsPrefix b c → IsPrefix a c
 IsPrefix-trans a h g = (h.0 ++ g.0, sym (append_assoc a h.0 g.0) ∙ ap (λ l. l ++ g.0) h.1 ∙ g.1)

@@ -2,12 +2,11 @@
 -- is indicated at the one was made at the other, and what is kept of p4.
 use Rattle.std.proofs.{Common.{◌≡◌, inl, inr, List, [], ◌∷◌, ◌++◌, refl, ap, ◌∙◌}, lemmas.List.{append-nil}}
 use Rattle.x25_handshakes.specs.{laws.Handshake.{Inner}, laws.Stretch.{Packet, Call, Accept, Clear, ClearConf}, laws.Histories.{IsPrefix}}
-use Rattle.x25_handshakes.specs.{laws.Calls.{Stage, Unused, Waiting, Offered, Crossed, Talking}, laws.PeerClaims.{in_stage}}
+use Rattle.x25_handshakes.specs.{laws.Calls.{Stage, Unused, Waiting, Offered, Crossed, Talking}, laws.PeerClaims.{in_stage}, laws.Terms.{Terms}}
 use Rattle.x25_circuit.specs.{declared.params.Params.{Params}, Notice.{CallRequest}}
 use Rattle.x25_handshakes.proofs.{HandshakeRelation.{AllInner}, TransferRelation.{InTransfer, AllInTransfer}}
 use Rattle.x25_handshakes.proofs.{CallsRelation.{Nil, OneCall, MaybeCall, Accepted, CallAccepted, TalksOf, JointOf}, ChannelRelation.{clear_mark}}
 use Rattle.x25_handshakes.proofs.{OwnCallLemmas.{Accepted-some, CallAccepted-some}, HandshakeLemmas.{each_map}}
-use Rattle.x25_handshakes.specs.laws.Terms.{Terms}
 
 -- ---- no CLEAR and no confirmation of it is on the way between two clears
 
@@ -72,6 +71,7 @@ none_begins xs ys e = (ys, ap (λ l. l ++ ys) e)
 all_begins : (xs ys : List CallRequest) → xs ≡ ys → IsPrefix xs ys
 all_begins xs ys e = ([], append-nil xs ∙ e)
 
+-- the CALLs indicated at each end begin those made at the other, and Q holds of the ends as p4 begins or in it
 pub joint_order : {A B : Type 0} (R : TalksOf A B) (a : A) (b : B) (Q : A → B → Type 0) → Q a b
     → ((t k : Terms) (x : A) (u v : List Packet) (t₂ k₂ : Terms) (y : B) → R t k x u v t₂ k₂ y → Q x y)
     → (one : Stage A) (two : Stage B) (ma ia mb ib : List CallRequest) (u v : List Packet) → JointOf R a b one two ma ia mb ib u v → IsPrefix ia mb

@@ -5,8 +5,7 @@ use Rattle.x25_handshakes.specs.{laws.Handshake.{Side, Live, Left, At, state_of,
 use Rattle.x25_handshakes.specs.laws.Layers.{LayerPacket, On, Channels, Move, Acts, Takes, LinkDown, LayerEvent, pair_moves, layer_side_takes}
 use Rattle.x25_handshakes.specs.laws.Names.{Name}
 use Rattle.x25_handshakes.specs.laws.Histories.{Lists, Kind, name_at, held_at, channel_view, written, IsLawful, Histories, turned_histories, histories_moves}
-use Rattle.x25_handshakes.specs.laws.Histories.{histories_run, histories_start, AreInOrder}
-use Rattle.x25_handshakes.specs.{laws.PeerLayers.{other_role}, laws.LawsBelow.{Laws}}
+use Rattle.x25_handshakes.specs.{laws.Histories.{histories_run, histories_start, AreInOrder}, laws.PeerLayers.{other_role}, laws.LawsBelow.{Laws}}
 use Rattle.x25_handshakes.proofs.{LayersRelation.{EndsRelated}, LayerLemmas.{Stands, Stands-moves, Stands-turned, Stands-start}}
 use Rattle.x25_handshakes.proofs.HistoryLemmas.{Turn, MayHandUp, lawful_turned, lawful_turn}
 use Rattle.x25_handshakes.proofs.TurnLemmas.{IsHandled, WithinCall, turn_still, turn_taken, turn_acted, taken_in_its_epoch}

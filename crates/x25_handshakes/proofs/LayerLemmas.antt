@@ -3,7 +3,7 @@ use Rattle.std.proofs.Common.{ℕ, List, [], Option, refl, ◌≡◌, ◌∷◌,
 use Rattle.x25_handshakes.specs.{laws.Handshake.{At, Side, Live, Left, first_error}, laws.Stretch.{Packet, Stretch}, laws.Calls.{Connection, fresh_call}}
 use Rattle.x25_handshakes.specs.{laws.Channel.{fresh_channel}, laws.Transfer.{fresh_transfer}, laws.LawsBelow.{Laws}, laws.PeerLayers.{other_role}}
 use Rattle.x25_handshakes.specs.laws.Layers.{LayerPacket, Restart, Channels, all_fresh, layer_takes, LayerAct, layer_acts, Pair, Move, Acts, Takes, LinkDown}
-use Rattle.x25_handshakes.specs.laws.Layers.{turned, pair_moves, LayerEvent, pair_run, pair_start}
+use Rattle.x25_handshakes.specs.{laws.Layers.{turned, pair_moves, LayerEvent, pair_run, pair_start}, laws.Terms.{Terms}}
 use Rattle.x25_bits.specs.{declared.role.Role.{Role}, declared.role.Role.TheVariants.{Dte, Dce}}
 use Rattle.x25_handshakes.proofs.{HandshakeLemmas.{hand_flip, both_fresh, hand_map, ext_step, both_requests}, CallsRelation.{TalksRelated, IsCalled}}
 use Rattle.x25_handshakes.proofs.ChannelRelation.{Seen, connection_level, ChannelRelated}
@@ -11,7 +11,6 @@ use Rattle.x25_handshakes.proofs.{OwnChannelLemmas.{OwnCalls, not_p1, channel_ta
 use Rattle.x25_handshakes.proofs.CallLemmas.{Seen-takes, Seen-acts, Seen-fresh, Seen-free}
 use Rattle.x25_handshakes.proofs.LayersRelation.{OnEach, channels_level, LayersRelated, GoodLayer, EndsRelated}
 use Rattle.x25_handshakes.proofs.OwnLayerLemmas.{OwnChannels, layer_takes_good, layer_acts_good}
-use Rattle.x25_handshakes.specs.laws.Terms.{Terms}
 
 Seen-flip : (r : Role) (x : Connection) (u v : List Packet) (y : Connection) → Seen r x u v y → Seen (other_role r) y v u x
 Seen-flip Dte x u v y h = h

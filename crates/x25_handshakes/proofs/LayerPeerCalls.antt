@@ -1,6 +1,5 @@
 -- What our own circuit does is what a peer may do: calls and their clearing.
-use Rattle.std.proofs.Common.{◌≡◌, ℕ, ◌≤◌, List, [], ◌∷◌, ◌++◌, Option, Some, None, Bool, true, false, if◌then◌else◌, refl, ap}
-use Rattle.std.proofs.lemmas.Bool.{cond_both}
+use Rattle.std.proofs.{Common.{◌≡◌, ℕ, ◌≤◌, List, [], ◌∷◌, ◌++◌, Option, Some, None, Bool, true, false, if◌then◌else◌, refl, ap}, lemmas.Bool.{cond_both}}
 use Rattle.x25_bits.specs.{declared.role.Role.{Role}, declared.role.Role.TheVariants.{Dte, Dce}}
 use Rattle.x25_circuit.specs.{declared.params.Params.{Params}, Params.{Proposal, may_propose, may_answer, field_for, said_in}, Notice.{CallRequest}}
 use Rattle.x25_handshakes.specs.{laws.Handshake.{Side, Live, Left, At, Step, PeerStep, live}, laws.Stretch.{Packet, Call, Accept, Clear, ClearConf}}
@@ -38,12 +37,6 @@ IsKnown other = Unit {0}
 abbrev Did_to : Phase → List CallRequest → List CallRequest → Step Connection Packet → Type 0
 Did_to a m i s = CallDid (stands (as_stage a) m i) (as_peer_call s.next) s.out
 
-places_did : (m i : List CallRequest) (n : CallRequest) → Did_to Unused m i (phase_acts Unused m i (PlacesCall n))
-places_did m i n =
-    cond_both (may_propose n.params) (goes (Waiting n.params) (m ++ n ∷ []) i (Call n ∷ [])) (goes Unused m i []) (λ s. Did_to Unused m i s)
-    (λ may. Something (peer.PlacesCall n) may refl refl)
-    (λ _. Nothing refl refl)
-
 accepts_did : Laws → (theirs : Params) → may_propose theirs ≡ true → (m i : List CallRequest) (answer : Option Proposal) (most : ℕ)
     → Did_to (Offered theirs) m i (accepts theirs m i answer most)
 accepts_did laws theirs proposed m i None most =
@@ -58,7 +51,8 @@ accepts_did laws theirs proposed m i (Some q) most =
 
 pub call_did : Laws → (a : Phase) → IsKnown a → (m i : List CallRequest) (act : CallAct) → (phase_acts a m i act).error ≡ None
     → Did_to a m i (phase_acts a m i act)
-call_did laws Unused known m i (PlacesCall n) quiet = places_did m i n
+call_did laws Unused known m i (PlacesCall n) quiet = cond_both (may_propose n.params) (goes (Waiting n.params) (m ++ n ∷ []) i (Call n ∷ []))
+    (goes Unused m i []) (λ s. Did_to Unused m i s) (λ may. Something (peer.PlacesCall n) may refl refl) (λ _. Nothing refl refl)
 call_did laws (Offered theirs) known m i (AcceptsCall answer most) quiet = accepts_did laws theirs known m i answer most
 call_did laws (Talking t b at) known m i (Talks act) quiet =
     did_above (transfer_deeds t.longest t.size) call_deeds (λ y. stands (Talking t b y) m i) (λ d. InTransfer d)

@@ -1,28 +1,25 @@
 -- Each of two of our own layers is a peer of the other, in every run.
 use Rattle.std.proofs.Common.{◌≡◌, ℕ, ◌≤◌, List, [], ◌∷◌, ◌++◌, Option, None, Bool, true, false, ◌==◌, if◌then◌else◌, refl, sym, ap, subst, ◌∙◌, eq-eqb}
-use Rattle.std.proofs.Common.{append_assoc}
-use Rattle.std.proofs.{lemmas.List.{append-nil}, lemmas.Bool.{eqb-true}, Math.Path.{fun_ext}}
+use Rattle.std.proofs.{Common.{append_assoc}, lemmas.List.{append-nil}, lemmas.Bool.{eqb-true}, Math.Path.{fun_ext}}
 use Rattle.x25_bits.specs.{declared.role.Role.{Role}, declared.role.Role.TheVariants.{Dte, Dce}}
 use Rattle.x25_circuit.specs.{Params.{may_propose}, Notice.{CallRequest}}
 use Rattle.x25_handshakes.specs.{laws.Handshake.{Side, Live, Left, At, Step, PeerStep, live, left}, laws.Stretch.{Packet, Stretch}}
-use Rattle.x25_handshakes.specs.laws.Calls.{Phase, Waiting, Offered, Crossed, Talking, Connection}
-use Rattle.x25_handshakes.specs.laws.Channel.{channel_takes, channel_acts}
+use Rattle.x25_handshakes.specs.{laws.Calls.{Phase, Waiting, Offered, Crossed, Talking, Connection}, laws.Channel.{channel_takes, channel_acts}}
 use Rattle.x25_handshakes.specs.laws.Layers.{LayerPacket, On, Restart, RestartConf, Channels, put, addressed, all_fresh, layer_side_takes, layer_takes}
 use Rattle.x25_handshakes.specs.laws.Layers.{LayerAct, OnChannel, SendsRestart, layer_side_acts, layer_acts, Pair, Move, Acts, Takes, LinkDown, turned}
-use Rattle.x25_handshakes.specs.laws.Layers.{pair_moves, LayerEvent, pair_happens, pair_run, pair_start}
-use Rattle.x25_handshakes.specs.{laws.PeerCalls.{PeerCall}, laws.PeerChannel.{does_channel, channel_packet_of, channel_taking}}
+use Rattle.x25_handshakes.specs.{laws.Layers.{pair_moves, LayerEvent, pair_happens, pair_run}, laws.PeerCalls.{PeerCall}}
+use Rattle.x25_handshakes.specs.laws.PeerChannel.{does_channel, channel_packet_of, channel_taking}
 use Rattle.x25_handshakes.specs.laws.PeerLayer.{PeerChannels, put_peer, LayerDeed, InChannel, Restarts, MayDoLayer, does_layer, layer_packet_of, layer_taking}
 use Rattle.x25_handshakes.specs.laws.PeerLayers.{other_role, layer_found, ReachedInLayers}
 use Rattle.x25_handshakes.specs.{laws.LayerPeers.{as_side, as_at, as_peer_call, as_peer_channels, as_peer, IsPeerOf, LayersArePeers}, laws.LawsBelow.{Laws}}
+use Rattle.x25_handshakes.specs.laws.Terms.{Terms}
 use Rattle.x25_handshakes.proofs.{HandshakeRelation.{Handshake}, HandshakeLemmas.{inner_live}, TransferRelation.{stretch_level}}
 use Rattle.x25_handshakes.proofs.{CallsRelation.{TalksRelated, Joint}, CallLemmas.{TalksRelated-flip}, OwnCallLemmas.{Accepted-some, CallAccepted-some}}
 use Rattle.x25_handshakes.proofs.{ChannelRelation.{Seen, connection_level}, LayersRelation.{channels_level, LayersRelated, EndsRelated}}
 use Rattle.x25_handshakes.proofs.LayerLemmas.{GoodLayer-takes, GoodLayer-acts, Stands, Stands-turned, Stands-moves, Stands-start}
-use Rattle.x25_handshakes.proofs.PeerLayerLemmas.{layer_found_none}
-use Rattle.x25_handshakes.proofs.LayerPeers.{Deeds, Did, Nothing, Something, Heard, at_once, IsFit}
+use Rattle.x25_handshakes.proofs.{PeerLayerLemmas.{layer_found_none}, LayerPeers.{Deeds, Did, Nothing, Something, Heard, at_once, IsFit}}
 use Rattle.x25_handshakes.proofs.LayerPeerCalls.{IsKnown, IsKnownSide, ChannelDid, channel_did, channel_heard}
 use Rattle.x25_handshakes.specs.laws.PeerLayers as joined
-use Rattle.x25_handshakes.specs.laws.Terms.{Terms}
 
 -- ---- what is known of our own end beside another
 
@@ -200,9 +197,6 @@ one_is_out : (r : Role) (near : Side (At Channels)) (y : At Channels) (out back 
 one_is_out r (Live x) y out back = tt
 one_is_out r (Left x) y out back = tt
 
-both_out : (r : Role) (x : At Channels) (far : Side (At Channels)) (out back : List LayerPacket) → Both r (Left x) far out back
-both_out r x far out back = record { second = tt; first = one_is_out (other_role r) far x back out }
-
 both_far_out : (r : Role) (near : Side (At Channels)) (y : At Channels) (out back : List LayerPacket) → Both r near (Left y) out back
 both_far_out r near y out back = record { second = one_is_out r near y out back; first = tt }
 
@@ -242,7 +236,7 @@ moves_kept : Laws → (r : Role) (near far : Side (At Channels)) (out back : Lis
     record { near = near; far = far; out = out; back = back; error = error } in
     EndsRelated r near out back far → Both r near far out back → let v = pair_moves r w near what in Both r v.near v.far v.out v.back
 moves_kept laws r (Left x) far out back error what rel h = h
-moves_kept laws r (Live x) far out back error LinkDown rel h = both_out r x far out back
+moves_kept laws r (Live x) far out back error LinkDown rel h = record { second = tt; first = one_is_out (other_role r) far x back out }
 moves_kept laws r (Live x) (Left y) out back error (Acts a) rel h = both_far_out r (Live (layer_acts x a).next) y (out ++ (layer_acts x a).out) back
 moves_kept laws r (Live x) (Live y) out back error (Acts a) rel h = acts_kept laws a rel h
 moves_kept laws r (Live x) far out [] error Takes rel h = h
@@ -285,8 +279,7 @@ start_reached : (r : Role) → ReachedInLayers r
     (record { near = left 0 all_fresh; peer = as_peer (left 0 all_fresh); out = Restart ∷ []; back = Restart ∷ []; error = None })
 start_reached r = joined.goes_on _ _ joined.at_start (joined.Does Restarts tt)
 
-start_kept : Kept pair_start
-start_kept = record { stands = Stands-start; both = record { second = start_reached Dte; first = start_reached Dce } }
-
 pub layers_are_peers : Laws → LayersArePeers
-layers_are_peers laws events = let h = run_kept laws events start_kept in record { second = h.both.second; first = h.both.first }
+layers_are_peers laws events = let h = run_kept laws events
+    (record { stands = Stands-start; both = record { second = start_reached Dte; first = start_reached Dce } }) in
+    record { second = h.both.second; first = h.both.first }

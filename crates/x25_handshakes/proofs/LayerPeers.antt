@@ -1,9 +1,8 @@
 -- What our own end does is what a peer may do.
 use Rattle.std.proofs.Common.{◌≡◌, ℕ, ◌+◌, ◌%◌, ◌≤◌, List, [], ◌∷◌, ◌++◌, length, Option, Some, None, Bool, true, false, nat_lt, nat_le, if◌then◌else◌, refl}
-use Rattle.std.proofs.Common.{sym, ap, ◌∙◌, arith}
-use Rattle.std.proofs.{lemmas.List.{length_push, append-nil}, lemmas.Bool.{cond_both, ltb-true}}
+use Rattle.std.proofs.{Common.{sym, ap, ◌∙◌, arith}, lemmas.List.{length_push, append-nil}, lemmas.Bool.{cond_both, ltb-true}}
 use Rattle.x25_packet.specs.declared.marks.Marks.{Marks}
-use Rattle.x25_circuit.specs.{Message.{Piece, no_part, cut, wholes, AreSound}}
+use Rattle.x25_circuit.specs.Message.{Piece, no_part, cut, wholes, AreSound}
 use Rattle.x25_handshakes.specs.laws.Stretch.{Packet, Data, Rr, Rnr, Int, IntConf, Reset, Call, Accept, Clear, ClearConf, Stretch, stretch_does, stretch_fails}
 use Rattle.x25_handshakes.specs.laws.Stretch.{StretchAct, Send, Pull, Ready, NotReady, Interrupt, sends, pulls, interrupts, stretch_acts, ack_ground}
 use Rattle.x25_handshakes.specs.laws.Stretch.{data_ground, by_ground, takes_data, takes_status, stretch_takes}
@@ -11,9 +10,8 @@ use Rattle.x25_handshakes.specs.laws.PeerStretch.{PeerStretch, Deed, Sends, Says
 use Rattle.x25_handshakes.specs.laws.Handshake.{Side, Live, Left, At, Step, PeerStep, live}
 use Rattle.x25_handshakes.specs.laws.Transfer.{lifted, TransferAct, Inside, SendsReset, transfer_side_takes, transfer_side_acts}
 use Rattle.x25_handshakes.specs.laws.PeerTransfer.{TransferDeed, InStretch, Resets, MayDoTransfer, does_transfer, transfer_packet_of, transfer_taking}
-use Rattle.x25_handshakes.specs.laws.LayerPeers.{as_peer_stretch, as_side, as_at}
+use Rattle.x25_handshakes.specs.{laws.LayerPeers.{as_peer_stretch, as_side, as_at}, laws.Terms.{Terms}}
 use Rattle.x25_handshakes.proofs.TextLemmas.{AreSound-back}
-use Rattle.x25_handshakes.specs.laws.Terms.{Terms}
 
 -- the deeds of a peer at one level: which it may do, what it is then, and the packet that it sends
 pub record Deeds (Y D P : Type 0) : Type 1 where
@@ -32,6 +30,7 @@ pub record Heard {Y D P : Type 0} (k : Deeds Y D P) (y : Y) (first : List P) (y�
   pub split : first ++ rest ≡ o
   pub did : Did k y y₂ rest
 
+-- a packet was taken, and then nothing was done
 pub at_once : {Y D P : Type 0} (k : Deeds Y D P) (y : Y) (first : List P) (y₂ : Y) (o : List P) → y ≡ y₂ → first ≡ o → Heard k y first y₂ o
 at_once k y first y₂ o next out = record { rest = []; split = append-nil first ∙ out; did = Nothing next refl }
 
@@ -104,12 +103,6 @@ stretch_did t small x sound (Interrupt xs) = does_interrupt t.longest t.size x x
 abbrev Hears : ℕ → ℕ → Stretch → Packet → Step Stretch Packet → Type 0
 Hears longest size x p s = StretchDid longest size (taking (as_peer_stretch x) p) (as_peer_stretch s.next) s.out
 
-hears_data : (longest size : ℕ) (x : Stretch) (s r : ℕ) (p : Piece) → Hears longest size x (Data s r p) (takes_data x r p)
-hears_data longest size x s r p =
-    let n = length_push x.taken p in
-    Something (Says x.own_ready (length x.taken + 1)) (record { rising = omega arith; taken = omega (arith, n) })
-    (ap (λ k. record (as_peer_stretch (takes_data x r p).next) { told = k }) (sym n)) refl
-
 by_none : {longest size : ℕ} (x : Stretch) (p : Packet) (g : Option ℕ) (good : Step Stretch Packet) → (by_ground g x good).error ≡ None
     → Hears longest size x p good → Hears longest size x p (by_ground g x good)
 by_none x p None good quiet h = h
@@ -123,7 +116,8 @@ hears_confirmed longest size x false quiet = absurd (cc)
 pub stretch_heard : (longest size most b : ℕ) (x : Stretch) (p : Packet) → (stretch_takes most b x p).error ≡ None
     → Hears longest size x p (stretch_takes most b x p)
 stretch_heard longest size most b x (Data s r p) quiet = by_none x (Data s r p) (data_ground most b x s r p) (takes_data x r p) quiet
-    (hears_data longest size x s r p)
+    (let n = length_push x.taken p in Something (Says x.own_ready (length x.taken + 1)) (record { rising = omega arith; taken = omega (arith, n) })
+    (ap (λ k. record (as_peer_stretch (takes_data x r p).next) { told = k }) (sym n)) refl)
 stretch_heard longest size most b x (Rr r) quiet = by_none x (Rr r) (ack_ground x r) (takes_status x true r) quiet (Nothing refl refl)
 stretch_heard longest size most b x (Rnr r) quiet = by_none x (Rnr r) (ack_ground x r) (takes_status x false r) quiet (Nothing refl refl)
 stretch_heard longest size most b x (Int xs) quiet = Something Confirms (omega arith) refl refl

@@ -4,12 +4,12 @@ use Rattle.x25_handshakes.specs.laws.Handshake.{Inner, Side, Live, Left, At, Ste
 use Rattle.x25_handshakes.specs.laws.Stretch.{Packet, Data, Rr, Rnr, Int, IntConf, Reset, ResetConf, Call, Accept, Clear, ClearConf, Stretch, fresh, StretchAct}
 use Rattle.x25_handshakes.specs.laws.Stretch.{stretch_acts, stretch_takes}
 use Rattle.x25_handshakes.specs.laws.Transfer.{lifted, transfer_side_takes, transfer_takes, TransferAct, Inside, SendsReset, transfer_side_acts, transfer_acts}
+use Rattle.x25_handshakes.specs.laws.Terms.{Terms}
 use Rattle.x25_handshakes.proofs.{HandshakeRelation.{Level, Handshaken, GoodStep}, HandshakeSteps.{Goes, Answers, acts_inside, leaves, stays, answered}}
 use Rattle.x25_handshakes.proofs.StretchRelation.{InFlowControl, AllInFlowControl, GoodStretch}
 use Rattle.x25_handshakes.proofs.TransferRelation.{reset_mark, InTransfer, AllInTransfer, own_level, OwnTransfer, GoodOwnTransfer}
 use Rattle.x25_handshakes.proofs.HandshakeLemmas.{each_append, each_back, each_map}
 use Rattle.x25_handshakes.proofs.HandshakeSteps as hand
-use Rattle.x25_handshakes.specs.laws.Terms.{Terms}
 
 pub inner_mark : (p : Packet) → InFlowControl p → reset_mark p ≡ Inner
 inner_mark Reset is = absurd is

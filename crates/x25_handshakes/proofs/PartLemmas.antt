@@ -1,7 +1,6 @@
 -- What each step does to the parts of the relation of two stretches.
 use Rattle.std.proofs.Common.{◌≡◌, ℕ, ◌+◌, ◌-◌, ◌%◌, ◌≤◌, List, [], ◌∷◌, ◌++◌, length, Some, None, Bool, true, false, refl, sym, ap, subst, ◌∙◌, arith}
-use Rattle.std.proofs.Common.{append_assoc, length-append}
-use Rattle.std.proofs.lemmas.List.{length_push, append-nil}
+use Rattle.std.proofs.{Common.{append_assoc, length-append}, lemmas.List.{length_push, append-nil}}
 use Rattle.x25_packet.specs.declared.marks.Marks.{Marks}
 use Rattle.x25_circuit.specs.{declared.message.Message.{Message}, Message.{Piece, no_part, joining, completed, carried_from, carried, AreSound, cut}}
 use Rattle.x25_window.specs.code.Modulo.{resolved}

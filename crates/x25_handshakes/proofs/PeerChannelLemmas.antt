@@ -3,8 +3,7 @@ use Rattle.std.proofs.Common.{◌≡◌, ℕ, List, [], ◌∷◌, ◌++◌, Non
 use Rattle.x25_handshakes.specs.{laws.Handshake.{Inner, Side, Live, Left, At}, laws.Stretch.{Packet, Clear, ClearConf}, laws.Calls.{Connection}}
 use Rattle.x25_handshakes.specs.{laws.Channel.{fresh_channel}, laws.PeerCalls.{PeerCall, fresh_peer_call, does_call, call_packet_of, call_taking}}
 use Rattle.x25_handshakes.specs.laws.PeerChannel.{fresh_peer_channel, ChannelDeed, InCall, Clears, MayDoChannel, does_channel, channel_packet_of}
-use Rattle.x25_handshakes.specs.laws.PeerChannel.{channel_taking}
-use Rattle.x25_handshakes.specs.{laws.PeerLayers.{other_role, found}, laws.LawsBelow.{Laws}, laws.Transfer.{fresh_transfer}}
+use Rattle.x25_handshakes.specs.{laws.PeerChannel.{channel_taking}, laws.PeerLayers.{other_role, found}, laws.LawsBelow.{Laws}, laws.Transfer.{fresh_transfer}}
 use Rattle.x25_handshakes.specs.laws.PeerTransfer.{fresh_peer_transfer}
 use Rattle.x25_bits.specs.{declared.role.Role.{Role}, declared.role.Role.TheVariants.{Dte, Dce}}
 use Rattle.x25_handshakes.proofs.{HandshakeRelation.{Level, Handshaken, GoodStep}, HandshakeLemmas.{each_back, flip, both_fresh}}

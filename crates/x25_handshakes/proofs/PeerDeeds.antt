@@ -1,15 +1,15 @@
 -- What the peer does keeps what is kept of our circuit and it.
 use Rattle.std.proofs.Common.{◌≡◌, ℕ, ◌+◌, ◌%◌, ◌≤◌, List, [], ◌∷◌, ◌++◌, length, Some, None, Bool, true, false, refl, subst, arith, sym}
 use Rattle.std.proofs.lemmas.List.{length_push}
-use Rattle.x25_circuit.specs.{Message.{Piece, no_part}}
+use Rattle.x25_circuit.specs.Message.{Piece, no_part}
 use Rattle.x25_window.specs.code.Modulo.{resolved}
 use Rattle.x25_handshakes.specs.laws.Stretch.{Packet, Data, Rr, Rnr, Int, IntConf, Stretch}
 use Rattle.x25_handshakes.specs.laws.PeerStretch.{PeerStretch, Deed, Sends, Says, Interrupts, Confirms, MayAcknowledge, MayDo, does, packet_of, taking}
+use Rattle.x25_handshakes.specs.laws.Terms.{Terms}
 use Rattle.x25_handshakes.proofs.{StretchRelation.{numbering, ack_in, int_in, conf_in, InFlowControl, hears, heard}, TextLemmas.{AreSound-append}}
 use Rattle.x25_handshakes.proofs.PartLemmas.{Line-le, Line-send, Line-push, Line-take, Line-skip, Acks-pass, Acks-more, Acks-told, Acks-hear, Ints-there}
 use Rattle.x25_handshakes.proofs.PartLemmas.{Ints-back, Ints-send, Ints-take, Ints-confirm, Ints-past, Ints-skip, Ints-out, Ints-conf}
 use Rattle.x25_handshakes.proofs.PeerRelation.{Ours, Kept}
-use Rattle.x25_handshakes.specs.laws.Terms.{Terms}
 
 -- it acknowledges so many, whatever it has sent
 Ours-told : {t : Terms} → t.window ≤ 7 → {x : Stretch} {u v : List Packet} {y : PeerStretch} (sent : List Piece) {n : ℕ} (q : Packet) → conf_in q ≡ 0

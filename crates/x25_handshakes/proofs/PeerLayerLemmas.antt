@@ -7,8 +7,7 @@ use Rattle.x25_handshakes.specs.{laws.PeerCalls.{PeerCall, fresh_peer_call}, law
 use Rattle.x25_handshakes.specs.laws.PeerLayer.{PeerChannels, put_peer, peer_fresh, LayerDeed, InChannel, Restarts, MayDoLayer, does_layer, layer_packet_of}
 use Rattle.x25_handshakes.specs.laws.PeerLayer.{ready_taking, layer_taking}
 use Rattle.x25_handshakes.specs.laws.PeerLayers.{other_role, found, layer_found, AreElsewhere, JoinedLayers, HappensInLayers, Acts, Takes, Does, Hears}
-use Rattle.x25_handshakes.specs.laws.PeerLayers.{HearsChannel, ReachedInLayers, at_start, goes_on}
-use Rattle.x25_handshakes.specs.{laws.LawsBelow.{Laws}, laws.Arrivals.{open_channel}}
+use Rattle.x25_handshakes.specs.{laws.PeerLayers.{HearsChannel, ReachedInLayers, at_start, goes_on}, laws.LawsBelow.{Laws}, laws.Arrivals.{open_channel}}
 use Rattle.x25_handshakes.specs.laws.PeerClaims.{ChannelsAreInOrder, is_open_there, TookLayer, WithAnyPeerLayer, KeepsLayers, LayerFindsNoError}
 use Rattle.x25_handshakes.specs.laws.PeerClaims.{LayerHasArrived}
 use Rattle.x25_bits.specs.{declared.role.Role.{Role}, declared.role.Role.TheVariants.{Dte, Dce}}
@@ -18,8 +17,7 @@ use Rattle.x25_handshakes.proofs.LayersRelation.{kept_on, on, OnEach, restart_ma
 use Rattle.x25_handshakes.proofs.OwnLayerLemmas.{put_kept, on-append, inner_addressed, on-front, on-past, OwnChannels, layer_takes_good, layer_acts_good}
 use Rattle.x25_handshakes.proofs.{OwnChannelLemmas.{channel_takes_good, channel_acts_good}, PeerCallLemmas.{PeerSeen}}
 use Rattle.x25_handshakes.proofs.PeerChannelLemmas.{PeerChannelRelated, PeerChannelRelated-fresh, found_none, peer_calls, channel_taking_kept}
-use Rattle.x25_handshakes.proofs.PeerChannelLemmas.{channel_does_kept}
-use Rattle.x25_handshakes.proofs.PeerOrder.{in_epochs, channel_order, meet, took_channel}
+use Rattle.x25_handshakes.proofs.{PeerChannelLemmas.{channel_does_kept}, PeerOrder.{in_epochs, channel_order, meet, took_channel}}
 
 abbrev pub peer_channels_level : Role → Level Channels PeerChannels LayerPacket
 peer_channels_level r = own_channels_level (PeerChannelRelated r) peer_fresh

@@ -1,20 +1,18 @@
 -- What is kept of our end and a peer says that all is in order, and that all was taken where nothing is on the way.
 use Rattle.std.proofs.Common.{◌≡◌, inl, inr, ℕ, suc, ◌+◌, ◌≤◌, List, [], ◌∷◌, ◌++◌, length, Some, true, false, refl, sym, ap, subst, ◌∙◌, arith, append_assoc}
-use Rattle.std.proofs.Common.{length-append}
-use Rattle.std.proofs.{lemmas.Bool.{true≢false}, lemmas.List.{append-nil}, lemmas.Option.{same_Some, none-some}}
+use Rattle.std.proofs.{Common.{length-append}, lemmas.Bool.{true≢false}, lemmas.List.{append-nil}, lemmas.Option.{same_Some, none-some}}
 use Rattle.x25_bits.specs.{declared.role.Role.{Role}, declared.role.Role.TheVariants.{Dte, Dce}}
 use Rattle.x25_circuit.specs.{Message.{no_part, joining, carried, carried_from}, Notice.{CallRequest}}
 use Rattle.x25_handshakes.specs.{laws.Handshake.{Side, Live, Left, At, state_of}, laws.Stretch.{Packet, Stretch}, laws.Transfer.{fresh_transfer}}
 use Rattle.x25_handshakes.specs.{laws.Calls.{Phase, Talking, Connection, Stage}, laws.PeerStretch.{PeerStretch}, laws.PeerTransfer.{fresh_peer_transfer}}
 use Rattle.x25_handshakes.specs.{laws.PeerCalls.{PeerCall}, laws.Arrivals.{open_in, open_phase, open_call}}
 use Rattle.x25_handshakes.specs.laws.PeerClaims.{InEpochs, AreInOrder, StretchesAreInOrder, CallIsInOrder, ChannelIsInOrder, is_open_stage, is_open_call}
-use Rattle.x25_handshakes.specs.laws.PeerClaims.{TookAll, TookCall, TookChannel}
+use Rattle.x25_handshakes.specs.{laws.PeerClaims.{TookAll, TookCall, TookChannel}, laws.Terms.{Terms}}
 use Rattle.x25_handshakes.proofs.{StretchRelation.{pieces, ints, confs, one_if}, TextLemmas.{carried-append}, LineLemmas.{heard_least}}
 use Rattle.x25_handshakes.proofs.{HandshakeRelation.{before, past, Extended, Level, Handshake}, HandshakeLemmas.{both_fresh}, CallsRelation.{JointOf}}
 use Rattle.x25_handshakes.proofs.{ArrivalLemmas.{nothing_waits}, PeerRelation.{Kept, Kept-start}, PeerTransferLemmas.{peer_level}}
 use Rattle.x25_handshakes.proofs.{PeerCallLemmas.{PeerTalks, TalksPeer, PeerSeen}, JointLemmas.{joint_order}}
 use Rattle.x25_handshakes.proofs.PeerChannelLemmas.{peer_call_level, PeerChannelRelated}
-use Rattle.x25_handshakes.specs.laws.Terms.{Terms}
 
 -- ---- a handshake
 
@@ -31,6 +29,7 @@ module _ {S T P : Type 0} (l : Level S T P) (R : S → T → Type 0) (says : (x 
   ext_says (Live x) u v (Left y) r = says x r.0 v y r.2
   ext_says (Left x) u v (Left y) r = says x r.0 r.1 y r.2
 
+  -- what the relation says of two states holds of both ends where they are in one epoch
   pub in_epochs : (x : At S) {L K : List P} (y : At T) → Handshake l x.epoch y.epoch x.side y.side L K → InEpochs R l.fresh l.fresh_there x y
   in_epochs x {L} {K} y (inl same) = record {
     same = λ e. ext_says x.side (before l.mark L) (before l.mark K) y.side same.inner;

@@ -2,16 +2,15 @@
 use Rattle.std.proofs.Common.{◌≡◌, false, true, [], ◌∷◌, None, refl, sym, subst, arith}
 use Rattle.x25_bits.specs.declared.role.Role.TheVariants.{Dte}
 use Rattle.x25_packet.specs.Marks.{with_q}
-use Rattle.x25_circuit.specs.{Params.{default_params}, laws.ParamsLaws.{NoFieldIsKnown}}
-use Rattle.x25_circuit.specs.Message.{Last, no_part, piece_ground}
+use Rattle.x25_circuit.specs.{Params.{default_params}, laws.ParamsLaws.{NoFieldIsKnown}, Message.{Last, no_part, piece_ground}}
 use Rattle.x25_handshakes.specs.{laws.Stretch.{Data, Call, Accept, Send, Pull}, laws.Transfer.{Inside}, laws.PeerStretch.{Sends, Says}}
 use Rattle.x25_handshakes.specs.{laws.PeerTransfer.{InStretch}, laws.PeerJoined.{start, Acts, Takes, Does, Hears, ReachedInCall, at_start, goes_on}}
 use Rattle.x25_handshakes.specs.{laws.Calls.{AcceptsCall}, laws.Channel.{Within}, laws.Layers.{On, Restart, RestartConf, OnChannel}}
 use Rattle.x25_handshakes.specs.{laws.PeerCalls.{PlacesCall}, laws.PeerChannel.{InCall}, laws.PeerLayer.{InChannel}}
 use Rattle.x25_handshakes.specs.rows.PeerRows.{terms, handed_down, pulled, heard, answered, taken, acknowledged, LatePeerMoves, proposal, layer_does}
 use Rattle.x25_handshakes.specs.rows.PeerRows.{peer_hears, layer_does_itself, restarted, called, accepted, message, came, PeerLayerMoves}
-use Rattle.x25_handshakes.specs.laws.PeerLayers as layers
 use Rattle.x25_handshakes.specs.laws.Terms.{calling_terms}
+use Rattle.x25_handshakes.specs.laws.PeerLayers as layers
 
 pub late_peer_moves : LatePeerMoves
 late_peer_moves =

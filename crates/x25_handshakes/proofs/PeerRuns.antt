@@ -3,11 +3,10 @@ use Rattle.std.proofs.Common.{◌≡◌, ℕ, ◌≤◌, List, None, refl, ap, �
 use Rattle.x25_handshakes.specs.{laws.Stretch.{Packet, Stretch}, laws.Transfer.{transfer_acts, transfer_takes}}
 use Rattle.x25_handshakes.specs.laws.PeerJoined.{JoinedCall, HappensInCall, Acts, Takes, Does, Hears, Skips, ReachedInCall, at_start, goes_on}
 use Rattle.x25_handshakes.specs.{laws.PeerClaims.{WithAnyPeer, KeepsStretches, FindsNoError}, laws.Handshake.{Step, At, first_error, near_stepped}}
+use Rattle.x25_handshakes.specs.laws.Terms.{Terms}
 use Rattle.x25_handshakes.proofs.{HandshakeLemmas.{both_fresh}, PeerRelation.{Kept-start}}
 use Rattle.x25_handshakes.proofs.PeerTransferLemmas.{peer_level, KeptTransfer, GoodTransfer, GoodTransfer-acts, GoodTransfer-takes, done_kept, takes_kept}
-use Rattle.x25_handshakes.proofs.PeerTransferLemmas.{skips_kept}
-use Rattle.x25_handshakes.proofs.PeerOrder.{stretches_order}
-use Rattle.x25_handshakes.specs.laws.Terms.{Terms}
+use Rattle.x25_handshakes.proofs.{PeerTransferLemmas.{skips_kept}, PeerOrder.{stretches_order}}
 
 record Holds (t : Terms) (longest size : ℕ) (w : JoinedCall) : Type 0 where
   pub quiet : w.error ≡ None

@@ -5,14 +5,13 @@ use Rattle.x25_handshakes.specs.laws.Stretch.{Packet, Stretch, Reset, ResetConf,
 use Rattle.x25_handshakes.specs.laws.Transfer.{transfer_takes, TransferAct, transfer_acts}
 use Rattle.x25_handshakes.specs.laws.PeerStretch.{PeerStretch, fresh_peer, Deed, Sends, Says, Interrupts, Confirms, does, packet_of, taking}
 use Rattle.x25_handshakes.specs.laws.PeerTransfer.{TransferDeed, InStretch, Resets, MayDoTransfer, does_transfer, transfer_packet_of, transfer_taking}
-use Rattle.x25_handshakes.specs.laws.PeerTransfer.{IsNoReset, AreNoResets}
+use Rattle.x25_handshakes.specs.{laws.PeerTransfer.{IsNoReset, AreNoResets}, laws.Terms.{Terms}}
 use Rattle.x25_handshakes.proofs.HandshakeRelation.{Level, Handshaken, GoodStep, AllInner}
 use Rattle.x25_handshakes.proofs.TransferRelation.{own_level, OwnTransfer, GoodOwnTransfer, reset_mark, InTransfer, AllInTransfer}
 use Rattle.x25_handshakes.proofs.{OwnTransferLemmas.{OwnStretches, own_takes, own_acts, inner_mark, in_transfer}, PeerRelation.{Kept, Kept-start}}
 use Rattle.x25_handshakes.proofs.{PeerActs.{Good-acts, Good-takes}, StretchRelation.{InFlowControl}}
 use Rattle.x25_handshakes.proofs.HandshakeLemmas.{each_append, each_back, request_skips, flip, turned}
 use Rattle.x25_handshakes.proofs.{HandshakeSteps.{Answers, acts_inside, leaves, answered}, PeerDeeds.{does_kept, taking_kept}}
-use Rattle.x25_handshakes.specs.laws.Terms.{Terms}
 
 abbrev pub peer_level : Terms → ℕ → ℕ → Level Stretch PeerStretch Packet
 peer_level t longest size = own_level (Kept t longest size) fresh_peer
@@ -88,6 +87,7 @@ module _ (t : Terms) (longest size : ℕ) where
   does_good small x L K e (Live y) Resets may h = (leaves level AllInTransfer Reset refl e y tt h, (tt, tt))
   does_good small x L K e (Left y) d may h = absurd may
 
+  -- what the peer may do of its own accord keeps the transfer
   pub done_kept : t.window ≤ 7 → {x : At Stretch} {L K : List Packet} (e : ℕ) {y : Side PeerStretch} (d : TransferDeed) → MayDoTransfer longest size y d
       → KeptTransfer t longest size x L K (record { epoch = e; side = y })
       → KeptTransfer t longest size x L (K ++ transfer_packet_of y d ∷ []) (does_transfer e y d)
@@ -115,6 +115,7 @@ module _ (t : Terms) (longest size : ℕ) where
   }
   answers e (Left y) p is = (refl, refl, refl)
 
+  -- so does what the peer makes of a packet that comes
   pub takes_kept : (x : At Stretch) (p : Packet) (L K : List Packet) (e : ℕ) (y : Side PeerStretch)
       → KeptTransfer t longest size x (p ∷ L) K (record { epoch = e; side = y })
       → (let s = transfer_taking e y p in KeptTransfer t longest size x L (K ++ s.out) s.next)

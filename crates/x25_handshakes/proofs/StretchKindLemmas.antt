@@ -1,14 +1,13 @@
 -- Messages and interrupts: what belongs to a stretch is handed up as the other end handed it down in that stretch.
 use Rattle.std.proofs.Common.{◌≡◌, inl, inr, ℕ, ◌+◌, List, [], ◌∷◌, ◌++◌, length, Option, Some, None, Bool, true, false, nat_lt, nat_le, if◌then◌else◌, refl}
-use Rattle.std.proofs.Common.{sym, ap, subst, ◌∙◌, arith}
-use Rattle.std.proofs.{lemmas.List.{append-nil}, lemmas.Bool.{cond_both}}
+use Rattle.std.proofs.{Common.{sym, ap, subst, ◌∙◌, arith}, lemmas.List.{append-nil}, lemmas.Bool.{cond_both}}
 use Rattle.x25_circuit.specs.{Message.{Piece, wholes}, declared.params.Params.{Params}, Params.{Proposal, may_propose, may_answer, field_for, said_in}}
 use Rattle.x25_circuit.specs.Notice.{CallRequest}
 use Rattle.x25_bits.specs.{declared.role.Role.{Role}, declared.role.Role.TheVariants.{Dte, Dce}}
 use Rattle.x25_handshakes.proofs.{TermsLemmas.{IsSound}, HandshakeLemmas.{meets}, StretchRelation.{InFlowControl, FollowsFrom}}
-use Rattle.x25_handshakes.proofs.{TransferRelation.{stretch_level, TransfersRelated}, ChannelRelation.{clear_mark, Seen}}
-use Rattle.x25_handshakes.proofs.{OwnTransferLemmas.{inner_mark}, StretchLemmas.{GoodStretch-takes, FollowsFrom-from_Dir}, ClaimLemmas.{Seen-joint}}
-use Rattle.x25_handshakes.proofs.{HistoryLemmas.{Change, Stays, MoreResets, alike}, TurnLemmas.{MayIndicate, WithinCall, IsHandled}}
+use Rattle.x25_handshakes.proofs.{TransferRelation.{stretch_level, TransfersRelated}, ChannelRelation.{clear_mark, Seen}, OwnTransferLemmas.{inner_mark}}
+use Rattle.x25_handshakes.proofs.{StretchLemmas.{GoodStretch-takes, FollowsFrom-from_Dir}, ClaimLemmas.{Seen-joint}}
+use Rattle.x25_handshakes.proofs.{HistoryLemmas.{Change, Stays, MoreResets, IsPrefix-refl}, TurnLemmas.{MayIndicate, WithinCall, IsHandled}}
 use Rattle.x25_handshakes.specs.laws.Handshake.{Inner, Side, Live, Left, At, state_of, Step, live, left}
 use Rattle.x25_handshakes.specs.laws.Stretch.{Packet, Data, Rr, Rnr, IntConf, Reset, ResetConf, Call, Accept, Clear, ClearConf, Stretch, fresh, stretch_does}
 use Rattle.x25_handshakes.specs.laws.Stretch.{stretch_fails, StretchAct, Send, Pull, Interrupt, pulls, stretch_acts, by_ground, data_ground, ack_ground}
@@ -16,8 +15,7 @@ use Rattle.x25_handshakes.specs.laws.Stretch.{takes_data, takes_status, stretch_
 use Rattle.x25_handshakes.specs.laws.Transfer.{fresh_transfer, lifted, transfer_side_takes, transfer_takes, TransferAct, Inside, SendsReset, transfer_side_acts}
 use Rattle.x25_handshakes.specs.laws.Calls.{Phase, Unused, Waiting, Offered, Crossed, Talking, Connection, goes, unexpected, calling_talk, called_talk}
 use Rattle.x25_handshakes.specs.laws.Calls.{is_answered, accepts, phase_takes, call_takes, CallAct, PlacesCall, AcceptsCall, Talks, phase_acts}
-use Rattle.x25_handshakes.specs.laws.Histories.{Lists, none, resets_in, held_in, of_stretch, messages, interrupts, IsPrefix}
-use Rattle.x25_handshakes.specs.laws.Terms.{Terms}
+use Rattle.x25_handshakes.specs.{laws.Histories.{Lists, none, resets_in, held_in, of_stretch, messages, interrupts, IsPrefix}, laws.Terms.{Terms}}
 
 -- what has to be known of two lists of a stretch
 pub record IsKept {M : Type 0} (down up : Stretch → List M) : Type 0 where
@@ -41,7 +39,7 @@ abbrev TransferChange : {M : Type 0} → (Stretch → List M) → (Stretch → L
 TransferChange down up A e x y = Change A e x.epoch (held_of down up x) e y.epoch (held_of down up y)
 
 still : {M : Type 0} (down up : Stretch → List M) (A : List M → Type 0) (e : ℕ) (x : At Stretch) → TransferChange down up A e x x
-still down up A e x = Stays refl refl (alike (down (state_of x.side))) (inl refl)
+still down up A e x = Stays refl refl (IsPrefix-refl (down (state_of x.side))) (inl refl)
 
 lifted_taken : {M : Type 0} (down up : Stretch → List M) (A : List M → Type 0) (e s : ℕ) (x : Stretch) (st : Step Stretch Packet) (n : Option ℕ) → down st.next
     ≡ down x → A (up st.next)
@@ -136,11 +134,11 @@ lifted_acted down up t b s x st (Some n) h = (refl, h.0, h.1)
 transfer_acted : {M : Type 0} (down up : Stretch → List M) → IsKept down up → (t b : Terms) (s : ℕ) (x : Side Stretch) (a : TransferAct)
     → Acted down up (Talking t b (record { epoch = s; side = x })) (Talking t b (transfer_side_acts t s x a).next)
 transfer_acted down up k t b s (Live x) (Inside a) = lifted_acted down up t b s x (stretch_acts t x a) (stretch_acts t x a).error (k.acts t x a)
-transfer_acted down up k t b s (Live x) SendsReset = (refl, alike (down x), refl)
-transfer_acted down up k t b s (Left x) a = (refl, alike (down x), refl)
+transfer_acted down up k t b s (Live x) SendsReset = (refl, IsPrefix-refl (down x), refl)
+transfer_acted down up k t b s (Left x) a = (refl, IsPrefix-refl (down x), refl)
 
 unmoved : {M : Type 0} (down up : Stretch → List M) (a : Phase) → Acted down up a a
-unmoved down up a = (refl, alike (held_in down up a).down, refl)
+unmoved down up a = (refl, IsPrefix-refl (held_in down up a).down, refl)
 
 accepted : {M : Type 0} (down up : Stretch → List M) → IsKept down up → (theirs : Params) (m i : List CallRequest) (answer : Option Proposal) (most : ℕ)
     → Acted down up (Offered theirs) (accepts theirs m i answer most).next.phase
@@ -197,25 +195,27 @@ if_quiet true h g = h
 if_quiet false h g = g
 
 none_done : (x : Stretch) → Quiet x (stretch_does x [])
-none_done x = record { messages = (alike x.down, refl); interrupts = (alike x.int_down, refl) }
+none_done x = record { messages = (IsPrefix-refl x.down, refl); interrupts = (IsPrefix-refl x.int_down, refl) }
 
 pulled : (t : Terms) (x : Stretch) (ps : List Piece) → Quiet x (pulls t x ps)
 pulled t x [] = none_done x
 pulled t x (p ∷ ps) =
     if_quiet x.peer_ready (if_quiet (nat_lt (length x.sent) (x.acked + t.window))
-    (record { messages = (alike x.down, refl); interrupts = (alike x.int_down, refl) }) (none_done x)) (none_done x)
+    (record { messages = (IsPrefix-refl x.down, refl); interrupts = (IsPrefix-refl x.int_down, refl) }) (none_done x)) (none_done x)
 
 acted : (t : Terms) (x : Stretch) (a : StretchAct) → Quiet x (stretch_acts t x a)
 acted t x (Send q xs) =
     if_quiet (nat_le (length xs) t.longest)
-    (if_quiet (nat_lt (wholes x.rest) 8) (record { messages = ((record { marks = q; user = xs } ∷ [], refl), refl); interrupts = (alike x.int_down, refl) })
+    (if_quiet (nat_lt (wholes x.rest) 8)
+    (record { messages = ((record { marks = q; user = xs } ∷ [], refl), refl); interrupts = (IsPrefix-refl x.int_down, refl) })
     (none_done x)) (none_done x)
 acted t x Pull = pulled t x x.rest
 acted t x (Interrupt xs) =
     if_quiet (nat_le 1 (length xs))
-    (if_quiet (nat_le (length xs) 32) (if_quiet x.int_out (none_done x) (record { messages = (alike x.down, refl); interrupts = ((xs ∷ [], refl), refl) }))
+    (if_quiet (nat_le (length xs) 32) (if_quiet x.int_out (none_done x)
+    (record { messages = (IsPrefix-refl x.down, refl); interrupts = ((xs ∷ [], refl), refl) }))
     (none_done x)) (none_done x)
-acted t x a = record { messages = (alike x.down, refl); interrupts = (alike x.int_down, refl) }
+acted t x a = record { messages = (IsPrefix-refl x.down, refl); interrupts = (IsPrefix-refl x.int_down, refl) }
 
 pub messages_handled : IsHandled messages
 messages_handled = handled (record {

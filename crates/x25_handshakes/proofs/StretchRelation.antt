@@ -3,8 +3,8 @@ use Rattle.std.proofs.Common.{◌≡◌, ℕ, ◌+◌, ◌%◌, ◌≤◌, List,
 use Rattle.x25_circuit.specs.{declared.message.Message.{Message}, Message.{Piece, no_part, joining, carried, AreSound}}
 use Rattle.x25_window.specs.code.Modulo.{resolved}
 use Rattle.x25_handshakes.specs.{laws.Stretch.{Packet, Data, Rr, Rnr, Int, IntConf, Stretch}, laws.Histories.{IsPrefix}, laws.Handshake.{Step}}
-use Rattle.x25_handshakes.proofs.HandshakeRelation.{Each}
 use Rattle.x25_handshakes.specs.laws.Terms.{Terms}
+use Rattle.x25_handshakes.proofs.HandshakeRelation.{Each}
 
 -- a data packet's number and what it carries
 pub record Numbering : Type 0 where

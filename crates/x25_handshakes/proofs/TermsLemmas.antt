@@ -1,10 +1,8 @@
 -- Proposals and answers give sound terms.
 use Rattle.std.proofs.Common.{◌≡◌, ℕ, ◌≤◌, true, arith}
-use Rattle.x25_circuit.specs.declared.params.Params.{Params}
+use Rattle.x25_circuit.specs.{declared.params.Params.{Params}, Params.{Proposal, may_propose, may_answer, field_for, said_in}, laws.ParamsLaws.{AreTerms}}
+use Rattle.x25_handshakes.specs.{laws.LawsBelow.{Laws}, laws.Terms.{Terms, with_longest, called_terms, calling_terms}}
 use Rattle.x25_circuit.specs.Params as agreed
-use Rattle.x25_circuit.specs.{Params.{Proposal, may_propose, may_answer, field_for, said_in}, laws.ParamsLaws.{AreTerms}}
-use Rattle.x25_handshakes.specs.laws.LawsBelow.{Laws}
-use Rattle.x25_handshakes.specs.laws.Terms.{Terms, with_longest, called_terms, calling_terms}
 
 -- of one direction: one to seven packets unacknowledged, and at least one octet in a packet
 pub record IsSound (t : Terms) : Type 0 where

@@ -1,7 +1,7 @@
 -- Laws of packets and messages.
 use Rattle.std.proofs.Common.{◌≡◌, ℕ, zero, suc, ◌+◌, ◌<◌, ◌≤◌, List, [], ◌∷◌, ◌++◌, length, Some, None, Bool, true, false, nat_le, refl, sym, ap, ◌∙◌, arith}
-use Rattle.std.proofs.Common.{append_assoc, length-append, take, drop}
-use Rattle.std.proofs.{lemmas.Grind.{common_steps}, lemmas.Bool.{le-leb, cond_both}, lemmas.Bool.Decides.{nat_tests}, lemmas.List.{take-append-drop}}
+use Rattle.std.proofs.{Common.{append_assoc, length-append, take, drop}, lemmas.Grind.{common_steps}, lemmas.Bool.{le-leb, cond_both}}
+use Rattle.std.proofs.{lemmas.Bool.Decides.{nat_tests}, lemmas.List.{take-append-drop}}
 use Rattle.x25_packet.specs.{declared.marks.Marks.{Marks}, Marks.{with_q}}
 use Rattle.x25_circuit.specs.Message.{Piece, More, Last, Partial, no_part, joined, joining, completed, carried_from, same_q, may_have_q, ground_of, AreSound}
 use Rattle.x25_circuit.specs.Message.{cut_from}

@@ -1,9 +1,8 @@
 -- What is kept of two circuits in p4.
 use Rattle.std.proofs.Common.{◌≡◌, List, ◌++◌, None}
 use Rattle.x25_handshakes.specs.laws.Handshake.{Mark, Inner, Request, Confirm, At, Step}
-use Rattle.x25_handshakes.specs.laws.Stretch.{Packet, Reset, ResetConf, Call, Accept, Clear, ClearConf, Stretch, fresh}
+use Rattle.x25_handshakes.specs.{laws.Stretch.{Packet, Reset, ResetConf, Call, Accept, Clear, ClearConf, Stretch, fresh}, laws.Terms.{Terms}}
 use Rattle.x25_handshakes.proofs.{HandshakeRelation.{Level, Handshake, Each}, StretchRelation.{StretchesRelated}}
-use Rattle.x25_handshakes.specs.laws.Terms.{Terms}
 
 abbrev pub reset_mark : Packet → Mark
 reset_mark Reset = Request

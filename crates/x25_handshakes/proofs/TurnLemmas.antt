@@ -11,7 +11,7 @@ use Rattle.x25_handshakes.specs.laws.Layers.{LayerPacket, On, RestartConf, Chann
 use Rattle.x25_handshakes.specs.{laws.Names.{Name}, laws.Histories.{Lists, none, Kind, circuit_at, name_at, channel_view, IsPrefix}}
 use Rattle.x25_handshakes.proofs.{HandshakeLemmas.{meets}, ChannelRelation.{clear_mark, Seen, connection_level, ChannelRelated}}
 use Rattle.x25_handshakes.proofs.{LayersRelation.{on, channels_level, LayersRelated, EndsRelated}, OwnLayerLemmas.{on-front}, NameLemmas.{name_eq}}
-use Rattle.x25_handshakes.proofs.HistoryLemmas.{Change, Stays, MoreResets, MoreClears, Turn, Remained, Restarted, MayHandUp, alike}
+use Rattle.x25_handshakes.proofs.HistoryLemmas.{Change, Stays, MoreResets, MoreClears, Turn, Remained, Restarted, MayHandUp, IsPrefix-refl}
 
 -- what may be handed up in a call, where the other end stands in y
 abbrev pub MayIndicate : {M : Type 0} → Kind M → Connection → Connection → List M → Type 0
@@ -35,7 +35,7 @@ ChannelChange kind A x y = Change A x.epoch (kind.resets (state_of x.side)) (kin
     (kind.held (state_of y.side))
 
 still : {M : Type 0} (kind : Kind M) (A : List M → Type 0) (z : At Connection) → ChannelChange kind A z z
-still kind A z = Stays refl refl (alike (kind.held (state_of z.side)).down) (inl refl)
+still kind A z = Stays refl refl (IsPrefix-refl (kind.held (state_of z.side)).down) (inl refl)
 
 change_map : {M : Type 0} (A B : List M → Type 0) (c s : ℕ) (l : Lists M) (c₂ s₂ : ℕ) (l₂ : Lists M) → (A l₂.up → B l₂.up) → Change A c s l c₂ s₂ l₂
     → Change B c s l c₂ s₂ l₂

@@ -4,10 +4,12 @@ use Rattle.x25_link.specs.{declared.error.LinkError.{LinkError}, Station.{Settin
 use Rattle.x25_link.specs.Link.{timer_refusal, connect_refusal, disconnect_refusal}
 use Rattle.x25_line.specs.laws.Stations.{Act, T1, Connect, Disconnect, Abandon, Probe, unless, own_act}
 
+-- what holds of w, and of v where nothing is refused, holds whichever of the two comes
 pub unless_by : {W : Type 0} (Q : W → Type 0) (o : Option LinkError) {w v : W} → Q w → (o ≡ None → Q v) → Q (unless o w v)
 unless_by Q (Some e) h k = h
 unless_by Q None h k = k refl
 
+-- so it does where a condition decides
 pub if_by : {W : Type 0} (Q : W → Type 0) (b : Bool) {w v : W} → Q w → (b ≡ true → Q v) → Q (if b then v else w)
 if_by Q true h k = k refl
 if_by Q false h k = h

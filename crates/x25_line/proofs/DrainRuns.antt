@@ -98,10 +98,6 @@ heavier back (suc i) n m h = omega (
   most_heavier back i (grown back m) (grown back n) (omega (arith, h, times_more (8 * back) m n (omega (arith, h)))),
 )
 
--- as long as nothing changes
-falls_on : (back j i n m : ℕ) → j ≤ i → m + 1 ≤ n → most back j m + 1 ≤ most back i n
-falls_on back j i n m le less = omega (arith, most_more back j i m le, heavier back i n m less)
-
 -- a change
 falls_by : (back j i n m : ℕ) → j + 1 ≤ i → m ≤ grown back n → most back j m + 1 ≤ most back i n
 falls_by back j zero n m le high = absurd (omega (arith, le))
@@ -218,15 +214,19 @@ module _ (reads : ReadsSpelled) {c d : Settings} (joined : AreJoined c d) (back 
       by : GoesOn back low (read_weight back low read) s (take_step c o s).side
           ⊎ Changes back low (read_weight back low read) (asks_in read) s (take_step c o s).side → at_most back c d v + 1 ≤ at_most back c d w
       by (inl g) =
-          falls_on back (to_change c d v) (to_change c d w) (heap back c d w) (heap back c d v) (omega (arith, g.changes, asks_is, asked))
-          (omega (
+          omega (
             arith,
-            g.load,
-            out_is,
-            came,
-            (ap (λ m. line_weight back m (other d.role) d.longest w.out) g.acked),
-            ap (λ m. station_weight back m w.far.station) g.acked,
-          ))
+            most_more back (to_change c d v) (to_change c d w) (heap back c d v) (omega (arith, g.changes, asks_is, asked)),
+            heavier back (to_change c d w) (heap back c d w) (heap back c d v)
+                (omega (
+                  arith,
+                  g.load,
+                  out_is,
+                  came,
+                  (ap (λ m. line_weight back m (other d.role) d.longest w.out) g.acked),
+                  ap (λ m. station_weight back m w.far.station) g.acked,
+                )),
+          )
       by (inr g) =
           let some : 2 ≤ back = omega (arith, enough.near) in
           falls_by back (to_change c d v) (to_change c d w) (heap back c d w) (heap back c d v) (omega (arith, g.fewer, asks_is, asked))

@@ -1,8 +1,7 @@
 -- What octets that come make of a station: it weighs less with what it sends; or it changes its session or hears a new number, of
 -- which there are only so many.
 use Rattle.std.proofs.Common.{◌≡◌, ℕ, suc, zero, ◌+◌, ◌-◌, ◌*◌, ◌%◌, ◌<◌, ◌≤◌, List, [], ◌∷◌, ◌⊎◌, inl, inr, length, max, Bool, true, false, if◌then◌else◌}
-use Rattle.std.proofs.Common.{Result, Ok, Err, refl, sym, ap, subst, arith}
-use Rattle.std.proofs.lemmas.Bool.{leb-true, eqb-true, eqb-false}
+use Rattle.std.proofs.{Common.{Result, Ok, Err, refl, sym, ap, subst, arith}, lemmas.Bool.{leb-true, eqb-true, eqb-false}}
 use Rattle.std.specs.Prelude.{◌==◌, ◌&&◌}
 use Rattle.x25_link.proofs.EndLemmas.{true_false}
 use Rattle.x25_frame.specs.{Frame.{PlainFrame, info, rr, rnr, rej, sabm, disc, ua, dm, frmr}, Spelling.{is_command, poll_or_final}, Reading.{frame_of}}
@@ -10,8 +9,7 @@ use Rattle.x25_frame.specs.{declared.error.FrameError.{FrameError}, declared.err
 use Rattle.x25_link.specs.{declared.phase.Phase.{Phase}, declared.phase.Phase.TheVariants.{Down, Waiting, Up, Closed}}
 use Rattle.x25_link.specs.Station.{Settings, LinkStation, Side, with_nothing, sends, ended}
 use Rattle.x25_link.specs.Hearing.{Step, quiet, other, is_valid, acknowledged, hears_info, peer_is, goes_back, polls, numbered, rejects, reject_of}
-use Rattle.x25_link.specs.Hearing.{row_of_frame, row_of}
-use Rattle.x25_link.specs.{Link.{alone, hears, declines, when_down, when_waiting, take_step}, laws.AnswerLaw.{heard}}
+use Rattle.x25_link.specs.{Hearing.{row_of_frame, row_of}, Link.{alone, hears, declines, when_down, when_waiting, take_step}, laws.AnswerLaw.{heard}}
 use Rattle.x25_line.proofs.StationSends.{AllWithin}
 use Rattle.x25_line.proofs.DrainWeights.{more_if, times_more, seven_times, ready_weight, rej_weight, weight, read_weight, weights, to_take, station_weight}
 use Rattle.x25_line.proofs.DrainWeights.{asks_set_up, IsSpelled, AreSpelled, Weighs, W-sends, W-ended, W-info, W-peer, W-polls, W-rej}
@@ -308,9 +306,9 @@ module _ (c : Settings) (n1 back low : ℕ) (s : LinkStation) (small : c.window 
   hears_took octets (Ok f) Down is = down_took f is
   hears_took octets (Ok f) Waiting is = waiting_took f is
   hears_took octets (Ok f) Closed is = declined f
-  hears_took octets (Err e) p is = (goes_on 1 0 (omega arith) begins)
+  hears_took octets (Err e) p is = goes_on 1 0 (omega arith) begins
 
+  -- what octets that come make of a station, in any phase
   pub took : (octets : List ℕ) (r : Result PlainFrame FrameError) → frame_of (other c.role) c.longest octets ≡ r
       → Took n1 back low (read_weight back low r) (asks_in r) s (take_step c octets s).side
-  took octets r is =
-      rw (sym is) (hears_took octets (frame_of (other c.role) c.longest octets) s.phase refl)
+  took octets r is = rw (sym is) (hears_took octets (frame_of (other c.role) c.longest octets) s.phase refl)

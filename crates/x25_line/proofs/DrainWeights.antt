@@ -1,14 +1,12 @@
 -- What comes to a station weighs more than what it brings, as long as the station stays in its phase and hears no new number.
 use Rattle.std.proofs.Common.{◌≡◌, ℕ, suc, zero, ◌+◌, ◌-◌, ◌*◌, ◌%◌, ◌<◌, ◌≤◌, List, [], ◌∷◌, ◌++◌, length, Bool, true, false, not, if◌then◌else◌, Result, Ok}
-use Rattle.std.proofs.Common.{Err, refl, sym, ap, subst, arith, length-append}
-use Rattle.std.proofs.lemmas.Bool.{eqb-true, eqb-false, and_parts, not-true}
+use Rattle.std.proofs.{Common.{Err, refl, sym, ap, subst, arith, length-append}, lemmas.Bool.{eqb-true, eqb-false, and_parts, not-true}}
 use Rattle.std.specs.Prelude.{◌==◌, slice_index_or}
 use Rattle.x25_frame.specs.{Frame.{PlainFrame, info, rr, rnr, rej, sabm, disc}, Spelling.{information_of, IsInRange, MayCarry, IsWithin}}
 use Rattle.x25_frame.specs.declared.error.FrameError.{FrameError}
 use Rattle.x25_link.specs.declared.phase.Phase.{Phase}
 use Rattle.x25_link.specs.Station.{LinkStation, Side, is_up, is_busy, wanted, with_near, sends, ready, next_frame, send_next, may_send, pumped, owes_ready}
-use Rattle.x25_link.specs.Station.{finished, ended}
-use Rattle.x25_link.specs.Hearing.{Step, is_taken, takes, answers, rejects_gap, passes_over, hears_info, peer_is, goes_back, polls}
+use Rattle.x25_link.specs.{Station.{finished, ended}, Hearing.{Step, is_taken, takes, answers, rejects_gap, passes_over, hears_info, peer_is, goes_back, polls}}
 use Rattle.x25_link.proofs.EndLemmas.{open_is}
 use Rattle.x25_line.specs.laws.StationClaims.{Each}
 use Rattle.x25_line.proofs.{Lists.{each_append}, StationSends.{AllWithin}}
@@ -307,8 +305,8 @@ module _ (n1 k back low a top : ℕ) (gs : List (List ℕ)) (p : Phase) (small :
   W-info n ns q x t h =
       let extra = more_if (8 * back) (ns == (low + 7) % 8) in
       side_if (n + more_if back q + extra + 2) (is_taken ns t.near) _ _
-      (λ is. (W-more (n + more_if back q + extra + 2) (omega arith)
-      (W-answers q (W-takes n ns x t (eqb-true ns (wanted t.near) (and_parts (not (is_busy t.near)) _ is).1) h))))
+      (λ is. W-more (n + more_if back q + extra + 2) (omega arith)
+      (W-answers q (W-takes n ns x t (eqb-true ns (wanted t.near) (and_parts (not (is_busy t.near)) _ is).1) h)))
       (λ _. W-more (n + more_if back q + extra + 2) (omega arith) (W-passes_over n q t h))
 
   -- ---- RR, RNR and REJ

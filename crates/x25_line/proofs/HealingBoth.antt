@@ -8,8 +8,8 @@ use Rattle.x25_link.specs.{declared.error.LinkError.{LinkError}, Link.{take_step
 use Rattle.x25_link.specs.laws.BusyLaw.{BusyLaws}
 use Rattle.x25_link.proofs.EndLemmas.{busy_is}
 use Rattle.x25_line.specs.laws.Stations.{Deliver, T1, LinkEvent, Near, Far}
-use Rattle.x25_line.specs.laws.Sessions.{Entry, Sessions, begun_by, delivered, acts, swapped, after_step, unless, run}
-use Rattle.x25_line.specs.{laws.StationClaims.{AreJoined}, Healing.{IsDelivery, HasTries, OneIsFree}, laws.LawsBelow.{HealingLaws}, laws.SessionClaims.{Each}}
+use Rattle.x25_line.specs.{laws.Sessions.{Entry, Sessions, begun_by, delivered, acts, swapped, after_step, unless, run}, laws.StationClaims.{AreJoined}}
+use Rattle.x25_line.specs.{Healing.{IsDelivery, HasTries, OneIsFree}, laws.LawsBelow.{HealingLaws}, laws.SessionClaims.{Each}}
 use Rattle.x25_line.proofs.{StationSteps.{not_both}, StationRuns.{joined_swapped}, HealingLines.{Reads, reads_none, Reports, NoFinal}}
 use Rattle.x25_line.proofs.HealingSteps.{Reached, then_happens, timely_up, Sound, sound_swapped, sound_at, in_order_at, SentWhole, whole_at, IsDrained, counted}
 use Rattle.x25_line.proofs.HealingSteps.{all_heard, hears_well, deliveries_keep, reads_put}

@@ -1,7 +1,6 @@
 -- Whatever the two ends are at a quiet moment, once both have fired and all has come each is at rest or not Up.
 use Rattle.std.proofs.Common.{◌≡◌, List, [], ◌∷◌, ◌⊎◌, inl, inr, length, Bool, true, false, if◌then◌else◌, ℕ, suc, ◌<◌, Some, None, refl, sym, ap, ◌∙◌, subst}
-use Rattle.std.proofs.Common.{arith}
-use Rattle.std.proofs.lemmas.Bool.{ltb-true, ltb-false}
+use Rattle.std.proofs.{Common.{arith}, lemmas.Bool.{ltb-true, ltb-false}}
 use Rattle.std.specs.Prelude.{nat_lt}
 use Rattle.x25_frame.specs.{Frame.{PlainFrame, sabm}, laws.ReadingLaw.{ReadsSpelled}}
 use Rattle.x25_link.specs.{declared.phase.Phase.{Phase}, declared.phase.Phase.TheVariants.{Down, Waiting, Up}, declared.phase.Reason.TheVariants.{Retries}}
@@ -122,7 +121,7 @@ module _ (c d : Settings) (joined : AreJoined c d) (reads : ReadsSpelled) (laws 
         (laws.sessions.laws.window.timer c s (record { up = up; sound = h.sound up })) in
         let none_left = ltb-false _ _ over in
         fires running refl follows.frames tt
-        (inr (record { had_none = λ has. (omega (arith, has.tries running, none_left)); is = out (subst IsOut (sym follows.phase) tt) }))
+        (inr (record { had_none = λ has. omega (arith, has.tries running, none_left); is = out (subst IsOut (sym follows.phase) tt) }))
 
     up_fires : IsInOrderIfUp c w.near → is_up s.phase ≡ true → (b : Bool) → timer_runs s.phase s ≡ b → HasFired c d w (acts c T1 w)
     up_fires h up true running = up_runs h up running (nat_lt s.tries c.retries) refl

@@ -1,8 +1,7 @@
 -- How an end heals after its firing, where one of the two may be busy, told of two stations and the frames between them. Its poll is on the line, then
 -- the answer; then what isn't acknowledged goes again, or waits until the other end is heard to be busy no more.
 use Rattle.std.proofs.Common.{◌≡◌, ℕ, ◌+◌, ◌%◌, ◌≤◌, List, [], ◌∷◌, ◌++◌, ◌⊎◌, inl, inr, length, max, Bool, true, false, if◌then◌else◌, Ok, None, refl, sym, ap}
-use Rattle.std.proofs.Common.{◌∙◌, subst, arith, length-append}
-use Rattle.std.proofs.lemmas.Bool.{ltb-false, le-ltb, eq-eqb}
+use Rattle.std.proofs.{Common.{◌∙◌, subst, arith, length-append}, lemmas.Bool.{ltb-false, le-ltb, eq-eqb}}
 use Rattle.std.specs.Prelude.{not}
 use Rattle.x25_frame.specs.{Frame.{PlainFrame, info, rr, rnr, rej}, Reading.{frame_of}}
 use Rattle.x25_link.specs.{Station.{Settings, LinkStation, is_up, is_busy, wanted}, Hearing.{Step, other, is_valid, is_taken}, Link.{take_step}}
@@ -451,7 +450,7 @@ module _ (c : Settings) (laws : HealingLaws) (busy_laws : BusyLaws) (octets : Li
   -- ---- the same frame, for the phase of the other end
 
   pub stays_free : step.notes ≡ record { down = None; up = false } → is_busy s ≡ false → is_busy z ≡ false
-  stays_free quiet free = (le-ltb _ _ (omega (arith, ltb-false _ _ free, (laws.sessions.continues c octets s).waits quiet)))
+  stays_free quiet free = le-ltb _ _ (omega (arith, ltb-false _ _ free, (laws.sessions.continues c octets s).waits quiet))
 
   -- it neither asks nor carries anything
   record Plain : Type 0 where

@@ -1,12 +1,11 @@
 -- Packets are put while an end heals: in recovery they wait, and behind it each goes in order, as one I frame more at the end of the line.
 use Rattle.std.proofs.Common.{◌≡◌, ℕ, ◌+◌, ◌≤◌, List, [], ◌∷◌, ◌++◌, inl, inr, length, Bool, true, false, if◌then◌else◌, Option, Some, None, refl, sym, ap, ◌∙◌}
-use Rattle.std.proofs.Common.{subst, arith, length-append}
-use Rattle.std.proofs.lemmas.Bool.{lt-ltb, le-ltb, ltb-false}
+use Rattle.std.proofs.{Common.{subst, arith, length-append}, lemmas.Bool.{lt-ltb, le-ltb, ltb-false}}
 use Rattle.std.specs.Prelude.{nat_le}
 use Rattle.x25_frame.specs.{Frame.{PlainFrame}, laws.ReadingLaw.{ReadsSpelled}}
 use Rattle.x25_link.specs.{declared.error.LinkError.{LinkError}, Outgoing.{waits, is_open}}
-use Rattle.x25_link.specs.{Station.{Settings, LinkStation, Side, is_up, is_busy, may_send, send_next}, Hearing.{Step, other}}
-use Rattle.x25_link.specs.{Link.{put_step, put_refusal}, laws.AnswerLaw.{AreNext}, laws.BusyLaw.{Says, BusyLaws}}
+use Rattle.x25_link.specs.{Station.{Settings, LinkStation, Side, is_up, is_busy, may_send, send_next}, Hearing.{Step, other}, Link.{put_step, put_refusal}}
+use Rattle.x25_link.specs.{laws.AnswerLaw.{AreNext}, laws.BusyLaw.{Says, BusyLaws}}
 use Rattle.x25_link.proofs.EndLemmas.{open_is, closed_is, with_packet, put_once, busy_is}
 use Rattle.x25_line.specs.{laws.Stations.{Put, Deliver, LinkEvent, Near, Far}, laws.Sessions.{Sessions, after_step, unless, acts, swapped, run}}
 use Rattle.x25_line.specs.{laws.StationClaims.{AreJoined}, laws.HealingPuts.{IsDeliveryOrPut, AreFree, SessionsFreeThroughout}, laws.SessionClaims.{Each}}
@@ -204,7 +203,7 @@ module _ (reads : ReadsSpelled) (laws : HealingLaws) (busy_laws : BusyLaws) wher
       far_on = ap (λ e. is_up e.station.phase) p.far ∙ h.far.up
 
       before : AreFree v.near.station v.far.station → AreFree w.near.station w.far.station
-      before free = (((le-ltb _ _ (omega (arith, ltb-false _ _ free.0, p.given.grows)))), ap (λ e. is_busy e.station) (sym p.far) ∙ free.1)
+      before free = ((le-ltb _ _ (omega (arith, ltb-false _ _ free.0, p.given.grows))), ap (λ e. is_busy e.station) (sym p.far) ∙ free.1)
 
       heals : (n m : ℕ) → HealsBoth n m c d w → AreFree v.near.station v.far.station → HealsBoth n m c d v
       heals n m b free =

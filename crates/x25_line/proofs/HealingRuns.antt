@@ -4,11 +4,10 @@ use Rattle.std.proofs.lemmas.Bool.{and_right}
 use Rattle.std.specs.Prelude.{nat_lt}
 use Rattle.x25_frame.specs.Reading.{frame_of}
 use Rattle.x25_link.specs.{declared.phase.Phase.{Phase}, declared.phase.Phase.TheVariants.{Down, Up}, declared.phase.Reason.TheVariants.{Retries}}
-use Rattle.x25_link.specs.{Station.{Settings, LinkStation, Side, is_busy, with_near, with_nothing, fresh, ended}}
-use Rattle.x25_link.specs.{Hearing.{Step, quiet, leaves, other}, Link.{alone, puts, fires, asks_again, connects, disconnects, take_step}}
-use Rattle.x25_link.specs.{laws.LinkLaws.{ended_lists}, laws.RestLaw.{HasSaidAll}}
-use Rattle.x25_line.specs.{laws.Stations.{LinkEvent, Near, Far}, laws.Sessions.{Sessions, acts, swapped, run, IsStart}}
-use Rattle.x25_line.specs.{laws.StationClaims.{AreJoined}, laws.LawsBelow.{HealingLaws}}
+use Rattle.x25_link.specs.{Station.{Settings, LinkStation, Side, is_busy, with_near, with_nothing, fresh, ended}, Hearing.{Step, quiet, leaves, other}}
+use Rattle.x25_link.specs.{Link.{alone, puts, fires, asks_again, connects, disconnects, take_step}, laws.LinkLaws.{ended_lists}, laws.RestLaw.{HasSaidAll}}
+use Rattle.x25_line.specs.{laws.Stations.{LinkEvent, Near, Far}, laws.Sessions.{Sessions, acts, swapped, run, IsStart}, laws.StationClaims.{AreJoined}}
+use Rattle.x25_line.specs.laws.LawsBelow.{HealingLaws}
 use Rattle.x25_line.proofs.{StationSends.{AllWithin, within_push}, DrainSteps.{took}, sessions.Acts.{Keeps, act_stays}}
 
 run_stays : {c d : Settings} {P Q : LinkStation → Type 0} → Keeps c P → Keeps d Q → (es : List LinkEvent) (w : Sessions) → P w.near.station → Q w.far.station
@@ -76,6 +75,7 @@ module _ (laws : HealingLaws) where
       let up : IsFit k n1 fresh = record { said = record { low = omega arith; settled = and_right (nat_lt 0 (0 + k)) _ refl; calm = refl }; within = tt } in
       subst (λ w. IsFit k n1 w.near.station × IsFit k n1 w.far.station) (sym is) (up, up)
 
+  -- after any events both stations have said all that they may, and hold no packet that is too long
   pub fit_from : {c d : Settings} → AreJoined c d → {begin : Sessions} → IsStart begin → (events : List LinkEvent)
       → (let w = run c d events begin in IsFit c.window d.longest w.near.station × IsFit d.window c.longest w.far.station)
   fit_from {c} {d} joined {begin} is events =

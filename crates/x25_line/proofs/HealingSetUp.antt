@@ -7,16 +7,14 @@ use Rattle.x25_frame.specs.{Frame.{PlainFrame, info, rr, rnr, rej, sabm, disc, u
 use Rattle.x25_frame.specs.laws.ReadingLaw.{ReadsSpelled}
 use Rattle.x25_link.specs.{declared.phase.Phase.{Phase}, declared.phase.Phase.TheVariants.{Down, Waiting, Up, Closed}, Outgoing.{waits}}
 use Rattle.x25_link.specs.Station.{Settings, LinkStation, Side, is_up, is_busy, wanted, with_nothing, fresh, sends, ready, may_send, owes_ready, finished}
-use Rattle.x25_link.specs.Station.{ended}
-use Rattle.x25_link.specs.Hearing.{Step, quiet, other, is_valid, acknowledged, peer_is, polls, rejects, row_of_frame}
+use Rattle.x25_link.specs.{Station.{ended}, Hearing.{Step, quiet, other, is_valid, acknowledged, peer_is, polls, rejects, row_of_frame}}
 use Rattle.x25_link.specs.{Link.{alone, hears, declines, when_down, when_waiting, take_step, timer_runs}, laws.SetUp.{waiting_after, waiting_sends}}
 use Rattle.x25_link.specs.{laws.WindowLaw.{IsOut}, laws.RestLaw.{IsAtRest}, laws.AnswerLaw.{says, asks}}
 use Rattle.x25_link.proofs.EndLemmas.{none_open, not_open, pumped_stays}
 use Rattle.x25_line.specs.{laws.Stations.{Deliver, LinkEvent}, laws.Sessions.{Entry, Meeting, Sessions, begun_by, after_step, delivered, acts, swapped, run}}
 use Rattle.x25_line.specs.{laws.StationClaims.{AreJoined, IsWhole, AreWhole}, Healing.{IsDelivery}, laws.SessionClaims.{Each}, laws.LawsBelow.{HealingLaws}}
 use Rattle.x25_line.proofs.{Lists.{each_append}, DrainWeights.{below_eight}, StationSteps.{not_both, out_not_up}, StationRuns.{joined_swapped}}
-use Rattle.x25_line.proofs.HealingLines.{Reads}
-use Rattle.x25_line.proofs.{HealingSteps.{IsDrained, deliveries_keep, reads_put}, StationAway.{up_takes_part, is_up_phase}}
+use Rattle.x25_line.proofs.{HealingLines.{Reads}, HealingSteps.{IsDrained, deliveries_keep, reads_put}, StationAway.{up_takes_part, is_up_phase}}
 
 -- an end is at rest, or not Up
 abbrev pub RestsOrOut : LinkStation → Type 0
@@ -192,9 +190,7 @@ calm_hears c octets f s h is Closed phase = calm_declines f s (ap is_up phase)
 
 calm_takes : (c : Settings) (octets : List ℕ) (f : PlainFrame) (s : LinkStation) → frame_of (other c.role) c.longest octets ≡ Ok f → IsOfSetUp f
     → IsBlankOrOff s → IsCalm (take_step c octets s).side
-calm_takes c octets f s read is h =
-    calm_ended c.window
-    (rw read (calm_hears c octets f s h is s.phase refl))
+calm_takes c octets f s read is h = calm_ended c.window (rw read (calm_hears c octets f s h is s.phase refl))
 
 -- ---- two ends of which not both go on, and the frames between them
 

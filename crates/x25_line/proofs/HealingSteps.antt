@@ -7,11 +7,10 @@ use Rattle.x25_link.specs.{Station.{Settings, LinkStation, is_up}, Hearing.{othe
 use Rattle.x25_link.specs.{laws.WindowMachine.{Shows, ShowAll}, laws.WindowLaw.{IsSound}, laws.RestLaw.{HasSaidAll}, laws.AnswerLaw.{heard}}
 use Rattle.x25_line.specs.laws.StationClaims.{AreJoined, number_in, AreWhole}
 use Rattle.x25_line.specs.laws.Sessions.{Entry, SessionEnd, Sessions, sent_in, IsStart, after_step, acts, swapped, happens, run, IsTimely, IsTimelyAt}
-use Rattle.x25_line.specs.laws.Sessions.{AreTimely}
-use Rattle.x25_line.specs.{laws.SessionClaims.{Each, Throughout}, Healing.{IsDelivery}, laws.LawsBelow.{HealingLaws}, laws.Line.{Line, line_swapped}}
-use Rattle.x25_line.specs.laws.Stations.{Deliver, T1, LinkEvent, Near, Far}
+use Rattle.x25_line.specs.{laws.Sessions.{AreTimely}, laws.SessionClaims.{Each, Throughout}, Healing.{IsDelivery}, laws.LawsBelow.{HealingLaws}}
+use Rattle.x25_line.specs.{laws.Line.{Line, line_swapped}, laws.Stations.{Deliver, T1, LinkEvent, Near, Far}}
 use Rattle.x25_line.proofs.{Kept.{Kept, Kept-swapped, Way, hears_valid, Way-acked, resolved_is}, Frames.{Acks-le}, StationLines.{front_of, consed}}
-use Rattle.x25_line.proofs.{StationSteps.{AsUp, not_both}, sessions.SessionLines.{numbers}, sessions.SessionActs.{in_session}}
+use Rattle.x25_line.proofs.{StationSteps.{AsUp, not_both}, sessions.SessionLines.{numbers}, sessions.SessionActs.{up_in_session}}
 use Rattle.x25_line.proofs.{sessions.SessionRuns.{HeldOf, held_swapped, throughout}, HealingRuns.{fit_from}, HealingLines.{Reads, reads_more}}
 
 -- ---- worlds that events lead to
@@ -23,21 +22,22 @@ pub record Reached (c d : Settings) (w : Sessions) : Type 0 where
   pub timely : AreTimely c d events begin
   pub is : run c d events begin ≡ w
 
-run_append : (c d : Settings) (es fs : List LinkEvent) (w : Sessions) → run c d (es ++ fs) w ≡ run c d fs (run c d es w)
-run_append c d [] fs w = refl
-run_append c d (e ∷ es) fs w = run_append c d es fs (happens c d e w)
+pub links_append : (c d : Settings) (es fs : List LinkEvent) (w : Sessions) → run c d (es ++ fs) w ≡ run c d fs (run c d es w)
+links_append c d [] fs w = refl
+links_append c d (e ∷ es) fs w = links_append c d es fs (happens c d e w)
 
-timely_append : (c d : Settings) (es fs : List LinkEvent) (w : Sessions) → AreTimely c d es w → AreTimely c d fs (run c d es w) → AreTimely c d (es ++ fs) w
+pub timely_append : (c d : Settings) (es fs : List LinkEvent) (w : Sessions) → AreTimely c d es w → AreTimely c d fs (run c d es w) → AreTimely c d (es ++ fs) w
 timely_append c d [] fs w h g = g
 timely_append c d (e ∷ es) fs w h g = (h.0, timely_append c d es fs (happens c d e w) h.1 g)
 
+-- a world that was reached, after one more event
 pub then_happens : {c d : Settings} (e : LinkEvent) {w : Sessions} → IsTimelyAt c d e w → Reached c d w → Reached c d (happens c d e w)
 then_happens {c} {d} e timely r = record {
   begin = r.begin;
   start = r.start;
   events = r.events ++ e ∷ [];
   timely = timely_append c d r.events (e ∷ []) r.begin r.timely (subst (IsTimelyAt c d e) (sym r.is) timely, tt);
-  is = run_append c d r.events (e ∷ []) r.begin ∙ ap (happens c d e) r.is;
+  is = links_append c d r.events (e ∷ []) r.begin ∙ ap (happens c d e) r.is;
 }
 
 -- timer T1 is timely where the end is Up
@@ -92,12 +92,13 @@ module _ (reads : ReadsSpelled) (laws : HealingLaws) (c d : Settings) (joined : 
   said : BothSaid c d w
   said = at_reached BothSaid (λ c d joined begin is events timely. (let fit = fit_from laws joined is events in (fit.0.said, fit.1.said))) joined r
 
+  -- behind two ends that are both Up there is the machine, in order
   pub sound_at : is_up w.near.station.phase ≡ true → is_up w.far.station.phase ≡ true → Sound c d w
   sound_at up far_up =
       let line = held.0.machine in
       let h = held.1 in
-      let near = in_session c d w h up in
-      let far = in_session d c (swapped w) (held_swapped c d joined w h) far_up in
+      let near = up_in_session c d w h up in
+      let far = up_in_session d c (swapped w) (held_swapped c d joined w h) far_up in
       record {
         line = line;
         kept = h.holds.kept;
@@ -111,8 +112,8 @@ module _ (reads : ReadsSpelled) (laws : HealingLaws) (c d : Settings) (joined : 
 
   pub in_order_at : IsInOrderIfUp c w.near × IsInOrderIfUp d w.far
   in_order_at = (
-    record { sound = λ up. (in_session c d w held.1 up).running.sound; said = said.0 },
-    record { sound = λ up. (in_session d c (swapped w) (held_swapped c d joined w held.1) up).running.sound; said = said.1 },
+    record { sound = λ up. (up_in_session c d w held.1 up).running.sound; said = said.0 },
+    record { sound = λ up. (up_in_session d c (swapped w) (held_swapped c d joined w held.1) up).running.sound; said = said.1 },
   )
 
   pub whole_at : SentWhole d.longest w.sent

@@ -1,7 +1,6 @@
 -- What each move of the window machine keeps, and so each list of moves.
 use Rattle.std.proofs.Common.{◌≡◌, ℕ, ◌+◌, ◌%◌, ◌<◌, ◌≤◌, List, [], ◌∷◌, ◌++◌, length, take, drop, remove, max, Option, Some, None, Bool, true, false, arith}
-use Rattle.std.proofs.Common.{◌∙◌, sym, ap}
-use Rattle.std.proofs.{lemmas.Grind.{common_steps}, lemmas.List.{take-append-drop, take_all, take_more, length_push, append-nil}}
+use Rattle.std.proofs.{Common.{◌∙◌, sym, ap}, lemmas.Grind.{common_steps}, lemmas.List.{take-append-drop, take_all, take_more, length_push, append-nil}}
 use Rattle.std.proofs.lemmas.Option.{slice_get_within, get_or_from_slice_get}
 use Rattle.std.specs.List.{slice_get}
 use Rattle.x25_window.specs.{code.Modulo.{resolved}, laws.Window.{End, Frame, Numbered, Allows, after, frames_of, numbered}}
@@ -231,8 +230,7 @@ module _ {T : Type 0} where
       }
 
   pub Kept-moved : (m : Move T) {w : Line T} → AllowsMove w m → Kept w → Kept (moved m w)
-  Kept-moved (HandsDown x) {w} ok h =
-      rw (append-nil w.out) (record { from_near = Way-hand x h.from_near; from_far = h.from_far })
+  Kept-moved (HandsDown x) {w} ok h = rw (append-nil w.out) (record { from_near = Way-hand x h.from_near; from_far = h.from_far })
   Kept-moved (Sends n) {w} ok h = item-sent n ok h
   Kept-moved Tells {w} ok h = told-sent h
   Kept-moved (Arrives takes) {w} ok h = Kept-arrives w.near w.far w.out w.back takes ok h
@@ -244,6 +242,7 @@ module _ {T : Type 0} where
 
   -- ---- what is kept says that the window holds
 
+  -- what is acknowledged was taken, and what was taken was sent
   pub Way-acked : {g : End T} {taken : List T} {told : ℕ} {there back : List (Frame T)} → Way g taken told there back → (g.acked ≤ length taken)
       × (length taken ≤ g.sent)
   Way-acked {g} {taken} {told} {there} {back} h =

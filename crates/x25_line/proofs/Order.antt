@@ -1,8 +1,8 @@
 -- Two ends of one link that is set up once keep the way in both directions, whatever they send, hear and lose within the rules of a peer; and that
 -- says what holds of their order.
 use Rattle.std.proofs.Common.{◌≡◌, ℕ, zero, suc, ◌+◌, ◌%◌, ◌≤◌, arith, max, List, [], ◌∷◌, ◌++◌, length, drop, remove, Bool, true, false, if◌then◌else◌, Option}
-use Rattle.std.proofs.Common.{Some, None, Result, Ok, Err, refl, sym, ap, ◌∙◌, subst, append-nil}
-use Rattle.std.proofs.{lemmas.Bool.{le-leb}, lemmas.List.{take-append-drop, take_all}, lemmas.Option.{slice_get_within}}
+use Rattle.std.proofs.{Common.{Some, None, Result, Ok, Err, refl, sym, ap, ◌∙◌, subst, append-nil}, lemmas.Bool.{le-leb}}
+use Rattle.std.proofs.{lemmas.List.{take-append-drop, take_all}, lemmas.Option.{slice_get_within}}
 use Rattle.std.specs.Prelude.{nat_le}
 use Rattle.x25_frame.specs.{Frame.{PlainFrame, info, rr, rnr, rej}, declared.error.FrameError.{FrameError}}
 use Rattle.x25_frame.specs.declared.error.FrameError.TheVariants.{Short, BadFcs, BadAddress}
@@ -10,9 +10,9 @@ use Rattle.x25_window.specs.{code.Modulo.{resolved}, laws.Window.{End, Frame, Nu
 use Rattle.x25_link.specs.{declared.phase.Reason.{Reason}, declared.phase.Reason.TheVariants.{FrmrSent}, laws.WindowMachine.{Window}}
 use Rattle.x25_link.specs.laws.WindowLaw.{ending_of}
 use Rattle.x25_line.specs.{laws.Peer.{Peer, fresh_peer, numbered_to, told_to, hearing, IsWanted, taking, MaySay, MayMake}, laws.InWindow.{IsPrefix}}
-use Rattle.x25_line.specs.{laws.WholeNumbers.{taken_out}, laws.Said.{Said, Carried, Tells, Odd as OddSaid, said}}
 use Rattle.x25_line.proofs.Kept.{Way, BothWays, hears_valid, Way-hand, Way-send, Way-tell, Way-told, Way-hears, Way-takes, Way-giver, Way-unheard, Way-passed}
 use Rattle.x25_line.proofs.Kept.{Way-acked}
+use Rattle.x25_line.specs.{laws.WholeNumbers.{taken_out}, laws.Said.{Said, Carried, Tells, Odd as OddSaid, said}}
 
 -- ---- what is told on a line, and the frames of the window machine that it stands for
 
@@ -34,6 +34,7 @@ abbrev pub IsApart : Said → Type 0
 IsApart (Tells carried nr) = ⊥
 IsApart s = Unit {0}
 
+-- more goes behind the N(R)s of a line
 pub only_append : (s : Said) (xs ys : List Told) → only s xs ++ ys ≡ only s (xs ++ ys)
 only_append (Tells c n) xs ys = refl
 only_append s xs ys = refl
@@ -72,10 +73,12 @@ without (Some i) ts = remove ts i
 abbrev pub Left : List Told → List Told → Type 0
 Left xs ys = (o : Option ℕ) × (ys ≡ without o xs)
 
+-- a line without its first frame has one N(R) less at most
 pub left_front : (s : Said) (xs : List Told) → Left (only s xs) xs
 left_front (Tells c n) xs = (Some 0, refl)
 left_front s xs = (None, refl)
 
+-- so it has where a frame stands before both
 pub left_deeper : (s : Said) {xs ys : List Told} → Left xs ys → Left (only s xs) (only s ys)
 left_deeper (Tells c n) {xs} {ys} h = go h.0 h.1
   where
@@ -105,6 +108,7 @@ pub record Hold (p q : Peer) (out back : List Told) : Type 0 where
   pub out_bears : Bear out there
   pub back_bears : Bear back here
 
+-- two ends as a session begins, with nothing on the lines
 pub starts : Hold fresh_peer fresh_peer [] []
 starts =
     let way : Way (end_of fresh_peer) [] 0 [] [] = record {
@@ -129,6 +133,7 @@ hold_turned h =
     }
 
 module _ (p q : Peer) (out back : List Told) where
+  -- an end is handed down a packet
   pub handed : (packet : List ℕ) → Hold p q out back → Hold (record p { given = p.given ++ packet ∷ [] }) q out back
   handed packet h =
       record {
@@ -176,6 +181,7 @@ module _ (p q : Peer) (out back : List Told) where
   unsaid : (r : Peer) → r ≡ p → Hold p q out back → Hold r q (out ++ []) back
   unsaid r is h = rw is (rw (append-nil out) h)
 
+  -- an end sends what it may: its N(R) is then on the line
   pub says : (Odd : Type 0) (s : Said) (r : Peer) → MaySay Odd p s r → Hold p q out back → Hold r q (out ++ only s []) back
   says Odd (Tells c n) r may h = sent Odd h c n r may
   says Odd OddSaid r may h = unsaid r may.1 h
@@ -190,6 +196,7 @@ module _ (p q : Peer) (out back : List Told) where
       ways None k = k
       ways (Some i) k = record { from_near = Way-unheard i k.from_near; from_far = Way-passed i k.from_far }
 
+  -- an N(R) on the line to an end is lost
   pub left : {ys : List Told} → Left back ys → Hold p q out back → Hold p q out ys
   left l h = rw l.1 (fewer l.0 h)
 
@@ -240,6 +247,7 @@ module _ (p q : Peer) (out : List Told) where
   front t rest {r} {gs} shows (here x xs g ys carried number h) k may =
       record { there = gs; here = ys; ways = comes g gs ys x.carried x.nr r carried number may k; out_bears = shows; back_bears = h }
 
+  -- an end makes what it may of the frame that comes
   pub makes : (s : Said) (rest : List Told) {r : Peer} → MayMake p s r → Hold p q out (only s rest) → Hold r q out rest
   makes (Tells c n) rest {r} may h = front (told c n) rest h.out_bears h.back_bears h.ways may
   makes s rest may h = rw may h
@@ -257,6 +265,7 @@ in_order p q gs hs h =
       λ all. begins ∙ take_all (length q.taken) p.given (omega (arith, few, all)),
     )
 
+-- the first N(R) on the line to an end is valid
 pub valid_front : (p q : Peer) (out rest : List Told) (t : Told) → Hold p q out (t ∷ rest) → resolved p.acked t.nr ≤ p.sent
 valid_front p q out rest t h = go h.here h.back_bears h.ways.from_near
   where

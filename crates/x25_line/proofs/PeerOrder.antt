@@ -4,17 +4,15 @@ use Rattle.x25_bits.specs.declared.role.Role.{Role}
 use Rattle.x25_frame.specs.{Reading.{frame_of}, laws.ReadingLaw.{ReadsSpelled}}
 use Rattle.x25_window.specs.code.Modulo.{resolved}
 use Rattle.x25_link.specs.{Station.{Settings, fresh}, Hearing.{other}}
-use Rattle.x25_line.specs.laws.Stations.{StationEnd, Act, Near, replaced, is_visible, acts}
-use Rattle.x25_line.specs.{laws.StationClaims.{Each, InOrder, HandsOne}, laws.LawsBelow.{Laws}}
+use Rattle.x25_line.specs.{laws.Stations.{StationEnd, Act, Near, replaced, is_visible, acts}, laws.StationClaims.{Each, InOrder, HandsOne}}
+use Rattle.x25_line.specs.laws.LawsBelow.{Laws}
 use Rattle.x25_line.specs.laws.PeerJoined.{JoinedOnce, our_end, with_peer, HappensOnce, Ours, HandsDown, Sends, Hears, Loses, Damages, ReachedOnce, at_start}
-use Rattle.x25_line.specs.laws.PeerJoined.{goes_on}
-use Rattle.x25_line.specs.laws.PeerClaims.{WithAnyPeer, WithAnyLapbPeer, KeepsOrder, FindsNoFault}
-use Rattle.x25_line.specs.{laws.Said.{Said, Carried, Tells, Odd as OddSaid, said}, laws.Peer.{Peer, fresh_peer, MaySay}}
+use Rattle.x25_line.specs.{laws.PeerJoined.{goes_on}, laws.PeerClaims.{WithAnyPeer, WithAnyLapbPeer, KeepsOrder, FindsNoFault}}
 use Rattle.x25_line.proofs.{Lists.{each_append, each_removed, each_replaced}, sessions.Letters.{visible_said, visible_fine}, Kept.{Way}}
 use Rattle.x25_line.proofs.Order.{Told, only, only_append, Left, left_front, left_deeper, Hold, starts, hold_turned, handed, says, left, makes}
-use Rattle.x25_line.proofs.Order.{in_order as peers_in_order, valid_front, by_frmr, no_fault}
-use Rattle.x25_line.proofs.{StationRuns.{noted_before}, StationEvents.{each_hands_one}, StationClaimLemmas.{in_order}}
-use Rattle.x25_line.proofs.{StationSays.{machine_of, MayDo}, StationActs.{MayAsk}, StationPeers.{Seen, peer_acts}}
+use Rattle.x25_line.proofs.{StationClaimLemmas.{in_order}, StationSays.{machine_of, MayDo}, StationPeers.{Seen, peer_acts}}
+use Rattle.x25_line.proofs.{Order.{in_order as peers_in_order, valid_front, by_frmr, no_fault}, StationRuns.{noted_before}, StationEvents.{each_hands_one}}
+use Rattle.x25_line.specs.{laws.Said.{Said, Carried, Tells, Odd as OddSaid, said}, laws.Peer.{Peer, fresh_peer, MaySay}}
 use Rattle.x25_line.specs.laws.PeerJoined as joined
 
 -- ---- what is told on a line of octets
@@ -133,8 +131,7 @@ module _ (Odd : Type 0) (c : Settings) (w : JoinedOnce) (h : JoinedHolds Odd c w
   theirs : (v : JoinedOnce) → HappensOnce Odd c w v → v.near.came_up ≡ false
       → ((act : Act) → (acts c act (our_end w)).near.came_up ≡ false → JoinedHolds Odd c (with_peer w.peer (acts c act (our_end w)))) → JoinedHolds Odd c v
   theirs v (Ours act) once ours = ours act once
-  theirs v (HandsDown packet) once ours =
-      after Odd h w.out w.back (handed w.peer h.peer backs outs packet turned) h.reached.lapb
+  theirs v (HandsDown packet) once ours = after Odd h w.out w.back (handed w.peer h.peer backs outs packet turned) h.reached.lapb
   theirs v (Sends octets q may) once ours =
       after Odd h w.out (w.back ++ octets ∷ [])
       (rw (tolds_push (other c.role) c.longest w.back octets)
@@ -194,7 +191,7 @@ module _ (reads : ReadsSpelled) (laws : Laws) where
       let k = hold.ways.from_near in
       let way : Way (machine_of c.window p) q.taken q.told hold.there hold.here =
       record { high = high; room = h.room; held = k.held; acks = k.acks; late = k.late; tops = k.tops; begins = k.begins } in
-      let own : InOrder w.near (taker q) = in_order MayAsk c w.near (taker q) (machine_of c.window p) q.taken q.told hold.there hold.here h.fits way
+      let own : InOrder w.near (taker q) = in_order c w.near (taker q) (machine_of c.window p) q.taken q.told hold.there hold.here h.fits way
       (sym h.down) refl in
       let other_way = peers_in_order q p hold.here hold.there hold.ways.from_far in
       record {

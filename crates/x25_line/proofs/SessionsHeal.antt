@@ -3,11 +3,9 @@ use Rattle.std.proofs.Common.{◌≡◌, ℕ, List, [], ◌∷◌, inl, Option, 
 use Rattle.x25_frame.specs.laws.ReadingLaw.{ReadsSpelled}
 use Rattle.x25_link.specs.{declared.error.LinkError.{LinkError}, Station.{Settings}, Hearing.{Step}, Link.{take_step, timer_step, timer_refusal}}
 use Rattle.x25_link.specs.{laws.RestLaw.{IsAtRest}, laws.BusyLaw.{BusyLaws}}
-use Rattle.x25_line.specs.laws.Stations.{Deliver, T1}
-use Rattle.x25_line.specs.laws.Sessions.{Entry, Meeting, Sessions, begun_by, after_step, unless, delivered, acts, swapped, run}
-use Rattle.x25_line.specs.{laws.StationClaims.{AreJoined}, laws.SessionClaims.{Throughout, IdleHasArrived}}
-use Rattle.x25_line.specs.{Healing.{EachRestShows, SessionsHealUnlessBothBusy}, laws.LawsBelow.{HealingLaws}}
-use Rattle.x25_line.specs.laws.HealingPuts.{SessionsHaveArrived, PutsHealSessions}
+use Rattle.x25_line.specs.{laws.Stations.{Deliver, T1}, laws.Sessions.{Entry, Meeting, Sessions, begun_by, after_step, unless, delivered, acts, swapped, run}}
+use Rattle.x25_line.specs.{laws.StationClaims.{AreJoined}, laws.SessionClaims.{Throughout, IdleHasArrived}, Healing.{EachRestShows, SessionsHealUnlessBothBusy}}
+use Rattle.x25_line.specs.{laws.LawsBelow.{HealingLaws}, laws.HealingPuts.{SessionsHaveArrived, PutsHealSessions}}
 use Rattle.x25_line.proofs.{sessions.SessionHeld.{extended_nil}, sessions.TwoSessions.{idle_has_arrived}}
 use Rattle.x25_line.proofs.{HealingSteps.{IsDrained, Reached, at_reached, in_order_at, deliveries_keep}, HealingEnds.{after_firings, rest_or_out}}
 use Rattle.x25_line.proofs.{HealingBoth.{HealsAt, begins, both_settle, deliveries_heal}, HealingPuts.{puts_run}}

@@ -1,42 +1,33 @@
 -- What follows of each act of a station that was set up once, where it is known of a few kinds of steps.
 use Rattle.std.proofs.Common.{◌≡◌, ℕ, suc, ◌≤◌, List, [], ◌∷◌, inl, inr, length, remove, Bool, true, false, if◌then◌else◌, Some, None, Result, refl, sym, ap}
-use Rattle.std.proofs.Common.{◌∙◌, subst}
-use Rattle.std.proofs.lemmas.Bool.{leb-true}
+use Rattle.std.proofs.{Common.{◌∙◌, subst}, lemmas.Bool.{leb-true}}
 use Rattle.std.specs.Prelude.{nat_le, nat_lt}
 use Rattle.x25_frame.specs.{Frame.{PlainFrame, sabm}, Reading.{frame_of}, declared.error.FrameError.{FrameError}}
 use Rattle.x25_link.specs.{declared.phase.Phase.{Phase}, declared.phase.Phase.TheVariants.{Down, Waiting, Up, Closed}}
-use Rattle.x25_link.specs.declared.phase.Reason.TheVariants.{Retries}
-use Rattle.x25_link.specs.{Station.{Settings, LinkStation, is_up, with_nothing}, Hearing.{Step, other}}
+use Rattle.x25_link.specs.{declared.phase.Reason.TheVariants.{Retries}, Station.{Settings, LinkStation, is_up, with_nothing}, Hearing.{Step, other}}
 use Rattle.x25_link.specs.Link.{take_step, put_step, put_refusal, timer_step, timer_refusal, timer_runs, connect_step, connect_refusal, disconnect_step}
-use Rattle.x25_link.specs.Link.{disconnect_refusal, abandon_step}
-use Rattle.x25_link.specs.{laws.WindowMachine.{Window, nothing}, laws.SetUp.{Is, TakesPart}}
+use Rattle.x25_link.specs.{Link.{disconnect_refusal, abandon_step}, laws.WindowMachine.{Window, nothing}, laws.SetUp.{Is, TakesPart}}
 use Rattle.x25_link.specs.laws.WindowLaw.{Stays, Follows, IsOut, StaysOut}
 use Rattle.x25_line.specs.laws.Stations.{Stations, Act, Put, Deliver, T1, Connect, Disconnect, Abandon, Probe, Lose, Damage, after_step, unless, delivered}
-use Rattle.x25_line.specs.laws.Stations.{replaced, is_visible, acts}
-use Rattle.x25_line.specs.{laws.Sessions.{sabm_in}, laws.LawsBelow.{Laws}}
+use Rattle.x25_line.specs.{laws.Stations.{replaced, is_visible, acts}, laws.Sessions.{sabm_in}, laws.LawsBelow.{Laws}}
 use Rattle.x25_line.proofs.{Choices.{unless_by, if_by}, StationLines.{AreParting}}
-use Rattle.x25_line.proofs.StationSteps.{MayBeAway, away_is_not_up, out_is_away, AsUp, IsAway, FitsEnd, up_of, not_both, stays_out, in_vain, Parts, ends_parts}
-use Rattle.x25_line.proofs.StationSteps.{declining_parting}
+use Rattle.x25_line.proofs.StationSteps.{out_not_up, AsUp, IsAway, FitsEnd, up_of, not_both, stays_out, in_vain, Parts, ends_parts, declining_parting}
 use Rattle.x25_line.proofs.StationHears.{sabm_or_not, sets_none_up}
 use Rattle.x25_line.proofs.StationAway.{closed_takes, waits_on, waiting_parting, quiet_by, up_takes_part, connects_from, second_false}
-
--- it may ask for set-up
-abbrev pub MayAsk : Type 0
-MayAsk = Unit {0}
 
 -- What is known of the near end of w, whose machine's end is e, and of each kind of step: of a station that is Up, as octets come
 -- (`takes`), a packet is handed down (`puts`), or nothing is brought (`rests`); steps that part, with octets taken off the line
 -- (`passes`) or none (`parts`); what happens to the line to it; and nothing (`still`). Q is of what comes of it.
 pub record OfSteps (c : Settings) (w : Stations) (e : Window) (Q : Stations → Type 0) : Type 0 where
-  pub fits : FitsEnd MayAsk c w.near.station e
+  pub fits : FitsEnd c w.near.station e
   pub still : Q w
   pub takes : (o : List ℕ) (os : List (List ℕ)) → w.back ≡ o ∷ os → AsUp c w.near.station e → sabm_in (frame_of (other c.role) c.longest o) ≡ 0
       → Q (after_step c w os [] (take_step c o w.near.station))
   pub puts : (packet : List ℕ) → AsUp c w.near.station e → length packet ≤ c.longest
       → Q (after_step c w w.back (packet ∷ []) (put_step c packet w.near.station))
   pub rests : (step : Step) → AsUp c w.near.station e → Stays c.window nothing w.near.station step → Q (after_step c w w.back [] step)
-  pub parts : (step : Step) → Parts MayAsk w.near.station step → Q (after_step c w w.back [] step)
-  pub passes : (o : List ℕ) (os : List (List ℕ)) → w.back ≡ o ∷ os → (step : Step) → Parts MayAsk w.near.station step → Q (after_step c w os [] step)
+  pub parts : (step : Step) → Parts w.near.station step → Q (after_step c w w.back [] step)
+  pub passes : (o : List ℕ) (os : List (List ℕ)) → w.back ≡ o ∷ os → (step : Step) → Parts w.near.station step → Q (after_step c w os [] step)
   pub loses : (i : ℕ) → Q (record w { back = remove w.back i })
   pub damages : (i : ℕ) (octets : List ℕ) → is_visible octets ≡ true → Q (record w { back = replaced w.back i octets })
 
@@ -64,53 +55,52 @@ module _ {c : Settings} (laws : Laws) {w : Stations} {e : Window} {Q : Stations 
         | inr none ↦ none
       ]
 
-      stays : IsAway MayAsk s → StaysOut step → Q (after_step c w os [] step)
+      stays : IsAway s → StaysOut step → Q (after_step c w os [] step)
       stays away out =
-          let off = away_is_not_up MayAsk s.phase away.away in
           k.passes o os is step
           (record {
-            frames = declining_parting MayAsk step.side.out out.frames;
-            away = record { away = out_is_away MayAsk step.side.near.phase out.out; empty = (laws.take_tells c o s).empty out.quiet off away.empty };
+            frames = declining_parting step.side.out out.frames;
+            away = record { away = out_not_up step.side.near.phase out.out; empty = (laws.take_tells c o s).empty out.quiet away.away away.empty };
             packet = out.packet;
-            noted = stays_out off out.quiet;
+            noted = stays_out away.away out.quiet;
           })
 
-      waits : IsAway MayAsk s → s.phase ≡ Waiting → Q (after_step c w os [] step)
+      waits : IsAway s → s.phase ≡ Waiting → Q (after_step c w os [] step)
       waits away waiting =
           let i = laws.set_up.waits c o s waiting r refl in
           k.passes o os is step
           (record {
-            frames = subst (AreParting MayAsk) (sym i.out) (waiting_parting MayAsk r);
-            away = subst (IsAway MayAsk) (sym (i.near ∙ waits_on r s (sym i.up ∙ not_up))) away;
+            frames = subst AreParting (sym i.out) (waiting_parting r);
+            away = subst IsAway (sym (i.near ∙ waits_on r s (sym i.up ∙ not_up))) away;
             packet = i.packet;
             noted = stays_out (ap is_up waiting) (quiet_by step i.down not_up);
           })
 
-      by_phase : (q : Phase) → s.phase ≡ q → IsAway MayAsk s → MayBeAway MayAsk q → Q (after_step c w os [] step)
+      by_phase : (q : Phase) → s.phase ≡ q → IsAway s → is_up q ≡ false → Q (after_step c w os [] step)
       by_phase Down phase away may = stays away
           (laws.window.take_out c o s (subst IsOut (sym phase) tt) (sets_none_up r (no_sabm (subst TakesPart (sym phase) tt))))
       by_phase Waiting phase away may = waits away phase
-      by_phase Up phase away may = absurd may
+      by_phase Up phase away may = not_both true refl may
       by_phase Closed phase away may = stays away (closed_takes c o s phase)
 
-      go : FitsEnd MayAsk c s e → Q (after_step c w os [] step)
+      go : FitsEnd c s e → Q (after_step c w os [] step)
       go (inl u) = k.takes o os is u (no_sabm (up_takes_part s.phase u.up))
       go (inr away) = by_phase s.phase refl away away.away
 
   put_by : (packet : List ℕ) → length packet ≤ c.longest → Q (unless (put_refusal s) w (after_step c w w.back (packet ∷ []) (put_step c packet s)))
   put_by packet short = go k.fits
     where
-      go : FitsEnd MayAsk c s e → Q (unless (put_refusal s) w (after_step c w w.back (packet ∷ []) (put_step c packet s)))
+      go : FitsEnd c s e → Q (unless (put_refusal s) w (after_step c w w.back (packet ∷ []) (put_step c packet s)))
       go (inl u) = unless_by Q (put_refusal s) k.still (λ _. k.puts packet u short)
-      go (inr away) = rw (away_is_not_up MayAsk s.phase away.away) k.still
+      go (inr away) = rw away.away k.still
 
   -- a station that isn't Up sends SABM or DISC, and notes nothing
   asks_parts : {near : LinkStation} {frames : List PlainFrame} {step : Step} → is_up s.phase ≡ false → Is near frames None false step
-      → AreParting MayAsk frames → IsAway MayAsk near → Parts MayAsk s step
+      → AreParting frames → IsAway near → Parts s step
   asks_parts {frames = frames} {step} off i parting away =
       record {
-        frames = subst (AreParting MayAsk) (sym i.out) parting;
-        away = subst (IsAway MayAsk) (sym i.near) away;
+        frames = subst AreParting (sym i.out) parting;
+        away = subst IsAway (sym i.near) away;
         packet = i.packet;
         noted = stays_out off (quiet_by step i.down i.up);
       }
@@ -121,17 +111,16 @@ module _ {c : Settings} (laws : Laws) {w : Stations} {e : Window} {Q : Stations 
     where
       by : (b : Bool) → Follows (if b then None else Some Retries) c.window nothing s (timer_step c s) → Q (after_step c w w.back [] (timer_step c s))
       by true stays = k.rests (timer_step c s) u stays
-      by false ends = k.parts (timer_step c s) (ends_parts MayAsk u.up tt (laws.timer_tells c s) ends)
+      by false ends = k.parts (timer_step c s) (ends_parts u.up tt (laws.timer_tells c s) ends)
 
-  waiting_timer : IsAway MayAsk s → s.phase ≡ Waiting → (b : Bool) {step : Step}
+  waiting_timer : IsAway s → s.phase ≡ Waiting → (b : Bool) {step : Step}
       → Is (if b then record s { tries = suc s.tries } else with_nothing Down s.tries) (if b then sabm true ∷ [] else []) (if b then None else Some Retries)
-      false step → Parts MayAsk s step
-  waiting_timer away phase true {step} i =
-      asks_parts (ap is_up phase) i (tt, tt) (record { away = away.away; empty = away.empty })
+      false step → Parts s step
+  waiting_timer away phase true {step} i = asks_parts (ap is_up phase) i tt (record { away = away.away; empty = away.empty })
   waiting_timer away phase false i =
       record {
-        frames = subst (AreParting MayAsk) (sym i.out) tt;
-        away = subst (IsAway MayAsk) (sym i.near) (record { away = tt; empty = refl });
+        frames = subst AreParting (sym i.out) tt;
+        away = subst IsAway (sym i.near) (record { away = refl; empty = refl });
         packet = i.packet;
         noted = in_vain (ap is_up phase) i.down i.up;
       }
@@ -139,57 +128,55 @@ module _ {c : Settings} (laws : Laws) {w : Stations} {e : Window} {Q : Stations 
   timer_by : Q (unless (timer_refusal s) w (after_step c w w.back [] (timer_step c s)))
   timer_by = go k.fits
     where
-      by_phase : (q : Phase) → s.phase ≡ q → IsAway MayAsk s → MayBeAway MayAsk q → Q (unless (timer_refusal s) w (after_step c w w.back [] (timer_step c s)))
+      by_phase : (q : Phase) → s.phase ≡ q → IsAway s → is_up q ≡ false → Q (unless (timer_refusal s) w (after_step c w w.back [] (timer_step c s)))
       by_phase Waiting phase away may =
           unless_by Q (timer_refusal s) k.still
           (λ _. k.parts (timer_step c s) (waiting_timer away phase (nat_lt s.tries c.retries) (laws.set_up.timer c s phase)))
-      by_phase Up phase away may = absurd may
+      by_phase Up phase away may = not_both true refl may
       by_phase q phase away may = rw (ap (λ q. timer_runs q s) phase) k.still
 
-      go : FitsEnd MayAsk c s e → Q (unless (timer_refusal s) w (after_step c w w.back [] (timer_step c s)))
+      go : FitsEnd c s e → Q (unless (timer_refusal s) w (after_step c w w.back [] (timer_step c s)))
       go (inl u) = unless_by Q (timer_refusal s) k.still (λ _. timer_up u)
       go (inr away) = by_phase s.phase refl away away.away
 
-  connect_by : s.phase ≡ Down → FitsEnd MayAsk c s e → Q (after_step c w w.back [] (connect_step c s))
+  connect_by : s.phase ≡ Down → FitsEnd c s e → Q (after_step c w w.back [] (connect_step c s))
   connect_by phase (inl u) = not_both (is_up s.phase) u.up (ap is_up phase)
   connect_by phase (inr away) =
       k.parts (connect_step c s)
-      (asks_parts (ap is_up phase) (laws.set_up.connects c s phase) (tt, tt) (record { away = tt; empty = away.empty }))
+      (asks_parts (ap is_up phase) (laws.set_up.connects c s phase) tt (record { away = refl; empty = away.empty }))
 
-  disconnect_parts : FitsEnd MayAsk c s e → Parts MayAsk s (disconnect_step c s)
-  disconnect_parts (inl u) = ends_parts MayAsk u.up tt (laws.disconnect_tells c s) (laws.window.disconnect c s (record { up = u.up; sound = u.sound }))
+  disconnect_parts : FitsEnd c s e → Parts s (disconnect_step c s)
+  disconnect_parts (inl u) = ends_parts u.up tt (laws.disconnect_tells c s) (laws.window.disconnect c s (record { up = u.up; sound = u.sound }))
   disconnect_parts (inr away) = by_phase s.phase refl away.away
     where
-      closes : IsOut s.phase → Parts MayAsk s (disconnect_step c s)
+      closes : IsOut s.phase → Parts s (disconnect_step c s)
       closes out =
           let closed = laws.window.disconnect_out c s out in
-          let off = away_is_not_up MayAsk s.phase away.away in
           record {
-            frames = subst (AreParting MayAsk) (sym closed.frames) tt;
-            away = record { away = subst (MayBeAway MayAsk) (sym closed.phase) tt; empty = (laws.disconnect_tells c s).empty closed.quiet off away.empty };
+            frames = subst AreParting (sym closed.frames) tt;
+            away = record { away = ap is_up closed.phase; empty = (laws.disconnect_tells c s).empty closed.quiet away.away away.empty };
             packet = closed.packet;
-            noted = stays_out off closed.quiet;
+            noted = stays_out away.away closed.quiet;
           }
 
-      by_phase : (q : Phase) → s.phase ≡ q → MayBeAway MayAsk q → Parts MayAsk s (disconnect_step c s)
-      by_phase Waiting phase may =
-          asks_parts (ap is_up phase) (laws.set_up.disconnects c s phase) tt (record { away = tt; empty = refl })
-      by_phase Up phase may = absurd may
+      by_phase : (q : Phase) → s.phase ≡ q → is_up q ≡ false → Parts s (disconnect_step c s)
+      by_phase Waiting phase may = asks_parts (ap is_up phase) (laws.set_up.disconnects c s phase) tt (record { away = refl; empty = refl })
+      by_phase Up phase may = not_both true refl may
       by_phase q phase may = closes (subst IsOut (sym phase) tt)
 
   abandon_by : is_up s.phase ≡ true → Q (after_step c w w.back [] (abandon_step c s))
   abandon_by up =
-      let u = up_of MayAsk k.fits up in
-      k.parts (abandon_step c s) (ends_parts MayAsk up tt (laws.abandon_tells c s) (laws.window.abandon c s (record { up = u.up; sound = u.sound })))
+      let u = up_of k.fits up in
+      k.parts (abandon_step c s) (ends_parts up tt (laws.abandon_tells c s) (laws.window.abandon c s (record { up = u.up; sound = u.sound })))
 
+  -- what holds after each step of a station holds after each act by which no LinkUp is noted
   pub of_act : (a : Act) → (acts c a w).near.came_up ≡ false → Q (acts c a w)
-  of_act (Put packet) once =
-      if_by Q (nat_le (length packet) c.longest) k.still (λ short. put_by packet (leb-true _ _ short))
+  of_act (Put packet) once = if_by Q (nat_le (length packet) c.longest) k.still (λ short. put_by packet (leb-true _ _ short))
   of_act Deliver once = deliver_step w.back refl once
   of_act T1 once = timer_by
   of_act Connect once = unless_by Q (connect_refusal s.phase) k.still (λ accepted. connect_by (connects_from s.phase accepted) k.fits)
   of_act Disconnect once = unless_by Q (disconnect_refusal s.phase) k.still (λ _. k.parts (disconnect_step c s) (disconnect_parts k.fits))
   of_act Abandon once = if_by Q (is_up s.phase) k.still abandon_by
-  of_act Probe once = if_by Q (is_up s.phase) k.still (λ up. timer_up (up_of MayAsk k.fits up))
+  of_act Probe once = if_by Q (is_up s.phase) k.still (λ up. timer_up (up_of k.fits up))
   of_act (Lose i) once = k.loses i
   of_act (Damage i octets) once = if_by Q (is_visible octets) k.still (k.damages i octets)

@@ -4,13 +4,13 @@ use Rattle.std.proofs.Common.{◌∙◌, subst}
 use Rattle.std.specs.Prelude.{◌&&◌, ◌||◌}
 use Rattle.x25_frame.specs.{Frame.{PlainFrame, info, rr, rnr, rej, ua, dm, frmr}, Spelling.{is_command, poll_or_final}, Reading.{frame_of}}
 use Rattle.x25_frame.specs.{declared.error.FrameError.{FrameError}, declared.error.FrameError.TheVariants.{Undefined, NoInfoAllowed, TooLong}}
-use Rattle.x25_link.specs.{declared.phase.Phase.{Phase}, declared.phase.Phase.TheVariants.{Down, Up, Closed}}
-use Rattle.x25_link.specs.{declared.phase.Reason.TheVariants.{FrmrSent}, declared.phase.Notes.{Notes}, laws.NoteLaw.{IsQuiet}}
+use Rattle.x25_link.specs.{declared.phase.Phase.{Phase}, declared.phase.Phase.TheVariants.{Down, Up, Closed}, declared.phase.Reason.TheVariants.{FrmrSent}}
+use Rattle.x25_link.specs.{declared.phase.Notes.{Notes}, laws.NoteLaw.{IsQuiet}}
 use Rattle.x25_link.specs.Station.{Settings, LinkStation, Side, is_up, sends, pumped, pumped_once, ended}
 use Rattle.x25_link.specs.Hearing.{Step, quiet, other, rejects, is_valid, acknowledged, hears_info, peer_is, goes_back, polls}
 use Rattle.x25_link.specs.{Link.{alone, closed_by, hears, take_step, connect_refusal}, laws.SetUp.{waiting_after, waiting_sends, waiting_up, TakesPart}}
 use Rattle.x25_link.specs.laws.WindowLaw.{window_of, ending_of, IsOut, StaysOut}
-use Rattle.x25_line.proofs.{StationLines.{AreParting}, StationSteps.{away_is_not_up, out_is_away, not_both}}
+use Rattle.x25_line.proofs.{StationLines.{AreParting}, StationSteps.{out_not_up, not_both}}
 
 -- ---- a station that isn't Up sends nothing at the end of a step
 
@@ -44,17 +44,18 @@ closed_takes c octets s is =
     let out : StaysOut (hears c octets read s.phase (alone s)) =
     subst (λ p. StaysOut (hears c octets read p (alone s))) (sym is) (closed_row c octets s (subst IsOut (sym is) tt) read) in
     let step : Step = hears c octets read s.phase (alone s) in
-    subst StaysOut (sym (closed_still c.window step (away_is_not_up ⊥ step.side.near.phase (out_is_away ⊥ step.side.near.phase out.out)))) out
+    subst StaysOut (sym (closed_still c.window step (out_not_up step.side.near.phase out.out))) out
 
 -- ---- what comes while UA is awaited, other than that
 
+-- octets that are no UA with F=1 leave a station that awaits UA as it is
 pub waits_on : (read : Result PlainFrame FrameError) (s : LinkStation) → waiting_up read ≡ false → waiting_after read s ≡ s
 waits_on (Ok (ua true)) s e = not_both true refl e
 waits_on read s e = refl
 
-pub waiting_parting : (MayAsk : Type 0) (read : Result PlainFrame FrameError) → AreParting MayAsk (waiting_sends read)
-waiting_parting MayAsk (Ok (info ns nr p x)) = tt
-waiting_parting MayAsk read = tt
+pub waiting_parting : (read : Result PlainFrame FrameError) → AreParting (waiting_sends read)
+waiting_parting (Ok (info ns nr p x)) = tt
+waiting_parting read = tt
 
 pub quiet_by : (step : Step) → step.notes.down ≡ None → step.notes.up ≡ false → IsQuiet step
 quiet_by step down up =
@@ -87,13 +88,12 @@ same_length b f xs ys e = ap (λ fs. octets_in fs) e
 
 module _ (c : Settings) (octets : List ℕ) (s : LinkStation) (f : Bool) (why : List ℕ) where
   rejected : (ground : ℕ) → (closed_by c.window (rejects c octets ground (alone s))).side.out ≡ frmr f why ∷ [] → length why ≡ 3
-  rejected ground out =
-      sym (same_length _ f _ why (sym (ap (λ z. z.side.out) (closed_still c.window (rejects c octets ground (alone s)) refl)) ∙ out))
+  rejected ground out = sym (same_length _ f _ why (sym (ap (λ z. z.side.out) (closed_still c.window (rejects c octets ground (alone s)) refl)) ∙ out))
 
   -- a frame whose N(R) is invalid
   invalid : (nr : ℕ) (row : Side → Step) (b : Bool) → is_valid nr s ≡ b → (if b then None else Some FrmrSent) ≡ Some FrmrSent
       → (closed_by c.window (if b then row (acknowledged nr (alone s)) else rejects c octets 8 (alone s))).side.out ≡ frmr f why ∷ [] → length why ≡ 3
-  invalid nr row true test is out = (absurd (cc))
+  invalid nr row true test is out = absurd (cc)
   invalid nr row false test is out = rejected 8 out
 
   frmr_row : (r : Result PlainFrame FrameError) → ending_of r (window_of c.window s) ≡ Some FrmrSent
@@ -107,6 +107,7 @@ module _ (c : Settings) (octets : List ℕ) (s : LinkStation) (f : Bool) (why : 
   frmr_row (Err TooLong) is out = rejected 4 out
   frmr_row r is out = cc
 
+-- the information field of a FRMR that a station sends has three octets
 pub frmr_three : (c : Settings) (octets : List ℕ) (s : LinkStation) → s.phase ≡ Up → (r : Result PlainFrame FrameError) → r
     ≡ frame_of (other c.role) c.longest octets → (f : Bool) (why : List ℕ)
     → ending_of r (window_of c.window s) ≡ Some FrmrSent → (take_step c octets s).side.out ≡ frmr f why ∷ [] → length why ≡ 3

@@ -4,13 +4,10 @@ use Rattle.std.proofs.{lemmas.Bool.{eqb-true, and_parts}, lemmas.List.{take-appe
 use Rattle.std.specs.Prelude.{◌&&◌}
 use Rattle.x25_frame.specs.laws.ReadingLaw.{ReadsSpelled}
 use Rattle.x25_window.specs.laws.Window.{End, Frame}
-use Rattle.x25_link.specs.{Outgoing.{waits}}
-use Rattle.x25_link.specs.{Station.{Settings, LinkStation, is_up, lists_of, no_packets}, Link.{is_idle}}
-use Rattle.x25_line.specs.{laws.InWindow.{IsPrefix}, laws.Line.{Line}, laws.Stations.{StationEnd, Stations}}
-use Rattle.x25_line.specs.laws.WholeNumbers.{machine_at_start}
+use Rattle.x25_link.specs.{Outgoing.{waits}, Station.{Settings, LinkStation, is_up, lists_of, no_packets}, Link.{is_idle}}
+use Rattle.x25_line.specs.{laws.InWindow.{IsPrefix}, laws.Line.{Line}, laws.Stations.{StationEnd, Stations}, laws.WholeNumbers.{machine_at_start}}
 use Rattle.x25_line.specs.laws.StationClaims.{AreJoined, Always, InOrder, BothInOrder, HasItsLists, BothHaveTheirLists, BothNoteTheirEnds, IsBehind}
-use Rattle.x25_line.specs.laws.StationClaims.{AreInWindow, NoFrmrSent, AllSentAreWhole}
-use Rattle.x25_line.specs.laws.LawsBelow.{Laws}
+use Rattle.x25_line.specs.{laws.StationClaims.{AreInWindow, NoFrmrSent, AllSentAreWhole}, laws.LawsBelow.{Laws}}
 use Rattle.x25_line.proofs.{Kept.{Way, Way-acked, InWindow-from_Kept}, StationSteps.{FitsEnd, up_of, Joint, Holds, not_both}}
 use Rattle.x25_line.proofs.StationRuns.{run_once, start_machine}
 
@@ -34,10 +31,10 @@ idle_all s idle high =
     let all : s.outgoing.acked ≡ s.outgoing.sent = eqb-true s.outgoing.acked s.outgoing.sent inner.1 in
     omega (arith, none, all, high)
 
-pub in_order : (MayAsk : Type 0) (c : Settings) (giver taker : StationEnd) (e : End (List ℕ)) (taken : List (List ℕ)) (told : ℕ)
+pub in_order : (c : Settings) (giver taker : StationEnd) (e : End (List ℕ)) (taken : List (List ℕ)) (told : ℕ)
     (there back : List (Frame (List ℕ)))
-    → FitsEnd MayAsk c giver.station e → Way e taken told there back → giver.down ≡ e.given → taker.up ≡ taken → InOrder giver taker
-in_order MayAsk c giver taker e taken told there back fits way is_down is_up_list =
+    → FitsEnd c giver.station e → Way e taken told there back → giver.down ≡ e.given → taker.up ≡ taken → InOrder giver taker
+in_order c giver taker e taken told there back fits way is_down is_up_list =
     let down = giver.down in
     let up = taker.up in
     let bounds = Way-acked way in
@@ -49,74 +46,72 @@ in_order MayAsk c giver taker e taken told there back fits way is_down is_up_lis
       idle = all;
     }
   where
-    acked : FitsEnd MayAsk c giver.station e → taker.up ≡ take (length taker.up) giver.down → IsPrefix (take giver.station.outgoing.acked giver.down) taker.up
+    acked : FitsEnd c giver.station e → taker.up ≡ take (length taker.up) giver.down → IsPrefix (take giver.station.outgoing.acked giver.down) taker.up
     acked (inl u) begins =
         let bounds = Way-acked way in
         acked_begins giver.station.outgoing.acked giver.down taker.up begins (omega (arith, bounds.0, ap length is_up_list, ap (λ z. z.acked) u.same))
-    acked (inr away) begins =
-        acked_begins giver.station.outgoing.acked giver.down taker.up begins (omega (arith, ap (λ z. z.acked) away.empty))
+    acked (inr away) begins = acked_begins giver.station.outgoing.acked giver.down taker.up begins (omega (arith, ap (λ z. z.acked) away.empty))
 
     all : is_idle giver.station ≡ true → taker.up ≡ giver.down
     all idle =
-        let u = up_of MayAsk fits (and_parts _ _ idle).0 in
+        let u = up_of fits (and_parts _ _ idle).0 in
         let bounds = Way-acked way in
         is_up_list ∙ way.begins ∙ take_all (length taken) e.given
         (omega (arith, bounds.0, idle_all giver.station idle u.sound.sent_high, (ap (λ z. z.acked) u.same), ap (λ z. length z.given) u.same)) ∙ sym is_down
 
-has_lists : (MayAsk : Type 0) {c : Settings} (giver : StationEnd) {e : End (List ℕ)} → FitsEnd MayAsk c giver.station e → giver.down ≡ e.given → giver.up
-    ≡ e.taken → HasItsLists giver
-has_lists MayAsk {c} giver {e} fits is_down is_up_list =
+has_lists : {c : Settings} (giver : StationEnd) {e : End (List ℕ)} → FitsEnd c giver.station e → giver.down ≡ e.given → giver.up ≡ e.taken → HasItsLists giver
+has_lists {c} giver {e} fits is_down is_up_list =
     record {
-      given = λ is_on. ap (λ z. z.given) (up_of MayAsk fits is_on).same ∙ sym is_down;
-      taken = λ is_on. ap (λ z. z.taken) (up_of MayAsk fits is_on).same ∙ sym is_up_list;
+      given = λ is_on. ap (λ z. z.given) (up_of fits is_on).same ∙ sym is_down;
+      taken = λ is_on. ap (λ z. z.taken) (up_of fits is_on).same ∙ sym is_up_list;
       empty = empty fits;
     }
   where
-    empty : FitsEnd MayAsk c giver.station e → is_up giver.station.phase ≡ false → lists_of giver.station ≡ no_packets
+    empty : FitsEnd c giver.station e → is_up giver.station.phase ≡ false → lists_of giver.station ≡ no_packets
     empty (inl u) off = not_both (is_up giver.station.phase) u.up off
     empty (inr away) off = away.empty
 
 -- ---- as long as the link isn't set up anew
 
-pub holds_order : (MayAsk : Type 0) {c d : Settings} {w : Stations} → Holds MayAsk c d w → BothInOrder c d w
-holds_order MayAsk {c} {d} {w} holds =
+pub holds_order : {c d : Settings} {w : Stations} → Holds c d w → BothInOrder c d w
+holds_order {c} {d} {w} holds =
     let l = holds.0 in
     let h = holds.1 in (
-      in_order MayAsk c w.near w.far l.near l.far.taken (length l.far.taken) l.out l.back h.near h.kept.from_near h.near_has.down h.far_has.up,
-      in_order MayAsk d w.far w.near l.far l.near.taken (length l.near.taken) l.back l.out h.far h.kept.from_far h.far_has.down h.near_has.up,
+      in_order c w.near w.far l.near l.far.taken (length l.far.taken) l.out l.back h.near h.kept.from_near h.near_has.down h.far_has.up,
+      in_order d w.far w.near l.far l.near.taken (length l.near.taken) l.back l.out h.far h.kept.from_far h.far_has.down h.near_has.up,
     )
 
-pub holds_lists : (MayAsk : Type 0) {c d : Settings} {w : Stations} → Holds MayAsk c d w → BothHaveTheirLists c d w
-holds_lists MayAsk {c} {d} {w} holds =
+pub holds_lists : {c d : Settings} {w : Stations} → Holds c d w → BothHaveTheirLists c d w
+holds_lists {c} {d} {w} holds =
     let l = holds.0 in
     let h = holds.1 in
-    (has_lists MayAsk w.near h.near h.near_has.down h.near_has.up, has_lists MayAsk w.far h.far h.far_has.down h.far_has.up)
+    (has_lists w.near h.near h.near_has.down h.near_has.up, has_lists w.far h.far h.far_has.down h.far_has.up)
 
-pub is_behind : (MayAsk : Type 0) {c d : Settings} {w : Stations} {l : Line (List ℕ)} → Joint MayAsk c d w l → IsBehind c d w l
-is_behind MayAsk {c} {d} {w} {l} h = record {
+pub is_behind : {c d : Settings} {w : Stations} {l : Line (List ℕ)} → Joint c d w l → IsBehind c d w l
+is_behind {c} {d} {w} {l} h = record {
   reached = h.reached;
-  near = record { given = h.near_has.down; taken = h.near_has.up; numbers = λ is_on. (up_of MayAsk h.near is_on).same };
-  far = record { given = h.far_has.down; taken = h.far_has.up; numbers = λ is_on. (up_of MayAsk h.far is_on).same };
+  near = record { given = h.near_has.down; taken = h.near_has.up; numbers = λ is_on. (up_of h.near is_on).same };
+  far = record { given = h.far_has.down; taken = h.far_has.up; numbers = λ is_on. (up_of h.far is_on).same };
   out = h.out;
   back = h.back;
   window = InWindow-from_Kept l h.kept;
 }
 
-pub holds_window : (MayAsk : Type 0) {c d : Settings} {w : Stations} → Holds MayAsk c d w → AreInWindow c d w
-holds_window MayAsk holds = (holds.0, is_behind MayAsk holds.1)
+pub holds_window : {c d : Settings} {w : Stations} → Holds c d w → AreInWindow c d w
+holds_window holds = (holds.0, is_behind holds.1)
 
-pub holds_whole : (MayAsk : Type 0) {c d : Settings} → AreJoined c d → {w : Stations} → Holds MayAsk c d w → AllSentAreWhole c d w
-holds_whole MayAsk joined holds = rw joined.longest holds.1.whole
+pub holds_whole : {c d : Settings} → AreJoined c d → {w : Stations} → Holds c d w → AllSentAreWhole c d w
+holds_whole joined holds = rw joined.longest holds.1.whole
 
 module _ (reads : ReadsSpelled) (laws : Laws) where
-  reached : Always (Holds (Unit {0}))
-  reached c d joined events once = run_once joined reads laws events (machine_at_start c d, start_machine (Unit {0}) joined) once
+  reached : Always (Holds)
+  reached c d joined events once = run_once joined reads laws events (machine_at_start c d, start_machine joined) once
 
   pub keeps_order : Always BothInOrder
-  keeps_order c d joined events once = holds_order (Unit {0}) (reached c d joined events once)
+  keeps_order c d joined events once = holds_order (reached c d joined events once)
 
   pub keeps_lists : Always BothHaveTheirLists
-  keeps_lists c d joined events once = holds_lists (Unit {0}) (reached c d joined events once)
+  keeps_lists c d joined events once = holds_lists (reached c d joined events once)
 
   pub keeps_notes : Always BothNoteTheirEnds
   keeps_notes c d joined events once =
@@ -127,4 +122,4 @@ module _ (reads : ReadsSpelled) (laws : Laws) where
   sends_no_frmr c d joined events once = (reached c d joined events once).1.no_frmr
 
   pub sends_whole : Always AllSentAreWhole
-  sends_whole c d joined events once = holds_whole (Unit {0}) joined (reached c d joined events once)
+  sends_whole c d joined events once = holds_whole joined (reached c d joined events once)

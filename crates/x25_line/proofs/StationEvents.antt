@@ -5,8 +5,7 @@ use Rattle.x25_link.specs.{declared.error.LinkError.{LinkError}, Station.{Settin
 use Rattle.x25_link.specs.Link.{put_step, put_refusal, timer_step, timer_refusal, connect_step, connect_refusal, disconnect_step, disconnect_refusal}
 use Rattle.x25_link.specs.Link.{abandon_step}
 use Rattle.x25_line.specs.laws.Stations.{Stations, Act, Put, Deliver, T1, Connect, Disconnect, Abandon, Probe, Lose, Damage, Near, Far, after_step, unless}
-use Rattle.x25_line.specs.laws.Stations.{own_act, delivered, is_visible, acts, stations_swapped}
-use Rattle.x25_line.specs.laws.StationClaims.{HandsOne, EachEventHandsOne}
+use Rattle.x25_line.specs.{laws.Stations.{own_act, delivered, is_visible, acts, stations_swapped}, laws.StationClaims.{HandsOne, EachEventHandsOne}}
 use Rattle.x25_line.proofs.Choices.{unless_by, if_by}
 
 -- a step that hands nothing up, to which nothing was handed down, and that doesn't note LinkUp

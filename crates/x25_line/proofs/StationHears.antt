@@ -1,13 +1,12 @@
 -- What a station that is Up makes of what comes, as an end that keeps the rules may: of the station and that end alone, with no line.
 use Rattle.std.proofs.Common.{◌≡◌, ◌≤◌, ◌%◌, ℕ, List, [], ◌∷◌, ◌++◌, ◌+◌, ◌⊎◌, inl, inr, length, Bool, true, false, if◌then◌else◌, Option, Some, None, Result}
-use Rattle.std.proofs.Common.{Ok, Err, refl, sym, ap, ◌∙◌, arith, append-nil}
-use Rattle.std.proofs.lemmas.List.{length_push}
+use Rattle.std.proofs.{Common.{Ok, Err, refl, sym, ap, ◌∙◌, arith, append-nil}, lemmas.List.{length_push}}
 use Rattle.std.specs.Prelude.{option_to_list}
 use Rattle.x25_frame.specs.{Frame.{PlainFrame, info, rr, rnr, rej, sabm, disc, ua, dm, frmr}, declared.error.FrameError.{FrameError}}
 use Rattle.x25_frame.specs.declared.error.FrameError.TheVariants.{Short}
 use Rattle.x25_window.specs.{code.Modulo.{resolved}, laws.Window.{after}, laws.Window.Step.{Hear, Take}}
-use Rattle.x25_link.specs.{declared.phase.Reason.{Reason}, declared.phase.Reason.TheVariants.{Disc, FrmrSent, Reset, Local}}
-use Rattle.x25_link.specs.{Station.{Settings, LinkStation}, Hearing.{Step}, laws.WindowMachine.{Window, Input, receives}}
+use Rattle.x25_link.specs.{declared.phase.Reason.{Reason}, declared.phase.Reason.TheVariants.{Disc, FrmrSent, Reset, Local}, Station.{Settings, LinkStation}}
+use Rattle.x25_link.specs.{Hearing.{Step}, laws.WindowMachine.{Window, Input, receives}}
 use Rattle.x25_link.specs.laws.WindowLaw.{window_of, brought_by, after_input, MayHandUp, ending_of, Stays, IsSound, sets_up}
 use Rattle.x25_line.specs.{laws.Sessions.{sabm_in, disc_in}, laws.Said.{Said, Tells, said}, laws.Peer.{Peer, MayHear, MayMake, hearing, taking, IsWanted}}
 use Rattle.x25_line.proofs.{StationSays.{machine_of}, StationSends.{AllWithin}, StationSteps.{no_packet_of}}
@@ -125,8 +124,7 @@ module _ {d : Settings} {s : LinkStation} {p : Peer} (facts : UpFacts d s p) (st
   tells : (f : PlainFrame) (nr : ℕ) → ((packet : Option (List ℕ)) → after_input (receives f) packet (window_of k s) ≡ after (window_of k s) (Hear nr))
       → ((y : List ℕ) → MayHandUp (receives f) (Some y) (window_of k s) → ⊥)
       → MayHear p (Ok f) (hearing true nr p) → Stays k (receives f) s step → Hears d (Ok f) s p step
-  tells f nr same never may stays =
-      hears_number f nr (same step.packet) (no_packet_of (receives f) step.packet (window_of k s) never stays.hands_up) may stays
+  tells f nr same never may stays = hears_number f nr (same step.packet) (no_packet_of (receives f) step.packet (window_of k s) never stays.hands_up) may stays
 
   -- and a packet may be taken
   carries : (ns nr : ℕ) (pf : Bool) (x : List ℕ) → Stays k (receives (info ns nr pf x)) s step → Hears d (Ok (info ns nr pf x)) s p step
@@ -136,8 +134,7 @@ module _ {d : Settings} {s : LinkStation} {p : Peer} (facts : UpFacts d s p) (st
       f = info ns nr pf x
 
       go : (packet : Option (List ℕ)) → step.packet ≡ packet → MayHandUp (receives f) packet (window_of k s) → Hears d (Ok f) s p step
-      go None none may =
-          hears_number f nr (ap (λ o. after_input (receives f) o (window_of k s)) none) none (true, false, tt, refl) stays
+      go None none may = hears_number f nr (ap (λ o. after_input (receives f) o (window_of k s)) none) none (true, false, tt, refl) stays
       go (Some y) some may =
           let low = low_resolved p.acked nr in
           let room = facts.room in

@@ -44,25 +44,15 @@ carried_of (Some q) h = record { item = q; is = refl; number = h.0; same = h.1 }
 -- ---- what is on a line
 
 -- no FRMR, SABM only where an end may ask for set-up, and what doesn't read as a frame was visibly damaged
-abbrev pub IsOrderly : Type 0 → Result PlainFrame FrameError → Type 0
-IsOrderly MayAsk (Ok (sabm p)) = MayAsk
-IsOrderly MayAsk (Ok (frmr f why)) = ⊥
-IsOrderly MayAsk (Err (Undefined control)) = ⊥
-IsOrderly MayAsk (Err (NoInfoAllowed control)) = ⊥
-IsOrderly MayAsk (Err TooLong) = ⊥
-IsOrderly MayAsk read = Unit {0}
+abbrev pub IsOrderly : Result PlainFrame FrameError → Type 0
+IsOrderly (Ok (frmr f why)) = ⊥
+IsOrderly (Err (Undefined control)) = ⊥
+IsOrderly (Err (NoInfoAllowed control)) = ⊥
+IsOrderly (Err TooLong) = ⊥
+IsOrderly read = Unit {0}
 
--- whether an end may ask matters to a SABM alone
-pub orderly_where : {A : Type 0} (B : Type 0) (r : Result PlainFrame FrameError) → ((p : Bool) → r ≡ Ok (sabm p) → A → B) → IsOrderly A r → IsOrderly B r
-orderly_where B (Ok (sabm p)) more h = more p refl h
-orderly_where B (Ok (frmr f why)) more h = absurd h
-orderly_where B (Err (Undefined control)) more h = absurd h
-orderly_where B (Err (NoInfoAllowed control)) more h = absurd h
-orderly_where B (Err TooLong) more h = absurd h
-orderly_where B r more h = tt
-
-abbrev pub AreOrderly : Type 0 → Role → ℕ → List (List ℕ) → Type 0
-AreOrderly MayAsk from n1 os = Each (λ o. IsOrderly MayAsk (frame_of from n1 o)) os
+abbrev pub AreOrderly : Role → ℕ → List (List ℕ) → Type 0
+AreOrderly from n1 os = Each (λ o. IsOrderly (frame_of from n1 o)) os
 
 -- the frames, with the first, where that has a number
 abbrev pub consed : Option PlainFrame → List PlainFrame → List PlainFrame
@@ -86,48 +76,37 @@ pub record IsGood (n1 : ℕ) (f : PlainFrame) : Type 0 where
   pub carries : MayCarry f (information_of f)
   pub within : IsWithin n1 f (information_of f)
   pub number : number_in (Ok f) ≡ Some f
-  pub orderly : IsOrderly ⊥ (Ok f)
+  pub orderly : IsOrderly (Ok f)
 
 abbrev pub AllGood : ℕ → List PlainFrame → Type 0
 AllGood n1 fs = Each (IsGood n1) fs
 
 -- frames that carry no number: UA, DM, DISC, and SABM where an end may ask for set-up
-abbrev pub AreParting : Type 0 → List PlainFrame → Type 0
-AreParting MayAsk [] = Unit {0}
-AreParting MayAsk (sabm p ∷ fs) = MayAsk × AreParting MayAsk fs
-AreParting MayAsk (disc p ∷ fs) = AreParting MayAsk fs
-AreParting MayAsk (ua f ∷ fs) = AreParting MayAsk fs
-AreParting MayAsk (dm f ∷ fs) = AreParting MayAsk fs
-AreParting MayAsk (f ∷ fs) = ⊥
+abbrev pub AreParting : List PlainFrame → Type 0
+AreParting [] = Unit {0}
+AreParting (sabm p ∷ fs) = AreParting fs
+AreParting (disc p ∷ fs) = AreParting fs
+AreParting (ua f ∷ fs) = AreParting fs
+AreParting (dm f ∷ fs) = AreParting fs
+AreParting (f ∷ fs) = ⊥
 
 -- each of them may be spelled, and is no FRMR
-pub record IsPart (MayAsk : Type 0) (f : PlainFrame) : Type 0 where
+pub record IsPart (f : PlainFrame) : Type 0 where
   pub in_range : IsInRange f
   pub carries : MayCarry f (information_of f)
   pub within : (n1 : ℕ) → IsWithin n1 f (information_of f)
   pub none : number_in (Ok f) ≡ None
-  pub orderly : IsOrderly MayAsk (Ok f)
+  pub orderly : IsOrderly (Ok f)
   pub packet : (given : List (List ℕ)) → IsHandedDown given f
 
-pub parts_of : (MayAsk : Type 0) (fs : List PlainFrame) → AreParting MayAsk fs → Each (IsPart MayAsk) fs
-parts_of MayAsk [] h = tt
-parts_of MayAsk (sabm p ∷ fs) h = (
-  record { in_range = tt; carries = refl; within = λ n1. tt; none = refl; orderly = h.0; packet = λ given. tt },
-  parts_of MayAsk fs h.1,
-)
-parts_of MayAsk (disc p ∷ fs) h = (
-  record { in_range = tt; carries = refl; within = λ n1. tt; none = refl; orderly = tt; packet = λ given. tt },
-  parts_of MayAsk fs h,
-)
-parts_of MayAsk (ua f ∷ fs) h = (
-  record { in_range = tt; carries = refl; within = λ n1. tt; none = refl; orderly = tt; packet = λ given. tt },
-  parts_of MayAsk fs h,
-)
-parts_of MayAsk (dm f ∷ fs) h = (
-  record { in_range = tt; carries = refl; within = λ n1. tt; none = refl; orderly = tt; packet = λ given. tt },
-  parts_of MayAsk fs h,
-)
-parts_of MayAsk (frame ∷ fs) h = absurd h
+-- what an end that isn't Up sends: each frame by itself
+pub parts_of : (fs : List PlainFrame) → AreParting fs → Each IsPart fs
+parts_of [] h = tt
+parts_of (sabm p ∷ fs) h = (record { in_range = tt; carries = refl; within = λ n1. tt; none = refl; orderly = tt; packet = λ given. tt }, parts_of fs h)
+parts_of (disc p ∷ fs) h = (record { in_range = tt; carries = refl; within = λ n1. tt; none = refl; orderly = tt; packet = λ given. tt }, parts_of fs h)
+parts_of (ua f ∷ fs) h = (record { in_range = tt; carries = refl; within = λ n1. tt; none = refl; orderly = tt; packet = λ given. tt }, parts_of fs h)
+parts_of (dm f ∷ fs) h = (record { in_range = tt; carries = refl; within = λ n1. tt; none = refl; orderly = tt; packet = λ given. tt }, parts_of fs h)
+parts_of (frame ∷ fs) h = absurd h
 
 pub no_frmr_append : (fs es : List PlainFrame) → NoFrmr fs → NoFrmr es → NoFrmr (fs ++ es)
 no_frmr_append [] es f e = e
@@ -135,13 +114,13 @@ no_frmr_append (frmr g why ∷ fs) es f e = absurd f
 no_frmr_append (frame ∷ fs) es f e = no_frmr_append fs es f e
 
 -- where none is out of order
-orderly_no_frmr : (A : Type 0) (f : PlainFrame) (fs : List PlainFrame) → IsOrderly A (Ok f) → NoFrmr fs → NoFrmr (f ∷ fs)
-orderly_no_frmr A (frmr f why) fs o h = absurd o
-orderly_no_frmr A f fs o h = h
+orderly_no_frmr : (f : PlainFrame) (fs : List PlainFrame) → IsOrderly (Ok f) → NoFrmr fs → NoFrmr (f ∷ fs)
+orderly_no_frmr (frmr f why) fs o h = absurd o
+orderly_no_frmr f fs o h = h
 
 pub good_no_frmr : (n1 : ℕ) (fs : List PlainFrame) → AllGood n1 fs → NoFrmr fs
 good_no_frmr n1 [] h = tt
-good_no_frmr n1 (f ∷ fs) h = orderly_no_frmr ⊥ f fs h.0.orderly (good_no_frmr n1 fs h.1)
+good_no_frmr n1 (f ∷ fs) h = orderly_no_frmr f fs h.0.orderly (good_no_frmr n1 fs h.1)
 
 -- ---- whole frames
 
@@ -173,15 +152,14 @@ good_whole n1 given more (f ∷ fs) g h = (
   good_whole n1 given more fs g.1 h.1,
 )
 
-module _ (MayAsk : Type 0) where
-  pub parting_no_frmr : (fs : List PlainFrame) → Each (IsPart MayAsk) fs → NoFrmr fs
-  parting_no_frmr [] h = tt
-  parting_no_frmr (f ∷ fs) h = orderly_no_frmr MayAsk f fs h.0.orderly (parting_no_frmr fs h.1)
+pub parting_no_frmr : (fs : List PlainFrame) → Each IsPart fs → NoFrmr fs
+parting_no_frmr [] h = tt
+parting_no_frmr (f ∷ fs) h = orderly_no_frmr f fs h.0.orderly (parting_no_frmr fs h.1)
 
-  pub parting_whole : (n1 : ℕ) (given : List (List ℕ)) (fs : List PlainFrame) → Each (IsPart MayAsk) fs → AreWhole n1 given fs
-  parting_whole n1 given [] h = tt
-  parting_whole n1 given (f ∷ fs) h =
-      (record { in_range = h.0.in_range; carries = h.0.carries; within = h.0.within n1; packet = h.0.packet given }, parting_whole n1 given fs h.1)
+pub parting_whole : (n1 : ℕ) (given : List (List ℕ)) (fs : List PlainFrame) → Each IsPart fs → AreWhole n1 given fs
+parting_whole n1 given [] h = tt
+parting_whole n1 given (f ∷ fs) h =
+    (record { in_range = h.0.in_range; carries = h.0.carries; within = h.0.within n1; packet = h.0.packet given }, parting_whole n1 given fs h.1)
 
 -- what was handed down at either end, and then more at the first
 pub first_more : (xs ys more : List (List ℕ)) (x : List ℕ) → Contains (xs ++ ys) x → Contains ((xs ++ more) ++ ys) x
@@ -190,6 +168,7 @@ first_more xs ys more x h = elim (Contains-append_cases xs ys x h) [
   | inr there ↦ Contains-append_right (xs ++ more) ys x there
 ]
 
+-- what was handed down at either end, whichever is named first
 pub either_way : (xs ys : List (List ℕ)) (x : List ℕ) → Contains (xs ++ ys) x → Contains (ys ++ xs) x
 either_way xs ys x h = elim (Contains-append_cases xs ys x h) [
   | inl there ↦ Contains-append_right ys xs x there
@@ -204,20 +183,20 @@ module _ (reads : ReadsSpelled) (from : Role) (n1 : ℕ) where
   good_numbered [] h = refl
   good_numbered (f ∷ fs) h = rw (good_reads h.0, h.0.number) (ap (λ es. f ∷ es) (good_numbered fs h.1))
 
-  pub good_orderly : (MayAsk : Type 0) (fs : List PlainFrame) → AllGood n1 fs → AreOrderly MayAsk from n1 (map (spelling_of from) fs)
-  good_orderly MayAsk [] h = tt
-  good_orderly MayAsk (f ∷ fs) h = (rw (good_reads h.0) (orderly_where MayAsk (Ok f) (λ p is never. absurd never) h.0.orderly), good_orderly MayAsk fs h.1)
+  pub good_orderly : (fs : List PlainFrame) → AllGood n1 fs → AreOrderly from n1 (map (spelling_of from) fs)
+  good_orderly [] h = tt
+  good_orderly (f ∷ fs) h = (rw (good_reads h.0) h.0.orderly, good_orderly fs h.1)
 
-  pub part_reads : (MayAsk : Type 0) {f : PlainFrame} → IsPart MayAsk f → frame_of from n1 (spelling_of from f) ≡ Ok f
-  part_reads MayAsk {f} h = reads from n1 f (spelling_of from f) (record { in_range = h.in_range; carries = h.carries; within = h.within n1; spelling = refl })
+  pub part_reads : {f : PlainFrame} → IsPart f → frame_of from n1 (spelling_of from f) ≡ Ok f
+  part_reads {f} h = reads from n1 f (spelling_of from f) (record { in_range = h.in_range; carries = h.carries; within = h.within n1; spelling = refl })
 
-  pub parting_numbered : (MayAsk : Type 0) (fs : List PlainFrame) → Each (IsPart MayAsk) fs → numbered_on from n1 (map (spelling_of from) fs) ≡ []
-  parting_numbered MayAsk [] h = refl
-  parting_numbered MayAsk (f ∷ fs) h = rw (part_reads MayAsk h.0, h.0.none) (parting_numbered MayAsk fs h.1)
+  pub parting_numbered : (fs : List PlainFrame) → Each IsPart fs → numbered_on from n1 (map (spelling_of from) fs) ≡ []
+  parting_numbered [] h = refl
+  parting_numbered (f ∷ fs) h = rw (part_reads h.0, h.0.none) (parting_numbered fs h.1)
 
-  pub parting_orderly : (MayAsk : Type 0) (fs : List PlainFrame) → Each (IsPart MayAsk) fs → AreOrderly MayAsk from n1 (map (spelling_of from) fs)
-  parting_orderly MayAsk [] h = tt
-  parting_orderly MayAsk (f ∷ fs) h = (rw (part_reads MayAsk h.0) h.0.orderly, parting_orderly MayAsk fs h.1)
+  pub parting_orderly : (fs : List PlainFrame) → Each IsPart fs → AreOrderly from n1 (map (spelling_of from) fs)
+  parting_orderly [] h = tt
+  parting_orderly (f ∷ fs) h = (rw (part_reads h.0) h.0.orderly, parting_orderly fs h.1)
 
 -- ---- what is lost or damaged
 
@@ -272,6 +251,7 @@ visible_reads from n1 octets e = go (nat_lt (length octets) 4) (is_sealed octets
         never : false ≡ true → ⊥
         never e = cc
 
+-- what holds of octets that are too short, and of a wrong FCS, holds of octets that are visibly damaged
 pub visible_is : (P : Result PlainFrame FrameError → Type 0) (from : Role) (n1 : ℕ) (octets : List ℕ) → is_visible octets ≡ true → P (Err Short)
     → P (Err BadFcs) → P (frame_of from n1 octets)
 visible_is P from n1 octets visible short bad = elim (visible_reads from n1 octets visible) [ inl is ↦ subst P (sym is) short | inr is ↦ subst P (sym is) bad ]

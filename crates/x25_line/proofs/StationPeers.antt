@@ -2,30 +2,23 @@
 use Rattle.std.proofs.Common.{◌≡◌, ℕ, ◌+◌, ◌≤◌, List, [], ◌∷◌, ◌++◌, inl, inr, length, false, Option, Some, None, Result, refl, sym, ap, ◌∙◌, subst, arith}
 use Rattle.std.proofs.Common.{append-nil}
 use Rattle.std.specs.Prelude.{option_to_list}
-use Rattle.x25_frame.specs.{Frame.{PlainFrame}, Reading.{frame_of}, laws.ReadingLaw.{ReadsSpelled}}
-use Rattle.x25_frame.specs.{declared.error.FrameError.{FrameError}}
+use Rattle.x25_frame.specs.{Frame.{PlainFrame}, Reading.{frame_of}, laws.ReadingLaw.{ReadsSpelled}, declared.error.FrameError.{FrameError}}
 use Rattle.x25_window.specs.{laws.Window.{after}, laws.Window.Step.{HandDown}}
-use Rattle.x25_link.specs.{declared.phase.Reason.{Reason}, declared.phase.Reason.TheVariants.{FrmrSent, Reset}}
-use Rattle.x25_link.specs.{Station.{Settings, LinkStation}, Hearing.{Step, other}}
-use Rattle.x25_link.specs.Link.{take_step, put_step}
-use Rattle.x25_link.specs.laws.WindowMachine.{Window, Input, hands_down, nothing}
+use Rattle.x25_link.specs.{declared.phase.Reason.{Reason}, declared.phase.Reason.TheVariants.{FrmrSent, Reset}, Station.{Settings, LinkStation, is_up}}
+use Rattle.x25_link.specs.{Hearing.{Step, other}, Link.{take_step, put_step}, laws.WindowMachine.{Window, Input, hands_down, nothing}}
 use Rattle.x25_link.specs.laws.WindowLaw.{window_of, after_input, ending_of, brought_by, Stays, Ends, Follows}
-use Rattle.x25_line.specs.laws.Stations.{Stations, Act, after_step, acts}
-use Rattle.x25_line.specs.{laws.LawsBelow.{Laws}, laws.Said.{said}}
-use Rattle.x25_line.specs.{laws.Peer.{Peer, MayHear}, laws.PeerClaims.{IsNoFrmr}}
-use Rattle.x25_line.specs.{laws.SessionClaims.{Each}, laws.Sessions.{sabm_in}}
+use Rattle.x25_line.specs.{laws.Stations.{Stations, Act, after_step, acts}, laws.LawsBelow.{Laws}, laws.Said.{said}, laws.Peer.{Peer, MayHear}}
+use Rattle.x25_line.specs.{laws.PeerClaims.{IsNoFrmr}, laws.SessionClaims.{Each}, laws.Sessions.{sabm_in}}
 use Rattle.x25_line.proofs.{Lists.{each_append}, StationLines.{parts_of}, StationSends.{AllWithin, within_push}}
-use Rattle.x25_line.proofs.StationSteps.{MayBeAway, AsUp, IsAway, FitsEnd, no_packet_of, Leaves, Noted, left_up, stays_out, in_vain, Parts, ends_parts}
-use Rattle.x25_line.proofs.StationSteps.{empty_lists}
-use Rattle.x25_line.proofs.StationAway.{is_up_phase, frmr_three}
-use Rattle.x25_line.proofs.StationSays.{machine_of, MayDo, AllFree, parting_free, frmr_free, free_all, runs_said}
-use Rattle.x25_line.proofs.{StationActs.{MayAsk, OfSteps, of_act}, StationHears.{passes, Hears, stays_hears, left_by, by_reset}}
+use Rattle.x25_line.proofs.StationSteps.{AsUp, IsAway, FitsEnd, no_packet_of, Leaves, Noted, left_up, stays_out, in_vain, Parts, ends_parts, empty_lists}
+use Rattle.x25_line.proofs.{StationAway.{is_up_phase, frmr_three}, StationSays.{machine_of, MayDo, AllFree, parting_free, frmr_free, free_all, runs_said}}
+use Rattle.x25_line.proofs.{StationActs.{OfSteps, of_act}, StationHears.{passes, Hears, stays_hears, left_by, by_reset}}
 
 -- the near end of w, with settings d, as a peer of which R is known
 pub record Seen (d : Settings) (Fine : Type 0) (R : List (List ℕ) → Peer → List (List ℕ) → Type 0) (w : Stations) : Type 0 where
   pub peer : Peer
   pub reached : R w.back peer w.out
-  pub fits : FitsEnd MayAsk d w.near.station (machine_of d.window peer)
+  pub fits : FitsEnd d w.near.station (machine_of d.window peer)
   pub room : peer.sent ≤ peer.acked + d.window
   pub told : peer.told ≤ length peer.taken
   pub within : AllWithin d.longest peer.given
@@ -82,7 +75,7 @@ module _ (d : Settings) (high : d.window ≤ 7) (reads : ReadsSpelled) (laws : L
 
   -- it leaves Up or is out, and sends nothing that has a number
   parts_seen : {w : Stations} {os : List (List ℕ)} (step : Step) {v : Window} → Ready w os [] None v → AllFree d.role d.longest step.side.out
-      → IsAway MayAsk step.side.near → step.packet ≡ None
+      → IsAway step.side.near → step.packet ≡ None
       → (Fine → Each IsNoFrmr (w.near.reasons ++ option_to_list step.notes.down)) → S (after_step d w os [] step)
   parts_seen {w} {os} step r free away none fine =
       record {
@@ -97,10 +90,10 @@ module _ (d : Settings) (high : d.window ≤ 7) (reads : ReadsSpelled) (laws : L
         fine = fine;
       }
 
-  parting_seen : {w : Stations} (h : S w) {os : List (List ℕ)} {step : Step} {v : Window} → Ready w os [] None v → Parts MayAsk w.near.station step
+  parting_seen : {w : Stations} (h : S w) {os : List (List ℕ)} {step : Step} {v : Window} → Ready w os [] None v → Parts w.near.station step
       → S (after_step d w os [] step)
   parting_seen {w} h {os} {step} {v} r parts =
-      parts_seen step r (parting_free reads d.role d.longest MayAsk step.side.out (parts_of MayAsk step.side.out parts.frames)) parts.away parts.packet
+      parts_seen step r (parting_free reads d.role d.longest step.side.out (parts_of step.side.out parts.frames)) parts.away parts.packet
       (λ f. each_append IsNoFrmr w.near.reasons (option_to_list step.notes.down) (h.fine f) (no_frmr_noted parts.noted))
 
   -- ---- what it is before it sends
@@ -159,13 +152,12 @@ module _ (d : Settings) (high : d.window ≤ 7) (reads : ReadsSpelled) (laws : L
           parts_seen step passed (subst (AllFree d.role d.longest) (sym ends.frames.2)
           (frmr_free reads d.role d.longest f why (frmr_three d o s (is_up_phase s.phase u.up) r refl f why ending ends.frames.2)))
           (record {
-            away = subst (MayBeAway MayAsk) (sym ends.phase) tt;
+            away = ap is_up ends.phase;
             empty = empty_lists step.side.near.outgoing step.side.near.taken ends.outgoing ends.taken;
           }) ends.packet
           (λ fine. absurd (does.faultless o os h.peer w.out (ap (ending_of r) (sym u.same) ∙ ending) came fine))
-      ends_seen Reset ending no_sabm ends = (absurd (omega (arith, (left_by r (window_of d.window s)).1, ap by_reset ending, no_sabm)))
-      ends_seen reason ending no_sabm ends =
-          parting_seen h passed (ends_parts MayAsk u.up tt (laws.take_tells d o s) ends)
+      ends_seen Reset ending no_sabm ends = absurd (omega (arith, (left_by r (window_of d.window s)).1, ap by_reset ending, no_sabm))
+      ends_seen reason ending no_sabm ends = parting_seen h passed (ends_parts u.up tt (laws.take_tells d o s) ends)
 
       up_seen : sabm_in r ≡ 0 → S (after_step d w os [] step)
       up_seen no_sabm = go (ending_of r (window_of d.window s)) refl (laws.window.take d o s (record { up = u.up; sound = u.sound }) r refl)
@@ -218,9 +210,9 @@ module _ (d : Settings) (high : d.window ≤ 7) (reads : ReadsSpelled) (laws : L
     still = h;
     takes = λ o os is u no_sabm. up_seen w h o os is u no_sabm;
     puts = λ packet u short. put_up w h packet u short;
-    rests = λ step u stays. (stays_seen h
+    rests = λ step u stays. stays_seen h
         (rw (no_packet_of nothing step.packet (window_of d.window w.near.station) (λ y never. never) stays.hands_up)
-        (subst (Ready w w.back [] None) (sym u.same) (left_so h h.reached))) stays);
+        (subst (Ready w w.back [] None) (sym u.same) (left_so h h.reached))) stays;
     parts = λ step parts. parting_seen h (left_so h h.reached) parts;
     passes = λ o os is step parts. parting_seen h (passed w h o os is) parts;
     loses = λ i. line_seen h (does.loses w.back h.peer w.out i h.reached);

@@ -1,11 +1,9 @@
 -- What an end may do that keeps the rules of a peer; and what a station sends, which is that.
 use Rattle.std.proofs.Common.{◌≡◌, ℕ, ◌+◌, ◌≤◌, List, [], ◌∷◌, ◌++◌, length, map, remove, Bool, true, Some, None, Ok, refl, sym, ap, ◌∙◌, subst, arith}
-use Rattle.std.proofs.Common.{append_assoc, append-nil}
-use Rattle.std.proofs.lemmas.List.{map-append}
+use Rattle.std.proofs.{Common.{append_assoc, append-nil}, lemmas.List.{map-append}}
 use Rattle.std.specs.List.{slice_get}
 use Rattle.x25_bits.specs.declared.role.Role.{Role}
-use Rattle.x25_frame.specs.{Frame.{PlainFrame, info, rr, rnr, rej, frmr}, Spelling.{spelling_of}, Reading.{frame_of}}
-use Rattle.x25_frame.specs.laws.ReadingLaw.{ReadsSpelled}
+use Rattle.x25_frame.specs.{Frame.{PlainFrame, info, rr, rnr, rej, frmr}, Spelling.{spelling_of}, Reading.{frame_of}, laws.ReadingLaw.{ReadsSpelled}}
 use Rattle.x25_link.specs.{Station.{Settings}, Hearing.{other}, declared.phase.Reason.TheVariants.{FrmrSent}, laws.WindowLaw.{ending_of}}
 use Rattle.x25_link.specs.laws.WindowMachine.{Window, ShowsItem, Shows, ShowAll, IsSent, Runs, rests, goes_on}
 use Rattle.x25_line.specs.{laws.Stations.{replaced, is_visible}, laws.StationClaims.{Each, number_in}, laws.Peer.{Peer, MaySend, MayHear, numbered_to, told_to}}
@@ -124,10 +122,9 @@ free_sent p (rnr command nr pf) none = cc
 free_sent p (rej command nr pf) none = cc
 free_sent p f none = refl
 
-pub parting_free : ReadsSpelled → (from : Role) (n1 : ℕ) (MayAsk : Type 0) (fs : List PlainFrame) → Each (IsPart MayAsk) fs → AllFree from n1 fs
-parting_free reads from n1 MayAsk [] h = tt
-parting_free reads from n1 MayAsk (f ∷ fs) h =
-    (record { reads = part_reads reads from n1 MayAsk h.0; none = h.0.none }, parting_free reads from n1 MayAsk fs h.1)
+pub parting_free : ReadsSpelled → (from : Role) (n1 : ℕ) (fs : List PlainFrame) → Each IsPart fs → AllFree from n1 fs
+parting_free reads from n1 [] h = tt
+parting_free reads from n1 (f ∷ fs) h = (record { reads = part_reads reads from n1 h.0; none = h.0.none }, parting_free reads from n1 fs h.1)
 
 pub frmr_free : ReadsSpelled → (from : Role) (n1 : ℕ) (f : Bool) (why : List ℕ) → length why ≡ 3 → AllFree from n1 (frmr f why ∷ [])
 frmr_free reads from n1 f why three =
@@ -175,5 +172,4 @@ module _ (d : Settings) (high : d.window ≤ 7) (reads : ReadsSpelled) (Fine : T
   pub runs_said : (out : List (List ℕ)) (p : Peer) (from : Window) → R os p out → machine_of d.window p ≡ from → p.sent ≤ p.acked + d.window → p.told
       ≤ length p.taken → AllWithin d.longest p.given
       → (w : Window) (frames : List PlainFrame) → Runs from w frames → Said d (λ q frames. R os q (out ++ map (spelling_of d.role) frames)) p w frames
-  runs_said out p from reached is room told within w frames runs =
-      said_run high (speaks out) p within (rw (append-nil out) reached) is room told runs
+  runs_said out p from reached is room told within w frames runs = said_run high (speaks out) p within (rw (append-nil out) reached) is room told runs

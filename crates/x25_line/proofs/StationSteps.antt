@@ -1,19 +1,19 @@
 -- What holds of two stations and the window machine behind the line, and that a step of the near end keeps it.
 use Rattle.std.proofs.Common.{◌≡◌, ℕ, ◌+◌, ◌%◌, List, [], ◌∷◌, ◌++◌, ◌⊎◌, inl, inr, length, map, remove, Bool, true, false, Option, Some, None, Result, Ok, Err}
-use Rattle.std.proofs.Common.{refl, sym, ap, ◌∙◌, subst, append-nil}
-use Rattle.std.proofs.{lemmas.Bool.{le-leb}, lemmas.List.{replicate_more}}
+use Rattle.std.proofs.{Common.{refl, sym, ap, ◌∙◌, subst, arith, append-nil}, lemmas.Bool.{le-leb}, lemmas.List.{replicate_more}}
 use Rattle.std.specs.Prelude.{option_to_list, drop, ◌||◌}
-use Rattle.x25_frame.specs.{Frame.{PlainFrame, info, rr, rnr, rej, disc, ua, dm}, Spelling.{spelling_of}, Reading.{frame_of}, laws.ReadingLaw.{ReadsSpelled}}
-use Rattle.x25_frame.specs.{declared.error.FrameError.{FrameError}, declared.error.FrameError.TheVariants.{Short, BadFcs, BadAddress}}
+use Rattle.x25_frame.specs.{Frame.{PlainFrame, info, rr, rnr, rej, sabm, disc, ua, dm}, Spelling.{spelling_of}, Reading.{frame_of}}
+use Rattle.x25_frame.specs.{laws.ReadingLaw.{ReadsSpelled}, declared.error.FrameError.{FrameError}}
+use Rattle.x25_frame.specs.declared.error.FrameError.TheVariants.{Short, BadFcs, BadAddress}
 use Rattle.x25_window.specs.{laws.Window.{End, Numbered, Frame, after}, laws.Window.Step.{Hear, Take}}
 use Rattle.x25_link.specs.{declared.phase.Phase.{Phase}, declared.phase.Phase.TheVariants.{Waiting, Up}, declared.phase.Reason.{Reason}}
-use Rattle.x25_link.specs.{declared.phase.Reason.TheVariants.{Retries, Disc, FrmrSent, Reset}}
-use Rattle.x25_link.specs.{laws.NoteLaw.{IsQuiet, Tells}, Outgoing.{Outgoing, no_packet}, Station.{Settings, LinkStation, is_up, lists_of, no_packets}}
-use Rattle.x25_link.specs.{Hearing.{Step, other}, laws.WindowMachine.{Window, Input, receives, Shows, ShowAll}}
+use Rattle.x25_link.specs.{declared.phase.Reason.TheVariants.{Retries, Disc, FrmrSent, Reset}, laws.NoteLaw.{IsQuiet, Tells}, Outgoing.{Outgoing, no_packet}}
+use Rattle.x25_link.specs.{Station.{Settings, LinkStation, is_up, lists_of, no_packets}, Hearing.{Step, other}}
+use Rattle.x25_link.specs.laws.WindowMachine.{Window, Input, receives, Shows, ShowAll}
 use Rattle.x25_link.specs.laws.WindowLaw.{IsSound, window_of, brought_by, after_input, MayHandUp, if_valid, ending_of, ends_in, AreLast, Stays, Ends, Follows}
 use Rattle.x25_link.specs.laws.WindowLaw.{IsOut, AreDeclining}
 use Rattle.x25_line.specs.{laws.Line.{Line, MayTake, FrontMayBeTaken, arrived, front_arrived, takes_item}, laws.Line.Move.{Arrives, Loses}}
-use Rattle.x25_line.specs.laws.Stations.{StationEnd, Stations, after_step}
+use Rattle.x25_line.specs.{laws.Stations.{StationEnd, Stations, after_step}, laws.Sessions.{sabm_in}}
 use Rattle.x25_line.specs.laws.StationClaims.{AreJoined, NotesItsEnd, MachineReaches, near_moves, number_in, numbered_on, Each, NoFrmr, IsWhole, AreWhole}
 use Rattle.x25_line.specs.laws.WholeNumbers.{given, first_of, taken_out, counted, machine_after}
 use Rattle.x25_line.proofs.{Lists.{each_append}, Kept.{Kept, Way, Kept-moved, hears_valid}}
@@ -22,26 +22,12 @@ use Rattle.x25_line.proofs.StationLines.{parts_of, no_frmr_append, good_no_frmr,
 use Rattle.x25_line.proofs.StationLines.{parting_orderly, whole_more, good_whole, parting_whole, first_more}
 use Rattle.x25_line.proofs.StationSends.{AllWithin, Sent, sent_given, runs_sent}
 
--- Down or Closed, and Waiting where an end may ask for set-up
-abbrev pub MayBeAway : Type 0 → Phase → Type 0
-MayBeAway MayAsk Waiting = MayAsk
-MayBeAway MayAsk Up = ⊥
-MayBeAway MayAsk phase = Unit {0}
-
-pub away_is_not_up : (MayAsk : Type 0) (p : Phase) → MayBeAway MayAsk p → is_up p ≡ false
-away_is_not_up MayAsk Up h = absurd h
-away_is_not_up MayAsk p h = refl
-
-pub out_is_away : (MayAsk : Type 0) (p : Phase) → IsOut p → MayBeAway MayAsk p
-out_is_away MayAsk Waiting h = absurd h
-out_is_away MayAsk Up h = absurd h
-out_is_away MayAsk p h = tt
-
 pub out_not_up : (p : Phase) → IsOut p → is_up p ≡ false
 out_not_up Waiting h = absurd h
 out_not_up Up h = absurd h
 out_not_up p h = refl
 
+-- a bit isn't both true and false, so anything follows
 pub not_both : {A : Type 0} (b : Bool) → b ≡ true → b ≡ false → A
 not_both b e f = absurd (never (sym e ∙ f))
   where
@@ -57,17 +43,17 @@ pub record AsUp (c : Settings) (s : LinkStation) (e : End (List ℕ)) : Type 0 w
   pub same : window_of c.window s ≡ e
 
 -- any other has empty lists, and its machine's end stands still
-pub record IsAway (MayAsk : Type 0) (s : LinkStation) : Type 0 where
-  pub away : MayBeAway MayAsk s.phase
+pub record IsAway (s : LinkStation) : Type 0 where
+  pub away : is_up s.phase ≡ false
   pub empty : lists_of s ≡ no_packets
 
-abbrev pub FitsEnd : Type 0 → Settings → LinkStation → End (List ℕ) → Type 0
-FitsEnd MayAsk c s e = AsUp c s e ⊎ IsAway MayAsk s
+abbrev pub FitsEnd : Settings → LinkStation → End (List ℕ) → Type 0
+FitsEnd c s e = AsUp c s e ⊎ IsAway s
 
 -- an end that is Up isn't away
-pub up_of : (MayAsk : Type 0) {c : Settings} {s : LinkStation} {e : End (List ℕ)} → FitsEnd MayAsk c s e → is_up s.phase ≡ true → AsUp c s e
-up_of MayAsk (inl u) up = u
-up_of MayAsk {s = s} (inr away) up = not_both (is_up s.phase) up (away_is_not_up MayAsk s.phase away.away)
+pub up_of : {c : Settings} {s : LinkStation} {e : End (List ℕ)} → FitsEnd c s e → is_up s.phase ≡ true → AsUp c s e
+up_of (inl u) up = u
+up_of {s = s} (inr away) up = not_both (is_up s.phase) up away.away
 
 -- the link wasn't set up anew
 pub record NotesOnce (e : StationEnd) : Type 0 where
@@ -81,23 +67,22 @@ pub record Has (longest : ℕ) (e : StationEnd) (l : End (List ℕ)) : Type 0 wh
   pub within : AllWithin longest l.given
   pub notes : NotesOnce e
 
--- `MayAsk` holds where an end may ask for set-up
-pub record Joint (MayAsk : Type 0) (c d : Settings) (w : Stations) (l : Line (List ℕ)) : Type 0 where
+pub record Joint (c d : Settings) (w : Stations) (l : Line (List ℕ)) : Type 0 where
   pub reached : MachineReaches c.window d.window l
   pub kept : Kept l
-  pub near : FitsEnd MayAsk c w.near.station l.near
-  pub far : FitsEnd MayAsk d w.far.station l.far
+  pub near : FitsEnd c w.near.station l.near
+  pub far : FitsEnd d w.far.station l.far
   pub out : ShowAll (numbered_on (other d.role) d.longest w.out) l.out
   pub back : ShowAll (numbered_on (other c.role) c.longest w.back) l.back
-  pub out_orderly : AreOrderly MayAsk (other d.role) d.longest w.out
-  pub back_orderly : AreOrderly MayAsk (other c.role) c.longest w.back
+  pub out_orderly : AreOrderly (other d.role) d.longest w.out
+  pub back_orderly : AreOrderly (other c.role) c.longest w.back
   pub near_has : Has d.longest w.near l.near
   pub far_has : Has c.longest w.far l.far
   pub no_frmr : NoFrmr w.sent
   pub whole : AreWhole d.longest (w.near.down ++ w.far.down) w.sent
 
-abbrev pub Holds : Type 0 → Settings → Settings → Stations → Type 0
-Holds MayAsk c d w = (l : Line (List ℕ)) × Joint MayAsk c d w l
+abbrev pub Holds : Settings → Settings → Stations → Type 0
+Holds c d w = (l : Line (List ℕ)) × Joint c d w l
 
 -- ---- the machine goes on
 
@@ -111,8 +96,8 @@ pub record Goes (c : Settings) (w v : Stations) (l m : Line (List ℕ)) (left : 
   pub out : m.out ≡ l.out ++ given m.near.acked (length m.near.taken) l.near.sent (numbered_on c.role c.longest (not_taken w.out v.out))
   pub back : m.back ≡ left
 
-abbrev pub Leads : Type 0 → Settings → Settings → Stations → Line (List ℕ) → List (Frame (List ℕ)) → Stations → Type 0
-Leads MayAsk c d w l left v = (m : Line (List ℕ)) × Joint MayAsk c d v m × Goes c w v l m left
+abbrev pub Leads : Settings → Settings → Stations → Line (List ℕ) → List (Frame (List ℕ)) → Stations → Type 0
+Leads c d w l left v = (m : Line (List ℕ)) × Joint c d v m × Goes c w v l m left
 
 -- so it is the machine that the definition says
 pub machine_is : (c : Settings) (station : LinkStation) (put : List (List ℕ)) (place : Option ℕ) (l m : Line (List ℕ)) → m.near
@@ -134,9 +119,10 @@ counted_up k s e up = rw up refl
 pub counted_off : (k : ℕ) (s : LinkStation) (e : Window) → is_up s.phase ≡ false → counted k s e ≡ e
 counted_off k s e off = rw off refl
 
-pub counted_fits : (MayAsk : Type 0) {c : Settings} {s : LinkStation} {e : Window} → FitsEnd MayAsk c s e → counted c.window s e ≡ e
-counted_fits MayAsk {c} {s} {e} (inl u) = counted_up c.window s e u.up ∙ u.same
-counted_fits MayAsk {c} {s} {e} (inr away) = counted_off c.window s e (away_is_not_up MayAsk s.phase away.away)
+-- a machine's end that fits the station has the numbers of that station
+pub counted_fits : {c : Settings} {s : LinkStation} {e : Window} → FitsEnd c s e → counted c.window s e ≡ e
+counted_fits {c} {s} {e} (inl u) = counted_up c.window s e u.up ∙ u.same
+counted_fits {c} {s} {e} (inr away) = counted_off c.window s e away.away
 
 pub put_behind : (xs ys : List (List ℕ)) → not_taken xs (xs ++ ys) ≡ ys
 put_behind [] ys = refl
@@ -151,19 +137,19 @@ nothing_put [] = refl
 nothing_put (x ∷ xs) = nothing_put xs
 
 -- the line is as it was, with these frames left on that to the near end
-pub left_alone : (MayAsk : Type 0) (c d : Settings) (w v : Stations) (l m : Line (List ℕ)) → Joint MayAsk c d w l → v.near.station ≡ w.near.station → v.out
+pub left_alone : (c d : Settings) (w v : Stations) (l m : Line (List ℕ)) → Joint c d w l → v.near.station ≡ w.near.station → v.out
     ≡ w.out → m.near ≡ l.near → m.far ≡ l.far
     → m.out ≡ l.out → Goes c w v l m m.back
-left_alone MayAsk c d w v l m h station out near far frames = record {
-  near = near ∙ sym (counted_fits MayAsk h.near) ∙ ap (λ s. counted c.window s l.near) (sym station);
+left_alone c d w v l m h station out near far frames = record {
+  near = near ∙ sym (counted_fits h.near) ∙ ap (λ s. counted c.window s l.near) (sym station);
   far = far;
   out = frames ∙ none_put l m.near.acked (length m.near.taken) (numbered_on c.role c.longest (not_taken w.out v.out))
       (ap (λ os. numbered_on c.role c.longest os) (ap (not_taken w.out) out ∙ nothing_put w.out));
   back = refl;
 }
 
-pub stands_still : (MayAsk : Type 0) {c d : Settings} {w : Stations} {l : Line (List ℕ)} → Joint MayAsk c d w l → Leads MayAsk c d w l l.back w
-stands_still MayAsk {c} {d} {w} {l} h = (l, h, left_alone MayAsk c d w w l l h refl refl refl refl refl)
+pub stands_still : {c d : Settings} {w : Stations} {l : Line (List ℕ)} → Joint c d w l → Leads c d w l l.back w
+stands_still {c} {d} {w} {l} h = (l, h, left_alone c d w w l l h refl refl refl refl refl)
 
 -- ---- what is noted
 
@@ -203,25 +189,25 @@ Leaves FrmrSent = ⊥
 Leaves Reset = ⊥
 Leaves other = Unit {0}
 
-pub last_parting : (MayAsk : Type 0) (reason : Reason) (fs : List PlainFrame) → Leaves reason → AreLast reason fs → AreParting MayAsk fs
-last_parting MayAsk Disc fs l h = rw h.1 tt
-last_parting MayAsk FrmrSent fs l h = absurd l
-last_parting MayAsk Reset fs l h = absurd l
-last_parting MayAsk reason fs l h = rw h tt
+pub last_parting : (reason : Reason) (fs : List PlainFrame) → Leaves reason → AreLast reason fs → AreParting fs
+last_parting Disc fs l h = rw h.1 tt
+last_parting FrmrSent fs l h = absurd l
+last_parting Reset fs l h = absurd l
+last_parting reason fs l h = rw h tt
 
-pub last_away : (MayAsk : Type 0) (reason : Reason) (p : Phase) → Leaves reason → p ≡ ends_in reason → MayBeAway MayAsk p
-last_away MayAsk FrmrSent p l h = absurd l
-last_away MayAsk Reset p l h = absurd l
-last_away MayAsk reason p l h = rw h tt
+pub last_away : (reason : Reason) (p : Phase) → Leaves reason → p ≡ ends_in reason → is_up p ≡ false
+last_away FrmrSent p l h = absurd l
+last_away Reset p l h = absurd l
+last_away reason p l h = rw h refl
 
 pub empty_lists : (o : Outgoing) (taken : List (List ℕ)) → o ≡ no_packet → taken ≡ [] → record { given = o.given; acked = o.acked; taken = taken } ≡ no_packets
 empty_lists o taken none nothing_taken = rw (none, nothing_taken) refl
 
 -- a station that is out declines
-pub declining_parting : (MayAsk : Type 0) (fs : List PlainFrame) → AreDeclining fs → AreParting MayAsk fs
-declining_parting MayAsk [] h = tt
-declining_parting MayAsk (dm f ∷ fs) h = declining_parting MayAsk fs h
-declining_parting MayAsk (frame ∷ fs) h = absurd h
+pub declining_parting : (fs : List PlainFrame) → AreDeclining fs → AreParting fs
+declining_parting [] h = tt
+declining_parting (dm f ∷ fs) h = declining_parting fs h
+declining_parting (frame ∷ fs) h = absurd h
 
 -- what is noted by a step behind which the station isn't Up: it left Up, it goes on to be out, or it asked in vain
 pub data Noted (s : LinkStation) (step : Step) : Type 0 where
@@ -255,26 +241,27 @@ noted_once c w back step h off (in_vain out down not_up) =
     }
 
 -- a step that sends nothing that has a number, behind which the station isn't Up
-pub record Parts (MayAsk : Type 0) (s : LinkStation) (step : Step) : Type 0 where
-  pub frames : AreParting MayAsk step.side.out
-  pub away : IsAway MayAsk step.side.near
+pub record Parts (s : LinkStation) (step : Step) : Type 0 where
+  pub frames : AreParting step.side.out
+  pub away : IsAway step.side.near
   pub packet : step.packet ≡ None
   pub noted : Noted s step
 
-pub ends_parts : (MayAsk : Type 0) {s : LinkStation} {reason : Reason} {step : Step} → is_up s.phase ≡ true → Leaves reason → Tells s step → Ends reason step
-    → Parts MayAsk s step
-ends_parts MayAsk {s} {reason} {step} up leaves tells ends =
-    let away = last_away MayAsk reason step.side.near.phase leaves ends.phase in
+-- so is each step by which a station leaves Up
+pub ends_parts : {s : LinkStation} {reason : Reason} {step : Step} → is_up s.phase ≡ true → Leaves reason → Tells s step → Ends reason step
+    → Parts s step
+ends_parts {s} {reason} {step} up leaves tells ends =
+    let away = last_away reason step.side.near.phase leaves ends.phase in
     record {
-      frames = last_parting MayAsk reason step.side.out leaves ends.frames;
+      frames = last_parting reason step.side.out leaves ends.frames;
       away = record { away = away; empty = empty_lists step.side.near.outgoing step.side.near.taken ends.outgoing ends.taken };
       packet = ends.packet;
-      noted = left_up reason leaves up ends.noted (not_afresh tells (away_is_not_up MayAsk step.side.near.phase away));
+      noted = left_up reason leaves up ends.noted (not_afresh tells away);
     }
 
 -- ---- a step of the near end, the machine's line being `l` once what comes has come
 
-pub record Stage (MayAsk : Type 0) (c d : Settings) (w : Stations) (start l : Line (List ℕ)) (back down : List (List ℕ)) (packet : Option (List ℕ))
+pub record Stage (c d : Settings) (w : Stations) (start l : Line (List ℕ)) (back down : List (List ℕ)) (packet : Option (List ℕ))
     (v : Window) : Type 0 where
   pub reached : MachineReaches c.window d.window l
   pub kept : Kept l
@@ -282,13 +269,13 @@ pub record Stage (MayAsk : Type 0) (c d : Settings) (w : Stations) (start l : Li
   pub far : l.far ≡ start.far
   pub out : l.out ≡ start.out
   pub left : ShowAll (numbered_on (other c.role) c.longest back) l.back
-  pub orderly : AreOrderly MayAsk (other c.role) c.longest back
+  pub orderly : AreOrderly (other c.role) c.longest back
   pub given : w.near.down ++ down ≡ v.given
   pub taken : w.near.up ++ option_to_list packet ≡ v.taken
   pub within : AllWithin d.longest v.given
   pub same_sent : v.sent ≡ start.near.sent
 
-module _ (MayAsk : Type 0) {c d : Settings} (joined : AreJoined c d) (reads : ReadsSpelled) where
+module _ {c d : Settings} (joined : AreJoined c d) (reads : ReadsSpelled) where
   -- what is put on the line, as the other end reads it
   numbers_out : (out : List (List ℕ)) (fs es : List PlainFrame) (gs hs : List (Frame (List ℕ))) → numbered_on c.role d.longest (map (spelling_of c.role) fs)
       ≡ es → ShowAll (numbered_on (other d.role) d.longest out) gs → ShowAll es hs
@@ -300,11 +287,10 @@ module _ (MayAsk : Type 0) {c d : Settings} (joined : AreJoined c d) (reads : Re
       (sym (numbered_append (other d.role) d.longest out (map (spelling_of c.role) fs) ∙ ap (λ ps. numbered_on (other d.role) d.longest out ++ ps) same))
       (shows_append (numbered_on (other d.role) d.longest out) es gs hs f e)
 
-  orderly_out : (out : List (List ℕ)) (fs : List PlainFrame) → AreOrderly MayAsk c.role d.longest (map (spelling_of c.role) fs)
-      → AreOrderly MayAsk (other d.role) d.longest out
-      → AreOrderly MayAsk (other d.role) d.longest (out ++ map (spelling_of c.role) fs)
-  orderly_out out fs more f = each_append (λ o. IsOrderly MayAsk (frame_of (other d.role) d.longest o)) out (map (spelling_of c.role) fs) f
-      (rw joined.near_role more)
+  orderly_out : (out : List (List ℕ)) (fs : List PlainFrame) → AreOrderly c.role d.longest (map (spelling_of c.role) fs)
+      → AreOrderly (other d.role) d.longest out
+      → AreOrderly (other d.role) d.longest (out ++ map (spelling_of c.role) fs)
+  orderly_out out fs more f = each_append (λ o. IsOrderly (frame_of (other d.role) d.longest o)) out (map (spelling_of c.role) fs) f (rw joined.near_role more)
 
   -- and as its own end does
   put_is : (out : List (List ℕ)) (fs es : List PlainFrame) → numbered_on c.role c.longest (map (spelling_of c.role) fs) ≡ es
@@ -312,11 +298,11 @@ module _ (MayAsk : Type 0) {c d : Settings} (joined : AreJoined c d) (reads : Re
   put_is out fs es is = ap (numbered_on c.role c.longest) (put_behind out (map (spelling_of c.role) fs)) ∙ is
 
   -- a station that stays Up: what comes has come, and then it sends
-  pub stays_joint : {w : Stations} {l : Line (List ℕ)} (m : Line (List ℕ)) {back down : List (List ℕ)} {input : Input} {step : Step} → Joint MayAsk c d w l
+  pub stays_joint : {w : Stations} {l : Line (List ℕ)} (m : Line (List ℕ)) {back down : List (List ℕ)} {input : Input} {step : Step} → Joint c d w l
       → is_up w.near.station.phase ≡ true
-      → Stage MayAsk c d w l m back down step.packet (after_input input step.packet (window_of c.window w.near.station))
+      → Stage c d w l m back down step.packet (after_input input step.packet (window_of c.window w.near.station))
       → Stays c.window input w.near.station step
-      → Leads MayAsk c d w l m.back (after_step c w back down step)
+      → Leads c d w l m.back (after_step c w back down step)
   stays_joint {w} {l} m {back} {down} {input} {step} h was_up g stays =
       let v : Window = after_input input step.packet (window_of c.window w.near.station) in
       let t = runs_sent g.reached g.kept g.near g.within stays.sends in
@@ -330,7 +316,7 @@ module _ (MayAsk : Type 0) {c d : Settings} (joined : AreJoined c d) (reads : Re
           out = rw (t.out ∙ ap (λ gs. gs ++ t.behind) g.out)
               (numbers_out w.out step.side.out step.side.out l.out t.behind (good_numbered reads c.role d.longest step.side.out t.good) h.out t.shows);
           back = rw t.back g.left;
-          out_orderly = orderly_out w.out step.side.out (good_orderly reads c.role d.longest MayAsk step.side.out t.good) h.out_orderly;
+          out_orderly = orderly_out w.out step.side.out (good_orderly reads c.role d.longest step.side.out t.good) h.out_orderly;
           back_orderly = g.orderly;
           near_has = record {
             down = g.given ∙ sym t.given ∙ ap (λ z. z.given) (sym t.near);
@@ -372,11 +358,11 @@ module _ (MayAsk : Type 0) {c d : Settings} (joined : AreJoined c d) (reads : Re
   abbrev come : Line (List ℕ) → Bool → Frame (List ℕ) → List (Frame (List ℕ)) → Line (List ℕ)
   come l b g gs = record { near = arrived b g l.near; far = l.far; out = l.out; back = gs }
 
-  stage_arrives : {w : Stations} {l : Line (List ℕ)} → Joint MayAsk c d w l → {os : List (List ℕ)} → AreOrderly MayAsk (other c.role) c.longest os
+  stage_arrives : {w : Stations} {l : Line (List ℕ)} → Joint c d w l → {os : List (List ℕ)} → AreOrderly (other c.role) c.longest os
       → (g : Frame (List ℕ)) {gs : List (Frame (List ℕ))} → l.back ≡ g ∷ gs
       → ShowAll (numbered_on (other c.role) c.longest os) gs → (packet : Option (List ℕ)) (v : Window) → arrived (is_some packet) g l.near ≡ v
       → MayTake (is_some packet) (length l.near.taken) g.carried → v.given ≡ l.near.given → w.near.up ++ option_to_list packet ≡ v.taken
-      → Stage MayAsk c d w l (come l (is_some packet) g gs) os [] packet v
+      → Stage c d w l (come l (is_some packet) g gs) os [] packet v
   stage_arrives {w} {l} h orderly g is shows packet v near ok same_given taken =
       let e = l.near in
       let may = subst (λ bs. FrontMayBeTaken (is_some packet) (length e.taken) bs) (sym is) ok in
@@ -403,19 +389,19 @@ module _ (MayAsk : Type 0) {c d : Settings} (joined : AreJoined c d) (reads : Re
       ≡ after (window_of c.window s) (Hear nr)
   hears_same s e g nr same is = ap (λ n. after e (Hear n)) (sym is) ∙ ap (λ z. after z (Hear nr)) (sym same)
 
-  tell_stage : {w : Stations} {l : Line (List ℕ)} → Joint MayAsk c d w l → AsUp c w.near.station l.near → {os : List (List ℕ)}
-      → AreOrderly MayAsk (other c.role) c.longest os → (g : Frame (List ℕ)) {gs : List (Frame (List ℕ))}
+  tell_stage : {w : Stations} {l : Line (List ℕ)} → Joint c d w l → AsUp c w.near.station l.near → {os : List (List ℕ)}
+      → AreOrderly (other c.role) c.longest os → (g : Frame (List ℕ)) {gs : List (Frame (List ℕ))}
       → l.back ≡ g ∷ gs → ShowAll (numbered_on (other c.role) c.longest os) gs → (nr : ℕ) → nr ≡ g.ack % 8
-      → Stage MayAsk c d w l (come l false g gs) os [] None (after (window_of c.window w.near.station) (Hear nr))
+      → Stage c d w l (come l false g gs) os [] None (after (window_of c.window w.near.station) (Hear nr))
   tell_stage {w} {l} h u {os} orderly g {gs} is shows nr number =
       stage_arrives h orderly g is shows None (after (window_of c.window w.near.station) (Hear nr)) (hears_same w.near.station l.near g nr u.same number) tt
       (ap (λ z. z.given) u.same) (append-nil w.near.up ∙ h.near_has.up ∙ sym (ap (λ z. z.taken) u.same))
 
-  info_stage : {w : Stations} {l : Line (List ℕ)} → Joint MayAsk c d w l → AsUp c w.near.station l.near → {os : List (List ℕ)}
-      → AreOrderly MayAsk (other c.role) c.longest os → {g : Frame (List ℕ)} {gs : List (Frame (List ℕ))}
+  info_stage : {w : Stations} {l : Line (List ℕ)} → Joint c d w l → AsUp c w.near.station l.near → {os : List (List ℕ)}
+      → AreOrderly (other c.role) c.longest os → {g : Frame (List ℕ)} {gs : List (Frame (List ℕ))}
       → l.back ≡ g ∷ gs → ShowAll (numbered_on (other c.role) c.longest os) gs → (ns nr : ℕ) (p : Bool) (x : List ℕ) → Shows (info ns nr p x) g
       → (packet : Option (List ℕ)) → MayHandUp (receives (info ns nr p x)) packet (window_of c.window w.near.station)
-      → Stage MayAsk c d w l (come l (is_some packet) g gs) os [] packet (after_input (receives (info ns nr p x)) packet (window_of c.window w.near.station))
+      → Stage c d w l (come l (is_some packet) g gs) os [] packet (after_input (receives (info ns nr p x)) packet (window_of c.window w.near.station))
   info_stage {w} {l} h u {os} orderly {g} {gs} is shows ns nr p x shown None up = tell_stage h u orderly g is shows nr shown.1
   info_stage {w} {l} h u {os} orderly {g} {gs} is shows ns nr p x shown (Some y) up =
       let e = l.near in
@@ -429,36 +415,29 @@ module _ (MayAsk : Type 0) {c d : Settings} (joined : AreJoined c d) (reads : Re
       (ap (λ z. z.given) u.same)
       (ap (λ xs. xs ++ y ∷ []) (h.near_has.up ∙ sym (ap (λ z. z.taken) u.same)))
 
-  -- an N(R) that comes is valid, so that no FRMR is due
-  valid_at : (w : Stations) (l : Line (List ℕ)) → Joint MayAsk c d w l → AsUp c w.near.station l.near → (g : Frame (List ℕ)) (gs : List (Frame (List ℕ)))
-      → l.back ≡ g ∷ gs → (nr : ℕ) → nr ≡ g.ack % 8
-      → if_valid nr (window_of c.window w.near.station) ≡ None
-  valid_at w l h u g gs is nr number =
-      let e = l.near in
-      let way = subst (λ bs. Way e l.far.taken (length l.far.taken) l.out bs) is h.kept.from_near in
-      let valid = hears_valid gs g way in
-      let there : if_valid (g.ack % 8) e ≡ None = rw (valid.0, le-leb g.ack e.sent valid.2) refl in
-      ap (λ n. if_valid n (window_of c.window w.near.station)) number ∙ ap (λ z. if_valid (g.ack % 8) z) u.same ∙ there
-
-  numbered_joint : {w : Stations} {l : Line (List ℕ)} → Joint MayAsk c d w l → AsUp c w.near.station l.near
+  numbered_joint : {w : Stations} {l : Line (List ℕ)} → Joint c d w l → AsUp c w.near.station l.near
       → (os : List (List ℕ)) {f : PlainFrame} (nr : ℕ) (step : Step)
       (front : Front f (numbered_on (other c.role) c.longest os) l.back)
       → nr ≡ front.frame.ack % 8 → Follows (if_valid nr (window_of c.window w.near.station)) c.window (receives f) w.near.station step
       → ((packet : Option (List ℕ)) → MayHandUp (receives f) packet (window_of c.window w.near.station)
-      → Stage MayAsk c d w l (come l (is_some packet) front.frame front.others) os [] packet
+      → Stage c d w l (come l (is_some packet) front.frame front.others) os [] packet
       (after_input (receives f) packet (window_of c.window w.near.station)))
-      → Leads MayAsk c d w l (remove l.back 0) (after_step c w os [] step)
+      → Leads c d w l (remove l.back 0) (after_step c w os [] step)
   numbered_joint {w} {l} h u os {f} nr step front number follows stage =
       let stays : Stays c.window (receives f) w.near.station step =
-      subst (λ o. Follows o c.window (receives f) w.near.station step) (valid_at w l h u front.frame front.others front.is nr number) follows in
-      subst (λ left. Leads MayAsk c d w l left (after_step c w os [] step)) (sym (ap (λ bs. remove bs 0) front.is))
+      subst (λ o. Follows o c.window (receives f) w.near.station step)
+      (let e = l.near in let way = subst (λ bs. Way e l.far.taken (length l.far.taken) l.out bs) front.is h.kept.from_near in
+      let valid = hears_valid front.others front.frame way in
+      let there : if_valid (front.frame.ack % 8) e ≡ None = rw (valid.0, le-leb front.frame.ack e.sent valid.2) refl in
+      ap (λ n. if_valid n (window_of c.window w.near.station)) number ∙ ap (λ z. if_valid (front.frame.ack % 8) z) u.same ∙ there) follows in
+      subst (λ left. Leads c d w l left (after_step c w os [] step)) (sym (ap (λ bs. remove bs 0) front.is))
       (stays_joint (come l (is_some step.packet) front.frame front.others) h u.up (stage step.packet stays.hands_up) stays)
 
   -- ---- steps that bring nothing, and steps that leave
 
-  quiet_stage : {w : Stations} {l : Line (List ℕ)} → Joint MayAsk c d w l → AsUp c w.near.station l.near → {os : List (List ℕ)}
-      → AreOrderly MayAsk (other c.role) c.longest os → ShowAll (numbered_on (other c.role) c.longest os) l.back
-      → (packet : Option (List ℕ)) → packet ≡ None → Stage MayAsk c d w l l os [] packet (window_of c.window w.near.station)
+  quiet_stage : {w : Stations} {l : Line (List ℕ)} → Joint c d w l → AsUp c w.near.station l.near → {os : List (List ℕ)}
+      → AreOrderly (other c.role) c.longest os → ShowAll (numbered_on (other c.role) c.longest os) l.back
+      → (packet : Option (List ℕ)) → packet ≡ None → Stage c d w l l os [] packet (window_of c.window w.near.station)
   quiet_stage {w} h u orderly shows packet none =
       record {
         reached = h.reached;
@@ -474,21 +453,21 @@ module _ (MayAsk : Type 0) {c d : Settings} (joined : AreJoined c d) (reads : Re
         same_sent = ap (λ z. z.sent) u.same;
       }
 
-  pub quiet_joint : {w : Stations} {l : Line (List ℕ)} → Joint MayAsk c d w l → AsUp c w.near.station l.near → {os : List (List ℕ)}
-      → AreOrderly MayAsk (other c.role) c.longest os → ShowAll (numbered_on (other c.role) c.longest os) l.back
+  pub quiet_joint : {w : Stations} {l : Line (List ℕ)} → Joint c d w l → AsUp c w.near.station l.near → {os : List (List ℕ)}
+      → AreOrderly (other c.role) c.longest os → ShowAll (numbered_on (other c.role) c.longest os) l.back
       → {input : Input} {step : Step} → after_input input step.packet (window_of c.window w.near.station) ≡ window_of c.window w.near.station
       → ((y : List ℕ) → MayHandUp input (Some y) (window_of c.window w.near.station) → ⊥)
-      → Stays c.window input w.near.station step → Leads MayAsk c d w l l.back (after_step c w os [] step)
+      → Stays c.window input w.near.station step → Leads c d w l l.back (after_step c w os [] step)
   quiet_joint {w} {l} h u {os} orderly shows {input} {step} same never stays =
       stays_joint l h u.up
       (rw same (quiet_stage h u orderly shows step.packet (no_packet_of input step.packet (window_of c.window w.near.station) never stays.hands_up))) stays
 
   -- a station that leaves or is out: a numbered frame that comes to it is lost to the machine
-  pub parts_joint : {w : Stations} {l : Line (List ℕ)} → Joint MayAsk c d w l → {gs : List (Frame (List ℕ))} {os : List (List ℕ)} {step : Step}
+  pub parts_joint : {w : Stations} {l : Line (List ℕ)} → Joint c d w l → {gs : List (Frame (List ℕ))} {os : List (List ℕ)} {step : Step}
       → Kept (record { near = l.near; far = l.far; out = l.out; back = gs })
       → MachineReaches c.window d.window (record { near = l.near; far = l.far; out = l.out; back = gs })
-      → ShowAll (numbered_on (other c.role) c.longest os) gs → AreOrderly MayAsk (other c.role) c.longest os
-      → Parts MayAsk w.near.station step → Leads MayAsk c d w l gs (after_step c w os [] step)
+      → ShowAll (numbered_on (other c.role) c.longest os) gs → AreOrderly (other c.role) c.longest os
+      → Parts w.near.station step → Leads c d w l gs (after_step c w os [] step)
   parts_joint {w} {l} h {gs} {os} {step} kept reached shows orderly parts = (
     record { near = l.near; far = l.far; out = l.out; back = gs },
     record {
@@ -497,9 +476,9 @@ module _ (MayAsk : Type 0) {c d : Settings} (joined : AreJoined c d) (reads : Re
       near = inr parts.away;
       far = h.far;
       out = subst (ShowAll (numbered_on (other d.role) d.longest (w.out ++ map (spelling_of c.role) step.side.out))) (append-nil l.out)
-          (numbers_out w.out step.side.out [] l.out [] (parting_numbered reads c.role d.longest MayAsk step.side.out each) h.out tt);
+          (numbers_out w.out step.side.out [] l.out [] (parting_numbered reads c.role d.longest step.side.out each) h.out tt);
       back = shows;
-      out_orderly = orderly_out w.out step.side.out (parting_orderly reads c.role d.longest MayAsk step.side.out each) h.out_orderly;
+      out_orderly = orderly_out w.out step.side.out (parting_orderly reads c.role d.longest step.side.out each) h.out_orderly;
       back_orderly = orderly;
       near_has = record {
         down = append-nil w.near.down ∙ h.near_has.down;
@@ -508,86 +487,88 @@ module _ (MayAsk : Type 0) {c d : Settings} (joined : AreJoined c d) (reads : Re
         notes = noted_once c w os step h.near_has.notes off parts.noted;
       };
       far_has = h.far_has;
-      no_frmr = no_frmr_append w.sent step.side.out h.no_frmr (parting_no_frmr MayAsk step.side.out each);
+      no_frmr = no_frmr_append w.sent step.side.out h.no_frmr (parting_no_frmr step.side.out each);
       whole = each_append (IsWhole d.longest ((w.near.down ++ []) ++ w.far.down)) w.sent step.side.out
           (whole_more d.longest (w.near.down ++ w.far.down) ((w.near.down ++ []) ++ w.far.down) (first_more w.near.down w.far.down []) w.sent h.whole)
-          (parting_whole MayAsk d.longest ((w.near.down ++ []) ++ w.far.down) step.side.out each);
+          (parting_whole d.longest ((w.near.down ++ []) ++ w.far.down) step.side.out each);
     },
     record {
       near = sym (counted_off c.window step.side.near l.near off);
       far = refl;
       out = none_put l l.near.acked (length l.near.taken) (numbered_on c.role c.longest (not_taken w.out (w.out ++ map (spelling_of c.role) step.side.out)))
-          (put_is w.out step.side.out [] (parting_numbered reads c.role c.longest MayAsk step.side.out each));
+          (put_is w.out step.side.out [] (parting_numbered reads c.role c.longest step.side.out each));
       back = refl;
     },
   )
     where
       off : is_up step.side.near.phase ≡ false
-      off = away_is_not_up MayAsk step.side.near.phase parts.away.away
+      off = parts.away.away
 
-      each : Each (IsPart MayAsk) step.side.out
-      each = parts_of MayAsk step.side.out parts.frames
+      each : Each IsPart step.side.out
+      each = parts_of step.side.out parts.frames
 
-  pub ends_joint : {w : Stations} {l : Line (List ℕ)} → Joint MayAsk c d w l → is_up w.near.station.phase ≡ true
+  -- the near end leaves Up
+  pub ends_joint : {w : Stations} {l : Line (List ℕ)} → Joint c d w l → is_up w.near.station.phase ≡ true
       → {os : List (List ℕ)} {step : Step} {reason : Reason} → Leaves reason
-      → ShowAll (numbered_on (other c.role) c.longest os) l.back → AreOrderly MayAsk (other c.role) c.longest os
-      → Tells w.near.station step → Ends reason step → Leads MayAsk c d w l l.back (after_step c w os [] step)
-  ends_joint {w} {l} h up {os} {step} {reason} leaves shows orderly tells ends =
-      parts_joint h h.kept h.reached shows orderly (ends_parts MayAsk up leaves tells ends)
+      → ShowAll (numbered_on (other c.role) c.longest os) l.back → AreOrderly (other c.role) c.longest os
+      → Tells w.near.station step → Ends reason step → Leads c d w l l.back (after_step c w os [] step)
+  ends_joint {w} {l} h up {os} {step} {reason} leaves shows orderly tells ends = parts_joint h h.kept h.reached shows orderly (ends_parts up leaves tells ends)
 
   -- ---- what comes, by what it reads as
 
-  told_joint : {w : Stations} {l : Line (List ℕ)} → Joint MayAsk c d w l → AsUp c w.near.station l.near
+  told_joint : {w : Stations} {l : Line (List ℕ)} → Joint c d w l → AsUp c w.near.station l.near
       → {os : List (List ℕ)} {f : PlainFrame} (nr : ℕ) (step : Step)
-      → AreOrderly MayAsk (other c.role) c.longest os → (front : Front f (numbered_on (other c.role) c.longest os) l.back) → nr ≡ front.frame.ack % 8
+      → AreOrderly (other c.role) c.longest os → (front : Front f (numbered_on (other c.role) c.longest os) l.back) → nr ≡ front.frame.ack % 8
       → Follows (if_valid nr (window_of c.window w.near.station)) c.window (receives f) w.near.station step
       → ((packet : Option (List ℕ)) → after_input (receives f) packet (window_of c.window w.near.station) ≡ after (window_of c.window w.near.station) (Hear nr))
       → ((y : List ℕ) → MayHandUp (receives f) (Some y) (window_of c.window w.near.station) → ⊥)
-      → Leads MayAsk c d w l (remove l.back 0) (after_step c w os [] step)
+      → Leads c d w l (remove l.back 0) (after_step c w os [] step)
   told_joint {w} {l} h u {os} {f} nr step orderly front number follows hears never =
       numbered_joint h u os nr step front number follows
       (λ packet up. rw (hears packet) (stage packet (no_packet_of (receives f) packet (window_of c.window w.near.station) never up)))
     where
       stage : (packet : Option (List ℕ)) → packet ≡ None
-          → Stage MayAsk c d w l (come l (is_some packet) front.frame front.others) os [] packet (after (window_of c.window w.near.station) (Hear nr))
+          → Stage c d w l (come l (is_some packet) front.frame front.others) os [] packet (after (window_of c.window w.near.station) (Hear nr))
       stage packet none = rw none (tell_stage h u orderly front.frame front.is front.rest_shows nr number)
 
-  pub read_joint : {w : Stations} {l : Line (List ℕ)} → Joint MayAsk c d w l → AsUp c w.near.station l.near
+  -- octets come to an end that is Up
+  pub read_joint : {w : Stations} {l : Line (List ℕ)} → Joint c d w l → AsUp c w.near.station l.near
       → (r : Result PlainFrame FrameError) {os : List (List ℕ)} {step : Step}
-      → IsOrderly ⊥ r → AreOrderly MayAsk (other c.role) c.longest os → ShowAll (consed (number_in r) (numbered_on (other c.role) c.longest os)) l.back
+      → IsOrderly r → sabm_in r ≡ 0 → AreOrderly (other c.role) c.longest os → ShowAll (consed (number_in r) (numbered_on (other c.role) c.longest os)) l.back
       → Tells w.near.station step → Follows (ending_of r (window_of c.window w.near.station)) c.window (brought_by r) w.near.station step
-      → Leads MayAsk c d w l (taken_out (first_of (number_in r)) l.back) (after_step c w os [] step)
-  read_joint {w} {l} h u (Ok (info ns nr p x)) {os} {step} good orderly shows tells follows =
+      → Leads c d w l (taken_out (first_of (number_in r)) l.back) (after_step c w os [] step)
+  read_joint {w} {l} h u (Ok (info ns nr p x)) {os} {step} good none orderly shows tells follows =
       let front = front_of (info ns nr p x) (numbered_on (other c.role) c.longest os) l.back shows in
       numbered_joint h u os nr step front front.shows.1 follows (info_stage h u orderly front.is front.rest_shows ns nr p x front.shows)
-  read_joint {w} {l} h u (Ok (rr command nr pf)) {os} {step} good orderly shows tells follows =
+  read_joint {w} {l} h u (Ok (rr command nr pf)) {os} {step} good none orderly shows tells follows =
       let front = front_of (rr command nr pf) (numbered_on (other c.role) c.longest os) l.back shows in
       told_joint h u nr step orderly front front.shows.1 follows (λ packet. refl) (λ y k. k)
-  read_joint {w} {l} h u (Ok (rnr command nr pf)) {os} {step} good orderly shows tells follows =
+  read_joint {w} {l} h u (Ok (rnr command nr pf)) {os} {step} good none orderly shows tells follows =
       let front = front_of (rnr command nr pf) (numbered_on (other c.role) c.longest os) l.back shows in
       told_joint h u nr step orderly front front.shows.1 follows (λ packet. refl) (λ y k. k)
-  read_joint {w} {l} h u (Ok (rej command nr pf)) {os} {step} good orderly shows tells follows =
+  read_joint {w} {l} h u (Ok (rej command nr pf)) {os} {step} good none orderly shows tells follows =
       let front = front_of (rej command nr pf) (numbered_on (other c.role) c.longest os) l.back shows in
       told_joint h u nr step orderly front front.shows.1 follows (λ packet. refl) (λ y k. k)
-  read_joint {w} {l} h u (Ok (disc p)) {os} {step} good orderly shows tells follows = ends_joint h u.up tt shows orderly tells follows
-  read_joint {w} {l} h u (Ok (ua f)) {os} {step} good orderly shows tells follows = quiet_joint h u orderly shows refl (λ y k. k) follows
-  read_joint {w} {l} h u (Ok (dm f)) {os} {step} good orderly shows tells follows = ends_joint h u.up tt shows orderly tells follows
-  read_joint {w} {l} h u (Err Short) {os} {step} good orderly shows tells follows = quiet_joint h u orderly shows refl (λ y k. k) follows
-  read_joint {w} {l} h u (Err BadFcs) {os} {step} good orderly shows tells follows = quiet_joint h u orderly shows refl (λ y k. k) follows
-  read_joint {w} {l} h u (Err BadAddress) {os} {step} good orderly shows tells follows = quiet_joint h u orderly shows refl (λ y k. k) follows
-  read_joint h u r good orderly shows tells follows = absurd good
+  read_joint {w} {l} h u (Ok (disc p)) {os} {step} good none orderly shows tells follows = ends_joint h u.up tt shows orderly tells follows
+  read_joint {w} {l} h u (Ok (ua f)) {os} {step} good none orderly shows tells follows = quiet_joint h u orderly shows refl (λ y k. k) follows
+  read_joint {w} {l} h u (Ok (dm f)) {os} {step} good none orderly shows tells follows = ends_joint h u.up tt shows orderly tells follows
+  read_joint {w} {l} h u (Err Short) {os} {step} good none orderly shows tells follows = quiet_joint h u orderly shows refl (λ y k. k) follows
+  read_joint {w} {l} h u (Err BadFcs) {os} {step} good none orderly shows tells follows = quiet_joint h u orderly shows refl (λ y k. k) follows
+  read_joint {w} {l} h u (Err BadAddress) {os} {step} good none orderly shows tells follows = quiet_joint h u orderly shows refl (λ y k. k) follows
+  read_joint h u (Ok (sabm p)) good none orderly shows tells follows = absurd (omega (arith, none))
+  read_joint h u r good none orderly shows tells follows = absurd good
 
   -- ---- what comes to an end that isn't Up
 
-  pub away_joint : {w : Stations} {l : Line (List ℕ)} → Joint MayAsk c d w l → (m : Option PlainFrame) {os : List (List ℕ)} {step : Step}
-      → AreOrderly MayAsk (other c.role) c.longest os
-      → ShowAll (consed m (numbered_on (other c.role) c.longest os)) l.back → Parts MayAsk w.near.station step
-      → Leads MayAsk c d w l (taken_out (first_of m) l.back) (after_step c w os [] step)
+  pub away_joint : {w : Stations} {l : Line (List ℕ)} → Joint c d w l → (m : Option PlainFrame) {os : List (List ℕ)} {step : Step}
+      → AreOrderly (other c.role) c.longest os
+      → ShowAll (consed m (numbered_on (other c.role) c.longest os)) l.back → Parts w.near.station step
+      → Leads c d w l (taken_out (first_of m) l.back) (after_step c w os [] step)
   away_joint h None orderly shows parts = parts_joint h h.kept h.reached shows orderly parts
   away_joint {w} {l} h (Some f) {os} {step} orderly shows parts =
       let front = front_of f (numbered_on (other c.role) c.longest os) l.back shows in
       let left : (List (Frame (List ℕ))) → Line (List ℕ) = λ bs. record { near = l.near; far = l.far; out = l.out; back = remove bs 0 } in
-      subst (λ gone. Leads MayAsk c d w l gone (after_step c w os [] step)) (sym (ap (λ bs. remove bs 0) front.is))
+      subst (λ gone. Leads c d w l gone (after_step c w os [] step)) (sym (ap (λ bs. remove bs 0) front.is))
       (parts_joint h
       (subst (λ bs. Kept (left bs)) front.is (Kept-moved (Loses 0) tt h.kept))
       (subst (λ bs. MachineReaches c.window d.window (left bs)) front.is (near_moves l (Loses 0) h.reached tt))

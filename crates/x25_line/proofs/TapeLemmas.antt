@@ -1,7 +1,6 @@
 -- A tape of which nothing is told is one of a station and a peer that keeps the rules.
 use Rattle.std.proofs.Common.{◌≡◌, ◌==◌, ◌⊎◌, inl, inr, ℕ, ◌+◌, ◌-◌, ◌%◌, ◌<◌, ◌≤◌, arith, max, List, [], ◌∷◌, ◌++◌, length, Bool, true, false, if◌then◌else◌}
-use Rattle.std.proofs.Common.{Option, Some, None, refl, sym, ap, ◌∙◌, subst}
-use Rattle.std.proofs.{lemmas.Bool.{eqb-true, leb-true, ltb-true, and_parts}, lemmas.List.{length_push}}
+use Rattle.std.proofs.{Common.{Option, Some, None, refl, sym, ap, ◌∙◌, subst}, lemmas.Bool.{eqb-true, leb-true, ltb-true, and_parts}, lemmas.List.{length_push}}
 use Rattle.std.specs.{Prelude.{nat_le, nat_lt, ◌&&◌}, List.{slice_get}}
 use Rattle.x25_frame.specs.{Reading.{frame_of}, laws.ReadingLaw.{ReadsSpelled}}
 use Rattle.x25_window.specs.code.Modulo.{resolved}
@@ -10,8 +9,7 @@ use Rattle.x25_line.specs.{laws.LawsBelow.{Laws}, laws.Peer.{Peer, MayNumber, Ma
 use Rattle.x25_line.specs.laws.PeerJoined.{JoinedOnce, Ours, HandsDown, Sends, Hears, ReachedOnce, at_start, goes_on}
 use Rattle.x25_line.specs.laws.Said.{Said, Carried, Tells, Odd, said}
 use Rattle.x25_line.specs.laws.Tape.{same_octets, is_item, judges_ack, then_ack, judges_item, judges_number, judges_said, notes, notes_said, IsSilent, Begins}
-use Rattle.x25_line.specs.laws.Tape.{Acts, Shows, Comes}
-use Rattle.x25_line.specs.laws.PeerClaims.{KeepsOrder, OnAnySilentTape}
+use Rattle.x25_line.specs.{laws.Tape.{Acts, Shows, Comes}, laws.PeerClaims.{KeepsOrder, OnAnySilentTape}}
 use Rattle.x25_line.proofs.{StationHears.{low_resolved}, Frames.{slice_get-last}, PeerOrder.{keeps_order}}
 
 -- ---- packets that are the same
@@ -194,8 +192,7 @@ record Explained (c : Settings) (w : JoinedOnce) : Type 0 where
 base_reached : {c : Settings} {w : JoinedOnce} (packet : List ℕ) {base : Peer} → ReachedOnce (Unit {0}) c w → IsBase w.peer packet base
     → ReachedOnce (Unit {0}) c (record w { peer = base })
 base_reached packet reached (inl is) = rw is reached
-base_reached {w = w} packet reached (inr is) =
-    rw is (goes_on w (record w { peer = grown packet w.peer }) reached (HandsDown packet))
+base_reached {w = w} packet reached (inr is) = rw is (goes_on w (record w { peer = grown packet w.peer }) reached (HandsDown packet))
 
 explained : {c : Settings} {w : JoinedOnce} → IsSilent c w → Explained c w
 explained Begins = record { reached = at_start; held = refl }

@@ -2,14 +2,14 @@
 use Rattle.std.proofs.Common.{◌≡◌, ◌+◌, ◌==◌, nat_lt, List, Bool, true, false, if◌then◌else◌, Option, None, refl, sym, ap, subst}
 use Rattle.x25_packet.specs.Packet.{PlainPacket}
 use Rattle.x25_given.specs.Given.{PlainGiven}
-use Rattle.x25_link.specs.{declared.phase.Phase.{Phase}, declared.phase.Phase.TheVariants.{Down, Up}}
-use Rattle.x25_link.specs.{declared.phase.Reason.TheVariants.{Retries}, Outgoing.{waits}, Station.{Settings as LinkSettings, LinkStation, is_up, with_near}}
-use Rattle.x25_link.specs.{Hearing.{quiet, leaves}, Link.{alone, closed_by, asks_again, timer_step, connect_refusal, relink_refusal}}
+use Rattle.x25_link.specs.{declared.phase.Phase.{Phase}, declared.phase.Phase.TheVariants.{Down, Up}, Hearing.{quiet, leaves}}
+use Rattle.x25_link.specs.Link.{alone, closed_by, asks_again, timer_step, connect_refusal, relink_refusal}
 use Rattle.x25_circuit.specs.Calling.{Sends}
 use Rattle.x25_layer.specs.{Layer.{Layer}, Calls.{LayerRequest, Asks, LayerOutcome, Accepted, Declined, layer_outcome}, laws.Rounds.{Refuses, went}}
 use Rattle.x25_station.specs.{declared.error.StationError.{StationError}, Config.{Settings, layer_settings, link_settings}, Command.{may_ask}}
 use Rattle.x25_station.specs.{Entry.{StationEntry}, Giving.{suits, is_taken, view_given, not_taken}, Station.{Station, view_of}}
 use Rattle.x25_station.specs.Step.{Step, Outcome, Did, Refused, requests, did, entries_of_outcome, gave, gives, where_asked}
+use Rattle.x25_link.specs.{declared.phase.Reason.TheVariants.{Retries}, Outgoing.{waits}, Station.{Settings as LinkSettings, LinkStation, is_up, with_near}}
 use Rattle.x25_layer.specs.declared.error.LayerError.TheVariants as layer_error
 use Rattle.x25_station.specs.declared.error.StationError.TheVariants as error
 
@@ -38,6 +38,7 @@ pub record IsGranted (up taken : Bool) (o : LayerOutcome) (told : List StationEn
 entries_did : (step next : Step) → Did next ≡ Did step → step.entries ≡ next.entries
 entries_did step next is = ap (λ o. (step_in next o).entries) (sym is)
 
+-- that is seen of a request that was done
 pub did_granted : (c : Settings) (s : Station) (request : LayerRequest) (step : Step) → requests c s request ≡ Did step
     → (let o = layer_outcome (layer_settings c) (waits s.link.outgoing == 256) s.layer request in
     IsGranted (is_up s.link.phase) (may_ask c.wide request) o (entries_of_outcome (layer_settings c) s.layer request o) step)
@@ -58,6 +59,7 @@ did_granted c s request step is = by (is_up s.link.phase) (may_ask c.wide reques
     by true true (Declined e) is = refused_did (error.Layer e) step is
     by true false (Declined e) is = refused_did (error.Layer e) step is
 
+-- and of one with something given beside it
 pub gave_granted : (c : Settings) (s : Station) (g : PlainGiven) (request : LayerRequest) (step : Step) → gives c s g request ≡ Did step
     → (let o = layer_outcome (layer_settings c) (waits s.link.outgoing == 256) s.layer request in
     IsGranted (is_up s.link.phase) (is_taken c g request) o (entries_of_outcome (layer_settings c) s.layer request o) step)

@@ -1,7 +1,6 @@
 -- What packets are read as, and what a link's peer sends and hears.
 use Rattle.std.proofs.Common.{◌≡◌, ℕ, ◌≤◌, List, [], ◌∷◌, ◌++◌, length, drop, Bool, true, false, Some, None, Result, Ok, refl, sym, ap, subst, ◌∙◌}
-use Rattle.std.proofs.Common.{append_assoc, arith}
-use Rattle.std.proofs.lemmas.List.{length-append, drop_all}
+use Rattle.std.proofs.{Common.{append_assoc, arith}, lemmas.List.{length-append, drop_all}}
 use Rattle.x25_packet.specs.Packet.{PlainPacket}
 use Rattle.x25_line.specs.{laws.Said.{Said, Tells, Odd}, laws.Peer.{Peer, MaySay, MayMake, hearing, taking}}
 use Rattle.x25_station.specs.{Config.{Settings}, Entry.{StationEntry, in_layer, notice_in, layer_entries, layer_notices}, laws.ReadLaw.{AreReadable}}

@@ -13,7 +13,7 @@ use Rattle.x25_circuit.specs.Notice.{CallRequest, connected}
 use Rattle.x25_circuit.specs.Hearing.{Answer, answers, goes, clears_for, request_in, collides, connects, row_call, row_accept, row_clear, row_clear_conf}
 use Rattle.x25_circuit.specs.Hearing.{row_reset, row_reset_conf, unless, takes, hears_status, confirms, row_open, row_data, data_ground, number_ground}
 use Rattle.x25_circuit.specs.Calling.{Outcome, Done, Refused, Request, Calls, Accepts, Clears, Sends, Interrupts, Resets, SaysReady, SaysNotReady, does}
-use Rattle.x25_circuit.specs.Calling.{keeps_on, call_sent, may_call, call_in, accept_with, accept_in, clear_with, clear_in, send_in, interrupt_in, reset_in}
+use Rattle.x25_circuit.specs.Calling.{keeps_on, call_sent, may_call, call_in, accept_with, accept_in, clear_in, send_in, interrupt_in, reset_in}
 use Rattle.x25_circuit.specs.Calling.{ready_in, outcome, Pulled, pulls_nothing, pull_open, pull_in, pulled}
 use Rattle.x25_window.specs.code.Modulo.{resolved}
 
@@ -196,14 +196,11 @@ module _ (c : Settings) (x : Circuit) where
   accept_called Arriving at answer = answer_called (ap is_open_in at) answer
   accept_called s at answer = tt
 
-  clear_with_called : (cause diagnostic : ℕ) → AfterOutcome x (clear_with c x cause diagnostic)
-  clear_with_called cause diagnostic = called_if x (may_clear_for c.role cause) (does x Clearing default_params false (clear 1 cause diagnostic))
-      (Refused BadParameter) (λ is. never is) tt
-
   clear_called : (s : State) (cause diagnostic : ℕ) → AfterOutcome x (clear_in c x s cause diagnostic)
   clear_called Free cause diagnostic = tt
   clear_called Clearing cause diagnostic = tt
-  clear_called s cause diagnostic = clear_with_called cause diagnostic
+  clear_called s cause diagnostic = called_if x (may_clear_for c.role cause) (does x Clearing default_params false (clear 1 cause diagnostic))
+      (Refused BadParameter) (λ is. never is) tt
 
   abbrev sends : Marks → List ℕ → Outcome
   sends q user = keeps_on x (more_sent (x.talk.rest ++ cut (outgoing x).size q user)) None

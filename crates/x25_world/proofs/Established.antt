@@ -1,17 +1,16 @@
 -- Set-up: SABM and UA are taken, by which both ends come up.
 use Rattle.std.proofs.Common.{◌≡◌, ℕ, List, [], ◌∷◌, ◌++◌, map, true, None, Ok, refl, sym, ap, ap₂, ◌∙◌, subst, arith}
 use Rattle.x25_bits.specs.{declared.role.Role.{Role}, declared.role.Role.TheVariants.{Dte, Dce}}
-use Rattle.x25_frame.specs.{Frame.{PlainFrame, sabm, ua}, Spelling.{spelling_of}, Reading.{frame_of}}
+use Rattle.x25_frame.specs.{Frame.{PlainFrame, sabm, ua}, Spelling.{spelling_of}}
 use Rattle.x25_link.specs.{declared.phase.Phase.TheVariants.{Down, Waiting}, laws.SetUp.{Is}}
-use Rattle.x25_link.specs.{Station.{with_nothing, fresh, is_up, pumped}, Hearing.{Step as LinkStep}, Link.{put_step}}
 use Rattle.x25_layer.specs.Layer.{at_rest, restart_cause}
-use Rattle.x25_station.specs.{declared.config.Cfg.{Cfg}, Config.{settings_from, longest_packet}, Entry.{link_up, entries_noted}}
-use Rattle.x25_station.specs.{Station.{Station, new_station}, Step.{Step, follows, receives}, laws.KeepLaw.{IsKept}}
+use Rattle.x25_station.specs.{declared.config.Cfg.{Cfg}, Config.{settings_from, longest_packet}, Entry.{link_up, entries_noted}, Station.{Station, new_station}}
+use Rattle.x25_station.specs.{Step.{Step, follows, receives}, laws.KeepLaw.{IsKept}}
 use Rattle.x25_world.specs.World.{World, mirrored, entered, tapped, after_step, delivered, after, Event, Receives, happens, refusal_of, AreAccepted, connected}
-use Rattle.x25_world.specs.World.{established}
+use Rattle.x25_world.specs.{World.{established}, laws.Claims.{link_of}, laws.LawsBelow.{Laws}}
 use Rattle.x25_packet.specs.Packet.{restart}
-use Rattle.x25_world.specs.{laws.Claims.{link_of}, laws.LawsBelow.{Laws}}
 use Rattle.x25_peer.proofs.sessions.LinkSteps.{handed_up}
+use Rattle.x25_link.specs.{Station.{with_nothing, fresh, is_up, pumped}, Hearing.{Step as LinkStep}, Link.{put_step}}
 use Rattle.x25_packet.specs.Spelling as packet
 
 -- ---- an end that comes up
@@ -108,11 +107,6 @@ module _ (laws : Laws) (cfg : Cfg) where
   back_is : (at_dce cfg).back ≡ ua_octets ∷ map (spelling_of Dce) dce_up.more
   back_is = ap (λ fs. map (spelling_of Dce) fs) dce_up.out
 
-  established_is : established cfg ≡ at_dte cfg (map (spelling_of Dce) dce_up.more)
-  established_is =
-      ap (λ x. after (after x (happens cfg x (comes_to Dce))) (happens cfg (after x (happens cfg x (comes_to Dce))) (comes_to Dte))) (connected_is cfg)
-      ∙ ap (λ l. after (at_dce cfg) (delivered (settings_from Dte cfg) (at_dce cfg) l)) back_is
-
   -- so neither is refused
   pub set_up_accepted : AreAccepted cfg (comes_to Dce ∷ comes_to Dte ∷ []) (connected cfg)
   set_up_accepted =
@@ -121,8 +115,9 @@ module _ (laws : Laws) (cfg : Cfg) where
       subst (λ w. AreAccepted cfg (comes_to Dce ∷ comes_to Dte ∷ []) w) (sym (connected_is cfg)) (refl, (ua_comes, tt))
 
   pub just_set_up : IsJustSetUp (established cfg)
-  just_set_up = rw established_is (record {
-    near = dte_up.up;
-    far = dce_up.up;
-    told = ap₂ (λ a b. ([] ++ entered Dce a) ++ entered Dte b) dce_up.entries dte_up.entries;
-  })
+  just_set_up = rw (ap (λ x. after (after x (happens cfg x (comes_to Dce))) (happens cfg (after x (happens cfg x (comes_to Dce))) (comes_to Dte)))
+      (connected_is cfg) ∙ ap (λ l. after (at_dce cfg) (delivered (settings_from Dte cfg) (at_dce cfg) l)) back_is) (record {
+        near = dte_up.up;
+        far = dce_up.up;
+        told = ap₂ (λ a b. ([] ++ entered Dce a) ++ entered Dte b) dce_up.entries dte_up.entries;
+      })

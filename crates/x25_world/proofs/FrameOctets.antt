@@ -1,7 +1,7 @@
 -- The octets that spell a frame are octets, at most as many as the longest frame has.
 use Rattle.std.proofs.Common.{◌≡◌, ◌∙◌, ℕ, zero, suc, ◌+◌, ◌-◌, ◌*◌, ◌/◌, ◌%◌, ◌≤◌, ◌<◌, Bool, true, false, not, List, [], ◌∷◌, ◌++◌, length, map, take, drop}
-use Rattle.std.proofs.Common.{replicate, subst, arith, refl}
-use Rattle.std.proofs.{lemmas.List.{length-append, length-map, length-replicate}, lemmas.List.Elements.{All-nil, All-cons, All-append}}
+use Rattle.std.proofs.{Common.{replicate, subst, arith, refl}, lemmas.List.{length-append, length-map, length-replicate}}
+use Rattle.std.proofs.lemmas.List.Elements.{All-nil, All-cons, All-append}
 use Rattle.x25_bits.specs.{Bits.{bit}, FrameCheck.{number_of, bits_of, add, divisor, divided, remainder, inverted, fcs_of}, FrameCheck.Sealed.{seal_of}}
 use Rattle.x25_bits.specs.{declared.role.Role.{Role}, declared.role.Role.TheVariants.{Dte, Dce}}
 use Rattle.x25_frame.specs.Frame.{PlainFrame, info, rr, rnr, rej, sabm, disc, ua, dm, frmr}
@@ -44,17 +44,20 @@ length_parts zero q = omega arith
 length_parts (suc n) [] = omega arith
 length_parts (suc n) (b ∷ q) = omega (arith, length_parts n q)
 
-length_inverted : (q : List Bool) → length (inverted q) ≡ length q
-length_inverted q =
-    omega (arith, length-append (map not (take 16 q)) (drop 16 q), length-map (take 16 q) not, length_parts 16 q)
-
 fcs_below : (octets : List ℕ) → fcs_of octets < 65536
 unfolding fcs_of
 fcs_below octets =
     let q = bits_of octets ++ replicate 16 false in
     let p = inverted q in
     let few = length_divided (length p - 16) p
-    (omega (arith, length-append (bits_of octets) (replicate 16 false), length-replicate 16 false, length_inverted q)) in
+    (omega (
+      arith,
+      length-append (bits_of octets) (replicate 16 false),
+      length-replicate 16 false,
+      length-append (map not (take 16 q)) (drop 16 q),
+      length-map (take 16 q) not,
+      length_parts 16 q,
+    )) in
     subst (λ n. number_of (map not (remainder p)) < bound n) (length-map (remainder p) not ∙ few) (number_below (map not (remainder p)))
 
 -- ---- frames

@@ -1,7 +1,6 @@
 -- What a step of an end adds: packets, entries of its transcript, and octets on the tap and on the line.
 use Rattle.std.proofs.Common.{◌≡◌, ℕ, zero, suc, List, [], ◌∷◌, ◌++◌, map, length, Result, Ok, Contains, refl, sym, ap, ap₂, subst, ◌∙◌, arith, append_assoc}
-use Rattle.std.proofs.Common.{append-nil}
-use Rattle.std.proofs.lemmas.List.{map-append, length-map}
+use Rattle.std.proofs.{Common.{append-nil}, lemmas.List.{map-append, length-map}}
 use Rattle.x25_bits.specs.{declared.role.Role.{Role}, declared.role.Role.TheVariants.{Dte, Dce}}
 use Rattle.x25_frame.specs.{Frame.{PlainFrame}, Spelling.{spelling_of}}
 use Rattle.x25_packet.specs.{Packet.{PlainPacket}, Spelling.{longest_user}, declared.error.PacketError.{PacketError}, Taking.{read_in}}
@@ -26,6 +25,7 @@ is_read p = Ok p
 abbrev pub as_read : List PlainPacket → List (Result PlainPacket PacketError)
 as_read packets = map is_read packets
 
+-- where no packet is read there are no packets
 pub none_read : (packets : List PlainPacket) → as_read packets ≡ [] → packets ≡ []
 none_read [] none = refl
 none_read (p ∷ packets) none = absurd (cc)
@@ -40,6 +40,7 @@ grown cfg xs xs₂ os ps ps₂ qs same more reads more_packets =
     ap (all_read cfg) more ∙ map-append (read_by cfg) xs os ∙ ap₂ (λ a b. a ++ b) same reads
     ∙ sym (map-append is_read ps qs) ∙ ap as_read (sym more_packets)
 
+-- packets that are read alike are as many
 pub as_many : (ps qs : List PlainPacket) → as_read ps ≡ as_read qs → length ps ≡ length qs
 as_many ps qs same = sym (length-map ps is_read) ∙ ap (λ l. length l) same ∙ length-map qs is_read
 

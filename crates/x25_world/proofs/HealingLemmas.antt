@@ -1,7 +1,6 @@
 -- What rest shows at a world of two stations; and how its two links heal, while the layers put nothing.
 use Rattle.std.proofs.Common.{◌≡◌, ℕ, List, [], ◌∷◌, ◌++◌, map, true, false, ◌&&◌, if◌then◌else◌, Option, Some, None, refl, sym, ap, ◌∙◌, subst, suc, length}
-use Rattle.std.proofs.Common.{◌≤◌, inl}
-use Rattle.std.proofs.lemmas.Bool.{eq-eqb, and_from}
+use Rattle.std.proofs.{Common.{◌≤◌, inl}, lemmas.Bool.{eq-eqb, and_from}}
 use Rattle.std.specs.Prelude.{◌==◌}
 use Rattle.x25_bits.specs.{declared.role.Role.{Role}, declared.role.Role.TheVariants.{Dte, Dce}}
 use Rattle.x25_frame.specs.Spelling.{spelling_of}
@@ -14,15 +13,14 @@ use Rattle.x25_handshakes.specs.laws.Names.{Name}
 use Rattle.x25_station.specs.{declared.config.Cfg.{Cfg}, Config.{Settings, settings_from, link_settings, layer_settings}, Station.{all_put, view_of}}
 use Rattle.x25_station.specs.{Step.{follows, layer_at, unless, fires}, laws.KeepLaw.{ConnectKeeps}, Station.Told.{stretch}}
 use Rattle.x25_world.specs.World.{World, mirrored, Declined, Receives, acts, delivered, fired, of_station, is_on_line, after, after_step, happens, refusal_of}
-use Rattle.x25_world.specs.World.{run, AreAccepted}
-use Rattle.x25_world.specs.{laws.Claims.{link_of, station_at}, laws.LawsBelow.{SessionLaws}, laws.SessionClaims.{Throughout, AllArrive}}
-use Rattle.x25_world.specs.{laws.SessionWindow.{at_end}, laws.Sessions.{last_session, handed_in}}
+use Rattle.x25_world.specs.{World.{run, AreAccepted}, laws.Claims.{link_of, station_at}, laws.LawsBelow.{SessionLaws}}
+use Rattle.x25_world.specs.{laws.SessionClaims.{Throughout, AllArrive}, laws.SessionWindow.{at_end}, laws.Sessions.{last_session, handed_in}}
 use Rattle.x25_world.specs.Healing.{IsDrained, receipt, all_received, firing, AreLinksOf, StopsAtRest, RestShows, PutsNothing, PutsNothingAt, NonePut, Heals}
 use Rattle.x25_world.specs.Healing.{MayHeal, HealsWhereNonePut, DrainsWhereNonePut}
 use Rattle.x25_world.proofs.{Known.{true_false, IsConfigured, is_configured}, WorldLemmas.{refusal-swapped}}
 use Rattle.x25_world.proofs.sessions.SessionReaches.{joined_at, both_down, known_sessions, links_append, timely_append}
-use Rattle.x25_world.proofs.sessions.SessionJoined.{SessionsJoined}
-use Rattle.x25_world.proofs.{Growing.{octets_put}, sessions.SessionFollows.{silent}, sessions.SessionRuns.{back_after, throughout_joined}}
+use Rattle.x25_world.proofs.{sessions.SessionJoined.{SessionsJoined}, Growing.{octets_put}, sessions.SessionFollows.{silent}}
+use Rattle.x25_world.proofs.sessions.SessionRuns.{back_after, throughout_joined}
 use Rattle.x25_peer.proofs.Granted.{timer_silent}
 use Rattle.x25_link.specs.{declared.error.LinkError.{LinkError}, Station.{Settings as LinkSettings, LinkStation, is_up, awaits_ua}}
 use Rattle.x25_link.specs.{Hearing.{Step as LinkStep, other}, Link.{take_step, timer_step, timer_refusal, timer_runs, abandon_step}, laws.RestLaw.{IsAtRest}}

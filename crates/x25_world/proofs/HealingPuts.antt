@@ -21,7 +21,7 @@ use Rattle.x25_world.proofs.sessions.SessionRuns.{back_after, event_joined, thro
 use Rattle.x25_world.proofs.{sessions.acts.SessionRequests.{request_puts, given_puts, said_octets}, sessions.acts.SessionReceives.{taken_puts}}
 use Rattle.x25_world.proofs.HealingLemmas.{Alike, turned, c_of, d_of, both_alike, none_of, joined_alike, links_are, fired_then, gone_are}
 use Rattle.x25_peer.proofs.sessions.LinkSteps.{SessionGoes, StepGoes, stays_goes, deliver_goes, puts_of, all_act, puts_go, HasPut}
-use Rattle.x25_link.specs.{Station.{Settings as LinkSettings, LinkStation, Side, is_up, is_busy, awaits_ua}, Link.{alone, take_step, abandon_step}}
+use Rattle.x25_link.specs.{Station.{Settings as LinkSettings, Side, is_up, is_busy, awaits_ua}, Link.{alone, take_step, abandon_step}}
 use Rattle.x25_line.specs.laws.Stations as line
 use Rattle.x25_line.specs.laws.Sessions as links
 use Rattle.x25_station.specs.Command as command
@@ -32,9 +32,6 @@ use Rattle.x25_station.specs.Command as command
 abbrev asked_of : Bool → List (List ℕ) → List line.Act
 asked_of true handed = line.Deliver ∷ puts_of handed
 asked_of false handed = puts_of handed
-
-free_turned : (s t : LinkStation) → AreFree s t → AreFree t s
-free_turned s t h = (h.1, h.0)
 
 -- what the near end asks of its link, so that the links have those of the world behind it; as octets are taken neither is busy
 record Asked (cfg : Cfg) (end : Role) (w u : World) (v : Sessions) : Type 0 where
@@ -155,7 +152,7 @@ event_asked laws cfg fine Dce act w h v like are octets free =
     record {
       comes = a.comes;
       handed = a.handed;
-      free = λ is. free_turned w.far.link w.near.link (a.free is);
+      free = λ is. ((a.free is).1, (a.free is).0);
       alike = rw (back_after w o) (subst (Alike (mirrored (after (mirrored w) o))) (sym (far_run (c_of cfg) (d_of cfg) (asked_of a.comes a.handed) v))
           (turned a.alike));
     }

@@ -1,7 +1,6 @@
 -- Healing as a whole: firings, and rounds of pulls; all arrives.
 use Rattle.std.proofs.Common.{◌≡◌, ℕ, zero, suc, ◌+◌, ◌-◌, ◌*◌, ◌≤◌, ◌<◌, Bool, true, false, List, [], ◌∷◌, ◌++◌, length, ◌&&◌, inl, Option, Some, None, refl}
-use Rattle.std.proofs.Common.{sym, ap, ◌∙◌, subst, arith}
-use Rattle.std.proofs.lemmas.Bool.{and_parts, not-true}
+use Rattle.std.proofs.{Common.{sym, ap, ◌∙◌, subst, arith}, lemmas.Bool.{and_parts, not-true}}
 use Rattle.std.specs.Prelude.{is_none, is_some, not, option_map}
 use Rattle.x25_bits.specs.{declared.role.Role.{Role}, declared.role.Role.TheVariants.{Dte, Dce}}
 use Rattle.x25_station.specs.{declared.config.Cfg.{Cfg}, Config.{settings_from, layer_settings, config_refusal}, Command.{Requests}, Station.{Station}}
@@ -158,12 +157,6 @@ module _ (P : List Event → Type 0) (none : P []) (append : (xs ys : List Event
       append (if_accepted cfg first w) (if_accepted cfg second x) (tried_is_so cfg first w is) (tried_is_so cfg second x is_there)
 
   module _ (receipts : (at : Role) → P (receipt at ∷ [])) (pulls : (at : Role) → P (pull_at at ∷ [])) where
-    round_is_so : (cfg : Cfg) (most : ℕ) (w : World) → P (pull_round cfg most w)
-    round_is_so cfg most w =
-        let x = run cfg (deliveries cfg most w) w in
-        append (deliveries cfg most w) (both_tried cfg (pull_at Dte) (pull_at Dce) x) (received_are receipts (arrivals cfg most w))
-        (both_are_so cfg (pull_at Dte) (pull_at Dce) x (pulls Dte) (pulls Dce))
-
     unless_is_so : (rest : World → List Event) → ((w : World) → P (rest w)) → (w : World) (at : Option Role) → P (unless_empty rest w at)
     unless_is_so rest are w None = none
     unless_is_so rest are w (Some at) = are w
@@ -173,7 +166,10 @@ module _ (P : List Event → Type 0) (none : P []) (append : (xs ys : List Event
     rounds_are_so cfg most zero w = none
     rounds_are_so cfg most (suc n) w =
         let x = run cfg (pull_round cfg most w) w in
-        append (pull_round cfg most w) (left_behind cfg most n x) (round_is_so cfg most w)
+        append (pull_round cfg most w) (left_behind cfg most n x)
+        (let x = run cfg (deliveries cfg most w) w in
+        append (deliveries cfg most w) (both_tried cfg (pull_at Dte) (pull_at Dce) x) (received_are receipts (arrivals cfg most w))
+        (both_are_so cfg (pull_at Dte) (pull_at Dce) x (pulls Dte) (pulls Dce)))
         (unless_is_so (pull_rounds cfg most n) (rounds_are_so cfg most n) x (next_end x.out x.back))
 
 rounds_octets : (cfg : Cfg) (most : ℕ) (n : ℕ) (w : World) → AreInOctets (pull_rounds cfg most n w)
@@ -216,9 +212,6 @@ holds_healed Holds new {cfg} most {from} {past} before h goes law =
 requests_append : (xs ys : List Event) → AreReceiptsAndRequests xs → AreReceiptsAndRequests ys → AreReceiptsAndRequests (xs ++ ys)
 requests_append [] ys f g = g
 requests_append (x ∷ xs) ys f g = (f.0, requests_append xs ys f.1 g)
-
-rounds_requests : (cfg : Cfg) (most : ℕ) (n : ℕ) (w : World) → AreReceiptsAndRequests (pull_rounds cfg most n w)
-rounds_requests = rounds_are_so AreReceiptsAndRequests tt requests_append (λ at. (tt, tt)) (λ at. (tt, tt))
 
 -- both pulls, accepted or not
 abbrev pulled_both : Cfg → World → World
@@ -337,7 +330,9 @@ module _ (left : PullsLeaveNone) (unpulled : Throughout UnpulledWaitForUsers) (c
       let here : HealsWithPuts cfg v =
       subst (HealsWithPuts cfg) (run_append cfg past (deliveries cfg most w) from)
       (law cfg fine from begins (past ++ deliveries cfg most w) (octets_append past (deliveries cfg most w) octets (received_octets (arrivals cfg most w)))) in
-      here may (pull_rounds cfg most most fired) (rounds_requests cfg most most fired) (rounds_octets cfg most most fired) free drained
+      here may (pull_rounds cfg most most fired)
+      ((rounds_are_so AreReceiptsAndRequests tt requests_append (λ at. (tt, tt)) (λ at. (tt, tt))) cfg most most fired) (rounds_octets cfg most most fired)
+      free drained
 
   wait_alone : IsAtRest u.near.link → IsAtRest u.far.link → AllWaitForUsers cfg u
   wait_alone dte dce =

@@ -21,6 +21,7 @@ goes_behind {cfg} {xs} {ys} {w} f g = record {
   fits = rw (run_append cfg xs ys w) g.fits;
 }
 
+-- memory is refused in the first list
 pub stops_first : {cfg : Cfg} {xs : List Event} (ys : List Event) {w : World} {v : TellingWorld} {before : List AtEnd} {e : WorldError}
     → GoesPartly cfg xs w v before e → GoesPartly cfg (xs ++ ys) w v before e
 stops_first ys h = record {
@@ -31,6 +32,7 @@ stops_first ys h = record {
   goes = h.goes;
 }
 
+-- or in the second
 pub stops_behind : {cfg : Cfg} {xs ys : List Event} {w : World} {u v : TellingWorld} {before : List AtEnd} {e : WorldError} → GoesBy cfg xs w u before
     → GoesPartly cfg ys (run cfg xs w) v before e → GoesPartly cfg (xs ++ ys) w v before e
 stops_behind {cfg} {xs} {w} {u} {v} {before} f h = record {

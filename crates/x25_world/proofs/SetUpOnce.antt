@@ -3,14 +3,12 @@ use Rattle.std.proofs.Common.{◌≡◌, ℕ, zero, suc, ◌+◌, ◌≤◌, ◌
 use Rattle.x25_bits.specs.{declared.role.Role.{Role}, declared.role.Role.TheVariants.{Dte, Dce}}
 use Rattle.x25_link.specs.{Hearing.{other}, Station.{is_up}}
 use Rattle.x25_line.specs.{laws.Sessions.{SessionEnd}, laws.SessionClaims.{OnlyBegunHaveLists}}
-use Rattle.x25_layer.specs.{Layer.{goes_up}, laws.Law.{HandsUpLawfully, HasAllOf}, laws.NameLaw.{first_name, counted}}
-use Rattle.x25_layer.specs.{laws.Apart.{own_run}, laws.TwoLayers.{started}}
+use Rattle.x25_layer.specs.{Layer.{goes_up}, laws.Law.{HandsUpLawfully, HasAllOf}, laws.NameLaw.{first_name, counted}, laws.Apart.{own_run}}
+use Rattle.x25_layer.specs.laws.TwoLayers.{started}
 use Rattle.x25_station.specs.{declared.config.Cfg.{Cfg}, Entry.{StationEntry, link_up, link_down, layer_entries}, Station.{Station}}
-use Rattle.x25_world.specs.World.{World}
-use Rattle.x25_world.specs.laws.Claims.{station_at, entries_at, ups_in, IsUpOnce, IsUpAtMostOnce, handed_at, IsLawful, IsNamed, ArrivesAll}
+use Rattle.x25_world.specs.{World.{World}, laws.Claims.{station_at, entries_at, ups_in, IsUpOnce, IsUpAtMostOnce, handed_at, IsLawful, IsNamed, ArrivesAll}}
 use Rattle.x25_world.specs.{laws.Sessions.{Progress, none_begun, after_entry, after_entries, session_at, last_session}, laws.LawsBelow.{SessionLaws}}
-use Rattle.x25_world.proofs.{Known.{IsConfigured}, sessions.SessionTrace.{Done, layer_of, own}}
-use Rattle.x25_world.proofs.sessions.SessionReaches.{Beginning, set_up, known_sessions}
+use Rattle.x25_world.proofs.{Known.{IsConfigured}, sessions.SessionTrace.{Done, layer_of, own}, sessions.SessionReaches.{Beginning, set_up, known_sessions}}
 use Rattle.x25_world.proofs.sessions.SessionJoined.{HaveAll, IsEnd, HasMet, PairIsInOrder, SessionsJoined}
 use Rattle.x25_world.proofs.{sessions.SessionKnown.{met_in_order, nothing_in_order}, sessions.claims.SessionMeets.{begun_both, meet_in_step}}
 use Rattle.x25_world.proofs.{sessions.claims.SessionLawful.{own_lawful, are_named}, sessions.claims.SessionArrives.{all_arrive, open_stretches_meet}}

@@ -1,7 +1,6 @@
 -- What an end did is its act by the definition, and its refusal is due.
 use Rattle.std.proofs.Common.{◌≡◌, ℕ, true, false, ◌&&◌, if◌then◌else◌, List, [], ◌∷◌, ◌++◌, map, Some, None, slice_get, Result, Ok, Err, OnOk, OnErr, IfErr}
-use Rattle.std.proofs.Common.{◌⊎◌, inl, inr, refl, ap, sym, ◌∙◌}
-use Rattle.std.proofs.lemmas.List.{append-nil}
+use Rattle.std.proofs.{Common.{◌⊎◌, inl, inr, refl, ap, sym, ◌∙◌}, lemmas.List.{append-nil}}
 use Rattle.std.specs.List.{remove}
 use Rattle.x25_bits.specs.{Role.{other}, declared.role.Role.{Role}, declared.role.Role.TheVariants.{Dte, Dce}}
 use Rattle.x25_frame.specs.Spelling.{spelling_of}
@@ -88,6 +87,7 @@ pub is_refusal : (cfg : Cfg) (at : Role) (w : World) (outcome : Outcome) (e : St
 is_refusal cfg at w (Did step) e refuses = inr (no_memory e refuses)
 is_refusal cfg at w (Refused d) e is = its_own e d is
 
+-- an end whose station fits as before is as it was, whatever room its line has
 pub side_stays : {cfg : Cfg} (at : Role) {near new : code.Station} {line : ShownLine} {w : World} (room : ShownLine)
     → FitsSide cfg at near line w → FitsStation (settings_from at cfg) new w.near → FitsSide cfg at new (with_room_of room line) w
 side_stays Dte {near} room side fits = record { near = fits; out = side.out; back = side.back }

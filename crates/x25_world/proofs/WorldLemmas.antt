@@ -1,7 +1,7 @@
 -- An end that acts, in its world: the other end is as it was. And lists of events, one more at a time.
 use Rattle.std.proofs.Common.{◌≡◌, IfOk, ℕ, nat_lt, ◌&&◌, Bool, true, false, if◌then◌else◌, List, [], ◌∷◌, ◌++◌, length, map, drop, Option, Some, None, Result}
-use Rattle.std.proofs.Common.{Ok, Err, OnOk, OnErr, IfErr, ◌⊎◌, inl, inr, refl, ap, sym, ◌∙◌, subst, append_assoc, arith}
-use Rattle.std.proofs.{Math.Seq.{drop-append_seam}, lemmas.List.{append-nil, drop_all}}
+use Rattle.std.proofs.{Common.{Ok, Err, OnOk, OnErr, IfErr, ◌⊎◌, inl, inr, refl, ap, sym, ◌∙◌, subst, append_assoc, arith}, Math.Seq.{drop-append_seam}}
+use Rattle.std.proofs.lemmas.List.{append-nil, drop_all}
 use Rattle.std.specs.List.{remove}
 use Rattle.x25_bits.specs.{declared.role.Role.{Role}, declared.role.Role.TheVariants.{Dte, Dce}}
 use Rattle.x25_frame.specs.Spelling.{spelling_of}
@@ -16,9 +16,8 @@ use Rattle.x25_world.specs.World.{run, AreAccepted, connected, established, star
 use Rattle.x25_world.specs.laws.Claims.{ActsInOctets, AreInOctets, IsUpOnce, IsUpAtMostOnce, IsBeginning, NoneConnects, UpOnceUnlessConnected, UntilSecondUp}
 use Rattle.x25_world.specs.laws.Claims.{IsLawful, IsNamed, ArrivesAll, HasNoProcedureError}
 use Rattle.x25_world.specs.laws.SessionClaims.{Throughout, ThroughoutAlong, MeetInStep, AreLawfulWhereMet, AreNamedInSessions, AllArrive, UnmetAreToldNothing}
-use Rattle.x25_world.specs.laws.SessionClaims.{OpenStretchesMeet, SessionsKeepOrder}
-use Rattle.x25_world.specs.{laws.BesideClaims.{BesideIsGiven}, laws.SessionWindow.{SessionsStayInWindow}}
-use Rattle.x25_world.specs.{code.ShownLine.{ShownLine}, code.ShownWorld.{ShownWorld, shown_with, line_from}}
+use Rattle.x25_world.specs.{laws.SessionClaims.{OpenStretchesMeet, SessionsKeepOrder}, laws.BesideClaims.{BesideIsGiven}}
+use Rattle.x25_world.specs.{laws.SessionWindow.{SessionsStayInWindow}, code.ShownLine.{ShownLine}, code.ShownWorld.{ShownWorld, shown_with, line_from}}
 use Rattle.x25_world.specs.code.FitsWorld.{FitsWorld, FitsRun, RunHolds, Claims, ClaimsOfNew, and_then, HasHappened, HasActed, HasActedAt, RefusesConfig}
 use Rattle.x25_world.proofs.Established.{connected_tells}
 use Rattle.x25_station.specs.declared.station.Station as code
@@ -296,6 +295,7 @@ module _ (lawful : UntilSecondUp IsLawful) (named : UntilSecondUp IsNamed) (arri
     beside = beside cfg h.settings from begins events h.octets;
   }
 
+  -- the claims on a world that fits more of each run than the one before
   pub claims_hold : (old new : ShownWorld) (more : List Event → List Event)
       → ((cfg : Cfg) (from : World) (past : List Event) → FitsRun cfg from old past → FitsRun cfg from new (more past)) → Claims old new more
   claims_hold old new more runs = record { run = runs; holds = λ cfg from past begins h. run_holds begins (runs cfg from past h) }

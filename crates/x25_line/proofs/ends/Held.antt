@@ -1,7 +1,6 @@
 -- What holds of two ends over sessions: one session of each stands, which meet or may yet meet; and what is on the lines is of these.
 use Rattle.std.proofs.Common.{◌≡◌, ◌≤◌, ◌+◌, ◌⊎◌, ℕ, suc, List, [], ◌∷◌, ◌++◌, inl, inr, refl, arith, subst}
-use Rattle.x25_line.specs.{laws.Said.{sabm_of, ua_of, disc_of, Sabm, Disc, Ua}}
-use Rattle.x25_line.specs.laws.Ends.{Stand, Out, Asking, In, Letter, letter, how_many, OfTells, AreOf}
+use Rattle.x25_line.specs.{laws.Said.{sabm_of, ua_of, disc_of, Sabm, Disc, Ua}, laws.Ends.{Stand, Out, Asking, In, Letter, letter, how_many, OfTells, AreOf}}
 use Rattle.x25_line.proofs.ends.Lines.{count_push, Less, count_less, AllTold, AllTags, tags_push, tags_more, tags_less, told_push, told_less, of_tells}
 use Rattle.x25_line.proofs.ends.Lines.{sabm_free, Of, AfterUa, after_none, after_push, after_less, after_base, AllAsked, asked_none, asked_map, asked_now}
 use Rattle.x25_line.proofs.ends.Lines.{asked_push, asked_less}
@@ -88,19 +87,19 @@ module _ {sx sy : Stand} {bx p b q : ℕ} {out back : List Letter} where
         tags = tags_less b l h.tags;
         is_in = h.is_in;
         live = λ k. told_less (Of q) l (h.live k);
-        soon = λ k less. (after_less q b l (omega (arith, (h.asks_once k).0)) (h.soon k less));
-        left = λ k here. (omega (arith, h.left k here, uas));
+        soon = λ k less. after_less q b l (omega (arith, (h.asks_once k).0)) (h.soon k less);
+        left = λ k here. omega (arith, h.left k here, uas);
         asked = asked_less _ _ b q l h.asked;
         one = omega (arith, one, count_less sabm_of refl l);
-        asks_once = λ k. ((omega (arith, (h.asks_once k).0, uas), (h.asks_once k).1));
+        asks_once = λ k. (omega (arith, (h.asks_once k).0, uas), (h.asks_once k).1);
       }
 
   -- the same of the line from y
   pub less_far : {fs : List Letter} → Less back fs → Side sy b q sx bx p back out → Side sy b q sx bx p fs out
   less_far {fs} l h =
       let sabms = count_less sabm_of refl l in
-      from_near fs (asked_map _ _ bx p (λ n. n) (λ o. ((o.0, omega (arith, o.1, sabms), o.2))) out h.asked)
-      (λ k. ((omega (arith, (h.asks_once k).0, sabms), omega (arith, (h.asks_once k).1, (count_less disc_of refl l))))) h
+      from_near fs (asked_map _ _ bx p (λ n. n) (λ o. (o.0, omega (arith, o.1, sabms), o.2)) out h.asked)
+      (λ k. (omega (arith, (h.asks_once k).0, sabms), omega (arith, (h.asks_once k).1, (count_less disc_of refl l)))) h
 
   -- ---- x sends, and its session stays
 
@@ -108,8 +107,8 @@ module _ {sx sy : Stand} {bx p b q : ℕ} {out back : List Letter} where
   pub push_near : (e : Letter) → sabm_of e.said ≡ 0 → disc_of e.said ≡ 0 → Side sx bx p sy b q out back → Side sx bx p sy b q (out ++ e ∷ []) back
   push_near e no_sabm no_disc h =
       let sabms = count_push sabm_of out e in
-      from_near (out ++ e ∷ []) (asked_map _ _ b q (λ n. n) (λ o. ((o.0, omega (arith, o.1, sabms, no_sabm), o.2))) back h.asked)
-      (λ k. ((omega (arith, (h.asks_once k).0, sabms, no_sabm), omega (arith, (h.asks_once k).1, (count_push disc_of out e), no_disc)))) h
+      from_near (out ++ e ∷ []) (asked_map _ _ b q (λ n. n) (λ o. (o.0, omega (arith, o.1, sabms, no_sabm), o.2)) back h.asked)
+      (λ k. (omega (arith, (h.asks_once k).0, sabms, no_sabm), omega (arith, (h.asks_once k).1, (count_push disc_of out e), no_disc))) h
 
   -- and as y does: what has an N(R) is sent in the session that stands; and no UA comes that y doesn't await
   pub push_far : (e : Letter) → sabm_of e.said ≡ 0 → e.session ≤ bx → OfTells e.said (((sx ≡ In → ⊥) → ⊥) × (e.session ≡ p)) → (sy ≡ Asking → ua_of e.said ≡ 0)
@@ -124,10 +123,10 @@ module _ {sx sy : Stand} {bx p b q : ℕ} {out back : List Letter} where
         is_in = h.is_in;
         live = λ k. told_push (Of p) out e (h.live k) is;
         soon = λ k less. after_push p bx out e (h.soon k less) is (sabm_free e.said (e.session ≡ bx) no_sabm);
-        left = λ k here. (omega (arith, h.left k here, no_ua k, uas));
+        left = λ k here. omega (arith, h.left k here, no_ua k, uas);
         asked = asked_push _ _ bx p out e h.asked told (sabm_free e.said _ no_sabm);
         one = omega (arith, one, count_push sabm_of out e, no_sabm);
-        asks_once = λ k. ((omega (arith, (h.asks_once k).0, no_ua k, uas), (h.asks_once k).1));
+        asks_once = λ k. (omega (arith, (h.asks_once k).0, no_ua k, uas), (h.asks_once k).1);
       }
 
   -- ---- x leaves
@@ -163,7 +162,7 @@ module _ {sx sy : Stand} {bx p b q : ℕ} {out back : List Letter} where
   close_near h =
       let left = leave_near h in
       from_near (out ++ letter bx Disc ∷ [])
-      (asked_map _ _ b q (λ n. n) (λ o. ((o.0, omega (arith, o.1, (count_push sabm_of out (letter bx Disc))), o.2))) back left.asked) (λ k. absurd (cc))
+      (asked_map _ _ b q (λ n. n) (λ o. (o.0, omega (arith, o.1, (count_push sabm_of out (letter bx Disc))), o.2)) back left.asked) (λ k. absurd (cc))
       left
 
   -- ---- x asks
@@ -196,10 +195,10 @@ module _ {sx sy : Stand} {bx p b q : ℕ} {out back : List Letter} where
         is_in = h.is_in;
         live = λ k. told_push (Of p) out e (h.live k) tt;
         soon = λ k less. after_push p bx out e (h.soon k less) tt refl;
-        left = λ k here. (omega (arith, h.left k here, uas));
+        left = λ k here. omega (arith, h.left k here, uas);
         asked = asked_push _ _ bx p out e (asked_none _ _ bx p out no_sabm) tt ((λ k. absurd (cc)), refl);
         one = omega (arith, count_push sabm_of out e, no_sabm);
-        asks_once = λ k. ((omega (arith, (h.asks_once k).0, uas), (h.asks_once k).1));
+        asks_once = λ k. (omega (arith, (h.asks_once k).0, uas), (h.asks_once k).1);
       }
 
   -- ---- x begins its session of the two that stand, as a UA or an older SABM comes, and no SABM of it is on the line
@@ -231,9 +230,9 @@ module _ {sx sy : Stand} {bx p b q : ℕ} {out back : List Letter} where
         tags = tags_push out e (tags_more bx bn out low h.tags) (omega arith);
         is_in = λ k. absurd (off k);
         live = λ k. absurd (off k);
-        soon = λ k _. (after_push (suc bx) bn out e (after_none (suc bx) bn out (omega (arith, (h.asks_once k).0))) tt tt);
+        soon = λ k _. after_push (suc bx) bn out e (after_none (suc bx) bn out (omega (arith, (h.asks_once k).0))) tt tt;
         left = λ k here. absurd (omega (arith, here));
         asked = asked_push _ _ bn (suc bx) out e asked tt tt;
         one = omega (arith, one, count_push sabm_of out e);
-        asks_once = λ k. ((omega (arith, (h.asks_once k).0, count_push ua_of out e), omega (arith, (h.asks_once k).1)));
+        asks_once = λ k. (omega (arith, (h.asks_once k).0, count_push ua_of out e), omega (arith, (h.asks_once k).1));
       }

@@ -15,7 +15,7 @@ choose_map (suc n) A B C D f g h = g h
 
 pub count_push : (k : Said → ℕ) (es : List Letter) (e : Letter) → how_many k (es ++ e ∷ []) ≡ how_many k es + k e.said
 count_push k [] e = omega arith
-count_push k (x ∷ es) e = (omega (arith, count_push k es e))
+count_push k (x ∷ es) e = omega (arith, count_push k es e)
 
 -- one letter at most is gone
 pub data Less : List Letter → List Letter → Type 0 where
@@ -39,12 +39,13 @@ pub count_less : (k : Said → ℕ) → k Else ≡ 0 → {es fs : List Letter} �
 count_less k quiet (whole xs) = omega arith
 count_less k quiet (gone e xs) = omega arith
 count_less k quiet (hurt e xs) = omega (arith, quiet)
-count_less k quiet (deeper e xs ys h) = (omega (arith, count_less k quiet h))
+count_less k quiet (deeper e xs ys h) = omega (arith, count_less k quiet h)
 
 -- each with an N(R) is of such a session
 abbrev pub AllTold : (ℕ → Type 0) → List Letter → Type 0
 AllTold P es = Each (λ e. OfTells e.said (P e.session)) es
 
+-- each is of session b, or of an earlier one
 abbrev pub AllTags : ℕ → List Letter → Type 0
 AllTags b es = Each (λ e. e.session ≤ b) es
 
@@ -60,7 +61,7 @@ tags_push {b} es e h k = each_append (λ x. x.session ≤ b) es (e ∷ []) h (k,
 
 pub tags_more : (b c : ℕ) (es : List Letter) → b ≤ c → AllTags b es → AllTags c es
 tags_more b c [] le h = tt
-tags_more b c (x ∷ es) le h = ((omega (arith, le, h.0), tags_more b c es le h.1))
+tags_more b c (x ∷ es) le h = (omega (arith, le, h.0), tags_more b c es le h.1)
 
 pub tags_less : (b : ℕ) {es fs : List Letter} → Less es fs → AllTags b es → AllTags b fs
 tags_less b {es} {fs} l h = less_each (λ e. e.session ≤ b) (λ e k. k) l h
@@ -93,6 +94,7 @@ pub sabm_free : (s : Said) (P : Type 0) → sabm_of s ≡ 0 → OfSabm s P
 sabm_free Sabm P h = absurd (omega (arith, h))
 sabm_free s P h = tt
 
+-- a line without a SABM has none of a session other than b
 pub are_none : (b : ℕ) (es : List Letter) → how_many sabm_of es ≡ 0 → AreOf b es
 are_none b [] h = tt
 are_none b (e ∷ es) h = (sabm_free e.said (e.session ≡ b) (omega (arith, h)), are_none b es (omega (arith, h)))

@@ -8,6 +8,7 @@ pub all_map : (P Q : Meeting → Type 0) → ((m : Meeting) → P m → Q m) →
 all_map P Q f [] h = tt
 all_map P Q f (m ∷ ms) h = (f m h.0, all_map P Q f ms h.1)
 
+-- two sessions that met and are so, by what holds of all that met
 pub all_some : (P Q : Meeting → Type 0) (R : Type 0) → ((m : Meeting) → P m → Q m → R) → (ms : List Meeting) → Each P ms → SomeMet Q ms → R
 all_some P Q R f [] h g = absurd g
 all_some P Q R f (m ∷ ms) h g = elim g [ inl here ↦ f m h.0 here | inr there ↦ all_some P Q R f ms h.1 there ]

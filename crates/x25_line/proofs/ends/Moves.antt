@@ -81,8 +81,7 @@ module _ (w : Two) where
 
   -- the line to the near end is less
   abbrev shorter : (rest : List Letter) → Less w.back rest → Held w → Held (record w { back = rest })
-  shorter rest l h =
-      holds (less_near l h.near) (less_far l h.far) h.meets
+  shorter rest l h = holds (less_near l h.near) (less_far l h.far) h.meets
 
   -- one more on the line, which sets nothing up
   abbrev longer : (s : Said) → sabm_of s ≡ 0 → disc_of s ≡ 0 → (h : Held w) → OfTells s (((w.near.stand ≡ In → ⊥) → ⊥) × (bx ≡ h.p))
@@ -91,16 +90,13 @@ module _ (w : Two) where
       holds (push_near (letter bx s) no_sabm no_disc h.near) (push_far (letter bx s) no_sabm (omega arith) told no_ua h.far) h.meets
 
   asked_held : IsPatient w → Held w → Held (record w { near = record { stand = Asking; begun = bx }; out = w.out ++ letter bx Sabm ∷ [] })
-  asked_held patient h =
-      holds (ask_near patient.sabm patient.disc patient.ua patient.crossing h.near) (ask_far patient.sabm h.far) h.meets
+  asked_held patient h = holds (ask_near patient.sabm patient.disc patient.ua patient.crossing h.near) (ask_far patient.sabm h.far) h.meets
 
   closed_held : Held w → Held (record w { near = record { stand = Out; begun = bx }; out = w.out ++ letter bx Disc ∷ [] })
-  closed_held h =
-      holds (close_near h.near) (push_far (letter bx Disc) refl (omega arith) tt (λ _. refl) (leave_far h.far)) h.meets
+  closed_held h = holds (close_near h.near) (push_far (letter bx Disc) refl (omega arith) tt (λ _. refl) (leave_far h.far)) h.meets
 
   left_held : Held w → Held (record w { near = record { stand = Out; begun = bx } })
-  left_held h =
-      holds (leave_near h.near) (leave_far h.far) h.meets
+  left_held h = holds (leave_near h.near) (leave_far h.far) h.meets
 
   -- the UA that the near end awaits
   ua_held : (s : ℕ) (rest : List Letter) {p q : ℕ} → Side Asking bx p sy b q w.out (letter s Ua ∷ rest) → Side sy b q Asking bx p (letter s Ua ∷ rest) w.out
@@ -125,7 +121,7 @@ module _ (w : Two) where
   ]
     where
       none : how_many sabm_of rest ≡ 0
-      none = (omega (arith, near.one))
+      none = omega (arith, near.one)
 
       new_pair : (sy ≡ In → ⊥) → s ≡ b → AllTold Never rest
           → Onward w (record w { near = record { stand = In; begun = suc bx }; out = w.out ++ letter (suc bx) Ua ∷ []; back = rest }) p q
@@ -137,7 +133,7 @@ module _ (w : Two) where
                 (begin_near refl near.tags.1 (told_map Never (Of (suc b)) (λ n no. absurd no) rest told) (asked_none _ _ b (suc b) rest none)
                 (omega (arith, none)))
                 (new_far In off that (omega arith) (omega arith)
-                (asked_begins _ _ _ _ bx p (suc bx) (refl, none, λ k. absurd (cc)) (λ o. (absurd (omega (arith, o.1)))) w.out that.asked))
+                (asked_begins _ _ _ _ bx p (suc bx) (refl, none, λ k. absurd (cc)) (λ o. absurd (omega (arith, o.1))) w.out that.asked))
                 (meets_more w.met (meets_new meets));
           }
 
@@ -161,7 +157,7 @@ module _ (w : Two) where
   ]
     where
       none : how_many sabm_of rest ≡ 0
-      none = (omega (arith, near.one))
+      none = omega (arith, near.one)
 
       sabms : how_many sabm_of (w.out ++ letter bx Ua ∷ []) ≡ how_many sabm_of w.out + 0
       sabms = count_push sabm_of w.out (letter bx Ua)
@@ -189,7 +185,7 @@ module _ (w : Two) where
                   one = omega (arith, none);
                   asks_once = λ _. (omega (arith, once, sabms), omega (arith, closed, discs));
                 })
-                (new_far Asking off that (omega arith) (omega arith) (asked_never _ _ _ bx p (suc bx) (λ o. (absurd (omega (arith, o.1)))) w.out that.asked))
+                (new_far Asking off that (omega arith) (omega arith) (asked_never _ _ _ bx p (suc bx) (λ o. absurd (omega (arith, o.1))) w.out that.asked))
                 (meets_new meets);
           }
 
@@ -205,9 +201,9 @@ module _ (w : Two) where
 -- two moves by themselves, of which it shows that the same two sessions stand
 abbrev pub told_held : (w : Two) (carried : Option Carried) (nr : ℕ) → w.near.stand ≡ In → Held w
     → Held (record w { out = w.out ++ letter w.near.begun (Tells carried nr) ∷ [] })
-told_held w carried nr is h =
-    longer w (Tells carried nr) refl refl h ((λ off. off is), h.near.is_in is) (λ _. refl)
+told_held w carried nr is h = longer w (Tells carried nr) refl refl h ((λ off. off is), h.near.is_in is) (λ _. refl)
 
+-- without its first letter a line has one less
 pub popped : (xs rest : List Letter) (e : Letter) → xs ≡ e ∷ rest → Less xs rest
 popped xs rest e is = rw is (gone e rest)
 
@@ -226,10 +222,8 @@ moves_held {w} (asks patient) h = record { held = asked_held w patient h; pair =
 moves_held {w} closes h = record { held = closed_held w h; pair = inl (refl, refl) }
 moves_held {w} leaves h = record { held = left_held w h; pair = inl (refl, refl) }
 moves_held {w} (hears e rest is) h = record { held = come_held w e rest is h; pair = inl (refl, refl) }
-moves_held {w} (takes_ua s rest is asking) h =
-    ua_held w s rest (near_stands asking (near_at is h.near)) (far_stands asking (far_at is h.far)) h.meets
-moves_held {w} (takes_sabm s rest is) h =
-    sabm_held w s rest (near_at is h.near) (far_at is h.far) h.meets
+moves_held {w} (takes_ua s rest is asking) h = ua_held w s rest (near_stands asking (near_at is h.near)) (far_stands asking (far_at is h.far)) h.meets
+moves_held {w} (takes_sabm s rest is) h = sabm_held w s rest (near_at is h.near) (far_at is h.far) h.meets
 moves_held {w} (waits_on s rest is asking) h =
     subst (λ z. Onward w (record w { near = record { stand = z; begun = w.near.begun }; out = w.out ++ letter w.near.begun Ua ∷ []; back = rest }) h.p h.q)
     (sym asking)
@@ -237,7 +231,7 @@ moves_held {w} (waits_on s rest is asking) h =
 moves_held {w} (takes_disc s rest is) h =
     let k = shorter w rest (popped w.back rest (letter s Disc) is) h in
     let far = far_at is h.far in
-    record { held = longer (record w { back = rest }) Ua refl refl k tt (λ k. (absurd (omega (arith, (far.asks_once k).1)))); pair = inl (refl, refl) }
+    record { held = longer (record w { back = rest }) Ua refl refl k tt (λ k. absurd (omega (arith, (far.asks_once k).1))); pair = inl (refl, refl) }
 moves_held {w} (loses i) h = record { held = shorter w (remove w.back i) (less_removes w.back i) h; pair = inl (refl, refl) }
 moves_held {w} (damages i) h = record { held = shorter w (spoilt w.back i) (less_spoils w.back i) h; pair = inl (refl, refl) }
 

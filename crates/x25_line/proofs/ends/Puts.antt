@@ -9,9 +9,11 @@ same_or_other n b = go (n == b) refl
     go true e = inl (eqb-true n b e)
     go false e = inr e
 
+-- in session b an end is what was put there
 pub put_same : (b n : ℕ) (r : Peer) (all : ℕ → Peer) → n ≡ b → put_for b r all n ≡ r
 put_same b n r all is = ap (λ x. if x then r else all n) (eq-eqb n b is)
 
+-- in each other session it is what it was
 pub put_apart : (b n : ℕ) (r : Peer) (all : ℕ → Peer) → (n == b) ≡ false → put_for b r all n ≡ all n
 put_apart b n r all not = ap (λ x. if x then r else all n) not
 

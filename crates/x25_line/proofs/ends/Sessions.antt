@@ -7,11 +7,9 @@ use Rattle.x25_line.specs.{laws.SessionClaims.{Each, SomeMet}, laws.Peer.{Peer, 
 use Rattle.x25_line.specs.laws.Ends.{Stand, Out, Asking, In, put_for, Letter, letter, Two, how_many, meets, heard, OfTells, AreOf, Moves, free, odd, asks}
 use Rattle.x25_line.specs.laws.Ends.{closes, hears, takes_ua, takes_sabm, waits_on, takes_disc, loses, damages, Ends, ends_swapped, near_now, with_near, begins}
 use Rattle.x25_line.specs.laws.Ends.{fresh_where, with_packet, Does, sends, listens, moves, begin_at, EndsReached, at_start, set_up, near_handed, far_handed}
-use Rattle.x25_line.specs.laws.Ends.{near_does, far_does}
-use Rattle.x25_line.specs.laws.EndClaims.{InOrder, MetInOrder, KeepSessions, OfAnyTwoEnds}
+use Rattle.x25_line.specs.{laws.Ends.{near_does, far_does}, laws.EndClaims.{InOrder, MetInOrder, KeepSessions, OfAnyTwoEnds}}
 use Rattle.x25_line.proofs.Order.{Told, told, only, IsApart, only_append, only_quiet, Left, left_front, left_deeper, Hold, starts, hold_turned, handed, says}
-use Rattle.x25_line.proofs.Order.{left, makes, in_order, valid_front}
-use Rattle.x25_line.proofs.ends.Meetings.{IsPaired, near_turned, far_turned, all_meet, some_meets}
+use Rattle.x25_line.proofs.{Order.{left, makes, in_order, valid_front}, ends.Meetings.{IsPaired, near_turned, far_turned, all_meet, some_meets}}
 use Rattle.x25_line.proofs.{ends.Lines.{Less, whole, gone, hurt, deeper, less_removes, less_spoils, AllTags, tags_less}, ends.Held.{Side, near_at, near_stands}}
 use Rattle.x25_line.proofs.ends.Moves.{Held, held_turned, first_held, moves_held, told_held, come_held, popped}
 use Rattle.x25_line.proofs.ends.Puts.{same_or_other, put_same, put_other, put_apart, put_alike}
@@ -49,8 +47,7 @@ below m n less = elim (same_or_other m n) [ inl is ↦ absurd (omega (arith, is,
 
 of_none : {b : ℕ} (q : ℕ) (es : List Letter) → b < q → AllTags b es → of q es ≡ []
 of_none q [] less h = refl
-of_none {b} q (e ∷ es) less h =
-    (ap (λ x. keep x e.said (of q es)) (below e.session q (omega (arith, h.0, less)))) ∙ of_none q es less h.1
+of_none {b} q (e ∷ es) less h = (ap (λ x. keep x e.said (of q es)) (below e.session q (omega (arith, h.0, less)))) ∙ of_none q es less h.1
 
 kept_front : (b : Bool) (s : Said) (xs : List Told) → Left (keep b s xs) xs
 kept_front false s xs = (None, refl)
@@ -131,6 +128,7 @@ order_turned : (near_of far_of : ℕ → Peer) (ms : List Meeting) → Each (Met
 order_turned near_of far_of [] h = tt
 order_turned near_of far_of (m ∷ ms) h = ((h.0.1, h.0.0), order_turned near_of far_of ms h.1)
 
+-- all that holds, as the far end has it
 pub all_turned : {w : Ends} → All w → All (ends_swapped w)
 all_turned {w} h =
     record {
@@ -149,13 +147,11 @@ met_heard : {b p c q t : ℕ} {st : Stand} {out rest : List Letter} (near_of far
     → Side stand b p st c q out (letter t s ∷ rest)
     → InOrder (near_of p) (far_of q) × InOrder (far_of q) (near_of p) → (ms : List Meeting) → Each (MetInOrder near_of far_of) ms
     → Each (MetInOrder near_of far_of) (heard stand b (letter t s) ms)
-met_heard {b} {p} {c} {q} {t} {st} {out} {rest} near_of far_of In (Tells carried n) h orders ms m =
-    (rw (h.is_in refl, (h.live refl).0) orders, m)
+met_heard {b} {p} {c} {q} {t} {st} {out} {rest} near_of far_of In (Tells carried n) h orders ms m = (rw (h.is_in refl, (h.live refl).0) orders, m)
 met_heard {b} {p} {c} {q} {t} {st} {out} {rest} near_of far_of stand s h orders ms m = m
 
 met_moves : {w : Ends} {v : Two} → Moves w.two v → All w → Each (MetInOrder w.near_of w.far_of) v.met
-met_moves {w} (hears e rest is) h =
-    met_heard w.near_of w.far_of w.two.near.stand e.said (near_at is h.held.near) (both_orders h.line) w.two.met h.order
+met_moves {w} (hears e rest is) h = met_heard w.near_of w.far_of w.two.near.stand e.said (near_at is h.held.near) (both_orders h.line) w.two.met h.order
 met_moves m h = h.order
 
 moves_all : (w : Ends) (v : Two) (m : Moves w.two v) → All w → All (record w { two = v })
@@ -184,8 +180,7 @@ moves_all w v m h =
     c = suc w.two.far.begun
 
     same : Hold (w.near_of p) (w.far_of q) (of p v.out) (of q v.back)
-    same =
-        rw (out_same m p) (left (w.near_of p) (w.far_of q) (of p w.two.out) (of q w.two.back) (of_less q (back_less m)) h.line)
+    same = rw (out_same m p) (left (w.near_of p) (w.far_of q) (of p w.two.out) (of q w.two.back) (of_less q (back_less m)) h.line)
 
     anew : Hold (w.near_of b) (w.far_of c) (of b v.out) (of c v.back)
     anew =
@@ -330,8 +325,8 @@ heard_all w e rest r is on may h =
 does_all : {w v : Ends} → Does w v → All w → All v
 does_all {w} (sends carried nr r is may) h = sent_all w carried nr r is may h
 does_all {w} (listens e rest r is on may) h = heard_all w e rest r is on may h
-does_all {w} (moves u m) h = (alike_all (fresh_where (begins m) w.two.near.begun w.near_of) (fresh_same w.two.near.begun w.near_of h.near_later (begins m))
-    (moves_all w u m h))
+does_all {w} (moves u m) h = alike_all (fresh_where (begins m) w.two.near.begun w.near_of) (fresh_same w.two.near.begun w.near_of h.near_later (begins m))
+    (moves_all w u m h)
 
 starts_all : (stand : Stand) (b : ℕ) → All (begin_at stand b)
 starts_all stand b = record {
@@ -344,6 +339,7 @@ starts_all stand b = record {
   far_unmet = λ n. inl refl;
 }
 
+-- it holds of two ends that keep the rules, wherever their moves lead
 pub reached_all : {w : Ends} → EndsReached w → All w
 reached_all at_start = starts_all Out 0
 reached_all set_up = starts_all In 1
@@ -360,8 +356,7 @@ far_high h = elim h.held.far.view [ inl is ↦ omega (arith, is) | inr is ↦ om
 
 -- who meets the session in which the near end is: the far end's latest, which stands
 pub latest : (w : Ends) (h : All w) → w.two.near.stand ≡ In → Each (λ (m : Meeting). m.near ≡ w.two.near.begun → m.far ≡ w.two.far.begun) w.two.met
-latest w h on =
-    all_meet h.held.p h.held.q w.two.near.begun w.two.far.begun w.two.met (h.held.near.is_in on) (far_high h) h.held.meets.begun h.held.meets.paired
+latest w h on = all_meet h.held.p h.held.q w.two.near.begun w.two.far.begun w.two.met (h.held.near.is_in on) (far_high h) h.held.meets.begun h.held.meets.paired
 
 -- and it stands where the near end met one
 pub some_stands : (w : Ends) (h : All w) → w.two.near.stand ≡ In → SomeMet (λ (m : Meeting). m.near ≡ w.two.near.begun) w.two.met → h.held.q ≡ w.two.far.begun
@@ -371,8 +366,7 @@ some_stands w h on =
 -- all that an end was handed down in its session was taken, where all is acknowledged
 pub all_taken : {w : Ends} (h : All w) → w.two.near.stand ≡ In → h.held.q ≡ w.two.far.begun → (near_now w).acked ≡ length (near_now w).given
     → (w.far_of w.two.far.begun).taken ≡ (near_now w).given
-all_taken h on latest acked =
-    rw (sym latest) ((both_orders (at_now h on)).0.all acked)
+all_taken h on latest acked = rw (sym latest) ((both_orders (at_now h on)).0.all acked)
 
 pub valid : (w : Ends) (h : All w) → w.two.near.stand ≡ In → (e : Letter) (rest : List Letter) (carried : Option Carried) (nr : ℕ) → w.two.back ≡ e ∷ rest
     → e.said ≡ Tells carried nr

@@ -3,13 +3,13 @@ use Rattle.std.proofs.Common.{◌≡◌, ℕ, List, [], ◌∷◌, ◌++◌, tru
 use Rattle.x25_bits.specs.declared.role.Role.TheVariants.{Dte, Dce}
 use Rattle.x25_frame.specs.{Frame.{PlainFrame, sabm, ua}, Spelling.{spelling_of}, Reading.{frame_of}, laws.ReadingLaw.{ReadsSpelled}}
 use Rattle.x25_link.specs.Station.{pumped}
-use Rattle.x25_line.specs.{laws.Stations.{Deliver, Connect}, rows.StationRows.{dte}}
-use Rattle.x25_line.specs.{laws.Sessions.{Entry, acts, from_nothing}, laws.Peer.{Peer, numbered_to, told_to}}
+use Rattle.x25_line.specs.{laws.Stations.{Deliver, Connect}, rows.StationRows.{dte}, laws.Sessions.{Entry, acts, from_nothing}}
+use Rattle.x25_line.specs.laws.Peer.{Peer, numbered_to, told_to}
 use Rattle.x25_line.specs.laws.PeerSessions.{PeerSessions, untouched, without, begins, now, with_now, both_ends, with_peer, begin_with, ReachedInSessions}
-use Rattle.x25_line.specs.{laws.Ends.{Out, Asking, letter, moves, asks, takes_sabm}, laws.Said.{said}}
-use Rattle.x25_line.specs.{rows.PeerSessionRows.{CrossingPeerMoves}, rows.PeerRows.{polling_frame}}
-use Rattle.x25_line.proofs.{rows.SessionRowLemmas.{taken_as, comes}, rows.StationRowLemmas.{bare_reads}}
-use Rattle.x25_line.proofs.{sessions.Letters.{puts_frame}, sessions.SessionWith.{tells_does}}
+use Rattle.x25_line.specs.{laws.Ends.{Out, Asking, letter, moves, asks, takes_sabm}, laws.Said.{said}, rows.PeerSessionRows.{CrossingPeerMoves}}
+use Rattle.x25_line.specs.rows.PeerRows.{polling_frame}
+use Rattle.x25_line.proofs.{rows.SessionRowLemmas.{taken_as, comes}, rows.StationRowLemmas.{bare_reads}, sessions.Letters.{puts_frame}}
+use Rattle.x25_line.proofs.sessions.SessionWith.{tells_does}
 use Rattle.x25_line.specs.laws.PeerSessions as sessions
 
 module _ (reads : ReadsSpelled) where
@@ -33,10 +33,10 @@ module _ (reads : ReadsSpelled) where
       let w1 : PeerSessions = record w0 { peer = record (w0.peer) { stand = Asking }; back = entry 0 (sabm true) ∷ [] } in
       let r1 : ReachedInSessions ⊥ dte w1 = sessions.goes_on w0 w1 sessions.at_start
       (sessions.Theirs w1 (record {
-        does = λ crossing. rw (bare_reads reads Dce (sabm true) (tt, tt))
+        does = λ crossing. rw (bare_reads reads Dce (sabm true) tt)
             (moves _ (asks (record { sabm = refl; disc = refl; ua = refl; crossing = crossing })));
         left = untouched;
-        puts = puts_frame 0 _ (sabm true) (bare_reads reads Dce (sabm true) (tt, tt));
+        puts = puts_frame 0 _ (sabm true) (bare_reads reads Dce (sabm true) tt);
       })) in
       let w2 : PeerSessions = with_peer w1.peer (acts dte Connect (both_ends w1)) in
       let r2 : ReachedInSessions ⊥ dte w2 = sessions.goes_on w1 w2 r1 (sessions.Ours Connect tt) in
@@ -44,7 +44,7 @@ module _ (reads : ReadsSpelled) where
       let r3 : ReachedInSessions ⊥ dte w3 = sessions.goes_on w2 w3 r2
       (sessions.Theirs w3 (record {
         does = λ crossing. rw (bare_reads reads Dce (ua true) tt)
-            (moves _ (takes_sabm 0 [] (ap (λ r. letter 0 (said r) ∷ []) (bare_reads reads Dte (sabm true) (tt, tt)))));
+            (moves _ (takes_sabm 0 [] (ap (λ r. letter 0 (said r) ∷ []) (bare_reads reads Dte (sabm true) tt))));
         left = without 0;
         puts = puts_frame 1 _ (ua true) (bare_reads reads Dce (ua true) tt);
       })) in
@@ -67,7 +67,7 @@ module _ (reads : ReadsSpelled) where
       })) in
       let w6 : PeerSessions = with_peer w5.peer
       (taken_as dte (Ok (sabm true)) (entry 0 (sabm true)) (entry 1 (ua true) ∷ entry 1 polling_frame ∷ []) (both_ends w5)) in
-      let r6 : ReachedInSessions ⊥ dte w6 = takes (sabm true) 0 (entry 1 (ua true) ∷ entry 1 polling_frame ∷ []) (bare_reads reads Dce (sabm true) (tt, tt))
+      let r6 : ReachedInSessions ⊥ dte w6 = takes (sabm true) 0 (entry 1 (ua true) ∷ entry 1 polling_frame ∷ []) (bare_reads reads Dce (sabm true) tt)
       refl r5 in
       let w7 : PeerSessions = with_peer w6.peer (taken_as dte (Ok (ua true)) (entry 1 (ua true)) (entry 1 polling_frame ∷ []) (both_ends w6)) in
       let r7 : ReachedInSessions ⊥ dte w7 = takes (ua true) 1 (entry 1 polling_frame ∷ []) (bare_reads reads Dce (ua true) tt) refl r6 in

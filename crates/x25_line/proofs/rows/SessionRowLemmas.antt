@@ -44,7 +44,7 @@ module _ (reads : ReadsSpelled) where
       let v = swapped (taken_as dce (Ok (sabm true)) (sent 0 Dte (sabm true)) [] (swapped w)) in
       let t = happens dte dce (Near (Put (5 ∷ []))) (taken_as dte (Ok (ua true)) (sent 1 Dce (ua true)) [] v) in
       let s = swapped (taken_as dce (Ok packet_frame) (sent 1 Dte packet_frame) [] (swapped t)) in
-      let first = far_takes (sabm true) 0 [] w (bare_reads reads Dte (sabm true) (tt, tt)) refl in
+      let first = far_takes (sabm true) 0 [] w (bare_reads reads Dte (sabm true) tt) refl in
       let second = near_takes (ua true) 1 [] v (bare_reads reads Dce (ua true) tt) refl in (
         (tt, (tt, ((λ waiting. refl), (tt, (tt, (tt, (tt, tt))))))),
         subst IsFirst (sym (ap (run dte dce (Near Deliver ∷ Near (Put (5 ∷ [])) ∷ Far Deliver ∷ [])) first
@@ -61,7 +61,7 @@ module _ (reads : ReadsSpelled) where
       let t = taken_as dte (Ok (rr false 1 false)) (sent 1 Dce (rr false 1 false)) (sent 2 Dce (ua true) ∷ []) u in
       let r = happens dte dce (Near (Put (7 ∷ []))) (taken_as dte (Ok (ua true)) (sent 2 Dce (ua true)) [] t) in
       let first = far_takes packet_frame 1 (sent 1 Dte (sabm true) ∷ []) w (packet_reads reads Dte) refl in
-      let second = far_takes (sabm true) 1 [] v (bare_reads reads Dte (sabm true) (tt, tt)) refl in
+      let second = far_takes (sabm true) 1 [] v (bare_reads reads Dte (sabm true) tt) refl in
       let third = near_takes (rr false 1 false) 1 (sent 2 Dce (ua true) ∷ []) u ready_reads refl in
       let fourth = near_takes (ua true) 2 [] t (bare_reads reads Dce (ua true) tt) refl in
       let fifth = far_takes crossing_frame 2 [] r (crossing_reads reads Dte) refl in (

@@ -62,8 +62,8 @@ module _ (reads : ReadsSpelled) where
   pub crossing_reads : (from : Role) → frame_of from 128 (spelling_of from crossing_frame) ≡ Ok crossing_frame
   crossing_reads from = reads from 128 crossing_frame _ (record { in_range = (omega arith, omega arith); carries = tt; within = omega arith; spelling = refl })
 
-  pub bare_reads : (from : Role) (f : PlainFrame) → AreParting (Unit {0}) (f ∷ []) → frame_of from 128 (spelling_of from f) ≡ Ok f
-  bare_reads from f h = part_reads reads from 128 (Unit {0}) (parts_of (Unit {0}) (f ∷ []) h).0
+  pub bare_reads : (from : Role) (f : PlainFrame) → AreParting (f ∷ []) → frame_of from 128 (spelling_of from f) ≡ Ok f
+  bare_reads from f h = part_reads reads from 128 (parts_of (f ∷ []) h).0
 
   pub ready_reads : (from : Role) (command : Bool) (nr : ℕ) (pf : Bool) → nr < 8 → frame_of from 128 (spelling_of from (rr command nr pf))
       ≡ Ok (rr command nr pf)
@@ -159,7 +159,7 @@ module _ (reads : ReadsSpelled) where
       let w = happens dte dce (Near Connect) (happens dte dce (Near Abandon) start) in
       subst (λ z. (z.far.station ≡ fresh) × (z.far.reasons ≡ Reset ∷ []) × (z.far.came_up ≡ true) × (z.near.station ≡ fresh) × (z.near.reasons ≡ Counts ∷ [])
       × (z.near.came_up ≡ true))
-      (sym (two_come (sabm true) (ua true) (bare_reads Dte (sabm true) (tt, tt)) (bare_reads Dce (ua true) tt) w
+      (sym (two_come (sabm true) (ua true) (bare_reads Dte (sabm true) tt) (bare_reads Dce (ua true) tt) w
       (stations_swapped (told dce (sabm true) (stations_swapped w))) refl refl refl []))
       (refl, refl, refl, refl, refl, refl)
 
@@ -176,7 +176,7 @@ module _ (reads : ReadsSpelled) where
       subst (λ z. (z.far.station.phase ≡ Closed) × (z.near.station.phase ≡ Waiting) × (z.near.reasons ≡ Disc ∷ []) × (z.near.came_up ≡ false) × (z.back ≡ []))
       (sym (ap (run dte dce (Far Deliver ∷ Near Connect ∷ Far Deliver ∷ Near Deliver ∷ [])) first
       ∙ ap (run dte dce (Near Connect ∷ Far Deliver ∷ Near Deliver ∷ [])) second
-      ∙ two_come (sabm true) (dm true) (bare_reads Dte (sabm true) (tt, tt)) (bare_reads Dce (dm true) tt) t
+      ∙ two_come (sabm true) (dm true) (bare_reads Dte (sabm true) tt) (bare_reads Dce (dm true) tt) t
       (stations_swapped (told dce (sabm true) (stations_swapped t))) refl refl refl []))
       (refl, refl, refl, refl, refl)
 

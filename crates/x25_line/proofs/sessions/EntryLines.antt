@@ -52,7 +52,7 @@ many_less kind short bad from n1 (gone e xs) = omega arith
 many_less kind short bad from n1 (hurt e xs o visible) =
     let none : kind (frame_of from n1 o) ≡ 0 = visible_is (λ r. kind r ≡ 0) from n1 o visible short bad in
     omega (arith, none)
-many_less kind short bad from n1 (deeper e xs ys l) = (omega (arith, many_less kind short bad from n1 l))
+many_less kind short bad from n1 (deeper e xs ys l) = omega (arith, many_less kind short bad from n1 l)
 
 -- what holds of each, where it holds of what is damaged
 pub each_less : (P : Entry → Type 0) → ((e : Entry) (o : List ℕ) → is_visible o ≡ true → P (record { session = e.session; octets = o })) → {es fs : List Entry}
@@ -64,5 +64,4 @@ each_less P hurts (deeper e xs ys l) h = (h.0, each_less P hurts l h.1)
 
 -- a SABM that is lost or damaged is none
 pub asked_fewer : (from : Role) (n1 b : ℕ) {es fs : List Entry} → Less es fs → AllAskedIn from n1 b es → AllAskedIn from n1 b fs
-asked_fewer from n1 b {es} {fs} l h =
-    each_less (IsAskedIn from n1 b) (λ e o visible. inl (visible_is (λ r. sabm_in r ≡ 0) from n1 o visible refl refl)) l h
+asked_fewer from n1 b {es} {fs} l h = each_less (IsAskedIn from n1 b) (λ e o visible. inl (visible_is (λ r. sabm_in r ≡ 0) from n1 o visible refl refl)) l h

@@ -3,10 +3,10 @@ use Rattle.std.proofs.Common.{◌≡◌, ◌⊎◌, inl, inr, ℕ, zero, suc, �
 use Rattle.x25_bits.specs.declared.role.Role.{Role}
 use Rattle.x25_frame.specs.{Frame.{PlainFrame, sabm}, Reading.{frame_of}, declared.error.FrameError.TheVariants.{Short}}
 use Rattle.x25_link.specs.{declared.phase.Phase.{Phase}, declared.phase.Phase.TheVariants.{Up}, Station.{Settings, is_up}, Hearing.{other}}
-use Rattle.x25_line.specs.{laws.Stations.{is_visible}, laws.StationClaims.{number_in}, laws.Said.{Said, Else, Odd as OddSaid, said, sabm_of, ua_of, disc_of}}
 use Rattle.x25_line.specs.laws.Sessions.{Entry, Meeting, sabm_in, ua_in, disc_in, how_many, heard, replaced}
 use Rattle.x25_line.specs.{laws.PeerSessions.{AllAskedIn, stand_of, letters, Puts, put}, laws.Ends.{letter, OfSabm, AreOf, meets, spoilt}}
 use Rattle.x25_line.proofs.{StationLines.{visible_is}, sessions.SessionLines.{Read}, sessions.SessionMay.{entry}}
+use Rattle.x25_line.specs.{laws.Stations.{is_visible}, laws.StationClaims.{number_in}, laws.Said.{Said, Else, Odd as OddSaid, said, sabm_of, ua_of, disc_of}}
 use Rattle.x25_line.specs.laws.Ends as ends
 
 -- ---- one of them
@@ -57,6 +57,7 @@ module _ (from : Role) (n1 : ℕ) where
   many_said kind [] = refl
   many_said kind (e ∷ es) = ap (λ n. kind (said (frame_of from n1 e.octets)) + n) (many_said kind es)
 
+  -- SABMs, UAs and DISCs, counted by octets and by letters
   pub sabms : (es : List Entry) → how_many sabm_in from n1 es ≡ ends.how_many sabm_of (letters from n1 es)
   sabms es = many_said sabm_of es
 

@@ -10,10 +10,9 @@ use Rattle.x25_line.specs.laws.PeerSessions.{PeerSessions, IsLeft, untouched, wi
 use Rattle.x25_line.specs.laws.PeerSessions.{HappensInSessions, Ours, HandsDown, Theirs, IsTimely, stand_of, both_ends, with_peer}
 use Rattle.x25_line.proofs.{Lists.{each_append}, sessions.SessionHeld.{Owes, owes_less}, sessions.Letters.{asked_letters}, sessions.SessionSeen.{Seen}}
 use Rattle.x25_line.proofs.sessions.EntryLines.{Less as LessEntries, whole as all_entries, less_removes as entry_removes, less_replaces as entry_replaces}
-use Rattle.x25_line.proofs.sessions.EntryLines.{many_less, asked_fewer}
-use Rattle.x25_line.proofs.sessions.SessionWith.{NoneOdd, Where, where_map, outs, backs, Kept, at, IsWith}
-use Rattle.x25_line.proofs.ends.Lines.{count_push, count_less, Less, less_removes, less_spoils, are_push, are_none}
-use Rattle.x25_line.proofs.{ends.Moves.{popped}, ends.Sessions.{All, all_turned, reached_all, ua_present}, ends.Meetings.{twice_turned}}
+use Rattle.x25_line.proofs.{sessions.EntryLines.{many_less, asked_fewer}, sessions.SessionWith.{NoneOdd, Where, where_map, outs, backs, Kept, at, IsWith}}
+use Rattle.x25_line.proofs.{ends.Lines.{count_push, count_less, Less, less_removes, less_spoils, are_push, are_none}, ends.Moves.{popped}}
+use Rattle.x25_line.proofs.{ends.Sessions.{All, all_turned, reached_all, ua_present}, ends.Meetings.{twice_turned}}
 
 -- ---- what an end does, beside a station
 
@@ -25,15 +24,14 @@ owes_answered Waiting P m ms d ds us bs which more owes = (let none = owes.1 in 
   | inl one ↦ ((omega (arith, owes.0, more, one), omega (arith, none)), tt)
   | inr one ↦ absurd (omega (arith, none, one))
 ])
-owes_answered p P m ms d ds us bs which more owes =
-    (elim which [ inl one ↦ absurd (omega (arith, owes.0, one)) | inr one ↦ absurd (omega (arith, owes.1, one)) ])
+owes_answered p P m ms d ds us bs which more owes = elim which [ inl one ↦ absurd (omega (arith, owes.0, one)) | inr one ↦ absurd (omega (arith, owes.1, one)) ]
 
 module _ {n : ℕ} {p : Phase} {es out : List Letter} (k : Kept n p es out) where
   puts : (e : Letter) → ua_of e.said ≡ 0 → OfSabm e.said (e.session ≡ n) → Kept n p (es ++ e ∷ []) out
-  puts e no_ua of = (record {
+  puts e no_ua of = record {
     owes = owes_less p _ _ (omega (arith, count_push ua_of es e, no_ua)) (omega arith) k.owes;
     present = where_map p _ _ (λ a. are_push n es e a of) k.present;
-  })
+  }
 
   fewer : {fs : List Letter} → Less out fs → Kept n p es fs
   fewer {fs} l =
@@ -103,7 +101,7 @@ module _ (Odd : Type 0) {c : Settings} (w : PeerSessions) (h : Seen c (IsWith Od
     all = h.all;
     reached = record {
       ends = record { reached = rw (sym (twice_turned v.met)) reached; kept = kept };
-      octets = record { frmr = λ ok. (omega (arith, h.reached.octets.frmr ok, many_less frmr_in refl refl c.role c.longest less)); lapb = lapb };
+      octets = record { frmr = λ ok. omega (arith, h.reached.octets.frmr ok, many_less frmr_in refl refl c.role c.longest less); lapb = lapb };
     };
     up = h.up;
     given = h.given;

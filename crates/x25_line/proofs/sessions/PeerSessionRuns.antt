@@ -6,14 +6,13 @@ use Rattle.x25_line.specs.{laws.Stations.{Act, T1, Connect}, laws.Sessions.{Meet
 use Rattle.x25_line.specs.{laws.SessionClaims.{Each, IsInOrder, MeetInStep, MetAreInOrder, UnmetHandNothingUp}, laws.LawsBelow.{SessionLaws}}
 use Rattle.x25_line.specs.laws.Peer.{fresh_peer}
 use Rattle.x25_line.specs.laws.PeerSessions.{Stand, PeerSessions, Out, In, both_ends, as_end, with_peer, begin_with, stand_of, ReachedInSessions, at_start}
-use Rattle.x25_line.specs.laws.PeerSessions.{set_up, goes_on}
-use Rattle.x25_line.specs.laws.PeerSessionClaims.{IdleHasArrived, EachMeetsLatest}
-use Rattle.x25_line.specs.{laws.Ends.{AreOf, Ends, ends_swapped}, laws.EndClaims.{MetInOrder, KeepSessions}}
+use Rattle.x25_line.specs.{laws.PeerSessions.{set_up, goes_on}, laws.PeerSessionClaims.{IdleHasArrived, EachMeetsLatest}, laws.Ends.{AreOf, Ends, ends_swapped}}
+use Rattle.x25_line.specs.laws.EndClaims.{MetInOrder, KeepSessions}
 use Rattle.x25_line.proofs.{StationClaimLemmas.{idle_all}, StationAway.{is_up_phase}, sessions.SessionSeen.{Seen, start_seen}}
 use Rattle.x25_line.proofs.{sessions.SessionMay.{MayAsk, Kind}, sessions.SessionSeenSteps.{IsTimely, station_acts}}
-use Rattle.x25_line.proofs.sessions.SessionWith.{outs, backs, at, IsWith, station_may}
-use Rattle.x25_line.proofs.{sessions.PeerMoves.{peer_held}, ends.Sessions.{All, all_turned, reached_all, keep_sessions, latest, some_stands, all_taken}}
-use Rattle.x25_line.proofs.{sessions.SessionHeld.{Owes}, sessions.Letters.{asked_letters, sabms, uas, discs}}
+use Rattle.x25_line.proofs.{sessions.SessionWith.{outs, backs, at, IsWith, station_may}, sessions.PeerMoves.{peer_held}}
+use Rattle.x25_line.proofs.{ends.Sessions.{All, all_turned, reached_all, keep_sessions, latest, some_stands, all_taken}, sessions.SessionHeld.{Owes}}
+use Rattle.x25_line.proofs.sessions.Letters.{asked_letters, sabms, uas, discs}
 use Rattle.x25_line.specs.laws.PeerSessions as sessions
 use Rattle.x25_line.specs.laws.Ends as ends
 
@@ -92,6 +91,7 @@ module _ (reads : ReadsSpelled) (rests : SessionLaws) where
     pub lines : IsWith Odd c w.peer w.back w.met w.near.station.phase w.near.begun h.all w.out
     lines = h.reached
 
+    -- what a station has asked that isn't answered yet, by the SABMs, UAs and DISCs on the lines
     pub owes_is : Owes w.near.station.phase (how_many sabm_in c.role c.longest w.out + how_many ua_in (other c.role) c.longest w.back)
         (how_many disc_in c.role c.longest w.out)
     owes_is = owes_octets Odd h
@@ -114,6 +114,7 @@ module _ (reads : ReadsSpelled) (rests : SessionLaws) where
     peer_latest [] k = tt
     peer_latest (m ∷ ms) k = (k.0, peer_latest ms k.1)
 
+    -- the claims of a station over sessions beside any peer, one by one
     pub step_is : MeetInStep c c (both_ends w)
     step_is = keeps.step
 

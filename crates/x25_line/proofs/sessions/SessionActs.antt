@@ -11,8 +11,7 @@ use Rattle.x25_link.specs.{laws.WindowMachine.{nothing}, laws.NoteLaw.{Tells}, l
 use Rattle.x25_line.specs.{laws.StationClaims.{AreJoined}, laws.SessionNumbers.{Standing}}
 use Rattle.x25_line.specs.{laws.Sessions.{Entry, Meeting, Sessions, sabm_in, ua_in, how_many, begun_by, after_step}, laws.LawsBelow.{Laws}}
 use Rattle.x25_line.proofs.{StationHears.{by_disc, by_reset}, sessions.SessionSeenActs.{by_neither}, StationLines.{AreParting}}
-use Rattle.x25_line.proofs.StationSteps.{AsUp, up_of, Leaves, ends_joint}
-use Rattle.x25_line.proofs.{StationRuns.{put_up, timer_by}, sessions.SessionLines.{count}}
+use Rattle.x25_line.proofs.{StationSteps.{AsUp, up_of, Leaves, ends_joint}, StationRuns.{put_up, timer_by}, sessions.SessionLines.{count}}
 use Rattle.x25_line.proofs.{sessions.SessionHeld.{IsOf, Owes, OnLine, Held, is_out}, sessions.SessionSteps.{waiting_is_closed, stepped, went_by, apart_held}}
 use Rattle.x25_line.proofs.sessions.SessionUp.{stays_answers, follows_answers, live_goes_on}
 use Rattle.x25_link.specs.declared.error.LinkError.TheVariants as error
@@ -30,10 +29,10 @@ pub record InSession (stand : Standing) (c d : Settings) (w : Sessions) (h : Hel
   pub machine : AsUp c h.alone.near.station stand.machine.near
   pub running : IsRunning c.window w.near.station
 
-pub in_session : {stand : Standing} (c d : Settings) (w : Sessions) (h : Held stand c d w) → is_up w.near.station.phase ≡ true → InSession stand c d w h
-in_session {stand} c d w h up =
+pub up_in_session : {stand : Standing} (c d : Settings) (w : Sessions) (h : Held stand c d w) → is_up w.near.station.phase ≡ true → InSession stand c d w h
+up_in_session {stand} c d w h up =
     let is = h.near.up up in
-    let u = up_of ⊥ h.holds.near (ap (λ s. is_up s.phase) is.station ∙ up) in
+    let u = up_of h.holds.near (ap (λ s. is_up s.phase) is.station ∙ up) in
     record { is = is; machine = u; running = record { up = up; sound = subst (λ s. IsSound c.window s.outgoing) is.station u.sound } }
 
 -- ---- by the phase
@@ -50,24 +49,24 @@ module _ {c d : Settings} (joined : AreJoined c d) (reads : ReadsSpelled) (laws 
   pub put_held : {stand : Standing} (w : Sessions) → Held stand c d w → is_up w.near.station.phase ≡ true → (packet : List ℕ) → length packet ≤ c.longest
       → Held (went_by c (put_step c packet w.near.station) None stand) c d (after_step c w w.back w.met (packet ∷ []) (put_step c packet w.near.station))
   put_held {stand} w h up packet short =
-      let i = in_session c d w h up in
+      let i = up_in_session c d w h up in
       live_goes_on joined reads w h i.is.session w.back h.alone.back w.met (packet ∷ []) (put_step c packet w.near.station) None
-      (rw (sym i.is.station) (put_up ⊥ joined reads laws packet h.holds i.machine short))
+      (rw (sym i.is.station) (put_up joined reads laws packet h.holds i.machine short))
       i.is.comes i.is.of (stays_answers w (laws.window.put c packet w.near.station i.running))
 
   pub timer_up_held : {stand : Standing} (w : Sessions) → Held stand c d w → is_up w.near.station.phase ≡ true
       → Held (went_by c (timer_step c w.near.station) None stand) c d (after_step c w w.back w.met [] (timer_step c w.near.station))
   timer_up_held {stand} w h up =
-      let i = in_session c d w h up in
+      let i = up_in_session c d w h up in
       let s = w.near.station in
       let t = h.alone.near.station in
       let step = timer_step c s in
       let o : Option Reason = if nat_lt s.tries c.retries then None else Some Retries in
       live_goes_on joined reads w h i.is.session w.back h.alone.back w.met [] step None
-      (rw (sym i.is.station) (timer_by ⊥ joined reads laws h.holds i.machine (nat_lt t.tries c.retries) (laws.timer_tells c t)
+      (rw (sym i.is.station) (timer_by joined reads laws h.holds i.machine (nat_lt t.tries c.retries) (laws.timer_tells c t)
       (laws.window.timer c t (record { up = i.machine.up; sound = i.machine.sound }))))
       i.is.comes i.is.of (follows_answers w o c.window nothing s step
-      (λ one. (absurd (omega (arith, one, by_neither by_disc None (Some Retries) refl refl (nat_lt s.tries c.retries)))))
+      (λ one. absurd (omega (arith, one, by_neither by_disc None (Some Retries) refl refl (nat_lt s.tries c.retries))))
       (by_neither by_reset None (Some Retries) refl refl (nat_lt s.tries c.retries)) (laws.window.timer c s i.running))
 
   -- it leaves, by a call of its user
@@ -76,10 +75,10 @@ module _ {c d : Settings} (joined : AreJoined c d) (reads : ReadsSpelled) (laws 
       → (f : LinkStation → Step) → ((s : LinkStation) → Tells s (f s)) → ((s : LinkStation) → IsRunning c.window s → Ends reason (f s))
       → Held (went_by c (f w.near.station) None stand) c d (after_step c w w.back w.met [] (f w.near.station))
   leaves_held {stand} w h up reason leaves by_own stays f tells ends =
-      let i = in_session c d w h up in
+      let i = up_in_session c d w h up in
       let t = h.alone.near.station in
       live_goes_on joined reads w h i.is.session w.back h.alone.back w.met [] (f w.near.station) None
-      (rw (sym i.is.station) (ends_joint ⊥ joined reads h.holds i.machine.up leaves h.holds.back h.holds.back_orderly (tells t)
+      (rw (sym i.is.station) (ends_joint joined reads h.holds i.machine.up leaves h.holds.back h.holds.back_orderly (tells t)
       (ends t (record { up = i.machine.up; sound = i.machine.sound }))))
       i.is.comes i.is.of (follows_answers w (Some reason) c.window nothing w.near.station (f w.near.station) (λ one. absurd (omega (arith, one, by_own))) stays
       (ends w.near.station i.running))
@@ -93,14 +92,14 @@ module _ {c d : Settings} (joined : AreJoined c d) (reads : ReadsSpelled) (laws 
   -- an end that is out, to which no UA comes
   out_held : {stand : Standing} (w : Sessions) → Held stand c d w → (near : LinkStation) (frames : List PlainFrame) (ends : Option Reason) (step : Step)
       → Is near frames ends false step → is_up near.phase ≡ false
-      → (near.phase ≡ Waiting → how_many ua_in (other c.role) c.longest w.back ≡ 0) → AreParting (Unit {0}) frames → count ua_in frames ≡ 0
+      → (near.phase ≡ Waiting → how_many ua_in (other c.role) c.longest w.back ≡ 0) → AreParting frames → count ua_in frames ≡ 0
       → Held (went_by c step None stand) c d (after_step c w w.back w.met [] step)
   out_held {stand} w h near frames ends step i off none parting no_ua =
       let same : step.side.near.phase ≡ near.phase = ap (λ s. s.phase) i.near in
       quiet_held c d w w.back w.met [] step i.up
       (apart_held joined reads w h w.back w.met w.near.begun step i.packet
       (is_out step.side.near.phase (ap is_up same ∙ off) (λ waiting. none (sym same ∙ waiting)))
-      (subst (AreParting (Unit {0})) (sym i.out) parting) (ap (count ua_in) i.out ∙ no_ua))
+      (subst AreParting (sym i.out) parting) (ap (count ua_in) i.out ∙ no_ua))
 
   closes_held : {stand : Standing} (w : Sessions) → Held stand c d w → (step : Step) → step.side.near.phase ≡ Closed → step.side.out ≡ disc true ∷ []
       → step.packet ≡ None → step.notes.up ≡ false
@@ -109,14 +108,14 @@ module _ {c d : Settings} (joined : AreJoined c d) (reads : ReadsSpelled) (laws 
       quiet_held c d w w.back w.met [] step quiet
       (apart_held joined reads w h w.back w.met w.near.begun step none
       (is_out step.side.near.phase (ap is_up closed) (λ waits. waiting_is_closed step.side.near.phase waits closed))
-      (subst (AreParting (Unit {0})) (sym sent) tt) (ap (count ua_in) sent))
+      (subst AreParting (sym sent) tt) (ap (count ua_in) sent))
 
   pub connect_held : {stand : Standing} (w : Sessions) → Held stand c d w → OnLine c d w → w.near.station.phase ≡ Down
       → Held (went_by c (connect_step c w.near.station) None stand) c d (after_step c w w.back w.met [] (connect_step c w.near.station))
   connect_held {stand} w h line down =
       let owed = down_owes down line.near_owes in
       out_held w h (record w.near.station { phase = Waiting; tries = 0 }) (sabm true ∷ []) None (connect_step c w.near.station)
-      (laws.set_up.connects c w.near.station down) refl (λ _. omega (arith, owed.0)) (tt, tt) refl
+      (laws.set_up.connects c w.near.station down) refl (λ _. omega (arith, owed.0)) tt refl
 
   -- timer T1 while UA is awaited: none of the end's SABMs, and no UA to it, is on the line
   pub timer_waiting_held : {stand : Standing} (w : Sessions) → Held stand c d w → w.near.station.phase ≡ Waiting
@@ -130,7 +129,7 @@ module _ {c d : Settings} (joined : AreJoined c d) (reads : ReadsSpelled) (laws 
           (if b then None else Some Retries) false step)
           → Held (went_by c step None stand) c d (after_step c w w.back w.met [] step)
       by true step i = out_held w h (record w.near.station { tries = suc w.near.station.tries }) (sabm true ∷ []) None step i (ap is_up waiting)
-          (λ _. omega (arith, none)) (tt, tt) refl
+          (λ _. omega (arith, none)) tt refl
       by false step i = out_held w h (with_nothing Down w.near.station.tries) [] (Some Retries) step i refl (λ _. omega (arith, none)) tt refl
 
   pub disconnect_held : {stand : Standing} (w : Sessions) → Held stand c d w → disconnect_refusal w.near.station.phase ≡ None
@@ -148,7 +147,7 @@ module _ {c d : Settings} (joined : AreJoined c d) (reads : ReadsSpelled) (laws 
       by Waiting is ok =
           let i = laws.set_up.disconnects c s is in
           closes_held w h (disconnect_step c s) (ap (λ z. z.phase) i.near) i.out i.packet i.up
-      by Up is ok = (leaves_held w h (ap is_up is) Local tt refl refl (disconnect_step c) (laws.disconnect_tells c) (laws.window.disconnect c))
+      by Up is ok = leaves_held w h (ap is_up is) Local tt refl refl (disconnect_step c) (laws.disconnect_tells c) (laws.window.disconnect c)
       by Closed is ok = absurd (never ok)
         where
           never : Some error.Closed ≡ None → ⊥

@@ -38,14 +38,14 @@ module _ {c d : Settings} (joined : AreJoined c d) (reads : ReadsSpelled) where
       all_back kind = ap (how_many kind (other c.role) c.longest) is
 
       some_back : 1 ≤ how_many sabm_in (other c.role) c.longest w.back
-      some_back = (omega (arith, all_back sabm_in, one))
+      some_back = omega (arith, all_back sabm_in, one)
 
       some : 1 ≤ how_many sabm_in (other c.role) c.longest w.back + how_many ua_in (other d.role) d.longest w.out
       some = omega (arith, some_back)
 
       ua_reads : ua_in (frame_of (other d.role) d.longest (spelling_of c.role (ua f))) ≡ 1
       ua_reads =
-          let one_ua = many_out joined reads ua_in n [] (ua f ∷ []) (parting_whole (Unit {0}) d.longest [] (ua f ∷ []) (parts_of (Unit {0}) (ua f ∷ []) tt)) in
+          let one_ua = many_out joined reads ua_in n [] (ua f ∷ []) (parting_whole d.longest [] (ua f ∷ []) (parts_of (ua f ∷ []) tt)) in
           omega (arith, one_ua)
 
       -- the UA is the last on the line
@@ -64,11 +64,11 @@ module _ {c d : Settings} (joined : AreJoined c d) (reads : ReadsSpelled) where
       by far =
           record {
             alone = start;
-            holds = start_machine ⊥ joined;
+            holds = start_machine joined;
             near = there;
             far = far;
             near_lists = near_lists;
             far_lists = record { down = line.far_next.0; up = line.far_next.1 };
             no_frmr = rw answer (no_frmr_append w.sent (ua f ∷ []) h.no_frmr tt);
-            whole = whole_apart fs same (subst (AreParting (Unit {0})) (sym answer) tt) h.whole;
+            whole = whole_apart fs same (subst AreParting (sym answer) tt) h.whole;
           }

@@ -16,7 +16,7 @@ use Rattle.x25_line.proofs.sessions.SessionActs.{waiting_owes}
 module _ {c d : Settings} (joined : AreJoined c d) (reads : ReadsSpelled) (laws : Laws) {stand : Standing} {w : Sessions} (h : Held stand c d w)
     (line : OnLine c d w) {es : List Entry} {i : ℕ} (less : LessAt i w.back es) where
   -- what is kept where the session alone has these octets on its line
-  kept_by : {os : List (List ℕ)} (missing : Option ℕ) → Leads ⊥ c d h.alone stand.machine (taken_out missing stand.machine.back) (record h.alone { back = os })
+  kept_by : {os : List (List ℕ)} (missing : Option ℕ) → Leads c d h.alone stand.machine (taken_out missing stand.machine.back) (record h.alone { back = os })
       → EndIsThere c w.near es h.alone.near.station os stand.near stand.far
       → Held (standing_after c w.near.station [] missing stand) c d (record w { back = es })
   kept_by {os} missing left near =
@@ -32,7 +32,7 @@ module _ {c d : Settings} (joined : AreJoined c d) (reads : ReadsSpelled) (laws 
       })
     where
       same : left.0.near ≡ counted c.window w.near.station stand.machine.near
-      same = left.2.near ∙ counted_fits ⊥ h.holds.near ∙ sym (counted_there w.near near h.holds.near)
+      same = left.2.near ∙ counted_fits h.holds.near ∙ sym (counted_there w.near near h.holds.near)
 
       is_on : with_machine stand left.0 ≡ standing_after c w.near.station [] missing stand
       is_on =
@@ -45,12 +45,12 @@ module _ {c d : Settings} (joined : AreJoined c d) (reads : ReadsSpelled) (laws 
   come_by : (missing : Option ℕ) {s : LinkStation} {begun : ℕ} {xs : List Entry} (ys : List Entry)
       → (Come (other c.role) c.longest stand.machine.back stand.far xs → Come (other c.role) c.longest (taken_out missing stand.machine.back) stand.far ys)
       → IsOf (other c.role) c.longest s begun xs h.alone.near.station h.alone.back stand.near stand.far
-      → Leads ⊥ c d h.alone stand.machine (taken_out missing stand.machine.back) (record h.alone { back = carried (other c.role) c.longest ys })
+      → Leads c d h.alone stand.machine (taken_out missing stand.machine.back) (record h.alone { back = carried (other c.role) c.longest ys })
       × IsOf (other c.role) c.longest s begun ys h.alone.near.station (carried (other c.role) c.longest ys) stand.near stand.far
   come_by missing ys goes k =
       let left = goes (rw k.comes h.holds.back, k.of) in
       let same = carried_numbers (other c.role) c.longest ys in (
-        taken_off ⊥ joined reads laws missing h.holds
+        taken_off joined reads laws missing h.holds
             (rw same left.0) (carried_orderly (other c.role) c.longest ys),
         record { station = k.station; session = k.session; comes = sym same; of = left.1 },
       )
@@ -58,8 +58,7 @@ module _ {c d : Settings} (joined : AreJoined c d) (reads : ReadsSpelled) (laws 
   -- of an end that is out of it nothing is gone
   none_by : (missing : Option ℕ) → missing ≡ None → EndIsThere c w.near es h.alone.near.station h.alone.back stand.near stand.far
       → Held (standing_after c w.near.station [] missing stand) c d (record w { back = es })
-  none_by missing none near =
-      rw none (kept_by None (stands_still ⊥ h.holds) near)
+  none_by missing none near = rw none (kept_by None (stands_still h.holds) near)
 
   abbrev from : Role
   from = other c.role

@@ -3,18 +3,15 @@ use Rattle.std.proofs.Common.{◌≡◌, ◌<◌, ◌⊎◌, ℕ, suc, List, [],
 use Rattle.std.proofs.Common.{ap, ◌∙◌, subst, arith, append-nil}
 use Rattle.std.specs.Prelude.{nat_le, option_to_list}
 use Rattle.x25_frame.specs.{Frame.{PlainFrame, info, rr, rnr, rej}, laws.ReadingLaw.{ReadsSpelled}}
-use Rattle.x25_link.specs.{declared.error.LinkError.{LinkError}, declared.phase.Reason.{Reason}}
-use Rattle.x25_link.specs.{declared.phase.Reason.TheVariants.{FrmrSent}, laws.NoteLaw.{Tells, HandsUp, TakeHandsUp}, Station.{Settings, LinkStation, is_up}}
-use Rattle.x25_link.specs.Hearing.{Step, other}
-use Rattle.x25_link.specs.Link.{take_step, put_step, put_refusal}
-use Rattle.x25_link.specs.{laws.WindowMachine.{Window, Input}, laws.WindowLaw.{window_of, brought_by, ending_of, Follows}}
-use Rattle.x25_line.specs.laws.Stations.{Act, Put, Deliver, Lose, Damage, Near, Far, is_visible}
-use Rattle.x25_line.specs.laws.StationClaims.{number_in}
+use Rattle.x25_link.specs.{declared.error.LinkError.{LinkError}, declared.phase.Reason.{Reason}, declared.phase.Reason.TheVariants.{FrmrSent}}
+use Rattle.x25_link.specs.{laws.NoteLaw.{Tells, HandsUp, TakeHandsUp}, Station.{Settings, LinkStation, is_up}, Hearing.{Step, other}}
+use Rattle.x25_link.specs.{Link.{take_step, put_step, put_refusal}, laws.WindowMachine.{Window, Input}}
+use Rattle.x25_link.specs.laws.WindowLaw.{window_of, brought_by, ending_of, Follows}
+use Rattle.x25_line.specs.{laws.Stations.{Act, Put, Deliver, Lose, Damage, Near, Far, is_visible}, laws.StationClaims.{number_in}}
 use Rattle.x25_line.specs.laws.Sessions.{Entry, SessionEnd, Meeting, Sessions, turned, swapped, begun_by, after_step, unless, heard, delivered, acts}
 use Rattle.x25_line.specs.laws.SessionClaims.{Throughout, AllOf}
 use Rattle.x25_line.specs.laws.SessionEvents.{NextBegins, GoesOn, HandsInSession, EachEventHandsInSession, latest, BeginsAfresh, MeetsNone, MeetsOne}
-use Rattle.x25_line.specs.laws.SessionEvents.{EachEventMeetsLatest}
-use Rattle.x25_line.specs.laws.LawsBelow.{SessionLaws}
+use Rattle.x25_line.specs.{laws.SessionEvents.{EachEventMeetsLatest}, laws.LawsBelow.{SessionLaws}}
 use Rattle.x25_line.proofs.{StationSteps.{not_both, not_afresh}, StationEvents.{own_by}, sessions.SessionLines.{Read, none_is_some}}
 use Rattle.x25_line.proofs.{sessions.SessionHeld.{extended_same, extended_other}, sessions.SessionSteps.{end_after, nothing_handed}}
 use Rattle.x25_line.proofs.{sessions.SessionUp.{follows_no_packet}, sessions.SessionTakes.{read_of}, sessions.SessionSeenRuns.{Both, both_swapped}}
@@ -178,8 +175,7 @@ module _ (reads : ReadsSpelled) (rests : SessionLaws) (hands_up : TakeHandsUp) w
       follows up = rests.laws.window.take c e.octets w.near.station (running reads rests c d w h up) (read_of c e) refl
 
       heard_up : is_up w.near.station.phase ≡ true → (o : Option PlainFrame) → number_in (read_of c e) ≡ o → met ≡ heard true o pair w.met
-      heard_up up o number =
-          ap (λ b. heard b (number_in (read_of c e)) pair w.met) up ∙ ap (λ x. heard true x pair w.met) number
+      heard_up up o number = ap (λ b. heard b (number_in (read_of c e)) pair w.met) up ∙ ap (λ x. heard true x pair w.met) number
 
       goes : is_up w.near.station.phase ≡ true → (o : Option PlainFrame) → number_in (read_of c e) ≡ o → (number_in (read_of c e) ≡ None)
           ⊎ (e.session ≡ w.far.begun)

@@ -1,7 +1,7 @@
 -- What holds of two stations over set-up and re-set-up at any moment.
 use Rattle.std.proofs.Common.{◌≡◌, ◌≤◌, ◌==◌, ℕ, suc, ◌+◌, List, [], ◌∷◌, ◌++◌, ◌⊎◌, inl, inr, Bool, true, false, if◌then◌else◌, length, Option, None, refl}
-use Rattle.std.proofs.Common.{sym, ap, ◌∙◌, subst, arith, append-nil}
-use Rattle.std.proofs.{lemmas.Bool.{eq-eqb, eqb-true}, lemmas.List.Elements.{Contains-append_left, Contains-append_right, Contains-append_cases}}
+use Rattle.std.proofs.{Common.{sym, ap, ◌∙◌, subst, arith, append-nil}, lemmas.Bool.{eq-eqb, eqb-true}}
+use Rattle.std.proofs.lemmas.List.Elements.{Contains-append_left, Contains-append_right, Contains-append_cases}
 use Rattle.std.specs.List.{Contains}
 use Rattle.x25_bits.specs.declared.role.Role.{Role}
 use Rattle.x25_frame.specs.{Frame.{PlainFrame}, Reading.{frame_of}}
@@ -54,7 +54,7 @@ pub record OnLine (c d : Settings) (w : Sessions) : Type 0 where
       (how_many disc_in (other c.role) c.longest w.back)
   pub quiet : (e : Entry) (es : List Entry) → w.back ≡ e ∷ es → sabm_in (frame_of (other c.role) c.longest e.octets) ≡ 1 → numbers (other c.role) c.longest es
       ≡ []
-  pub fine : (e : Entry) (es : List Entry) → w.back ≡ e ∷ es → IsOrderly (Unit {0}) (frame_of (other c.role) c.longest e.octets)
+  pub fine : (e : Entry) (es : List Entry) → w.back ≡ e ∷ es → IsOrderly (frame_of (other c.role) c.longest e.octets)
   -- the next session of each has no lists
   pub near_next : (w.near.down (suc w.near.begun) ≡ []) × (w.near.up (suc w.near.begun) ≡ [])
   pub far_next : (w.far.down (suc w.far.begun) ≡ []) × (w.far.up (suc w.far.begun) ≡ [])
@@ -79,7 +79,7 @@ lists_same {session = session} same h = record { down = same.down session ∙ h.
 pub record Held (stand : Standing) (c d : Settings) (w : Sessions) : Type 0 where
   -- these sessions by themselves
   pub alone : Stations
-  pub holds : Joint ⊥ c d alone stand.machine
+  pub holds : Joint c d alone stand.machine
   pub near : EndIsThere c w.near w.back alone.near.station alone.back stand.near stand.far
   pub far : EndIsThere d w.far w.out alone.far.station alone.out stand.far stand.near
   pub near_lists : HasLists w.near stand.near alone.near
@@ -157,22 +157,25 @@ whole_on n1 e f far more fs es grows of whole h =
     }
 
 -- none of them carries a packet
-pub whole_apart : {n1 : ℕ} {e f far : SessionEnd} {fs : List PlainFrame} (es : List PlainFrame) → SameLists e f → AreParting (Unit {0}) es
+pub whole_apart : {n1 : ℕ} {e f far : SessionEnd} {fs : List PlainFrame} (es : List PlainFrame) → SameLists e f → AreParting es
     → AreWholeIn n1 e far fs → AreWholeIn n1 f far (fs ++ es)
 whole_apart {n1} {e} {f} {far} {fs} es same parting h =
     whole_on n1 e f far [] fs es (λ n x old. rw (same.down n) old) (λ x new. absurd (omega (arith, new.1)))
-    (parting_whole (Unit {0}) n1 [] es (parts_of (Unit {0}) es parting)) h
+    (parting_whole n1 [] es (parts_of es parting)) h
 
 -- ---- by the phase
 
 module _ {from : Role} {n1 : ℕ} {s : LinkStation} {begun : ℕ} {es : List Entry} {a : LinkStation} {os : List (List ℕ)} {p q : ℕ} (phase : Phase) where
+  -- an end that is Up is in the session that stands
   pub is_there : is_up phase ≡ true → IsOf from n1 s begun es a os p q → IsThere phase from n1 s begun es a os p q
   is_there up h = record { up = λ _. h; awaits = λ waits. not_both (is_up phase) up (ap is_up waits) }
 
+  -- one that awaits UA is about to be in it, where a UA is on the way
   pub is_soon : phase ≡ Waiting → (1 ≤ how_many ua_in from n1 es → IsOf from n1 fresh (suc begun) (behind_ua from n1 es) a os p q)
       → IsThere phase from n1 s begun es a os p q
   is_soon waits h = record { up = λ up. not_both (is_up phase) up (ap is_up waits); awaits = λ _. h }
 
+  -- any other is out of it
   pub is_out : is_up phase ≡ false → (phase ≡ Waiting → how_many ua_in from n1 es ≡ 0) → IsThere phase from n1 s begun es a os p q
   is_out off none = record { up = λ up. not_both (is_up phase) up off; awaits = λ waits some. (absurd (omega (arith, some, none waits))) }
 
@@ -207,9 +210,9 @@ module _ {phase : Phase} {from : Role} {n1 : ℕ} {s : LinkStation} {begun : ℕ
 
 -- the machine stands still where the end isn't in the session
 pub counted_there : {es : List Entry} {os : List (List ℕ)} {p q : ℕ} {c : Settings} (e : SessionEnd) {a : LinkStation} {l : End (List ℕ)}
-    → EndIsThere c e es a os p q → FitsEnd ⊥ c a l → counted c.window e.station l ≡ l
+    → EndIsThere c e es a os p q → FitsEnd c a l → counted c.window e.station l ≡ l
 counted_there {c = c} e {a} {l} h fits = go (is_up e.station.phase) refl
   where
     go : (b : Bool) → is_up e.station.phase ≡ b → counted c.window e.station l ≡ l
-    go true up = ap (λ z. counted c.window z l) (sym (h.up up).station) ∙ counted_fits ⊥ fits
+    go true up = ap (λ z. counted c.window z l) (sym (h.up up).station) ∙ counted_fits fits
     go false off = counted_off c.window e.station l off

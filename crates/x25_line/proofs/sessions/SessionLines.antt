@@ -1,10 +1,9 @@
 -- The line between two stations, with the sessions of its frames: the numbers on it, how many there are of a kind, and what
 -- sending, loss and damage change of these.
 use Rattle.std.proofs.Common.{◌≡◌, ◌≤◌, ℕ, zero, suc, ◌+◌, List, [], ◌∷◌, ◌++◌, inl, inr, map, true, Option, Some, None, Result, Ok, Err, refl, sym, ap, ◌∙◌}
-use Rattle.std.proofs.Common.{subst, arith}
-use Rattle.std.proofs.lemmas.Option.{none-some}
+use Rattle.std.proofs.{Common.{subst, arith}, lemmas.Option.{none-some}}
 use Rattle.x25_bits.specs.declared.role.Role.{Role}
-use Rattle.x25_frame.specs.{Frame.{PlainFrame, info, rr, rnr, rej, sabm, frmr}, Spelling.{spelling_of}, Reading.{frame_of}, laws.ReadingLaw.{ReadsSpelled}}
+use Rattle.x25_frame.specs.{Frame.{PlainFrame, info, rr, rnr, rej, frmr}, Spelling.{spelling_of}, Reading.{frame_of}, laws.ReadingLaw.{ReadsSpelled}}
 use Rattle.x25_frame.specs.declared.error.FrameError.{FrameError}
 use Rattle.x25_window.specs.laws.Window.{Frame}
 use Rattle.x25_link.specs.laws.WindowMachine.{ShowAll}
@@ -50,8 +49,7 @@ AllNumbered fs = Each (λ f. number_in (Ok f) ≡ Some f) fs
 
 pub numbered_no_ua : (fs : List PlainFrame) → AllNumbered fs → count ua_in fs ≡ 0
 numbered_no_ua [] h = refl
-numbered_no_ua (f ∷ fs) h =
-    omega (arith, (number_kinds (Ok f) f h.0).1, numbered_no_ua fs h.1)
+numbered_no_ua (f ∷ fs) h = omega (arith, (number_kinds (Ok f) f h.0).1, numbered_no_ua fs h.1)
 
 quiet_rest : (m : Option PlainFrame) (fs : List PlainFrame) → consed m fs ≡ [] → (m ≡ None) × (fs ≡ [])
 quiet_rest None fs e = (refl, e)
@@ -72,6 +70,7 @@ module _ (from : Role) (n1 : ℕ) where
   pub quiet_tail : (e : Entry) (es : List Entry) → numbers (e ∷ es) ≡ [] → numbers es ≡ []
   quiet_tail e es h = (quiet_rest (number_in (frame_of from n1 e.octets)) (numbers es) h).1
 
+  -- entries without an N(R) are of any session
   pub quiet_of : (s : ℕ) (es : List Entry) → numbers es ≡ [] → AllOf from n1 s es
   quiet_of s [] h = tt
   quiet_of s (e ∷ es) h = (inl (quiet_rest (number_in (frame_of from n1 e.octets)) (numbers es) h).0, quiet_of s es (quiet_tail e es h))
@@ -109,18 +108,17 @@ module _ (from : Role) (n1 : ℕ) where
       kept_numbers (number_in (frame_of from n1 e.octets)) e.octets (carried es) refl
       ∙ ap (λ fs. consed (number_in (frame_of from n1 e.octets)) fs) (carried_numbers es)
 
-  some_orderly : (r : Read) (f : PlainFrame) → number_in r ≡ Some f → IsOrderly ⊥ r
-  some_orderly (Ok (sabm p)) f e = none_is_some f e
+  some_orderly : (r : Read) (f : PlainFrame) → number_in r ≡ Some f → IsOrderly r
   some_orderly (Ok (frmr g why)) f e = none_is_some f e
   some_orderly (Err x) f e = none_is_some f e
   some_orderly (Ok frame) f e = tt
 
-  kept_orderly : (m : Option PlainFrame) (o : List ℕ) (os : List (List ℕ)) → number_in (frame_of from n1 o) ≡ m → AreOrderly ⊥ from n1 os
-      → AreOrderly ⊥ from n1 (kept m o os)
+  kept_orderly : (m : Option PlainFrame) (o : List ℕ) (os : List (List ℕ)) → number_in (frame_of from n1 o) ≡ m → AreOrderly from n1 os
+      → AreOrderly from n1 (kept m o os)
   kept_orderly None o os e h = h
   kept_orderly (Some f) o os e h = (some_orderly (frame_of from n1 o) f e, h)
 
-  pub carried_orderly : (es : List Entry) → AreOrderly ⊥ from n1 (carried es)
+  pub carried_orderly : (es : List Entry) → AreOrderly from n1 (carried es)
   carried_orderly [] = tt
   carried_orderly (e ∷ es) = kept_orderly (number_in (frame_of from n1 e.octets)) e.octets (carried es) refl (carried_orderly es)
 
@@ -137,8 +135,7 @@ module _ (from : Role) (n1 : ℕ) where
       → ShowAll (numbers fs) (taken_out (place_of from n1 (octets_of es) i) gs)
   shows_less (nothing j) gs h = h
   shows_less (gone_at e xs) gs h = shows_first (number_in (frame_of from n1 e.octets)) (numbers xs) gs h
-  shows_less (hurt_at e xs octets visible) gs h =
-      rw (damaged_number octets visible) (shows_first (number_in (frame_of from n1 e.octets)) (numbers xs) gs h)
+  shows_less (hurt_at e xs octets visible) gs h = rw (damaged_number octets visible) (shows_first (number_in (frame_of from n1 e.octets)) (numbers xs) gs h)
   shows_less (deeper_at j e xs ys l) gs h =
       shows_behind (number_in (frame_of from n1 e.octets)) (numbers xs) (numbers ys) (place_of from n1 (octets_of xs) j) gs (λ hs k. shows_less l hs k) h
 

@@ -1,7 +1,6 @@
 -- Each event keeps what holds of two stations over sessions, so each run does, and what holds says the claims.
 use Rattle.std.proofs.Common.{◌≡◌, ℕ, List, [], ◌∷◌, ◌++◌, inl, inr, length, map, drop, remove, Bool, true, false, if◌then◌else◌, Option, Some, None, refl, sym}
-use Rattle.std.proofs.Common.{ap, ◌∙◌, subst, arith}
-use Rattle.std.proofs.lemmas.Bool.{leb-true}
+use Rattle.std.proofs.{Common.{ap, ◌∙◌, subst, arith}, lemmas.Bool.{leb-true}}
 use Rattle.std.specs.Prelude.{nat_le}
 use Rattle.x25_bits.specs.declared.role.Role.{Role}
 use Rattle.x25_frame.specs.{Frame.{PlainFrame}, Spelling.{spelling_of}, laws.ReadingLaw.{ReadsSpelled}}
@@ -10,8 +9,7 @@ use Rattle.x25_link.specs.{Station.{Settings, is_up, with_nothing, fresh}, Heari
 use Rattle.x25_link.specs.Link.{take_step, put_step, put_refusal, timer_step, timer_refusal, timer_runs, connect_step, connect_refusal, disconnect_step}
 use Rattle.x25_link.specs.Link.{disconnect_refusal, abandon_step}
 use Rattle.x25_line.specs.laws.Stations.{Stations, Act, Put, Deliver, T1, Connect, Disconnect, Abandon, Probe, Lose, Damage, LinkEvent, Near, Far, is_visible}
-use Rattle.x25_line.specs.laws.Stations.{start}
-use Rattle.x25_line.specs.laws.StationClaims.{AreJoined, AreWhole}
+use Rattle.x25_line.specs.{laws.Stations.{start}, laws.StationClaims.{AreJoined, AreWhole}}
 use Rattle.x25_line.specs.laws.Sessions.{Entry, Meeting, Sessions, swapped, begun_by, sent_in, after_step, unless, delivered, replaced, acts, happens, run}
 use Rattle.x25_line.specs.laws.Sessions.{start_with, IsStart, IsTimely, IsTimelyAt, AreTimely}
 use Rattle.x25_line.specs.laws.SessionNumbers.{Standing, turned as other_way, is_set_up, front_sets_up, anew, place_to_hear, gone_at, standing_after, same_two}
@@ -23,7 +21,7 @@ use Rattle.x25_line.proofs.{StationClaimLemmas.{is_behind, holds_order, holds_li
 use Rattle.x25_line.proofs.{sessions.EntryLines.{removes_at, replaces_at}, Choices.{unless_by, if_by}}
 use Rattle.x25_line.proofs.{sessions.SessionHeld.{is_there, is_out, IsThere, OnLine, Held, counted_there, stays_on}, sessions.SessionSteps.{went_by}}
 use Rattle.x25_line.proofs.sessions.SessionChanges.{change_held}
-use Rattle.x25_line.proofs.sessions.SessionActs.{in_session, put_held, timer_up_held, abandon_held, connect_held, timer_waiting_held, disconnect_held}
+use Rattle.x25_line.proofs.sessions.SessionActs.{up_in_session, put_held, timer_up_held, abandon_held, connect_held, timer_waiting_held, disconnect_held}
 use Rattle.x25_line.proofs.{sessions.SessionTakes.{read_of, heard_by, take_held}, sessions.SessionSeenSteps.{put_accepted}}
 use Rattle.x25_line.proofs.{sessions.SessionSeenRuns.{Both, both_swapped, event_both, begin_both}, sessions.TwoSessions.{on_line}}
 use Rattle.x25_line.specs.laws.Stations as one
@@ -45,19 +43,16 @@ none_put_on (e ∷ out) = none_put_on out
 step_now : (stand : Standing) {c d : Settings} (w : Sessions) (es : List Entry) (met : List Meeting) (down : List (List ℕ)) (step : Step) (gone : Option ℕ)
     → Held (went_by c step gone stand) c d (after_step c w es met down step)
     → HeldNow stand c d gone w (after_step c w es met down step)
-step_now stand {c} w es met down step gone h =
-    rw (put_is c.role (begun_by step.notes.up w.near.begun) step.side.out w.out) h
+step_now stand {c} w es met down step gone h = rw (put_is c.role (begun_by step.notes.up w.near.begun) step.side.out w.out) h
 
 -- nothing is put
 still_now : (stand : Standing) {c d : Settings} (w : Sessions) {v : Sessions} (gone : Option ℕ) → v.out ≡ w.out
     → Held (standing_after c v.near.station [] gone stand) c d v → HeldNow stand c d gone w v
-still_now stand w gone same h =
-    rw (ap (λ out. octets_of (drop (length w.out) out)) same ∙ none_put_on w.out) h
+still_now stand w gone same h = rw (ap (λ out. octets_of (drop (length w.out) out)) same ∙ none_put_on w.out) h
 
 -- what is refused changes nothing
 stays_now : {stand : Standing} (c d : Settings) (w : Sessions) → Held stand c d w → HeldNow stand c d None w w
-stays_now {stand} c d w h =
-    still_now stand w None refl (rw (sym (stays_on c w.near.station [] stand (counted_there w.near h.near h.holds.near) refl)) h)
+stays_now {stand} c d w h = still_now stand w None refl (rw (sym (stays_on c w.near.station [] stand (counted_there w.near h.near h.holds.near) refl)) h)
 
 now_unless : {stand : Standing} (c d : Settings) (o : Option LinkError) (w v : Sessions) → Held stand c d w → (o ≡ None → HeldNow stand c d None w v)
     → HeldNow stand c d None w (unless o w v)
@@ -92,8 +87,7 @@ module _ {c d : Settings} (joined : AreJoined c d) (reads : ReadsSpelled) (rests
       by : (b : Bool) → Held (if b then anew c d w else went_by c (take_step c e.octets w.near.station) gone stand) c d v
           → Held (if b then anew c d w else same_two c gone w v stand) c d v
       by true k = k
-      by false k =
-          step_now stand w es (heard_by c w e) [] (take_step c e.octets w.near.station) gone k
+      by false k = step_now stand w es (heard_by c w e) [] (take_step c e.octets w.near.station) gone k
 
   timer_held : {stand : Standing} (w : Sessions) → Held stand c d w → IsTimely c d T1 w
       → HeldNow stand c d None w (unless (timer_refusal w.near.station) w (after_step c w w.back w.met [] (timer_step c w.near.station)))
@@ -149,8 +143,7 @@ module _ {c d : Settings} (joined : AreJoined c d) (reads : ReadsSpelled) (rests
 
       by : (b : Bool) → is_visible octets ≡ b
           → HeldNow stand c d (gone_at c w (if b then Some i else None)) w (if b then record w { back = replaced w.back i octets } else w)
-      by true visible =
-          still_now stand w (gone_at c w (Some i)) refl (change_held joined reads rests_on.laws h line (replaces_at octets visible w.back i))
+      by true visible = still_now stand w (gone_at c w (Some i)) refl (change_held joined reads rests_on.laws h line (replaces_at octets visible w.back i))
       by false hidden = stays_now c d w h
 
 -- ---- the other end
@@ -159,7 +152,7 @@ abbrev pub held_swapped : {stand : Standing} (c d : Settings) → AreJoined c d 
 held_swapped {stand} c d joined w h =
     record {
       alone = one.stations_swapped h.alone;
-      holds = joint_swapped ⊥ joined.longest h.holds;
+      holds = joint_swapped joined.longest h.holds;
       near = h.far;
       far = h.near;
       near_lists = h.far_lists;
@@ -196,7 +189,7 @@ start_held : {c d : Settings} → AreJoined c d → (p : Phase) (b : ℕ) → ((
 start_held {c} {d} joined p b there =
     record {
       alone = start;
-      holds = start_machine ⊥ joined;
+      holds = start_machine joined;
       near = there (other c.role) c.longest;
       far = there (other d.role) d.longest;
       near_lists = record { down = refl; up = refl };
@@ -213,19 +206,19 @@ begin_held {c} {d} joined is = elim is [
 
 -- ---- the claims
 
-is_session : {c d : Settings} → AreJoined c d → {v : Stations} → Holds ⊥ c d v → IsSession c d v
+is_session : {c d : Settings} → AreJoined c d → {v : Stations} → Holds c d v → IsSession c d v
 is_session {c} {d} joined {v} holds =
     record {
-      order = holds_order ⊥ holds;
-      lists = holds_lists ⊥ holds;
-      window = holds_window ⊥ holds;
+      order = holds_order holds;
+      lists = holds_lists holds;
+      window = holds_window holds;
       no_frmr = holds.1.no_frmr;
-      whole = holds_whole ⊥ joined holds;
+      whole = holds_whole joined holds;
     }
 
 stands : {stand : Standing} (c d : Settings) → AreJoined c d → (w : Sessions) → Held stand c d w → is_up w.near.station.phase ≡ true → Stands c d w
 stands {stand} c d joined w h up =
-    let i = in_session c d w h up in
+    let i = up_in_session c d w h up in
     record {
       alone = h.alone;
       session = is_session joined (stand.machine, h.holds);
@@ -237,7 +230,7 @@ stands {stand} c d joined w h up =
       far_up = sym h.far_lists.up;
       line = i.is.comes;
       of_session = i.is.of;
-      both = λ far_up. (let j = in_session d c (swapped w) (held_swapped c d joined w h) far_up in
+      both = λ far_up. (let j = up_in_session d c (swapped w) (held_swapped c d joined w h) far_up in
           record {
             station = j.is.station;
             session = sym j.is.session;
@@ -254,9 +247,9 @@ unfolding stands
 stands_with {stand} c d joined w h up =
     record {
       stands = stands c d joined w h up;
-      near = sym (in_session c d w h up).is.session;
+      near = sym (up_in_session c d w h up).is.session;
       far = refl;
-      behind = is_behind ⊥ h.holds;
+      behind = is_behind h.holds;
     }
 
 each_stands_with : {stand : Standing} (c d : Settings) → AreJoined c d → (w : Sessions) → Held stand c d w → EachUpStandsWith c d w stand

@@ -1,20 +1,16 @@
 -- A station over sessions, and what is known of it as an end that keeps the rules, after each of its steps.
 use Rattle.std.proofs.Common.{◌≡◌, ◌≤◌, ◌<◌, ◌==◌, ℕ, suc, ◌+◌, List, [], ◌∷◌, ◌++◌, inl, inr, length, true, false, Option, None, refl, sym, ap, ◌∙◌, subst}
-use Rattle.std.proofs.Common.{arith}
-use Rattle.std.proofs.lemmas.Bool.{eq-eqb}
+use Rattle.std.proofs.{Common.{arith}, lemmas.Bool.{eq-eqb}}
 use Rattle.std.specs.Prelude.{option_to_list}
 use Rattle.x25_bits.specs.declared.role.Role.{Role}
 use Rattle.x25_frame.specs.{Frame.{PlainFrame}, Reading.{frame_of}}
-use Rattle.x25_link.specs.{declared.phase.Phase.{Phase}, declared.phase.Phase.TheVariants.{Up}}
-use Rattle.x25_link.specs.{Station.{Settings, is_up, with_nothing, fresh}, Hearing.{Step}, laws.WindowMachine.{Window, Input}}
-use Rattle.x25_link.specs.laws.WindowLaw.{window_of, after_input, Stays}
+use Rattle.x25_link.specs.{declared.phase.Phase.{Phase}, declared.phase.Phase.TheVariants.{Up}, Station.{Settings, is_up, with_nothing, fresh}, Hearing.{Step}}
+use Rattle.x25_link.specs.{laws.WindowMachine.{Window, Input}, laws.WindowLaw.{window_of, after_input, Stays}}
 use Rattle.x25_line.specs.laws.Sessions.{Entry, SessionEnd, start_with, Meeting, Sessions, sabm_in, how_many, sent_in, begun_by, extended, after_step}
 use Rattle.x25_line.specs.{laws.Peer.{Peer, fresh_peer}, laws.Ends.{put_for}, laws.PeerSessions.{IsAskedIn, AllAskedIn}}
 use Rattle.x25_line.proofs.{Lists.{each_append}, StationSays.{machine_of}, StationHears.{UpFacts}, StationSends.{AllWithin}, StationSteps.{not_both}}
-use Rattle.x25_line.proofs.StationAway.{is_up_phase}
-use Rattle.x25_line.proofs.{sessions.SessionHeld.{extended_nil, extended_same, extended_other}, sessions.SessionSteps.{stepped}}
-use Rattle.x25_line.proofs.sessions.SessionMay.{Known, Kind}
-use Rattle.x25_line.proofs.{sessions.SessionSays.{runs_said}, ends.Puts.{same_or_other, put_same, put_apart}}
+use Rattle.x25_line.proofs.{StationAway.{is_up_phase}, sessions.SessionHeld.{extended_nil, extended_same, extended_other}, sessions.SessionSteps.{stepped}}
+use Rattle.x25_line.proofs.{sessions.SessionMay.{Known, Kind}, sessions.SessionSays.{runs_said}, ends.Puts.{same_or_other, put_same, put_apart}}
 
 asked_sent : (from : Role) (n1 b : ℕ) (role : Role) (fs : List PlainFrame) → AllAskedIn from n1 b (sent_in b role fs)
 asked_sent from n1 b role [] = tt

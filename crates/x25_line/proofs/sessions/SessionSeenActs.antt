@@ -4,15 +4,14 @@ use Rattle.std.proofs.Common.{subst, arith, append-nil, append_assoc}
 use Rattle.x25_frame.specs.{Frame.{PlainFrame, sabm, disc, ua, dm, frmr}, Spelling.{spelling_of}, laws.ReadingLaw.{ReadsSpelled}}
 use Rattle.x25_frame.specs.declared.error.FrameError.TheVariants.{Short}
 use Rattle.x25_link.specs.{declared.phase.Phase.{Phase}, declared.phase.Phase.TheVariants.{Down, Waiting, Up, Closed}, declared.phase.Reason.{Reason}}
-use Rattle.x25_link.specs.{declared.phase.Reason.TheVariants.{Retries, Disc, Dm, FrmrSent, FrmrGot, Reset, Local, Counts}}
+use Rattle.x25_link.specs.declared.phase.Reason.TheVariants.{Retries, Disc, Dm, FrmrSent, FrmrGot, Reset, Local, Counts}
 use Rattle.x25_link.specs.{Station.{Settings, LinkStation, is_up, fresh}, Hearing.{Step}, Link.{take_step}}
 use Rattle.x25_link.specs.laws.SetUp.{Is, TakesPart, reset_from, waiting_after, waiting_sends, waiting_up}
 use Rattle.x25_link.specs.laws.WindowLaw.{window_of, brought_by, after_input, ending_of, ends_in, Ends, Follows, AreDeclining, StaysOut}
 use Rattle.x25_line.specs.{laws.StationClaims.{number_in}, laws.Sessions.{Entry, Meeting, Sessions, sabm_in, disc_in, how_many, sent_in, after_step, heard}}
-use Rattle.x25_line.specs.{laws.Peer.{Peer}}
+use Rattle.x25_line.specs.laws.Peer.{Peer}
 use Rattle.x25_line.proofs.{StationLines.{AreParting, parts_of, part_reads}, StationHears.{UpFacts, Hears, stays_hears, by_disc, by_reset, by_local, left_by}}
-use Rattle.x25_line.proofs.{StationSends.{AllWithin}, StationSteps.{not_afresh}}
-use Rattle.x25_line.proofs.{StationAway.{is_up_phase, frmr_three, waits_on}, sessions.SessionLines.{Read}}
+use Rattle.x25_line.proofs.{StationSends.{AllWithin}, StationSteps.{not_afresh}, StationAway.{is_up_phase, frmr_three, waits_on}, sessions.SessionLines.{Read}}
 use Rattle.x25_line.proofs.sessions.SessionMay.{entry, sends_read, hears_read, heard_in, IsClear, Known, Kind}
 use Rattle.x25_line.proofs.sessions.SessionSeen.{Seen, build_quiet, build_up, stays_seen, changed}
 
@@ -33,8 +32,8 @@ ends_away Reset never p is = absurd (never refl)
 ends_away reason never p is = ap is_up is
 
 -- a frame that may be spelled as it is
-alone_reads : ReadsSpelled → (d : Settings) (f : PlainFrame) → AreParting (Unit {0}) (f ∷ []) → sends_read d (spelling_of d.role f) ≡ Ok f
-alone_reads reads d f h = part_reads reads d.role d.longest (Unit {0}) (parts_of (Unit {0}) (f ∷ []) h).0
+alone_reads : ReadsSpelled → (d : Settings) (f : PlainFrame) → AreParting (f ∷ []) → sends_read d (spelling_of d.role f) ≡ Ok f
+alone_reads reads d f h = part_reads reads d.role d.longest (parts_of (f ∷ []) h).0
 
 module _ {d : Settings} (k : Kind d) where
   abbrev R : Known
@@ -71,7 +70,7 @@ module _ {d : Settings} (k : Kind d) where
       → R w.back w.met Waiting w.near.begun h.all (w.out ++ sent_in w.near.begun d.role fs)
   put_asks w h p fs is due clear =
       put_one w.out (sabm p) fs is
-      (k.does.asks w.back w.met w.near.station.phase w.near.begun h.all w.out (spelling_of d.role (sabm p)) p (alone_reads k.reads d (sabm p) (tt, tt)) due
+      (k.does.asks w.back w.met w.near.station.phase w.near.begun h.all w.out (spelling_of d.role (sabm p)) p (alone_reads k.reads d (sabm p) tt) due
       clear h.reached)
 
   pub put_closes : (w : Sessions) (h : S w) (p : Bool) (fs : List PlainFrame) → fs ≡ disc p ∷ []
@@ -172,7 +171,7 @@ module _ {d : Settings} (k : Kind d) where
           (k.reads d.role d.longest (frmr f why) _ (record { in_range = tt; carries = three; within = tt; spelling = refl })) (came_in Up in_it))))
       ends_seen FrmrGot never ending ends = left_seen never ends (gone step.side.out ends.frames)
       ends_seen Reset never ending ends = absurd (never refl)
-      ends_seen Local never ending ends = (absurd (omega (arith, (left_by r (window_of d.window s)).2, ap by_local ending)))
+      ends_seen Local never ending ends = absurd (omega (arith, (left_by r (window_of d.window s)).2, ap by_local ending))
       ends_seen Counts never ending ends = left_seen never ends (gone step.side.out ends.frames)
 
       pub up_seen : sabm_in r ≡ 0 → S (after_step d w es met [] step)

@@ -2,23 +2,21 @@
 use Rattle.std.proofs.Common.{◌≡◌, ℕ, suc, ◌+◌, List, [], ◌∷◌, ◌++◌, inl, inr, length, map, remove, true, Ok, refl, sym, ap, ◌∙◌, subst, arith}
 use Rattle.std.specs.Prelude.{nat_le}
 use Rattle.x25_frame.specs.{Frame.{PlainFrame, sabm, disc, ua, dm, frmr}, Reading.{frame_of}, laws.ReadingLaw.{ReadsSpelled}}
-use Rattle.x25_link.specs.{declared.phase.Phase.{Phase}, declared.phase.Phase.TheVariants.{Down, Waiting, Up, Closed}}
-use Rattle.x25_link.specs.{Station.{Settings}, Hearing.{other}, Link.{put_refusal}}
-use Rattle.x25_line.specs.laws.Stations.{Act, Put, Deliver, T1, Connect, Lose, Damage, LinkEvent, Near, Far, is_visible}
-use Rattle.x25_line.specs.{laws.StationClaims.{AreJoined}, laws.Said.{said, sabm_of, disc_of, ua_of}}
+use Rattle.x25_link.specs.{declared.phase.Phase.{Phase}, declared.phase.Phase.TheVariants.{Down, Waiting, Up, Closed}, Station.{Settings}, Hearing.{other}}
+use Rattle.x25_link.specs.Link.{put_refusal}
+use Rattle.x25_line.specs.{laws.Stations.{Act, Put, Deliver, T1, Connect, Lose, Damage, LinkEvent, Near, Far, is_visible}, laws.StationClaims.{AreJoined}}
+use Rattle.x25_line.specs.laws.Said.{said, sabm_of, disc_of, ua_of}
 use Rattle.x25_line.specs.laws.Sessions.{Entry, SessionEnd, Meeting, Sessions, turned, swapped, sabm_in, ua_in, disc_in, how_many, replaced, after_step}
 use Rattle.x25_line.specs.laws.Sessions.{delivered, acts, happens, run, IsStart, from_nothing, from_set_up, IsTimely, IsTimelyAt, AreTimely}
 use Rattle.x25_line.specs.{laws.SessionClaims.{Throughout}, laws.LawsBelow.{SessionLaws}, laws.Peer.{Peer, fresh_peer}}
 use Rattle.x25_line.specs.laws.PeerSessions.{PeerEnd, PeerSessions, both_ends, with_peer, AllAskedIn, stand_of, letters, IsLeft, untouched, without, damaged}
 use Rattle.x25_line.specs.laws.PeerSessions.{Puts, nothing, HandsDown, Theirs, ReachedInSessions, goes_on}
 use Rattle.x25_line.specs.laws.Ends.{Letter, letter, AreOf, Ends, Does, listens, moves, free, asks, closes, leaves, hears, takes_ua, takes_sabm, waits_on}
-use Rattle.x25_line.specs.laws.Ends.{takes_disc, loses, damages}
-use Rattle.x25_line.specs.laws.SessionPeers.{IsPeer, AreBothPeers}
+use Rattle.x25_line.specs.{laws.Ends.{takes_disc, loses, damages}, laws.SessionPeers.{IsPeer, AreBothPeers}}
 use Rattle.x25_line.proofs.{Choices.{unless_both, if_both, own_both}, StationRuns.{joined_swapped}, sessions.SessionLines.{Read}, sessions.SessionHeld.{Owes}}
-use Rattle.x25_line.proofs.sessions.EntryLines.{asked_fewer}
-use Rattle.x25_line.proofs.{sessions.Acts.{Stays, Anything, acts_still}, sessions.SessionMay.{sends_read, hears_read, entry, heard_in, MayAsk, MayDo, Kind}}
-use Rattle.x25_line.proofs.{ends.Meetings.{twice_turned}, sessions.SessionSeen.{Seen, start_seen}, sessions.PeerSessionRuns.{owes_is}}
-use Rattle.x25_line.proofs.sessions.SessionWith.{tells_does}
+use Rattle.x25_line.proofs.{sessions.EntryLines.{asked_fewer}, sessions.Acts.{Stays, Anything, acts_still}}
+use Rattle.x25_line.proofs.{sessions.SessionMay.{sends_read, hears_read, entry, heard_in, MayAsk, MayDo, Kind}, ends.Meetings.{twice_turned}}
+use Rattle.x25_line.proofs.{sessions.SessionSeen.{Seen, start_seen}, sessions.PeerSessionRuns.{owes_is}, sessions.SessionWith.{tells_does}}
 use Rattle.x25_line.proofs.sessions.Letters.{heard_said, letters_push, letters_removed, letters_replaced, many_said, puts_frame}
 use Rattle.x25_line.specs.laws.PeerSessions as sessions
 use Rattle.x25_line.specs.laws.Ends as ends
@@ -161,10 +159,9 @@ alike_delivered : (c : Settings) (p : PeerEnd) (w : Sessions) (es : List Entry) 
 alike_delivered c p w [] = refl
 alike_delivered c p w (e ∷ es) = refl
 
+-- an act of the station does the same beside a peer and beside that peer's numbers alone
 pub alike : (c : Settings) (p : PeerEnd) (a : Act) (w : Sessions) → with_peer p (acts c a w) ≡ with_peer p (acts c a (both_ends (with_peer p w)))
-alike c p (Put packet) w =
-    if_both (SameBut p) (nat_le (length packet) c.longest) refl
-    (unless_both (SameBut p) (put_refusal w.near.station) refl refl)
+alike c p (Put packet) w = if_both (SameBut p) (nat_le (length packet) c.longest) refl (unless_both (SameBut p) (put_refusal w.near.station) refl refl)
 alike c p Deliver w = alike_delivered c p w w.back
 alike c p (Lose i) w = refl
 alike c p (Damage i octets) w = if_both (SameBut p) (is_visible octets) refl refl
@@ -225,8 +222,7 @@ module _ (c d : Settings) (joined : AreJoined c d) (reads : ReadsSpelled) (rests
           (sessions.goes_on (with_peer p w) (with_peer p (acts c a (both_ends (with_peer p w)))) before (sessions.Ours a (station_timely a w p h.tags timely)))
 
       reached : IsPeerOf joined v.near v.out (map turned v.met) v.far.station.phase v.far.begun h.all v.back
-      reached =
-          rw still.far (rw (twice_turned v.met) acted)
+      reached = rw still.far (rw (twice_turned v.met) acted)
 
   -- ---- it acts
 
@@ -248,8 +244,7 @@ module _ (c d : Settings) (joined : AreJoined c d) (reads : ReadsSpelled) (rests
   own_acts : (a : Act) (w : Sessions) → IsTimely d c a w
       → Owes w.near.station.phase (how_many sabm_in d.role d.longest w.out + how_many ua_in (other d.role) d.longest w.back)
       (how_many disc_in d.role d.longest w.out) → S w → S (acts d a w)
-  own_acts a w timely owed h =
-      rw (acts_still d a w).far (own.station_acts (kind w) a w (own_timely a w timely) owed h)
+  own_acts a w timely owed h = rw (acts_still d a w).far (own.station_acts (kind w) a w (own_timely a w timely) owed h)
 
   -- the other end, which sees it as its peer, with what that has on the line
   pub other_owes : {w : Sessions} → S w
@@ -266,8 +261,7 @@ pub record Both (c d : Settings) (w : Sessions) : Type 0 where
   pub far : SeenAt c d joined (swapped w)
 
 seen_twice : {c d : Settings} (joined : AreJoined c d) {w : Sessions} → SeenAt c d joined w → SeenAt c d joined (swapped (swapped w))
-seen_twice joined {w} h =
-    rw (twice_turned w.met) h
+seen_twice joined {w} h = rw (twice_turned w.met) h
 
 -- as the far end has it
 pub both_swapped : {c d : Settings} {w : Sessions} → Both c d w → Both d c (swapped w)
@@ -285,8 +279,7 @@ module _ (reads : ReadsSpelled) (rests : SessionLaws) where
   pub event_both : {c d : Settings} (e : LinkEvent) {w : Sessions} → IsTimelyAt c d e w → Both c d w
       → Both c d (happens c d e w)
   event_both (Near act) timely h = act_both act timely h
-  event_both (Far act) timely h =
-      both_swapped (act_both act timely (both_swapped h))
+  event_both (Far act) timely h = both_swapped (act_both act timely (both_swapped h))
 
   pub begin_both : {c d : Settings} (joined : AreJoined c d) {begin : Sessions} → IsStart begin → Both c d begin
   begin_both {c} {d} joined is = elim is [

@@ -1,23 +1,19 @@
 -- Each event at a station over sessions is what an end that keeps the rules may do.
 use Rattle.std.proofs.Common.{◌≡◌, ◌≤◌, ℕ, suc, ◌+◌, List, [], ◌∷◌, ◌++◌, ◌⊎◌, inl, inr, length, Bool, true, false, not, if◌then◌else◌, Option, Some, None, Ok}
-use Rattle.std.proofs.Common.{refl, sym, ap, ◌∙◌, subst, arith, append-nil}
-use Rattle.std.proofs.lemmas.Bool.{leb-true}
+use Rattle.std.proofs.{Common.{refl, sym, ap, ◌∙◌, subst, arith, append-nil}, lemmas.Bool.{leb-true}}
 use Rattle.std.specs.Prelude.{nat_le, nat_lt, option_to_list}
-use Rattle.x25_frame.specs.{Frame.{PlainFrame, sabm, disc, ua}}
+use Rattle.x25_frame.specs.Frame.{PlainFrame, sabm, disc, ua}
 use Rattle.x25_link.specs.{declared.error.LinkError.{LinkError}, declared.phase.Phase.{Phase}, declared.phase.Phase.TheVariants.{Down, Waiting, Up, Closed}}
-use Rattle.x25_link.specs.{declared.phase.Reason.TheVariants.{Retries}, Station.{Settings, LinkStation, is_up, with_nothing}}
-use Rattle.x25_link.specs.Hearing.{Step, other}
+use Rattle.x25_link.specs.{declared.phase.Reason.TheVariants.{Retries}, Station.{Settings, LinkStation, is_up, with_nothing}, Hearing.{Step, other}}
 use Rattle.x25_link.specs.Link.{put_step, put_refusal, timer_step, timer_refusal, timer_runs, connect_step, connect_refusal, disconnect_step}
-use Rattle.x25_link.specs.Link.{disconnect_refusal, abandon_step}
-use Rattle.x25_link.specs.{laws.SetUp.{Is, TakesPart, waiting_up}, laws.WindowMachine.{hands_down, nothing}}
+use Rattle.x25_link.specs.{Link.{disconnect_refusal, abandon_step}, laws.SetUp.{Is, TakesPart, waiting_up}, laws.WindowMachine.{hands_down, nothing}}
 use Rattle.x25_link.specs.laws.WindowLaw.{window_of, Follows, IsOut}
 use Rattle.x25_window.specs.{laws.Window.{after}, laws.Window.Step.{HandDown}}
 use Rattle.x25_line.specs.laws.Stations.{Act, Put, Deliver, T1, Connect, Disconnect, Abandon, Probe, Lose, Damage, is_visible}
-use Rattle.x25_line.specs.laws.Sessions.{Entry, Sessions, sabm_in, ua_in, disc_in, how_many, sent_in, after_step, unless, delivered, acts}
-use Rattle.x25_line.specs.{laws.Peer.{Peer}}
+use Rattle.x25_line.specs.{laws.Sessions.{Entry, Sessions, sabm_in, ua_in, disc_in, how_many, sent_in, after_step, unless, delivered, acts}, laws.Peer.{Peer}}
 use Rattle.x25_line.proofs.{StationHears.{sabm_or_not, sets_none_up}, StationSends.{within_push}, StationSteps.{no_packet_of, not_afresh}}
-use Rattle.x25_line.proofs.StationAway.{connects_from, closed_takes}
-use Rattle.x25_line.proofs.{sessions.SessionLines.{Read}, sessions.SessionHeld.{Owes}, sessions.SessionMay.{hears_read, IsClear, Known, Kind}}
+use Rattle.x25_line.proofs.{StationAway.{connects_from, closed_takes}, sessions.SessionLines.{Read}, sessions.SessionHeld.{Owes}}
+use Rattle.x25_line.proofs.sessions.SessionMay.{hears_read, IsClear, Known, Kind}
 use Rattle.x25_line.proofs.sessions.SessionSeen.{Seen, build_quiet, stays_seen, reached_in, unchanged, changed}
 use Rattle.x25_line.proofs.sessions.SessionSeenActs.{put_none, put_asks, put_closes, sets_up_seen, up_seen, out_seen, answer_seen, waiting_seen}
 use Rattle.x25_line.proofs.Choices.{unless_by, if_by}
@@ -83,15 +79,12 @@ module _ {d : Settings} (k : Kind d) where
   -- it isn't Up any more, with nothing taken off the line
   away_seen : {w : Sessions} (h : S w) (step : Step) → step.notes.up ≡ false → step.packet ≡ None → {q : Phase} → step.side.near.phase ≡ q → is_up q ≡ false
       → R w.back w.met q w.near.begun h.all (w.out ++ sent_in w.near.begun d.role step.side.out) → S (after_step d w w.back w.met [] step)
-  away_seen {w} h step quiet none phase off reached =
-      build_quiet k h step quiet none (ap is_up phase ∙ off)
-      (rw phase reached)
+  away_seen {w} h step quiet none phase off reached = build_quiet k h step quiet none (ap is_up phase ∙ off) (rw phase reached)
 
   -- without a frame
   left : (w : Sessions) (h : S w) → is_up w.near.station.phase ≡ true → (fs : List PlainFrame) → fs ≡ []
       → R w.back w.met Down w.near.begun h.all (w.out ++ sent_in w.near.begun d.role fs)
-  left w h up fs none =
-      put_none k fs none (k.does.leaves w.back w.met w.near.begun h.all w.out (reached_in k h up))
+  left w h up fs none = put_none k fs none (k.does.leaves w.back w.met w.near.begun h.all w.out (reached_in k h up))
 
   timer_up : (w : Sessions) (h : S w) → is_up w.near.station.phase ≡ true → S (after_step d w w.back w.met [] (timer_step d w.near.station))
   timer_up w h up = by (nat_lt w.near.station.tries d.retries) (k.rests.laws.window.timer d w.near.station (record { up = up; sound = (h.up up).sound }))
@@ -141,15 +134,6 @@ module _ {d : Settings} (k : Kind d) where
       by Waiting is = unless_by S (timer_refusal w.near.station) h (λ _. timer_waiting w h is (timely is) owes)
       by Up is = unless_by S (timer_refusal w.near.station) h (λ _. timer_up w h (ap is_up is))
       by phase is = rw (ap (λ p. timer_runs p w.near.station) is) h
-
-  connect_seen : (w : Sessions) (h : S w) → w.near.station.phase ≡ Down → k.Due Down w.back → OwesAt w
-      → S (after_step d w w.back w.met [] (connect_step d w.near.station))
-  connect_seen w h down due owes =
-      let owed = owes_at w Down down owes in
-      let step = connect_step d w.near.station in
-      let i = k.rests.laws.set_up.connects d w.near.station down in
-      away_seen h step i.up i.packet (ap (λ z. z.phase) i.near) refl
-      (put_asks k w h true step.side.out i.out (rw down due) (record { sabm = omega (arith, owed.0); disc = owed.1; ua = omega (arith, owed.0) }))
 
   disconnect_seen : (w : Sessions) (h : S w) → disconnect_refusal w.near.station.phase ≡ None
       → S (after_step d w w.back w.met [] (disconnect_step d w.near.station))
@@ -221,6 +205,7 @@ module _ {d : Settings} (k : Kind d) where
   line_seen : {w : Sessions} (h : S w) {es : List Entry} → R es w.met w.near.station.phase w.near.begun h.all w.out → S (record w { back = es })
   line_seen h reached = record { all = h.all; reached = reached; up = h.up; given = h.given; taken = h.taken; later = h.later; tags = h.tags }
 
+  -- each act of a station is what a peer may do, and it is seen as one after it
   pub station_acts : (a : Act) (w : Sessions) → IsTimely a w → OwesAt w → S w → S (acts d a w)
   station_acts (Put packet) w timely owes h =
       let done = after_step d w w.back w.met (packet ∷ []) (put_step d packet w.near.station) in
@@ -230,9 +215,12 @@ module _ {d : Settings} (k : Kind d) where
   station_acts T1 w timely owes h = timer_seen w h timely owes
   station_acts Connect w timely owes h =
       unless_by S (connect_refusal w.near.station.phase) h
-      (λ accepted. (let down = connects_from w.near.station.phase accepted in connect_seen w h down (timely down) owes))
-  station_acts Disconnect w timely owes h =
-      unless_by S (disconnect_refusal w.near.station.phase) h (λ accepted. disconnect_seen w h accepted)
+      (λ accepted. (let down = connects_from w.near.station.phase accepted in
+      (let owed = owes_at w Down down owes in let step = connect_step d w.near.station in let i = k.rests.laws.set_up.connects d w.near.station down in
+      away_seen h step i.up i.packet (ap (λ z. z.phase) i.near) refl
+      (put_asks k w h true step.side.out i.out (rw down (timely down))
+      (record { sabm = omega (arith, owed.0); disc = owed.1; ua = omega (arith, owed.0) })))))
+  station_acts Disconnect w timely owes h = unless_by S (disconnect_refusal w.near.station.phase) h (λ accepted. disconnect_seen w h accepted)
   station_acts Abandon w timely owes h = if_by S (is_up w.near.station.phase) h (λ up. abandon_seen w h up)
   station_acts Probe w timely owes h = if_by S (is_up w.near.station.phase) h (λ up. timer_up w h up)
   station_acts (Lose i) w timely owes h = line_seen h (k.does.loses w.back w.met w.near.station.phase w.near.begun h.all w.out i h.reached)

@@ -1,15 +1,16 @@
 -- Steps of the near end keep what holds of two stations over sessions: of an end that is in the session, of one that is out of it,
 -- and where sessions begin.
-use Rattle.std.proofs.Common.{◌≡◌, ◌≤◌, ℕ, List, [], ◌∷◌, ◌++◌, ◌⊎◌, inl, inr, map, length, Option, None, refl, sym, ap, ◌∙◌, subst, arith, append-nil}
+use Rattle.std.proofs.Common.{◌≡◌, ◌≤◌, ℕ, List, [], ◌∷◌, ◌++◌, ◌⊎◌, inl, inr, map, length, false, Option, None, refl, sym, ap, ◌∙◌, subst, arith, append-nil}
 use Rattle.std.proofs.lemmas.List.Elements.{Contains-append_cases}
 use Rattle.std.specs.{Prelude.{option_to_list}, List.{Contains}}
 use Rattle.x25_frame.specs.{Frame.{PlainFrame, frmr}, Spelling.{spelling_of}, laws.ReadingLaw.{ReadsSpelled}}
-use Rattle.x25_link.specs.{declared.phase.Phase.{Phase}, declared.phase.Phase.TheVariants.{Waiting, Closed}, Station.{Settings}, Hearing.{Step, other}}
+use Rattle.x25_link.specs.{declared.phase.Phase.{Phase}, declared.phase.Phase.TheVariants.{Waiting, Closed}, Station.{Settings, awaits_ua}}
+use Rattle.x25_link.specs.Hearing.{Step, other}
 use Rattle.x25_line.specs.{laws.Stations.{Stations}, laws.StationClaims.{AreJoined, NoFrmr, AreWhole, numbered_on}}
 use Rattle.x25_line.specs.{laws.Sessions.{Entry, SessionEnd, Meeting, Sessions, ua_in, how_many, sent_in, extended}, laws.WholeNumbers.{given, taken_out}}
 use Rattle.x25_line.specs.{laws.SessionNumbers.{Standing, standing_after}, laws.SessionClaims.{AllOf}}
 use Rattle.x25_line.proofs.StationLines.{AreParting, parts_of, no_frmr_append, parting_no_frmr, parting_numbered, parting_whole}
-use Rattle.x25_line.proofs.StationSteps.{MayBeAway, away_is_not_up, Leads, put_behind, FitsEnd}
+use Rattle.x25_line.proofs.StationSteps.{Leads, put_behind, FitsEnd, not_both}
 use Rattle.x25_line.proofs.sessions.SessionLines.{Read, octets_sent, count, numbers, quiet_of, of_sent, many_sent}
 use Rattle.x25_line.proofs.sessions.SessionHeld.{IsThere, Owes, HasLists, SameLists, lists_same, Held, with_machine, standing_after_is, stays_on, extended_nil}
 use Rattle.x25_line.proofs.sessions.SessionHeld.{extended_same, extended_more, whole_on, whole_apart, is_there, is_out, there_more, counted_there}
@@ -67,21 +68,20 @@ asked_by Waiting h g = inl (refl, g.0, g.1)
 asked_by Closed h g = inr refl
 asked_by p h g = absurd (omega (arith, h, g.0))
 
--- UA is sent to an end that is Closed
+-- UA is sent to an end that is Closed alone, and none is awaited
 abbrev pub Answers : Sessions → Step → Type 0
-Answers w step = (w.far.station.phase ≡ Closed) ⊎ (count ua_in step.side.out ≡ 0)
+Answers w step = ((w.far.station.phase ≡ Closed) ⊎ (count ua_in step.side.out ≡ 0)) × (awaits_ua step.side.near.phase ≡ false)
 
 module _ {c d : Settings} (joined : AreJoined c d) (reads : ReadsSpelled) where
   pub many_out : (kind : Read → ℕ) (s : ℕ) (given : List (List ℕ)) (fs : List PlainFrame) → AreWhole d.longest given fs
       → how_many kind (other d.role) d.longest (sent_in s c.role fs) ≡ count kind fs
-  many_out kind s given fs h =
-      rw joined.near_role (many_sent reads c.role d.longest kind s given fs h)
+  many_out kind s given fs h = rw joined.near_role (many_sent reads c.role d.longest kind s given fs h)
 
   -- ---- an end that is in the session
 
   pub live_held : {stand : Standing} (w : Sessions) (h : Held stand c d w) → w.near.begun ≡ stand.near
       → (es : List Entry) (os : List (List ℕ)) (met : List Meeting) (down : List (List ℕ)) (step : Step) (gone : Option ℕ)
-      → Leads ⊥ c d h.alone stand.machine (taken_out gone stand.machine.back) (one.after_step c h.alone os down step) → numbers (other c.role) c.longest es
+      → Leads c d h.alone stand.machine (taken_out gone stand.machine.back) (one.after_step c h.alone os down step) → numbers (other c.role) c.longest es
       ≡ numbered_on (other c.role) c.longest os → AllOf (other c.role) c.longest stand.far es
       → Answers w step → Held (went_by c step gone stand) c d (stepped c w es met down w.near.begun step)
   live_held {stand} w h near es os met down step gone holds comes from answers =
@@ -98,7 +98,7 @@ module _ {c d : Settings} (joined : AreJoined c d) (reads : ReadsSpelled) where
 
       none_to : w.far.station.phase ≡ Waiting → how_many ua_in (other d.role) d.longest more ≡ 0
       none_to waiting =
-          elim answers [
+          elim answers.0 [
             | inl closed ↦ waiting_is_closed w.far.station.phase waiting closed
             | inr none ↦ many_out ua_in w.near.begun (now.near.down ++ now.far.down) fs
                 (whole_behind d.longest (now.near.down ++ now.far.down) h.alone.sent fs holds.1.whole) ∙ none
@@ -144,16 +144,15 @@ module _ {c d : Settings} (joined : AreJoined c d) (reads : ReadsSpelled) where
           (put_behind h.alone.out (map (spelling_of c.role) fs)))
           holds.2.back
 
-      go : FitsEnd ⊥ c step.side.near holds.0.near → Held (with_machine stand holds.0) c d (stepped c w es met down w.near.begun step)
+      go : FitsEnd c step.side.near holds.0.near → Held (with_machine stand holds.0) c d (stepped c w es met down w.near.begun step)
       go (inl u) = by (is_there step.side.near.phase u.up (record { station = refl; session = near; comes = comes; of = from }))
-      go (inr away) = by (is_out step.side.near.phase (away_is_not_up ⊥ step.side.near.phase away.away)
-          (λ waiting. (absurd (subst (MayBeAway ⊥) waiting away.away))))
+      go (inr away) = by (is_out step.side.near.phase away.away (λ waiting. not_both (awaits_ua step.side.near.phase) (ap awaits_ua waiting) answers.1))
 
   -- ---- an end that is out of the session, or goes into it
 
   pub apart_held : {stand : Standing} (w : Sessions) (h : Held stand c d w) (es : List Entry) (met : List Meeting) (n : ℕ) (step : Step) → step.packet ≡ None
       → IsThere step.side.near.phase (other c.role) c.longest step.side.near n es h.alone.near.station h.alone.back stand.near stand.far
-      → AreParting (Unit {0}) step.side.out → count ua_in step.side.out ≡ 0
+      → AreParting step.side.out → count ua_in step.side.out ≡ 0
       → Held (went_by c step None stand) c d (stepped c w es met [] n step)
   apart_held {stand} w h es met n step none there parting no_ua =
       let same = nothing_handed w.near n step none in
@@ -165,7 +164,7 @@ module _ {c d : Settings} (joined : AreJoined c d) (reads : ReadsSpelled) where
             (there_more more [] quiet (quiet_of (other d.role) d.longest stand.near more quiet) (λ waiting. many ua_in ∙ no_ua) h.far);
         near_lists = lists_same same h.near_lists;
         far_lists = h.far_lists;
-        no_frmr = no_frmr_append w.sent fs h.no_frmr (parting_no_frmr (Unit {0}) fs (parts_of (Unit {0}) fs parting));
+        no_frmr = no_frmr_append w.sent fs h.no_frmr (parting_no_frmr fs (parts_of fs parting));
         whole = whole_apart fs same parting h.whole;
       })
     where
@@ -179,12 +178,12 @@ module _ {c d : Settings} (joined : AreJoined c d) (reads : ReadsSpelled) where
       quiet =
           ap (numbered_on (other d.role) d.longest) (octets_sent n c.role step.side.out)
           ∙ subst (λ r. numbered_on r d.longest (map (spelling_of c.role) step.side.out) ≡ []) (sym joined.near_role)
-          (parting_numbered reads c.role d.longest (Unit {0}) step.side.out (parts_of (Unit {0}) step.side.out parting))
+          (parting_numbered reads c.role d.longest step.side.out (parts_of step.side.out parting))
 
       many : (kind : Read → ℕ) → how_many kind (other d.role) d.longest more ≡ count kind step.side.out
-      many kind = many_out kind n [] step.side.out (parting_whole (Unit {0}) d.longest [] step.side.out (parts_of (Unit {0}) step.side.out parting))
+      many kind = many_out kind n [] step.side.out (parting_whole d.longest [] step.side.out (parts_of step.side.out parting))
 
       is_on : stand ≡ went_by c step None stand
       is_on =
           stays_on c step.side.near (map (spelling_of c.role) fs) stand (counted_there (end_after w.near n [] step) there h.holds.near)
-          (rw joined.longest (parting_numbered reads c.role d.longest (Unit {0}) fs (parts_of (Unit {0}) fs parting)))
+          (rw joined.longest (parting_numbered reads c.role d.longest fs (parts_of fs parting)))

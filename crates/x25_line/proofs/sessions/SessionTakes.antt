@@ -8,14 +8,13 @@ use Rattle.x25_link.specs.{Link.{take_step}, laws.WindowMachine.{ShowAll}, laws.
 use Rattle.x25_line.specs.{laws.StationClaims.{AreJoined, number_in, numbered_on}, laws.WholeNumbers.{first_of, taken_out}, laws.SessionClaims.{octets_of}}
 use Rattle.x25_line.specs.laws.SessionNumbers.{Standing, is_sabm, is_set_up, anew, place_to_hear}
 use Rattle.x25_line.specs.{laws.Sessions.{Entry, Meeting, Sessions, sabm_in, ua_in, disc_in, how_many, begun_by, after_step, heard}, laws.LawsBelow.{Laws}}
-use Rattle.x25_line.proofs.{StationLines.{IsOrderly, orderly_where, consed, AreParting}, StationSteps.{Leads, read_joint, declining_parting, out_not_up}}
+use Rattle.x25_line.proofs.{StationLines.{consed, AreParting}, StationSteps.{Leads, read_joint, declining_parting, out_not_up}}
 use Rattle.x25_line.proofs.StationAway.{closed_takes, waits_on, waiting_parting}
 use Rattle.x25_line.proofs.sessions.SessionLines.{Read, count, numbers, quiet_of, carried, carried_numbers, carried_orderly, by_first, behind_ua, behind_quiet}
 use Rattle.x25_line.proofs.sessions.SessionHeld.{IsOf, EndIsThere, Owes, OnLine, Held, is_soon, is_there, is_out, there_passes}
 use Rattle.x25_line.proofs.{sessions.SessionSteps.{stepped, went_by, Answers, apart_held}, sessions.SessionBegins.{begins_held}}
 use Rattle.x25_line.proofs.{sessions.SessionUp.{follows_answers, live_goes_on}, StationHears.{left_by, sabm_or_not, sets_none_up}}
-use Rattle.x25_line.proofs.sessions.SessionSeenSteps.{is_answer}
-use Rattle.x25_line.proofs.sessions.SessionActs.{InSession, quiet_held, in_session, waiting_owes}
+use Rattle.x25_line.proofs.{sessions.SessionSeenSteps.{is_answer}, sessions.SessionActs.{InSession, quiet_held, up_in_session, waiting_owes}}
 use Rattle.x25_line.specs.laws.Stations as one
 
 -- ---- what comes
@@ -32,7 +31,7 @@ waiting_none r no_sabm = refl
 
 declining_none : (fs : List PlainFrame) → AreDeclining fs → count ua_in fs ≡ 0
 declining_none [] h = refl
-declining_none (dm f ∷ fs) h = (omega (arith, declining_none fs h))
+declining_none (dm f ∷ fs) h = omega (arith, declining_none fs h)
 declining_none (frame ∷ fs) h = absurd h
 
 -- ---- what comes first, what the near end does, and the two stations after it
@@ -71,9 +70,6 @@ module _ {c d : Settings} (joined : AreJoined c d) (reads : ReadsSpelled) (laws 
   module _ {stand : Standing} {w : Sessions} (h : Held stand c d w) (line : OnLine c d w) (e : Entry) (es : List Entry) (is : w.back ≡ e ∷ es) where
     all_back : (kind : Read → ℕ) → how_many kind (other c.role) c.longest w.back ≡ kind (read_of c e) + how_many kind (other c.role) c.longest es
     all_back kind = ap (how_many kind (other c.role) c.longest) is
-
-    orderly : IsNoSabm (read_of c e) → IsOrderly ⊥ (read_of c e)
-    orderly no_sabm = orderly_where ⊥ (read_of c e) (λ p sabm_is asked. (absurd (omega (arith, no_sabm, ap sabm_in sabm_is)))) (line.fine e es is)
 
     -- ---- a SABM
 
@@ -117,8 +113,8 @@ module _ {c d : Settings} (joined : AreJoined c d) (reads : ReadsSpelled) (laws 
         let t = step_of c w e in
         quiet_held c d w es (heard_by c w e) [] t (ap (λ n. n.up) stays.quiet)
         (apart_held joined reads w h es (heard_by c w e) w.near.begun t stays.packet
-        (is_out t.side.near.phase (out_not_up t.side.near.phase stays.out) (λ waiting. (absurd (subst IsOut waiting stays.out))))
-        (declining_parting (Unit {0}) t.side.out stays.frames) (declining_none t.side.out stays.frames))
+        (is_out t.side.near.phase (out_not_up t.side.near.phase stays.out) (λ waiting. absurd (subst IsOut waiting stays.out)))
+        (declining_parting t.side.out stays.frames) (declining_none t.side.out stays.frames))
 
     -- ---- while UA is awaited
 
@@ -133,7 +129,7 @@ module _ {c d : Settings} (joined : AreJoined c d) (reads : ReadsSpelled) (laws 
         (apart_held joined reads w h es (heard_by c w e) (suc w.near.begun) (step_of c w e) i.packet
         (is_there (step_of c w e).side.near.phase (ap (λ z. is_up z.phase) i.near)
         (record { station = now.station ∙ sym i.near; session = now.session; comes = now.comes; of = now.of }))
-        (subst (AreParting (Unit {0})) (sym i.out) tt) (ap (count ua_in) i.out))
+        (subst AreParting (sym i.out) tt) (ap (count ua_in) i.out))
       where
         i : Is fresh [] None true (step_of c w e)
         i = laws.set_up.waits c e.octets w.near.station waiting (Ok (ua true)) (sym read)
@@ -155,9 +151,9 @@ module _ {c d : Settings} (joined : AreJoined c d) (reads : ReadsSpelled) (laws 
         let same : (step_of c w e).side.near ≡ w.near.station = i.near ∙ waits_on (read_of c e) w.near.station no_answer in
         quiet_held c d w es (heard_by c w e) [] (step_of c w e) (i.up ∙ no_answer)
         (apart_held joined reads w h es (heard_by c w e) w.near.begun (step_of c w e) i.packet
-        (rw same (there_passes e waiting ((let owes = waiting_owes waiting line.near_owes in
-        omega (arith, ap (how_many ua_in (other c.role) c.longest) is, owes.0))) at_front))
-        (subst (AreParting (Unit {0})) (sym i.out) (waiting_parting (Unit {0}) (read_of c e))) (ap (count ua_in) i.out ∙ waiting_none (read_of c e) no_sabm))
+        (rw same (there_passes e waiting (let owes = waiting_owes waiting line.near_owes in
+        omega (arith, ap (how_many ua_in (other c.role) c.longest) is, owes.0)) at_front))
+        (subst AreParting (sym i.out) (waiting_parting (read_of c e))) (ap (count ua_in) i.out ∙ waiting_none (read_of c e) no_sabm))
 
     -- ---- in Up
 
@@ -167,7 +163,7 @@ module _ {c d : Settings} (joined : AreJoined c d) (reads : ReadsSpelled) (laws 
         (sym (carried_numbers (other c.role) c.longest es)) comes.of.1 answers
       where
         i : InSession stand c d w h
-        i = in_session c d w h up
+        i = up_in_session c d w h up
 
         comes : IsOf (other c.role) c.longest w.near.station w.near.begun (e ∷ es) h.alone.near.station h.alone.back stand.near stand.far
         comes = rw (sym is) i.is
@@ -181,11 +177,11 @@ module _ {c d : Settings} (joined : AreJoined c d) (reads : ReadsSpelled) (laws 
         gone : Option ℕ
         gone = first_of (number_in (read_of c e))
 
-        leads : Leads ⊥ c d h.alone stand.machine (taken_out gone stand.machine.back)
+        leads : Leads c d h.alone stand.machine (taken_out gone stand.machine.back)
             (one.after_step c h.alone (carried (other c.role) c.longest es) [] (step_of c w e))
         leads =
-            rw (sym i.is.station) (read_joint ⊥ joined reads h.holds i.machine (read_of c e)
-            (orderly no_sabm) (carried_orderly (other c.role) c.longest es) shows (laws.take_tells c e.octets h.alone.near.station)
+            rw (sym i.is.station) (read_joint joined reads h.holds i.machine (read_of c e)
+            (line.fine e es is) no_sabm (carried_orderly (other c.role) c.longest es) shows (laws.take_tells c e.octets h.alone.near.station)
             (laws.window.take c e.octets h.alone.near.station (record { up = i.machine.up; sound = i.machine.sound }) (read_of c e) refl))
 
         -- who sent a DISC is Closed

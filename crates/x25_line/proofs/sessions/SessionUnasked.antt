@@ -3,15 +3,14 @@ use Rattle.std.proofs.Common.{◌≡◌, ◌≤◌, ℕ, ◌+◌, List, [], ◌�
 use Rattle.x25_frame.specs.{Frame.{disc, ua, dm, frmr}, laws.ReadingLaw.{ReadsSpelled}}
 use Rattle.x25_link.specs.{declared.phase.Phase.{Phase}, declared.phase.Phase.TheVariants.{Down, Waiting, Up, Closed}, Station.{Settings, is_up}}
 use Rattle.x25_link.specs.{Hearing.{other}, Link.{connect_refusal}}
-use Rattle.x25_line.specs.laws.Stations.{Act, T1, Connect, LinkEvent, Near, Far}
-use Rattle.x25_line.specs.laws.StationClaims.{AreJoined, AcceptsNoConnect, AcceptsNoConnectAt}
-use Rattle.x25_line.specs.laws.Sessions.{Entry, Sessions, sabm_in, how_many, acts, swapped, happens}
-use Rattle.x25_line.specs.{laws.SessionClaims.{Throughout}, laws.SessionEvents.{IsUnasked, BeginNone, NoneBeginUnasked}, laws.LawsBelow.{SessionLaws}}
+use Rattle.x25_line.specs.{laws.Stations.{Act, T1, Connect, LinkEvent, Near, Far}, laws.StationClaims.{AreJoined, AcceptsNoConnect, AcceptsNoConnectAt}}
+use Rattle.x25_line.specs.{laws.Sessions.{Entry, Sessions, sabm_in, how_many, acts, swapped, happens}, laws.SessionClaims.{Throughout}}
+use Rattle.x25_line.specs.{laws.SessionEvents.{IsUnasked, BeginNone, NoneBeginUnasked}, laws.LawsBelow.{SessionLaws}}
 use Rattle.x25_line.proofs.{StationSteps.{not_both}, StationAway.{is_up_phase}, sessions.SessionHeld.{Owes}}
 use Rattle.x25_line.proofs.{sessions.SessionLines.{Read, number_kinds, many_append}, sessions.EntryLines.{Less, many_less, less_removes, less_replaces}}
 use Rattle.x25_line.proofs.{sessions.SessionMay.{sends_read, entry, Known, MayDo, Kind}, sessions.Acts.{acts_still}, sessions.SessionSeen.{Seen}}
-use Rattle.x25_line.proofs.sessions.SessionSeenSteps.{IsTimely, station_acts}
-use Rattle.x25_line.proofs.{sessions.SessionSeenRuns.{other_owes, Both, both_swapped}, sessions.TwoSessions.{throughout_of}}
+use Rattle.x25_line.proofs.{sessions.SessionSeenSteps.{IsTimely, station_acts}, sessions.SessionSeenRuns.{other_owes, Both, both_swapped}}
+use Rattle.x25_line.proofs.sessions.TwoSessions.{throughout_of}
 
 -- ---- an end that doesn't await UA, with no SABM on its lines, after n sessions
 
@@ -41,7 +40,7 @@ module _ (d : Settings) (n : ℕ) where
       record { still = h.still; comes = omega (arith, fewer, none); sent = h.sent; begun = h.begun }
 
   front : {e : Entry} {es out : List Entry} {p : Phase} {b : ℕ} → IsQuiet d n (e ∷ es) p b out → IsQuiet d n es p b out
-  front h = (record { still = h.still; comes = omega (arith, h.comes); sent = h.sent; begun = h.begun })
+  front h = record { still = h.still; comes = omega (arith, h.comes); sent = h.sent; begun = h.begun }
 
   not_up : Up ≡ Waiting → ⊥
   not_up is = cc
@@ -64,7 +63,7 @@ module _ (d : Settings) (n : ℕ) where
     passes = λ e es met p b all out h. front h;
     hears = λ e es met b all out q may h. front h;
     takes_ua = λ e es met b all out read h. absurd (h.still refl);
-    takes_sabm = λ e es met p b all out octets pf f read answer part h. (absurd (omega (arith, ap sabm_in read, h.comes)));
+    takes_sabm = λ e es met p b all out octets pf f read answer part h. absurd (omega (arith, ap sabm_in read, h.comes));
     waits_on = λ e es met b all out octets pf f read answer h. absurd (h.still refl);
     takes_disc = λ e es met b all out octets pf f read answer h. push Down octets (Ok (ua f)) answer refl not_down (front h);
     faults = λ e es met b all out octets f why ending read h. push Down octets (Ok (frmr f why)) read refl not_down (front h);

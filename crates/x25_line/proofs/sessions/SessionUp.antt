@@ -3,11 +3,12 @@ use Rattle.std.proofs.Common.{◌≡◌, ℕ, List, [], ◌∷◌, inl, inr, fal
 use Rattle.x25_frame.specs.{Frame.{PlainFrame, info, rr, rnr, rej}, laws.ReadingLaw.{ReadsSpelled}}
 use Rattle.x25_window.specs.laws.Window.{Frame, frames_of}
 use Rattle.x25_link.specs.{declared.phase.Phase.TheVariants.{Closed}, declared.phase.Reason.{Reason}, declared.phase.Reason.TheVariants.{Disc, FrmrSent, Reset}}
-use Rattle.x25_link.specs.{Station.{Settings, LinkStation}, Hearing.{Step, other}, laws.WindowMachine.{Window, Input, Runs, rests, goes_on, Shows, ShowAll}}
+use Rattle.x25_link.specs.{Station.{Settings, LinkStation, awaits_ua}, Hearing.{Step, other}}
+use Rattle.x25_link.specs.laws.WindowMachine.{Window, Input, Runs, rests, goes_on, Shows, ShowAll}
 use Rattle.x25_link.specs.laws.WindowLaw.{brought_by, MayHandUp, InputMayHandUp, Stays, Follows}
 use Rattle.x25_line.specs.{laws.Stations.{Stations}, laws.StationClaims.{AreJoined, number_in, numbered_on}, laws.SessionClaims.{AllOf}}
 use Rattle.x25_line.specs.{laws.Sessions.{Entry, Meeting, Sessions, ua_in, begun_by, after_step}, laws.SessionNumbers.{Standing}, laws.WholeNumbers.{taken_out}}
-use Rattle.x25_line.proofs.{StationHears.{by_disc, by_reset}, StationSteps.{Holds, Leads}, StationAway.{second_false}}
+use Rattle.x25_line.proofs.{StationHears.{by_disc, by_reset}, StationSteps.{Holds, Leads}, StationAway.{is_up_phase, second_false}}
 use Rattle.x25_line.proofs.{sessions.SessionLines.{Read, none_is_some, count, AllNumbered, numbered_no_ua, numbers}, sessions.SessionHeld.{Held}}
 use Rattle.x25_line.proofs.{Lists.{each_append}, sessions.SessionSteps.{went_by, Answers, live_held}}
 use Rattle.x25_line.specs.laws.Stations as one
@@ -34,16 +35,16 @@ runs_numbered {v} (goes_on w before step frames runs sent allowed shows) =
 -- ---- what is sent where Up is left
 
 pub stays_answers : (w : Sessions) {k : ℕ} {input : Input} {s : LinkStation} {step : Step} → Stays k input s step → Answers w step
-stays_answers w {step = step} h = inr (numbered_no_ua step.side.out (runs_numbered h.sends))
+stays_answers w {step = step} h = (inr (numbered_no_ua step.side.out (runs_numbered h.sends)), ap awaits_ua (is_up_phase step.side.near.phase h.up))
 
 -- where it leaves by DISC that came, and not by SABM
 pub follows_answers : (w : Sessions) (o : Option Reason) (k : ℕ) (input : Input) (s : LinkStation) (step : Step)
     → (by_disc o ≡ 1 → w.far.station.phase ≡ Closed) → by_reset o ≡ 0 → Follows o k input s step → Answers w step
 follows_answers w None k input s step closed stays h = stays_answers w h
-follows_answers w (Some Disc) k input s step closed stays h = inl (closed refl)
-follows_answers w (Some FrmrSent) k input s step closed stays h = inr (ap (count ua_in) h.frames.2)
+follows_answers w (Some Disc) k input s step closed stays h = (inl (closed refl), ap awaits_ua h.phase)
+follows_answers w (Some FrmrSent) k input s step closed stays h = (inr (ap (count ua_in) h.frames.2), ap awaits_ua h.phase)
 follows_answers w (Some Reset) k input s step closed stays h = absurd (omega (arith, stays))
-follows_answers w (Some reason) k input s step closed stays h = inr (ap (count ua_in) h.frames)
+follows_answers w (Some reason) k input s step closed stays h = (inr (ap (count ua_in) h.frames), ap awaits_ua h.phase)
 
 -- ---- a packet is handed up where a frame with a number comes
 
@@ -67,12 +68,13 @@ follows_no_packet (Some reason) k r s step none h = h.packet
 
 module _ {c d : Settings} (joined : AreJoined c d) (reads : ReadsSpelled) where
   -- no LinkUp is noted in the session alone
-  quiet_up : (v : Stations) (os down : List (List ℕ)) (step : Step) → Holds ⊥ c d (one.after_step c v os down step) → step.notes.up ≡ false
+  quiet_up : (v : Stations) (os down : List (List ℕ)) (step : Step) → Holds c d (one.after_step c v os down step) → step.notes.up ≡ false
   quiet_up v os down step holds = second_false v.near.came_up step.notes.up holds.1.near_has.notes.once
 
+  -- an end in the session that stands goes on in it, by a step that the machine follows
   pub live_goes_on : {stand : Standing} (w : Sessions) (h : Held stand c d w) → w.near.begun ≡ stand.near
       → (es : List Entry) (os : List (List ℕ)) (met : List Meeting) (down : List (List ℕ)) (step : Step) (gone : Option ℕ)
-      → Leads ⊥ c d h.alone stand.machine (taken_out gone stand.machine.back) (one.after_step c h.alone os down step) → numbers (other c.role) c.longest es
+      → Leads c d h.alone stand.machine (taken_out gone stand.machine.back) (one.after_step c h.alone os down step) → numbers (other c.role) c.longest es
       ≡ numbered_on (other c.role) c.longest os → AllOf (other c.role) c.longest stand.far es
       → Answers w step → Held (went_by c step gone stand) c d (after_step c w es met down step)
   live_goes_on {stand} w h near es os met down step gone leads comes from answers =

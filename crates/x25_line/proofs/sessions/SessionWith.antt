@@ -4,18 +4,18 @@ use Rattle.x25_bits.specs.declared.role.Role.{Role}
 use Rattle.x25_frame.specs.{Frame.{PlainFrame, info, rr, rnr, rej, sabm, disc, ua, dm, frmr}, Reading.{frame_of}}
 use Rattle.x25_link.specs.{declared.phase.Phase.{Phase}, declared.phase.Phase.TheVariants.{Down, Waiting, Up}, Station.{Settings}, Hearing.{other}}
 use Rattle.x25_link.specs.laws.SetUp.{TakesPart}
-use Rattle.x25_line.specs.{laws.Sessions.{Entry, Meeting, ua_in, how_many as count, replaced}, laws.Peer.{Peer, MaySay}}
 use Rattle.x25_line.specs.{laws.PeerSessions.{PeerEnd, stand_of, letters}, laws.PeerSessionClaims.{frmr_in}}
 use Rattle.x25_line.specs.laws.Ends.{Stand, In, Asking, Letter, letter, how_many, AreOf, free, asks, closes, leaves, hears, takes_ua, takes_sabm, waits_on}
 use Rattle.x25_line.specs.laws.Ends.{takes_disc, loses, damages, Ends, near_now, with_near, Does, sends, listens, moves, EndsReached, near_handed, near_does}
-use Rattle.x25_line.specs.{laws.StationClaims.{Each, number_in}, laws.Said.{Sabm, Ua, Else, Odd as OddSaid, said, sabm_of, ua_of, disc_of}}
-use Rattle.x25_line.proofs.{Order.{by_frmr, no_fault}, StationSays.{machine_of}}
-use Rattle.x25_line.proofs.{sessions.SessionLines.{Read, none_is_some, number_kinds, many_append}, sessions.SessionHeld.{Owes, owes_less}}
+use Rattle.x25_line.proofs.{Order.{by_frmr, no_fault}, StationSays.{machine_of}, sessions.SessionLines.{Read, none_is_some, number_kinds, many_append}}
+use Rattle.x25_line.proofs.sessions.SessionHeld.{Owes, owes_less}
 use Rattle.x25_line.proofs.sessions.EntryLines.{each_less, Less as LessEntries, less_removes as entry_removes, less_replaces as entry_replaces}
 use Rattle.x25_line.proofs.sessions.Letters.{visible_fine, heard_said, letters_push, letters_removed, letters_replaced, sabms, uas, discs}
 use Rattle.x25_line.proofs.sessions.SessionMay.{sends_read, hears_read, entry, heard_in, MayAsk, MayDo}
 use Rattle.x25_line.proofs.ends.Lines.{count_push, count_less, Less, gone, less_removes, less_spoils, are_less}
 use Rattle.x25_line.proofs.ends.Sessions.{reached_all, ua_present, valid}
+use Rattle.x25_line.specs.{laws.Sessions.{Entry, Meeting, ua_in, how_many as count, replaced}, laws.Peer.{Peer, MaySay}}
+use Rattle.x25_line.specs.{laws.StationClaims.{Each, number_in}, laws.Said.{Sabm, Ua, Else, Odd as OddSaid, said, sabm_of, ua_of, disc_of}}
 
 number_frmr : (r : Read) (f : PlainFrame) → number_in r ≡ Some f → frmr_in r ≡ 0
 number_frmr (Ok (frmr g why)) f is = none_is_some f is

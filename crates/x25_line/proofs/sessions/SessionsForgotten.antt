@@ -3,12 +3,10 @@ use Rattle.std.proofs.Common.{◌≡◌, ◌≤◌, ◌<◌, ℕ, zero, suc, Lis
 use Rattle.std.proofs.Common.{append-nil, append_assoc}
 use Rattle.std.specs.Prelude.{nat_le, option_to_list, ◌||◌}
 use Rattle.x25_frame.specs.Spelling.{spelling_of}
-use Rattle.x25_link.specs.{Station.{Settings, LinkStation}, Hearing.{Step}}
-use Rattle.x25_link.specs.Link.{take_step, put_step, put_refusal}
+use Rattle.x25_link.specs.{Station.{Settings, LinkStation}, Hearing.{Step}, Link.{take_step, put_step, put_refusal}}
 use Rattle.x25_line.specs.laws.Stations.{StationEnd, Stations, Act, Put, Deliver, Lose, Damage, LinkEvent, Near, Far, is_visible, start}
 use Rattle.x25_line.specs.laws.Sessions.{Entry, SessionEnd, Meeting, Sessions, extended, begun_by, after_step, unless, delivered, replaced, acts, swapped}
-use Rattle.x25_line.specs.laws.Sessions.{happens, from_set_up, run}
-use Rattle.x25_line.specs.laws.SessionClaims.{octets_of, all_of, IsEndOf, SessionsAreStations, SetUpIsTheStart}
+use Rattle.x25_line.specs.{laws.Sessions.{happens, from_set_up, run}, laws.SessionClaims.{octets_of, all_of, IsEndOf, SessionsAreStations, SetUpIsTheStart}}
 use Rattle.x25_line.proofs.{Choices.{unless_both, if_both, own_both}, sessions.SessionSteps.{end_after}, sessions.SessionLines.{octets_append, octets_sent}}
 use Rattle.x25_line.proofs.sessions.SessionHeld.{extended_same, extended_other}
 use Rattle.x25_line.specs.laws.Stations as one
@@ -56,9 +54,9 @@ pub record Lasts (E : SessionEnd → StationEnd → Type 0) : Type 0 where
   pub steps : (e : SessionEnd) (v : StationEnd) → E e v → (down : List (List ℕ)) (step : Step) → E (stepped_end e down step) (stepped_station v down step)
 
 -- the octets on the lines are the same, and where `S` holds, so are all frames ever sent
-pub record Alike (E F : SessionEnd → StationEnd → Type 0) (S : Type 0) (w : Sessions) (v : Stations) : Type 0 where
+pub record Alike (E : SessionEnd → StationEnd → Type 0) (S : Type 0) (w : Sessions) (v : Stations) : Type 0 where
   pub near : E w.near v.near
-  pub far : F w.far v.far
+  pub far : E w.far v.far
   pub out : v.out ≡ octets_of w.out
   pub back : v.back ≡ octets_of w.back
   pub sent : S → v.sent ≡ w.sent
@@ -76,9 +74,9 @@ octets_replaced [] i octets = refl
 octets_replaced (e ∷ es) zero octets = refl
 octets_replaced (e ∷ es) (suc i) octets = ap (λ os. e.octets ∷ os) (octets_replaced es i octets)
 
-module _ {E : SessionEnd → StationEnd → Type 0} (F : SessionEnd → StationEnd → Type 0) (S : Type 0) (lasts : Lasts E) where
+module _ {E : SessionEnd → StationEnd → Type 0} (S : Type 0) (lasts : Lasts E) where
   abbrev A : Sessions → Stations → Type 0
-  A w v = Alike E F S w v
+  A w v = Alike E S w v
 
   step_alike : (c : Settings) {w : Sessions} {v : Stations} → A w v → (es : List Entry) (met : List Meeting) (down : List (List ℕ)) (step : Step)
       → A (after_step c w es met down step) (one.after_step c v (octets_of es) down step)
@@ -108,8 +106,7 @@ module _ {E : SessionEnd → StationEnd → Type 0} (F : SessionEnd → StationE
 
   deliver_alike : (c : Settings) {w : Sessions} {v : Stations} → A w v → (es : List Entry) → A (delivered c es w) (one.delivered c (octets_of es) v)
   deliver_alike c h [] = h
-  deliver_alike c {w} {v} h (e ∷ es) =
-      rw (lasts.station w.near v.near h.near) (step_alike c h es _ [] (take_step c e.octets w.near.station))
+  deliver_alike c {w} {v} h (e ∷ es) = rw (lasts.station w.near v.near h.near) (step_alike c h es _ [] (take_step c e.octets w.near.station))
 
   acts_alike : (c : Settings) (a : Act) {w : Sessions} {v : Stations} → A w v → A (acts c a w) (one.acts c a v)
   acts_alike c (Put packet) {w} {v} h = if_both A (nat_le (length packet) c.longest) h
@@ -125,19 +122,18 @@ module _ {E : SessionEnd → StationEnd → Type 0} (F : SessionEnd → StationE
 
 -- ---- runs
 
-pub turned_alike : (E F : SessionEnd → StationEnd → Type 0) (S : Type 0) (w : Sessions) (v : Stations) → Alike E F S w v
-    → Alike F E S (swapped w) (one.stations_swapped v)
-turned_alike E F S w v h = record { near = h.far; far = h.near; out = h.back; back = h.out; sent = h.sent }
+pub turned_alike : {E : SessionEnd → StationEnd → Type 0} {S : Type 0} {w : Sessions} {v : Stations} → Alike E S w v
+    → Alike E S (swapped w) (one.stations_swapped v)
+turned_alike h = record { near = h.far; far = h.near; out = h.back; back = h.out; sent = h.sent }
 
-module _ (E F : SessionEnd → StationEnd → Type 0) (S : Type 0) (here : Lasts E) (there : Lasts F) where
-  pub happens_alike : (c d : Settings) (e : LinkEvent) (w : Sessions) (v : Stations) → Alike E F S w v → Alike E F S (happens c d e w) (one.happens c d e v)
-  happens_alike c d (Near act) w v h = acts_alike F S here c act h
-  happens_alike c d (Far act) w v h =
-      turned_alike F E S (acts d act (swapped w)) (one.acts d act (one.stations_swapped v)) (acts_alike E S there d act (turned_alike E F S w v h))
+module _ {E : SessionEnd → StationEnd → Type 0} {S : Type 0} (lasts : Lasts E) where
+  pub happens_alike : (c d : Settings) (e : LinkEvent) {w : Sessions} {v : Stations} → Alike E S w v → Alike E S (happens c d e w) (one.happens c d e v)
+  happens_alike c d (Near act) h = acts_alike S lasts c act h
+  happens_alike c d (Far act) h = turned_alike (acts_alike S lasts d act (turned_alike h))
 
-  pub runs_alike : (c d : Settings) (es : List LinkEvent) (w : Sessions) (v : Stations) → Alike E F S w v → Alike E F S (run c d es w) (one.run c d es v)
-  runs_alike c d [] w v h = h
-  runs_alike c d (e ∷ es) w v h = runs_alike c d es (happens c d e w) (one.happens c d e v) (happens_alike c d e w v h)
+  pub runs_alike : (c d : Settings) (es : List LinkEvent) {w : Sessions} {v : Stations} → Alike E S w v → Alike E S (run c d es w) (one.run c d es v)
+  runs_alike c d [] h = h
+  runs_alike c d (e ∷ es) h = runs_alike c d es (happens_alike c d e h)
 
 -- ---- the lists of all sessions
 
@@ -161,8 +157,7 @@ ends_last = record { station = λ e v h. h.station; steps = steps }
 
 pub sessions_are_links : SessionsAreStations
 sessions_are_links c d es w v h =
-    let k = runs_alike IsEndOf IsEndOf (Unit {0}) ends_last ends_last c d es w v
-    (record { near = h.near; far = h.far; out = h.out; back = h.back; sent = λ _. h.sent }) in
+    let k = runs_alike {S = Unit {0}} ends_last c d es (record { near = h.near; far = h.far; out = h.out; back = h.back; sent = λ _. h.sent }) in
     record { near = k.near; far = k.far; out = k.out; back = k.back; sent = k.sent tt }
 
 pub set_up_is_the_start : SetUpIsTheStart

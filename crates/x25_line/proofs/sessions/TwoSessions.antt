@@ -7,11 +7,11 @@ use Rattle.x25_link.specs.{Station.{Settings, is_up}, Hearing.{other}, Link.{is_
 use Rattle.x25_line.specs.{laws.InWindow.{IsPrefix}, laws.StationClaims.{number_in}, laws.Said.{said, Odd}}
 use Rattle.x25_line.specs.laws.Sessions.{Entry, Meeting, Sessions, swapped, sabm_in, ua_in, disc_in, how_many, run}
 use Rattle.x25_line.specs.laws.SessionClaims.{Throughout, AllOf, Each, SomeMet, IsInOrder, MeetInStep, MetAreInOrder, UnmetHandNothingUp, OnlyBegunHaveLists}
-use Rattle.x25_line.specs.laws.SessionClaims.{EachHearsLatest, EachMeetsLatest, IdleHasArrived}
-use Rattle.x25_line.specs.{laws.LawsBelow.{SessionLaws}, laws.PeerSessions.{PeerEnd, as_end, with_peer, AllAskedIn, stand_of, letters, ReachedInSessions}}
+use Rattle.x25_line.specs.{laws.SessionClaims.{EachHearsLatest, EachMeetsLatest, IdleHasArrived}, laws.LawsBelow.{SessionLaws}}
+use Rattle.x25_line.specs.laws.PeerSessions.{PeerEnd, as_end, with_peer, AllAskedIn, stand_of, letters, ReachedInSessions}
 use Rattle.x25_line.specs.{laws.Ends.{letter, OfSabm, OfTells}, laws.PeerSessionClaims.{frmr_in}}
 use Rattle.x25_line.proofs.{sessions.SessionWith.{NoneOdd}, StationAway.{is_up_phase}, StationLines.{consed, IsOrderly}, sessions.SessionLines.{Read, numbers}}
-use Rattle.x25_line.proofs.{sessions.SessionHeld.{Owes, OnLine}}
+use Rattle.x25_line.proofs.sessions.SessionHeld.{Owes, OnLine}
 use Rattle.x25_line.proofs.sessions.PeerSessionRuns.{two, all_of, lines, owes_is, up_in, step_is, order_is, unmet_is, idle_is, latest_is}
 use Rattle.x25_line.proofs.{sessions.SessionSeenRuns.{end, tags_there, Both, both_swapped, throughout_both}, ends.Meetings.{twice_turned, far_turned}}
 use Rattle.x25_line.proofs.{ends.Lines.{AllTold, Never, Of, AllTags, IsAsked, AllAsked}, ends.Sessions.{far_high}}
@@ -62,7 +62,7 @@ quiet_behind N O from n1 b q all e es is asked tags one =
     go (Err Short) a t one = absurd (omega (arith, one))
     go (Err x) a t one = absurd (omega (arith, one))
 
-orderly : (r : Read) → (said r ≡ Odd → ⊥) → frmr_in r ≡ 0 → IsOrderly (Unit {0}) r
+orderly : (r : Read) → (said r ≡ Odd → ⊥) → frmr_in r ≡ 0 → IsOrderly r
 orderly (Ok (frmr f why)) odd none = absurd (omega (arith, none))
 orderly (Err (Undefined control)) odd none = absurd (odd refl)
 orderly (Err (NoInfoAllowed control)) odd none = absurd (odd refl)
@@ -154,8 +154,7 @@ module _ (reads : ReadsSpelled) (rests : SessionLaws) where
           (elim which [ inl up ↦ inl up | inr some ↦ inr (far_turned w.far.begun w.met some) ]);
     }
 
-  fine : (c d : Settings) (w : Sessions) → Both c d w → (e : Entry) (es : List Entry) → w.back ≡ e ∷ es
-      → IsOrderly (Unit {0}) (frame_of (other c.role) c.longest e.octets)
+  fine : (c d : Settings) (w : Sessions) → Both c d w → (e : Entry) (es : List Entry) → w.back ≡ e ∷ es → IsOrderly (frame_of (other c.role) c.longest e.octets)
   fine c d w h e es is =
       let far : how_many frmr_in d.role d.longest w.back ≡ 0 = no_frmr d c (swapped w) (both_swapped h) in
       let none : how_many frmr_in (other c.role) c.longest w.back ≡ 0 = rw h.joined.longest (rw h.joined.far_role far)

@@ -29,9 +29,6 @@ restart_octets = 1 ∷ 0 ∷ 16 ∷ 0 ∷ 251 ∷ 0 ∷ 0 ∷ 119 ∷ 2 ∷ []
 abbrev peers_sabm : List ℕ
 peers_sabm = 3 ∷ 63 ∷ 91 ∷ 236 ∷ []
 
-abbrev stations_ua : List ℕ
-stations_ua = 3 ∷ 115 ∷ 51 ∷ 100 ∷ []
-
 sabm_reads : frame_of Dte 4099 sabm_octets ≡ Ok (sabm true)
 unfolding frame_of is_sealed fcs_of number_of divided low_bits add divisor
 sabm_reads = refl

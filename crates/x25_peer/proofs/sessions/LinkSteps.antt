@@ -1,13 +1,11 @@
 -- The near one of two links with their sessions: a step of its own, and the octets that a station hands down to it behind that.
 use Rattle.std.proofs.Common.{◌≡◌, ℕ, ◌==◌, ◌≤◌, Ok, List, [], ◌∷◌, ◌++◌, length, map, Bool, true, false, if◌then◌else◌, Option, Some, None, option_to_list}
-use Rattle.std.proofs.Common.{refl, sym, ap, ap₂, ◌∙◌, subst, append_assoc, append-nil}
-use Rattle.std.proofs.lemmas.Bool.{le-leb, cond_both}
+use Rattle.std.proofs.{Common.{refl, sym, ap, ap₂, ◌∙◌, subst, append_assoc, append-nil}, lemmas.Bool.{le-leb, cond_both}}
 use Rattle.std.specs.Prelude.{remove}
 use Rattle.x25_frame.specs.Frame.{PlainFrame}
 use Rattle.x25_packet.specs.{Packet.{PlainPacket}, Taking.{read_in}}
 use Rattle.x25_given.specs.{Given.{PlainGiven, may_give}, Writing.{write}}
 use Rattle.x25_link.specs.{declared.error.LinkError.{LinkError}, declared.phase.Phase.{Phase}, declared.phase.Phase.TheVariants.{Down}}
-use Rattle.x25_link.specs.{declared.phase.Reason.TheVariants.{Counts}, Hearing.{Step as LinkStep}}
 use Rattle.x25_link.specs.Station.{Settings as LinkSettings, LinkStation, Side, is_up, with_nothing}
 use Rattle.x25_link.specs.{Link.{put_refusal, put_step, take_step, timer_step, connect_step, abandon_step, probe_refusal, relink_step}, laws.NoteLaw.{PutTells}}
 use Rattle.x25_link.specs.laws.SetUp.{RelinkIsTwoSteps}
@@ -16,6 +14,7 @@ use Rattle.x25_line.proofs.sessions.SessionSays.{sent_append}
 use Rattle.x25_station.specs.{Config.{Settings, link_settings, longest_packet}, Giving.{all_given}, Station.{behind, put_on, all_put}, Step.{Step}}
 use Rattle.x25_station.specs.{laws.GivenLaw.{AreTaken, PutsGiven, GivesOctets, GivenIsRead}, laws.JoinLaw.{AreAccepted, PutsBehind}}
 use Rattle.x25_station.specs.laws.ReadLaw.{AreOctets, AreReadable}
+use Rattle.x25_link.specs.{declared.phase.Reason.TheVariants.{Counts}, Hearing.{Step as LinkStep}}
 use Rattle.x25_packet.specs.Spelling as packet
 use Rattle.x25_line.specs.laws.Stations as line
 
@@ -218,6 +217,7 @@ pub record HasPut (c : Settings) (t : Side) (step : Step) : Type 0 where
   pub packets : List PlainPacket
   pub put : PutsRead c t packets handed step
 
+-- packets that are put go down as they are spelled
 pub puts_spelled : {c : Settings} {t : Side} {packets : List PlainPacket} {step : Step} → PutsBehind c t packets step → AreReadable c.wide c.long_data packets
     → PutsRead c t packets (spelled packets) step
 puts_spelled {c} {t} {packets} p readable =
@@ -246,6 +246,7 @@ pub handed_up : PutTells → (c : LinkSettings) (os : List (List ℕ)) (t : Side
 handed_up tells c [] t up = up
 handed_up tells c (o ∷ os) t up = handed_up tells c os (handed_on c o t) ((tells c o t.near up).stays refl ∙ up)
 
+-- so does that of a station that puts packets
 pub puts_up : PutTells → {c : Settings} {t : Side} {packets : List PlainPacket} {os : List (List ℕ)} {step : Step} → PutsRead c t packets os step
     → is_up t.near.phase ≡ true → is_up step.near.link.phase ≡ true
 puts_up tells {c} {t} {os} p up = ap (λ s. is_up s.phase) p.link ∙ handed_up tells (link_settings c) os t up

@@ -1,7 +1,6 @@
 -- Sessions that meet one to one.
 use Rattle.std.proofs.Common.{◌≡◌, ℕ, suc, ◌+◌, ◌==◌, ◌<◌, ◌⊎◌, inl, inr, List, [], ◌∷◌, Bool, true, false, refl, sym, subst, ◌∙◌, Option, Some, None, eq-eqb}
-use Rattle.std.proofs.Common.{arith}
-use Rattle.std.proofs.lemmas.Bool.{eqb-true}
+use Rattle.std.proofs.{Common.{arith}, lemmas.Bool.{eqb-true}}
 use Rattle.x25_frame.specs.Frame.{PlainFrame}
 use Rattle.x25_line.specs.{laws.Sessions.{Meeting, heard}, laws.SessionClaims.{Each, SomeMet, IsNoEarlier, InStep}}
 use Rattle.x25_line.proofs.ends.Meetings.{all_map, all_some, all_no_earlier}

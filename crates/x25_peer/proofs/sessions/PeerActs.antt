@@ -1,16 +1,12 @@
 -- What happens on the line and at the peer, beside a station over sessions.
 use Rattle.std.proofs.Common.{◌≡◌, ℕ, zero, suc, ◌==◌, ◌≤◌, ◌<◌, List, [], ◌∷◌, ◌++◌, map, length, drop, Bool, true, false, if◌then◌else◌, Ok, refl, sym, ap}
-use Rattle.std.proofs.Common.{subst, ◌∙◌, append_assoc, append-nil, eq-eqb, arith}
-use Rattle.std.proofs.{lemmas.Bool.{eqb-true}, lemmas.List.{drop-append-le}}
+use Rattle.std.proofs.{Common.{subst, ◌∙◌, append_assoc, append-nil, eq-eqb, arith}, lemmas.Bool.{eqb-true}, lemmas.List.{drop-append-le}}
 use Rattle.std.specs.Prelude.{remove}
 use Rattle.x25_packet.specs.{Packet.{PlainPacket}, Spelling.{channel_of, HasChannel}}
-use Rattle.x25_link.specs.{Station.{Settings as LinkSettings, LinkStation}}
-use Rattle.x25_line.specs.{laws.Stations.{is_visible}, laws.Sessions.{Entry, Meeting, turned, acts, replaced}}
-use Rattle.x25_line.specs.laws.Peer.{Peer, fresh_peer}
+use Rattle.x25_line.specs.{laws.Stations.{is_visible}, laws.Sessions.{Entry, Meeting, turned, acts, replaced}, laws.Peer.{Peer, fresh_peer}}
 use Rattle.x25_line.specs.laws.PeerSessions.{PeerEnd, PeerSessions, now, with_now, begins, ReachedInSessions, goes_on, Ours, HandsDown, both_ends, with_peer}
 use Rattle.x25_line.specs.laws.Ends.{Stand, In, Letter, Two, meets, heard, Ends, near_now, fresh_where, begins as begins_by, Moves, hears, takes_ua, takes_sabm}
-use Rattle.x25_line.specs.laws.Ends.{Does, sends, listens, moves}
-use Rattle.x25_line.specs.{laws.Said.{Said, Tells}, laws.SessionClaims.{Each}}
+use Rattle.x25_line.specs.{laws.Ends.{Does, sends, listens, moves}, laws.Said.{Said, Tells}, laws.SessionClaims.{Each}}
 use Rattle.x25_handshakes.specs.{laws.Handshake.{Live}, laws.Layers.{On}}
 use Rattle.x25_handshakes.specs.laws.PeerLayer.{PeerChannels, LayerDeed, MayDoLayer, does_layer, layer_packet_of, layer_taking, ready_taking}
 use Rattle.x25_handshakes.specs.laws.PeerLayers.{other_role, AreElsewhere}
@@ -23,6 +19,7 @@ use Rattle.x25_peer.proofs.{ReadLemmas.{ReadFirst, read_append, ok_same, said_sa
 use Rattle.x25_peer.proofs.sessions.SessionLinks.{links_with, LinkReached}
 use Rattle.x25_peer.proofs.sessions.Standing.{Below, in_other, in_cases, both_cases, PairReached, IsRead, AreAnew, downs_of, ups_of, Stands, way, taken_begins}
 use Rattle.x25_peer.proofs.sessions.Standing.{up_few}
+use Rattle.x25_link.specs.{Station.{Settings as LinkSettings, LinkStation}}
 use Rattle.x25_line.specs.laws.Stations as line
 use Rattle.x25_line.specs.laws.PeerSessions as peers
 use Rattle.x25_layer.specs.laws.PeerJoined as layer_peer

@@ -7,8 +7,7 @@ use Rattle.x25_handshakes.specs.{laws.Handshake.{At}, laws.PeerLayer.{PeerChanne
 use Rattle.x25_layer.specs.{declared.ranges.Ranges.{Ranges}, Layer.{LayerSettings, is_channel}}
 use Rattle.x25_layer.specs.Calls.{LayerRequest, LayerOutcome, Accepted, Declined, layer_outcome, LayerPulled, layer_pulled}
 use Rattle.x25_layer.specs.laws.TwoLayers.{End, TwoLayers, Move, Requests, Pulls, HandsUp, GoesDown, requested, pulled_in, moves_in, moves, settings_of}
-use Rattle.x25_layer.specs.laws.TwoLayers.{handed_up}
-use Rattle.x25_layer.specs.{laws.RoundLaw.{moves_all, pulls_of}, laws.PeerJoined.{our_end, with_peer, StaysUp, Ours}}
+use Rattle.x25_layer.specs.{laws.TwoLayers.{handed_up}, laws.RoundLaw.{moves_all, pulls_of}, laws.PeerJoined.{our_end, with_peer, StaysUp, Ours}}
 use Rattle.x25_station.specs.laws.ReadLaw.{IsReachedByOctets, MovesOctets, goes_on}
 
 -- what stands at the far end decides nothing of a move

@@ -25,6 +25,7 @@ pub record LinkReached (c : LinkSettings) (link : LinkStation) (begun : ℕ) (do
 abbrev pub Reach : LinkSettings → PeerEnd → Sessions → Type 0
 Reach c peer v = ReachedInSessions (Unit {0}) c (with_peer peer v)
 
+-- they are after each act of the station that is timely
 pub acts_reach : {c : LinkSettings} {peer : PeerEnd} (act : line.Act) (v : Sessions) → IsTimely c act (with_peer peer v) → Reach c peer v
     → Reach c peer (acts c act v)
 acts_reach {c} {peer} act v timely h =

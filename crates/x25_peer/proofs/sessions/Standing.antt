@@ -1,8 +1,7 @@
 -- What stands of a station and a peer over sessions: their links are joined as `x25_line` has it, and the layers of each session of the one and
 -- each of the other that it met, or may meet yet, as `x25_layer` has it.
 use Rattle.std.proofs.Common.{◌≡◌, ℕ, ◌==◌, ◌≤◌, ◌<◌, inl, inr, List, [], ◌++◌, length, drop, Bool, true, false, if◌then◌else◌, refl, sym, ap, subst, ◌∙◌}
-use Rattle.std.proofs.Common.{append_assoc, eq-eqb, arith}
-use Rattle.std.proofs.{lemmas.Bool.{eqb-true, ne_eqb}, lemmas.List.{drop-append-le}}
+use Rattle.std.proofs.{Common.{append_assoc, eq-eqb, arith}, lemmas.Bool.{eqb-true, ne_eqb}, lemmas.List.{drop-append-le}}
 use Rattle.x25_packet.specs.Packet.{PlainPacket}
 use Rattle.x25_link.specs.Station.{Settings as LinkSettings, LinkStation, is_up}
 use Rattle.x25_link.specs.laws.NoteLaw.{TakeTells, TakeHandsUp, TimerTells, PutTells, ConnectTells, DisconnectTells, AbandonTells, RelinkTells}
@@ -53,12 +52,15 @@ pub record Below : Type 0 where
 
 -- ---- a session among all
 
+-- in session s it is x
 pub in_here : {A : Type 0} (s : ℕ) (x : A) (all : ℕ → A) → in_session s x all s ≡ x
 in_here {A} s x all = ap (λ b. if b then x else all s) (eq-eqb s s refl)
 
+-- in each other it is what it was
 pub in_other : {A : Type 0} (s n : ℕ) (x : A) (all : ℕ → A) → (n ≡ s → ⊥) → in_session s x all n ≡ all n
 in_other {A} s n x all differs = ap (λ b. if b then x else all n) (ne_eqb n s differs)
 
+-- so what holds in session s and in each other holds in all
 pub in_cases : {A : Type 0} (P : ℕ → A → Type 0) (s : ℕ) (x : A) (all : ℕ → A) → P s x → ((n : ℕ) → (n ≡ s → ⊥) → P n (all n)) → (n : ℕ)
     → P n (in_session s x all n)
 in_cases {A} P s x all here others n = by (n == s) refl
@@ -67,6 +69,7 @@ in_cases {A} P s x all here others n = by (n == s) refl
     by true is = subst (λ k. P k x) (sym (eqb-true n s is)) here
     by false is = others n (λ e. true_false (sym (eq-eqb n s e) ∙ is))
 
+-- the same of two at once
 pub both_cases : {A B : Type 0} (P : ℕ → A → B → Type 0) (s : ℕ) (x : A) (all : ℕ → A) (y : B) (each : ℕ → B) → P s x y
     → ((n : ℕ) → (n ≡ s → ⊥) → P n (all n) (each n)) → (n : ℕ)
     → P n (in_session s x all n) (in_session s y each n)

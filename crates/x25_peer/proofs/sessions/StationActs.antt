@@ -1,16 +1,13 @@
 -- What the station does beside a peer over sessions, act by act.
 use Rattle.std.proofs.Common.{◌≡◌, ℕ, ◌==◌, ◌≤◌, inl, inr, List, [], ◌∷◌, ◌++◌, length, drop, true, false, ◌&&◌, if◌then◌else◌, Option, Some, None, refl, sym}
-use Rattle.std.proofs.Common.{ap, subst, ◌∙◌, append-nil, eq-eqb}
-use Rattle.std.proofs.lemmas.Bool.{and_parts}
+use Rattle.std.proofs.{Common.{ap, subst, ◌∙◌, append-nil, eq-eqb}, lemmas.Bool.{and_parts}}
 use Rattle.std.specs.Prelude.{remove}
 use Rattle.x25_frame.specs.Reading.{frame_of}
 use Rattle.x25_packet.specs.Packet.{PlainPacket}
 use Rattle.x25_given.specs.Given.{PlainGiven, may_give}
 use Rattle.x25_link.specs.{declared.error.LinkError.{LinkError}, declared.phase.Phase.TheVariants.{Waiting}, Outgoing.{waits}}
-use Rattle.x25_link.specs.{Station.{LinkStation, is_up}, Hearing.{Step as LinkStep, other}}
 use Rattle.x25_link.specs.Link.{alone, take_step, timer_refusal, timer_step, connect_refusal, connect_step, disconnect_refusal, disconnect_step, abandon_step}
-use Rattle.x25_link.specs.Link.{probe_refusal, relink_refusal, relink_step}
-use Rattle.x25_link.specs.laws.NoteLaw.{Tells}
+use Rattle.x25_link.specs.{Link.{probe_refusal, relink_refusal, relink_step}, laws.NoteLaw.{Tells}}
 use Rattle.x25_line.specs.laws.StationClaims.{number_in}
 use Rattle.x25_line.specs.laws.Sessions.{Entry, Meeting, Sessions, acts, after_step, delivered, sent_in, extended, begun_by, unless}
 use Rattle.x25_line.specs.{laws.SessionClaims.{SomeMet, InStep}, laws.InWindow.{IsPrefix}, laws.PeerSessions.{PeerSessions, IsTimely, IsDue, both_ends}}
@@ -19,9 +16,7 @@ use Rattle.x25_layer.specs.{Calls.{LayerRequest}, code.FitsLayer.{is_full}, laws
 use Rattle.x25_layer.specs.laws.RoundLaw.{moves_all, pulls_of}
 use Rattle.x25_station.specs.Config.{Settings, link_settings, layer_settings, longest_packet}
 use Rattle.x25_station.specs.Command.{may_ask, Connects as ConnectsCommand, Disconnects as DisconnectsCommand, Probes as ProbesCommand}
-use Rattle.x25_station.specs.Command.{Relinks as RelinksCommand}
-use Rattle.x25_station.specs.{Entry.{StationEntry, connect_asked, disconnect_asked, relink_asked}, Giving.{suits}}
-use Rattle.x25_station.specs.{Step.{Step, Did, unless as refused_or, led_by, follows, abandons, receives, requests, gives}, laws.GivenLaw.{GivesOctets}}
+use Rattle.x25_station.specs.{Command.{Relinks as RelinksCommand}, Entry.{StationEntry, connect_asked, disconnect_asked, relink_asked}, Giving.{suits}}
 use Rattle.x25_station.specs.{laws.JoinLaw.{station_with, IsJoined, MovesAs}, laws.KeepLaw.{IsKept, KeptBy}}
 use Rattle.x25_station.specs.laws.ReadLaw.{AreReadable, RequestsOctets, IsReachedByOctets}
 use Rattle.x25_peer.specs.laws.BesideSessions.{Theirs, BesideSessions, stepped, followed, heard_here, links_of}
@@ -33,6 +28,8 @@ use Rattle.x25_peer.proofs.sessions.LinkSteps.{spelled_with, PutsRead, puts_spel
 use Rattle.x25_peer.proofs.sessions.SessionLinks.{links_with, LinkReached, Reach, acts_reach, goes_reached}
 use Rattle.x25_peer.proofs.sessions.Standing.{Below, Known, PairReached, downs_of, ups_of, Stands, both_begin, heard_few, way, way_more}
 use Rattle.x25_peer.proofs.sessions.StationSteps.{AreSilent, goes, follows_on}
+use Rattle.x25_link.specs.{Station.{LinkStation, is_up}, Hearing.{Step as LinkStep, other}}
+use Rattle.x25_station.specs.{Step.{Step, Did, unless as refused_or, led_by, follows, abandons, receives, requests, gives}, laws.GivenLaw.{GivesOctets}}
 use Rattle.x25_line.specs.laws.Stations as line
 
 silent : AreSilent []

@@ -3,8 +3,6 @@ use Rattle.std.proofs.Common.{◌≡◌, ℕ, suc, ◌≤◌, List, [], ◌∷�
 use Rattle.std.proofs.Common.{append-nil, arith}
 use Rattle.x25_frame.specs.Frame.{PlainFrame}
 use Rattle.x25_packet.specs.Packet.{PlainPacket, restart}
-use Rattle.x25_link.specs.{declared.phase.Reason.{Reason}, Station.{Settings as LinkSettings, LinkStation, Side, is_up}}
-use Rattle.x25_link.specs.{Hearing.{Step as LinkStep}, laws.NoteLaw.{IsQuiet, Tells}}
 use Rattle.x25_line.specs.{laws.Sessions.{Entry, Meeting, Sessions, begun_by}, laws.PeerSessions.{PeerSessions, both_ends}}
 use Rattle.x25_layer.specs.{Layer.{Layer, rested, restart_cause}, laws.TwoLayers.{End, TwoLayers}}
 use Rattle.x25_station.specs.{Config.{Settings, link_settings}, Entry.{StationEntry, link_down, entries_noted, layer_entries, layer_notices}}
@@ -15,6 +13,8 @@ use Rattle.x25_peer.proofs.sessions.LinkSteps.{SessionGoes, StepGoes, step_as, s
 use Rattle.x25_peer.proofs.sessions.SessionLinks.{links_with, Reach, acts_reach, goes_reached}
 use Rattle.x25_peer.proofs.sessions.Standing.{Below, in_here, in_other, in_cases, both_cases, Known, IsStanding, IsKnown, IsNotBegun, PairReached, downs_of}
 use Rattle.x25_peer.proofs.sessions.Standing.{ups_of, Stands, into}
+use Rattle.x25_link.specs.{declared.phase.Reason.{Reason}, Station.{Settings as LinkSettings, LinkStation, Side, is_up}}
+use Rattle.x25_link.specs.{Hearing.{Step as LinkStep}, laws.NoteLaw.{IsQuiet, Tells}}
 use Rattle.x25_line.specs.laws.Stations as line
 use Rattle.x25_layer.specs.laws.PeerJoined as layer_peer
 

@@ -14,8 +14,8 @@ use Rattle.x25_circuit.specs.declared.error.CircuitError.TheVariants.{BadParamet
 use Rattle.x25_layer.specs.{declared.error.LayerError.{LayerError}, declared.error.LayerError.TheVariants.{NoSuchChannel}}
 use Rattle.x25_layer.specs.Layer.{LayerSettings, Layer, is_channel}
 use Rattle.x25_layer.specs.Calls.{LayerRequest, Asks, Dials, LayerOutcome, Accepted, Declined, free_channel, outcome_on, where_room, dialled, outcome_in}
-use Rattle.x25_layer.specs.Calls.{layer_outcome, layer_pulled}
-use Rattle.x25_layer.specs.{laws.TwoLayers.{pulled_in, moves_in, requested}, laws.RoundLaw.{moves_all, pulls_of}, laws.Apart.{alone}}
+use Rattle.x25_layer.specs.{Calls.{layer_outcome, layer_pulled}, laws.TwoLayers.{pulled_in, moves_in, requested}, laws.RoundLaw.{moves_all, pulls_of}}
+use Rattle.x25_layer.specs.laws.Apart.{alone}
 use Rattle.x25_station.specs.Beside.{PlainBeside, nothing, fields, of_fields, beside_kind, beside_in, beside_or_none, unless_written}
 use Rattle.x25_station.specs.{declared.config.Cfg.{Cfg}, Command.{said_by}, Giving.{suits}, laws.GivenLaw.{GivesOctets, told}}
 use Rattle.x25_station.specs.{laws.ReadLaw.{AreOctets, IsReadable, AreReadable}, Entry.{StationEntry}}
@@ -104,6 +104,7 @@ pub record MoreIs (cfg : Cfg) (old new : List (List ℕ)) (gave : List Gave) : T
   pub is : new ≡ old ++ more
   pub given : AreSomeOf IsGiven (brought cfg more) gave
 
+-- it was handed down no more
 pub none_more : (cfg : Cfg) (old new : List (List ℕ)) (gave : List Gave) → new ≡ old → MoreIs cfg old new gave
 none_more cfg old new gave same = record { more = []; is = same ∙ sym (append-nil old); given = tt }
 
@@ -234,9 +235,6 @@ module _ (laws : Laws) (cfg : Cfg) (g : PlainGiven) (channel : Option ℕ) (wide
       reads : read_by cfg o ≡ Ok p
       reads = ap (λ b. read_in b (longest_user cfg.long_data) o) wide ∙ (laws.given_read cfg.wide cfg.long_data g p allowed octets r).reads
 
-      of_written : AreOctets (written g p)
-      of_written = subst AreOctets is_written (laws.given_read cfg.wide cfg.long_data g p allowed octets r).octets
-
       err_ok : {A : Type 0} (e : PacketError) → Err e ≡ Ok p → A
       err_ok e is = absurd (cc)
 
@@ -248,7 +246,8 @@ module _ (laws : Laws) (cfg : Cfg) (g : PlainGiven) (channel : Option ℕ) (wide
       by (Ok u) is = brings nothing (ap (λ b. beside_in b o) wide ∙ ap (λ read. unless_written read (beside_or_none (form_in 128 o))) is) tt
       by (Err e) is = brings (told g p)
           (ap (λ b. beside_in b o) wide ∙ ap (λ os. beside_in true os) is_written
-          ∙ laws.given_told g p allowed (in_range laws cfg p r) of_written
+          ∙ laws.given_told g p allowed (in_range laws cfg p r)
+          (subst AreOctets is_written (laws.given_read cfg.wide cfg.long_data g p allowed octets r).octets)
           (λ same. err_ok e (sym is ∙ ap (λ os. packet_of 128 os) (is_written ∙ same) ∙ read_plain laws cfg p without r)))
           (told_brings p may (in_range laws cfg p r))
 

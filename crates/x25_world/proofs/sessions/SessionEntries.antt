@@ -1,15 +1,13 @@
 -- What entries that an end's step adds say of its sessions, and of whom they meet.
 use Rattle.std.proofs.Common.{◌≡◌, ℕ, zero, suc, ◌+◌, ◌≤◌, ◌==◌, List, [], ◌∷◌, ◌++◌, inl, Bool, true, false, if◌then◌else◌, Option, Some, None, Ok, refl, sym}
-use Rattle.std.proofs.Common.{ap, ap₂, ◌∙◌, subst, append_assoc, append-nil, arith}
-use Rattle.std.proofs.lemmas.Bool.{eqb-true, cond_both}
+use Rattle.std.proofs.{Common.{ap, ap₂, ◌∙◌, subst, append_assoc, append-nil, arith}, lemmas.Bool.{eqb-true, cond_both}}
 use Rattle.x25_handshakes.specs.laws.Names.{Name, both, same_name}
 use Rattle.x25_bits.specs.{declared.role.Role.{Role}, declared.role.Role.TheVariants.{Dte, Dce}}
-use Rattle.x25_link.specs.{Hearing.{other, Step as LinkStep}, laws.NoteLaw.{IsQuiet}}
 use Rattle.x25_packet.specs.{Packet.{PlainPacket, restart, restart_conf}, Spelling.{channel_of}}
 use Rattle.x25_circuit.specs.{Hearing.{Answer, answers}, Notice.{PlainNotice}}
 use Rattle.x25_layer.specs.Layer.{LayerSettings, Layer, LayerNotice, on_channel, restarted, restart_done, layer_fault, is_channel, notices_on, answers_on}
-use Rattle.x25_layer.specs.Layer.{drops, answers_in, layer_answers}
-use Rattle.x25_layer.specs.{Receiving.{answer_to}, Calls.{LayerRequest, Asks, Dials, Restarts, PullsAll, LayerOutcome, Accepted, Declined}}
+use Rattle.x25_layer.specs.{Layer.{drops, answers_in, layer_answers}, Receiving.{answer_to}}
+use Rattle.x25_layer.specs.Calls.{LayerRequest, Asks, Dials, Restarts, PullsAll, LayerOutcome, Accepted, Declined}
 use Rattle.x25_layer.specs.{laws.Transcript.{Entry, Said, Asked, Told, name_of}, laws.TwoLayers.{entries_asked}, laws.ApartLaw.{BeginsRestarted}}
 use Rattle.x25_station.specs.{Confirming.{named_by, confirmed}, Beside.{PlainBeside, nothing, fields, diagnosed, beside_in}, declared.config.Cfg.{Cfg}}
 use Rattle.x25_station.specs.Config.{Settings, settings_from, layer_settings}
@@ -23,6 +21,7 @@ use Rattle.x25_world.specs.laws.Sessions.{Progress, none_begun, after_entry, aft
 use Rattle.x25_world.specs.laws.Sessions.{meets}
 use Rattle.x25_world.proofs.{Growing.{read_by}, sessions.SessionCounts.{counted_at, CountNone}}
 use Rattle.x25_world.proofs.sessions.SessionBeside.{brought_as, brought_by, brought, AreTold}
+use Rattle.x25_link.specs.{Hearing.{other, Step as LinkStep}, laws.NoteLaw.{IsQuiet}}
 
 -- ---- one behind the other
 

@@ -2,7 +2,6 @@
 use Rattle.std.proofs.Common.{◌≡◌, ℕ, suc, List, [], ◌∷◌, ◌++◌, Bool, true, false, Option, Some, None, refl, sym, ap, ap₂, ◌∙◌, subst, arith}
 use Rattle.x25_bits.specs.declared.role.Role.{Role}
 use Rattle.x25_packet.specs.Packet.{restart}
-use Rattle.x25_link.specs.{declared.phase.Reason.{Reason}, Station.{is_up}, Hearing.{Step as LinkStep, quiet}}
 use Rattle.x25_link.specs.laws.NoteLaw.{IsQuiet, Tells}
 use Rattle.x25_line.specs.{laws.Sessions.{Meeting, Sessions, begun_by}, laws.SessionClaims.{octets_of, OnlyBegunHaveLists}}
 use Rattle.x25_layer.specs.{Layer.{LayerSettings, Layer, rested, restart_cause, goes_up}, laws.Rounds.{LinkView}, laws.TwoLayers.{started}}
@@ -19,6 +18,7 @@ use Rattle.x25_world.proofs.sessions.SessionJoined.{HasMet, PairsAreInOrder, Ses
 use Rattle.x25_world.proofs.{sessions.SessionKnown.{nothing_in_order, own_readable}, Growing.{back_read, back_octets}}
 use Rattle.x25_world.proofs.{sessions.SessionGoes.{IsSilent, not_in, rests, begins_session}, sessions.SessionEntries.{AreMute}}
 use Rattle.x25_peer.proofs.sessions.LinkSteps.{SessionGoes, StepGoes, step_as, spelled, puts_spelled, HasPut, puts_up, puts_of, all_act, puts_go}
+use Rattle.x25_link.specs.{declared.phase.Reason.{Reason}, Station.{is_up}, Hearing.{Step as LinkStep, quiet}}
 use Rattle.x25_line.specs.laws.Stations as line
 use Rattle.x25_line.specs.laws.Sessions as links
 use Rattle.x25_layer.specs.laws.TwoLayers as layer
@@ -169,6 +169,7 @@ module _ {since : Beginning} (laws : SessionLaws) (cfg : Cfg) (fine : IsConfigur
       (λ still. true_false (sym still ∙ off))
       (subst (λ s. IsKept s.near) (sym same) kept) reach pairs more)
 
+  -- a step of the link that notes no LinkUp and hands up no packet
   pub follows_silent : k.notes.up ≡ false → k.packet ≡ None → IsKept whole_step.near → To (after_step ours w (octets_of left) whole_step)
   follows_silent not_up none kept = by k.notes.down refl
     where

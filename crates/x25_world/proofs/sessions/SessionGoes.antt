@@ -1,9 +1,8 @@
 -- A step of the near end, joined of a step of its link and moves of its layer: in the session that stands, at rest, or as a session begins.
 use Rattle.std.proofs.Common.{◌≡◌, ℕ, suc, ◌==◌, ◌≤◌, ◌<◌, ◌⊎◌, inl, inr, List, [], ◌∷◌, ◌++◌, map, true, false, ◌&&◌, if◌then◌else◌, Option, Some, None, refl}
-use Rattle.std.proofs.Common.{sym, ap, ap₂, ◌∙◌, subst, append-nil, arith}
-use Rattle.std.proofs.lemmas.Bool.{ne_eqb, cases_eq, and_right}
+use Rattle.std.proofs.{Common.{sym, ap, ap₂, ◌∙◌, subst, append-nil, arith}, lemmas.Bool.{ne_eqb, cases_eq, and_right}}
 use Rattle.x25_bits.specs.{declared.role.Role.{Role}, declared.role.Role.TheVariants.{Dte, Dce}}
-use Rattle.x25_frame.specs.{Spelling.{spelling_of}}
+use Rattle.x25_frame.specs.Spelling.{spelling_of}
 use Rattle.x25_packet.specs.Packet.{PlainPacket, restart}
 use Rattle.x25_link.specs.{Station.{is_up}, Hearing.{other}}
 use Rattle.x25_line.specs.{laws.Sessions.{SessionEnd, Meeting, Sessions, sent_in, extended}, laws.SessionClaims.{octets_of}}

@@ -4,16 +4,14 @@ use Rattle.x25_bits.specs.{declared.role.Role.{Role}, declared.role.Role.TheVari
 use Rattle.x25_link.specs.Hearing.{other}
 use Rattle.x25_line.specs.{laws.Sessions.{Meeting}, laws.SessionClaims.{SomeMet}}
 use Rattle.x25_packet.specs.Packet.{PlainPacket}
-use Rattle.x25_layer.specs.laws.Law.{IsQuietEnd}
-use Rattle.x25_layer.specs.laws.Apart.{own_run, Ends, ApartEvent, apart_run, apart_start, AreInOrder, as_world, all_over_links}
+use Rattle.x25_layer.specs.{laws.Law.{IsQuietEnd}, laws.Apart.{own_run, Ends, ApartEvent, apart_run, apart_start, AreInOrder, as_world, all_over_links}}
 use Rattle.x25_layer.specs.laws.ApartLaw.{IsToldFirst}
 use Rattle.x25_station.specs.{declared.config.Cfg.{Cfg}, laws.ReadLaw.{AreReadable, BringOctets}}
 use Rattle.x25_line.proofs.ends.Meetings.{all_some}
 use Rattle.x25_world.specs.laws.LawsBelow.{SessionLaws}
 use Rattle.x25_world.proofs.Known.{IsConfigured}
 use Rattle.x25_world.proofs.sessions.SessionTrace.{layer_of, Done, own_in, own, numbers, event_of, pair_in, pair_at, moves_of_pair, TakeNothing}
-use Rattle.x25_world.proofs.sessions.SessionTrace.{order_of_nothing}
-use Rattle.x25_world.proofs.sessions.SessionJoined.{HasMet, PairIsInOrder, PairsAreInOrder}
+use Rattle.x25_world.proofs.{sessions.SessionTrace.{order_of_nothing}, sessions.SessionJoined.{HasMet, PairIsInOrder, PairsAreInOrder}}
 use Rattle.x25_layer.specs.laws.TwoLayers as layer
 use Rattle.x25_world.proofs.sessions.SessionTrace as traced
 
@@ -40,6 +38,7 @@ here_in Dte ends = ends.near
 here_in Dce ends = ends.far
 
 module _ (laws : SessionLaws) (cfg : Cfg) where
+  -- an end of two sessions by themselves is what it is in the whole trace
   pub here_is : (end : Role) (n m : ℕ) (trace : List Done) → here_in end (pair_ends cfg end n m trace) ≡ own cfg end n trace
   here_is Dte n m trace =
       let start = apart_start cfg.long_data cfg.channels in
@@ -50,6 +49,7 @@ module _ (laws : SessionLaws) (cfg : Cfg) where
       (laws.own cfg.long_data cfg.channels (pair_at Dce n m trace) start).far
       ∙ ap (λ l. own_run (layer_of cfg Dce) l start.far) (moves_of_pair (numbers m n) Dce trace)
 
+  -- so is the other end
   pub there_is : (end : Role) (n m : ℕ) (trace : List Done) → here_in (other end) (pair_ends cfg end n m trace) ≡ own cfg (other end) m trace
   there_is Dte n m trace = here_is Dce m n trace
   there_is Dce n m trace = here_is Dte m n trace
@@ -118,6 +118,7 @@ module _ (laws : SessionLaws) (cfg : Cfg) where
 
 -- ---- each session is one of two in order
 
+-- two sessions in which no end took a packet are in order
 pub nothing_in_order : (cfg : Cfg) (end : Role) (trace : List Done) (n m : ℕ) → TakeNothing (own_in end n trace) → TakeNothing (own_in (other end) m trace)
     → PairIsInOrder cfg end trace n m
 nothing_in_order cfg Dte trace n m f g =

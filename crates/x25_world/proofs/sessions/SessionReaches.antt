@@ -1,24 +1,22 @@
 -- Two links over set-up and re-set-up, as either end sees them: a run of the same events, with the ends swapped.
-use Rattle.std.proofs.Common.{◌≡◌, ℕ, List, [], ◌∷◌, ◌++◌, inl, refl, sym, ap, ◌∙◌, subst, map}
+use Rattle.std.proofs.Common.{◌≡◌, ℕ, List, [], ◌∷◌, ◌++◌, inl, refl, sym, ap, ◌∙◌, subst}
 use Rattle.x25_bits.specs.{declared.role.Role.{Role}, declared.role.Role.TheVariants.{Dte, Dce}}
 use Rattle.x25_line.specs.{laws.StationClaims.{AreJoined, AcceptsNoConnect}, laws.SessionEvents.{IsUnasked, NoneBeginUnasked}}
-use Rattle.x25_line.specs.{laws.Sessions.{Meeting, Sessions, turned, from_nothing, IsTimely, IsTimelyAt, AreTimely}, laws.SessionClaims.{Each, Throughout}}
+use Rattle.x25_line.specs.{laws.Sessions.{Sessions, from_nothing, IsTimely, IsTimelyAt, AreTimely}, laws.SessionClaims.{Each, Throughout}}
 use Rattle.x25_station.specs.declared.config.Cfg.{Cfg}
 use Rattle.x25_world.specs.{World.{Act, Event}, laws.Claims.{link_of}, laws.SessionWindow.{Asks, at_end, all_at}}
-use Rattle.x25_world.proofs.{Known.{IsConfigured}}
+use Rattle.x25_world.proofs.Known.{IsConfigured}
 use Rattle.x25_peer.proofs.sessions.LinkSteps.{puts_of, all_act, puts_last}
 use Rattle.x25_link.specs.{Station.{Settings as LinkSettings}, Hearing.{other}}
+use Rattle.x25_line.proofs.ends.Meetings.{twice_turned}
+pub use Rattle.x25_line.proofs.HealingSteps.{links_append, timely_append}
 use Rattle.x25_line.specs.laws.Stations as line
 use Rattle.x25_line.specs.laws.Sessions as links
 
 -- ---- the ends swapped
 
-turned_twice : (ms : List Meeting) → map turned (map turned ms) ≡ ms
-turned_twice [] = refl
-turned_twice (m ∷ ms) = ap (λ l. m ∷ l) (turned_twice ms)
-
 pub twice : (w : Sessions) → links.swapped (links.swapped w) ≡ w
-twice w = ap (λ met. record { near = w.near; far = w.far; out = w.out; back = w.back; met = met; sent = w.sent }) (turned_twice w.met)
+twice w = ap (λ met. record { near = w.near; far = w.far; out = w.out; back = w.back; met = met; sent = w.sent }) (twice_turned w.met)
 
 abbrev flipped : line.LinkEvent → line.LinkEvent
 flipped (line.Near act) = line.Far act
@@ -101,15 +99,6 @@ reach_swapped cfg Dce v h = record {
       record { unasked = record { near = u.far; far = u.near; out = u.back; back = u.out }; near = f.far; far = f.near });
   grown = λ before e is. (let g = h.grown before e is in record { asked = g.asked; may = g.may; timely = g.timely; run = g.run });
 }
-
-pub links_append : (c d : LinkSettings) (xs ys : List line.LinkEvent) (v : Sessions) → links.run c d (xs ++ ys) v ≡ links.run c d ys (links.run c d xs v)
-links_append c d [] ys v = refl
-links_append c d (x ∷ xs) ys v = links_append c d xs ys (links.happens c d x v)
-
-pub timely_append : (c d : LinkSettings) (xs ys : List line.LinkEvent) (v : Sessions) → AreTimely c d xs v → AreTimely c d ys (links.run c d xs v)
-    → AreTimely c d (xs ++ ys) v
-timely_append c d [] ys v f g = g
-timely_append c d (x ∷ xs) ys v f g = (f.0, timely_append c d xs ys (links.happens c d x v) f.1 g)
 
 -- Since a set-up after which none may ask for another, the act is no Connect that is accepted.
 abbrev pub MayAct : Beginning → line.Act → Sessions → Type 0

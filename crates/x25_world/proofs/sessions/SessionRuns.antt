@@ -9,9 +9,8 @@ use Rattle.x25_station.specs.laws.KeepLaw.{ConnectKeeps}
 use Rattle.x25_world.specs.World.{AtEnd, World, mirrored, WorldOutcome, Happened, Declined, swapped_back, Act, Commands, Receives, Fires, Loses, Damages, acts}
 use Rattle.x25_world.specs.World.{Event, happens, refusal_of, after, run, start, connected, established}
 use Rattle.x25_world.specs.laws.Claims.{ActsInOctets, AreInOctets, IsBeginning, IsUpAtMostOnce, UntilSecondUp, IsNoConnect, NoneConnects}
-use Rattle.x25_world.specs.laws.Sessions.{Progress, progress_at, last_session}
-use Rattle.x25_world.specs.{laws.SessionClaims.{Throughout, ThroughoutAlong}, laws.BesideClaims.{Gave, gave_where, gave_by, gave_at, gave_in}}
-use Rattle.x25_world.specs.laws.LawsBelow.{SessionLaws}
+use Rattle.x25_world.specs.{laws.Sessions.{Progress, progress_at, last_session}, laws.SessionClaims.{Throughout, ThroughoutAlong}}
+use Rattle.x25_world.specs.{laws.BesideClaims.{Gave, gave_where, gave_by, gave_at, gave_in}, laws.LawsBelow.{SessionLaws}}
 use Rattle.x25_world.proofs.{Known.{IsConfigured, is_configured}, Established.{kept_new, just_set_up}, WorldLemmas.{refusal-swapped}}
 use Rattle.x25_world.proofs.{sessions.SessionReaches.{Beginning, both_down, set_up, at_event, IsAt, known_sessions}, sessions.SessionTrace.{layer_of}}
 use Rattle.x25_world.proofs.sessions.SessionBeside.{MoreIs, none_more, more_again, said_channel}
@@ -26,6 +25,7 @@ pub back_after : (w : World) (o : WorldOutcome) → after w (swapped_back o) ≡
 back_after w (Happened next) = refl
 back_after w (Declined e) = refl
 
+-- a run that begins with both links down is none from a set-up
 pub not_set_up : {A : Type 0} → both_down ≡ set_up → A
 not_set_up is = absurd (cc)
 
@@ -190,13 +190,10 @@ module _ (laws : SessionLaws) (cfg : Cfg) (fine : IsConfigured cfg) where
       behind from_nothing c.joined.links gave_none gave_none gave_none gave_none c.near c.far
       (run_joined (record { at = Dce; act = Receives } ∷ record { at = Dte; act = Receives } ∷ []) down_at_none (tt, (tt, tt)) (λ off. not_set_up off) c.joined)
 
-  pub established_joined : ConnectKeeps → SessionsJoined both_down cfg Dte (established cfg)
-  established_joined keeps = (established_goes keeps).joined
-
   -- each end is in its first session
   set_up_joined : ConnectKeeps → SessionsJoined set_up cfg Dte (established cfg)
   set_up_joined keeps =
-      let h = established_joined keeps in
+      let h = (established_goes keeps).joined in
       let up = just_set_up laws.stations cfg in
       let one : (end : Role) → last_session end (established cfg) ≡ 1 = λ end. one_up end (established cfg).transcript up.told in
       retold cfg Dte (established cfg) h (record {

@@ -6,8 +6,7 @@ use Rattle.x25_bits.specs.{declared.role.Role.{Role}, declared.role.Role.TheVari
 use Rattle.x25_link.specs.Hearing.{other}
 use Rattle.x25_layer.specs.{declared.ranges.Ranges.{Ranges}, Layer.{LayerSettings, goes_up, is_channel}, laws.TwoLayers.{started, pulled_in, moves_in}}
 use Rattle.x25_layer.specs.laws.Apart.{OwnMove, Takes, as_move, own_moves, own_run, Ends, ApartEvent, apart_happens, near_moves, far_moves, IsNext, IsInOrder}
-use Rattle.x25_layer.specs.laws.Apart.{AreInOrder, Pulls, alone}
-use Rattle.x25_layer.specs.{Calls.{layer_pulled}, laws.RoundLaw.{moves_all, pulls_of}}
+use Rattle.x25_layer.specs.{laws.Apart.{AreInOrder, Pulls, alone}, Calls.{layer_pulled}, laws.RoundLaw.{moves_all, pulls_of}}
 use Rattle.x25_station.specs.{declared.config.Cfg.{Cfg}, Config.{settings_from, layer_settings}, laws.ReadLaw.{MovesOctets}}
 use Rattle.x25_packet.specs.Packet.{PlainPacket}
 use Rattle.x25_peer.proofs.sessions.SessionLayers.{pulls_asked, asked_leaves}
@@ -95,6 +94,7 @@ run_append : (c : LayerSettings) (xs ys : List OwnMove) (e : layer.End) → own_
 run_append c [] ys e = refl
 run_append c (x ∷ xs) ys e = run_append c xs ys (own_moves c e x)
 
+-- the end of a session goes on by the moves that are added to the trace
 pub own_goes : (cfg : Cfg) (end : Role) (n : ℕ) (trace : List Done) (moves : List OwnMove) → own cfg end n (trace ++ moved end n moves)
     ≡ own_run (layer_of cfg end) moves (own cfg end n trace)
 own_goes cfg end n trace moves =

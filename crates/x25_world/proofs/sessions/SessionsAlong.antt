@@ -3,21 +3,20 @@
 use Rattle.std.proofs.Common.{◌≡◌, ℕ, ◌+◌, inl, List, [], ◌∷◌, ◌++◌, false, None, Result, refl, sym, ap, ap₂, ◌∙◌, subst}
 use Rattle.x25_bits.specs.{declared.role.Role.{Role}, declared.role.Role.TheVariants.{Dte, Dce}}
 use Rattle.x25_frame.specs.{Frame.{PlainFrame}, Reading.{frame_of}, declared.error.FrameError.{FrameError}}
-use Rattle.x25_link.specs.{Hearing.{other}, Station.{Settings as LinkSettings, LinkStation}}
 use Rattle.x25_line.specs.laws.Stations.{StationEnd}
 use Rattle.x25_line.specs.laws.Sessions.{SessionEnd, Sessions, from_nothing, sabm_in, ua_in, how_many, asked, IsTimely, IsTimelyAt, AreTimely}
 use Rattle.x25_line.specs.laws.SessionClaims.{Each, octets_of}
 use Rattle.x25_line.specs.laws.SessionNumbers.{Standing, standing_happens, standing_run, standing_at, EachUpStandsWith, StandingGoesAlong}
 use Rattle.x25_station.specs.{declared.config.Cfg.{Cfg}, Config.{config_refusal}, laws.KeepLaw.{ConnectKeeps}}
 use Rattle.x25_world.specs.{World.{World, Event, happens, after, run}, laws.Claims.{ActsInOctets, AreInOctets, IsBeginning, link_of}}
-use Rattle.x25_world.specs.laws.SessionWindow.{Asks, all_at}
-use Rattle.x25_world.specs.{laws.SessionWindow.{StandsInWindow, SessionsGoAlong, SessionsStayInWindow}, laws.SessionClaims.{ThroughoutAlong}}
+use Rattle.x25_world.specs.{laws.SessionWindow.{Asks, all_at, StandsInWindow, SessionsGoAlong, SessionsStayInWindow}, laws.SessionClaims.{ThroughoutAlong}}
 use Rattle.x25_world.specs.laws.LawsBelow.{SessionLaws}
 use Rattle.x25_world.proofs.{Known.{IsConfigured, is_configured}, WorldLemmas.{run_append}}
 use Rattle.x25_world.proofs.sessions.SessionReaches.{Beginning, both_down, set_up, at_event, links_append, timely_append, joined_at}
 use Rattle.x25_world.proofs.sessions.SessionJoined.{SessionsJoined, retold}
 use Rattle.x25_world.proofs.sessions.SessionRuns.{event_joined, down_at_none, not_set_up, begin_joined, throughout_joined}
 use Rattle.x25_line.proofs.sessions.SessionsForgotten.{Lasts, Alike, happens_alike, runs_alike, turned_alike}
+use Rattle.x25_link.specs.{Hearing.{other}, Station.{Settings as LinkSettings, LinkStation}}
 use Rattle.x25_line.specs.laws.Stations as line
 use Rattle.x25_line.specs.laws.Sessions as links
 
@@ -78,7 +77,7 @@ of_lasts : Lasts IsOf
 of_lasts = record { station = λ e s h. h; steps = λ e s h down step. refl }
 
 abbrev AreOf : Sessions → line.Stations → Type 0
-AreOf v s = Alike IsOf IsOf ⊥ v s
+AreOf v s = Alike IsOf ⊥ v s
 
 -- the stations and the lines of a world
 abbrev end_in : LinkStation → StationEnd
@@ -116,14 +115,14 @@ timely_at_same : (c d : LinkSettings) (e : line.LinkEvent) (v x : Sessions) (s :
     → IsTimelyAt c d e x
 timely_at_same c d (line.Near act) v x s f g timely = timely_same c d act f g timely
 timely_at_same c d (line.Far act) v x s f g timely =
-    timely_same d c act (turned_alike IsOf IsOf ⊥ v s f) (turned_alike IsOf IsOf ⊥ x s g) timely
+    timely_same d c act (turned_alike f) (turned_alike g) timely
 
 all_timely_same : (c d : LinkSettings) (es : List line.LinkEvent) {v x : Sessions} {s : line.Stations} → AreOf v s → AreOf x s → AreTimely c d es v
     → AreTimely c d es x
 all_timely_same c d [] f g timely = tt
 all_timely_same c d (e ∷ es) {v} {x} {s} f g timely = (
   timely_at_same c d e v x s f g timely.0,
-  all_timely_same c d es (happens_alike IsOf IsOf ⊥ of_lasts of_lasts c d e v s f) (happens_alike IsOf IsOf ⊥ of_lasts of_lasts c d e x s g) timely.1,
+  all_timely_same c d es (happens_alike of_lasts c d e f) (happens_alike of_lasts c d e g) timely.1,
 )
 
 -- ---- a run, and more behind it
@@ -192,8 +191,8 @@ module _ (laws : SessionLaws) (law : StandingGoesAlong) (cfg : Cfg) (fine : IsCo
       } in
       let also : AreOf v seen = record { near = sym r.near; far = sym r.far; out = sym r.out; back = sym r.back; sent = λ never. absurd never } in
       let behind : AreOf n.joined.links (line.run c d es seen) =
-      subst (λ x. AreOf x (line.run c d es seen)) n.run (runs_alike IsOf IsOf ⊥ of_lasts of_lasts c d es h.links seen before) in
-      let now = runs_alike IsOf IsOf ⊥ of_lasts of_lasts c d es v seen also in
+      subst (λ x. AreOf x (line.run c d es seen)) n.run (runs_alike of_lasts c d es before) in
+      let now = runs_alike of_lasts c d es also in
       let timely : AreTimely c d (r.events ++ es) from_nothing =
       timely_append c d r.events es from_nothing r.timely (rw r.run (all_timely_same c d es before also n.timely)) in
       let runs = links_append c d r.events es from_nothing ∙ ap (links.run c d es) r.run in

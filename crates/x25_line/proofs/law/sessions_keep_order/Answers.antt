@@ -1,6 +1,6 @@
 use Rattle.x25_line.proofs.sessions.TwoSessions.{throughout_of, in_step, orders, unmet, begun, latest, agree, idle_has_arrived}
-use Rattle.x25_line.proofs.sessions.SessionUnasked.{none_begin_unasked}
-use Rattle.x25_line.proofs.{sessions.SessionRuns.{each_stands, standing_goes_along, never_frmr, send_whole}, sessions.SessionEvents.{each_event_meets_latest}}
+use Rattle.x25_line.proofs.{sessions.SessionUnasked.{none_begin_unasked}, sessions.SessionRuns.{each_stands, standing_goes_along, never_frmr, send_whole}}
+use Rattle.x25_line.proofs.sessions.SessionEvents.{each_event_meets_latest}
 use Rattle.x25_line.proofs.law.sessions_keep_order.Goals as goal
 
 pub returns : goal.returns

@@ -1,9 +1,7 @@
 -- Octets come, over set-up and re-set-up: the link takes them, and the layer the packet that the link hands up, which is the next of those that
 -- the other end gave in its latest session.
 use Rattle.std.proofs.Common.{◌≡◌, ℕ, zero, suc, ◌≤◌, ◌<◌, inl, inr, List, [], ◌∷◌, ◌++◌, remove, Bool, true, false, if◌then◌else◌, Option, Some, None, Ok}
-use Rattle.std.proofs.Common.{refl, sym, ap, ◌∙◌, subst, append_assoc, arith}
-use Rattle.std.proofs.lemmas.Bool.{and_parts}
-use Rattle.std.proofs.lemmas.List.{append_cancel_left, map-append}
+use Rattle.std.proofs.{Common.{refl, sym, ap, ◌∙◌, subst, append_assoc, arith}, lemmas.Bool.{and_parts}, lemmas.List.{append_cancel_left, map-append}}
 use Rattle.x25_bits.specs.{declared.role.Role.{Role}, declared.role.Role.TheVariants.{Dte, Dce}}
 use Rattle.x25_packet.specs.Packet.{PlainPacket}
 use Rattle.x25_handshakes.specs.{laws.Histories.{IsPrefix}, laws.Names.{Name}}
@@ -17,12 +15,11 @@ use Rattle.x25_layer.specs.laws.ApartLaw.{BeginsRestarted, IsToldFirst}
 use Rattle.x25_station.specs.{declared.config.Cfg.{Cfg}, Config.{Settings, settings_from, layer_settings}, Entry.{layer_notices}}
 use Rattle.x25_station.specs.{Step.{Step, follows, abandons, receives}, laws.JoinLaw.{station_with, IsJoined}, laws.KeepLaw.{IsKept}}
 use Rattle.x25_station.specs.laws.ReadLaw.{AreReadable}
-use Rattle.x25_world.specs.{World.{World, Receives, delivered, after, after_step}}
-use Rattle.x25_world.specs.{laws.ConfirmedClaims.{confirmed_in}, laws.Claims.{link_of}, laws.LawsBelow.{SessionLaws}}
+use Rattle.x25_world.specs.{World.{World, Receives, delivered, after, after_step}, laws.ConfirmedClaims.{confirmed_in}, laws.Claims.{link_of}}
+use Rattle.x25_world.specs.laws.LawsBelow.{SessionLaws}
 use Rattle.x25_world.proofs.{Known.{IsConfigured, true_false}, Growing.{read_by, all_read, is_read, as_read, first_read, FrontEntry, front_entry}}
 use Rattle.x25_world.proofs.sessions.SessionTrace.{layer_of, Done, moved, own, own_goes, events_of, nothing_goes, own_pulls, pulls_take_nothing}
-use Rattle.x25_world.proofs.sessions.SessionTrace.{pulls_bring_octets, near_pulls, take_takes}
-use Rattle.x25_world.proofs.sessions.SessionCounts.{counted_at, counted_by, counted_in}
+use Rattle.x25_world.proofs.{sessions.SessionTrace.{pulls_bring_octets, near_pulls, take_takes}, sessions.SessionCounts.{counted_at, counted_by, counted_in}}
 use Rattle.x25_world.proofs.sessions.SessionReaches.{Beginning, SessionsReach, IsAt, may_ask, known_sessions, sessions_act}
 use Rattle.x25_world.proofs.sessions.SessionJoined.{HasMet, PairIsInOrder, PairsAreInOrder, SessionsJoined, Goes, gave_none, stays}
 use Rattle.x25_world.proofs.sessions.SessionBeside.{spelled_bring}

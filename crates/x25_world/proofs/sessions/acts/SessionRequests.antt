@@ -1,15 +1,12 @@
 -- A command to the layer in a session, without or with something given: its own packet is put, and then what waits.
 use Rattle.std.proofs.Common.{◌≡◌, ℕ, suc, ◌==◌, ◌≤◌, ◌⊎◌, inl, inr, List, [], ◌∷◌, ◌++◌, Bool, true, Option, None, refl, sym, ap, ◌∙◌, subst, append-nil}
-use Rattle.std.proofs.Common.{arith, ◌&&◌}
-use Rattle.std.proofs.lemmas.Bool.{and_parts}
-use Rattle.std.proofs.lemmas.List.{append_cancel_left}
+use Rattle.std.proofs.{Common.{arith, ◌&&◌}, lemmas.Bool.{and_parts}, lemmas.List.{append_cancel_left}}
 use Rattle.x25_bits.specs.declared.role.Role.{Role}
 use Rattle.x25_packet.specs.Packet.{PlainPacket}
 use Rattle.x25_link.specs.{Outgoing.{waits}, Station.{Side, is_up}, Link.{alone}}
 use Rattle.x25_line.specs.{laws.Sessions.{Meeting, Sessions}, laws.SessionClaims.{octets_of}}
 use Rattle.x25_given.specs.Given.{PlainGiven, may_give}
 use Rattle.x25_handshakes.specs.laws.Names.{Name}
-use Rattle.x25_layer.specs.{Layer.{Layer, LayerNotice}, Calls.{LayerRequest, layer_outcome}, laws.Quiet.{AreNoFaults}, laws.TwoLayers.{Requests as Requested}}
 use Rattle.x25_layer.specs.{laws.RoundLaw.{moves_all, pulls_of}, laws.Apart.{OwnMove, Requests, apart_start, own_run, AreInOrder}}
 use Rattle.x25_station.specs.{declared.config.Cfg.{Cfg}, Config.{Settings, settings_from, layer_settings}, Entry.{layer_notices}, Giving.{suits}}
 use Rattle.x25_station.specs.{Step.{Step, Outcome, Did, Refused, requests, gives}, laws.GivenLaw.{GivesOctets}, laws.JoinLaw.{station_with, MovesAs}}
@@ -30,8 +27,8 @@ use Rattle.x25_world.proofs.sessions.SessionGoes.{same_or_not, IsNews, goes_on}
 use Rattle.x25_line.proofs.ends.Meetings.{all_map}
 use Rattle.x25_peer.proofs.{Granted.{did_granted, gave_granted, suits_asks}, ReadLemmas.{readable_behind}}
 use Rattle.x25_peer.proofs.sessions.LinkSteps.{SessionGoes, spelled, spelled_with, PutsRead, HasPut, puts_spelled, puts_spelled_with, puts_up, puts_of, all_act}
-use Rattle.x25_peer.proofs.sessions.LinkSteps.{puts_go, stays_goes}
-use Rattle.x25_peer.proofs.sessions.SessionLayers.{pulls_asked, asked_leaves}
+use Rattle.x25_peer.proofs.{sessions.LinkSteps.{puts_go, stays_goes}, sessions.SessionLayers.{pulls_asked, asked_leaves}}
+use Rattle.x25_layer.specs.{Layer.{Layer, LayerNotice}, Calls.{LayerRequest, layer_outcome}, laws.Quiet.{AreNoFaults}, laws.TwoLayers.{Requests as Requested}}
 use Rattle.x25_line.specs.laws.Stations as line
 use Rattle.x25_line.specs.laws.Sessions as links
 use Rattle.x25_circuit.specs.Calling as circuit

@@ -1,13 +1,11 @@
 -- Timer T1 runs out, the link is polled, connected, disconnected and set up anew, and octets on the line to an end are lost or damaged, over set-up
 -- and re-set-up.
 use Rattle.std.proofs.Common.{◌≡◌, ℕ, ◌+◌, List, [], ◌∷◌, Bool, true, false, ◌&&◌, if◌then◌else◌, Option, Some, None, Result, Ok, refl, sym, ap, ◌∙◌, subst}
-use Rattle.std.proofs.Common.{arith, length, remove, nat_lt, Err}
-use Rattle.std.proofs.lemmas.Bool.{cond_both, or_parts}
+use Rattle.std.proofs.{Common.{arith, length, remove, nat_lt, Err}, lemmas.Bool.{cond_both, or_parts}}
 use Rattle.std.specs.List.{list_any}
 use Rattle.x25_bits.specs.{declared.role.Role.{Role}, declared.role.Role.TheVariants.{Dte, Dce}}
 use Rattle.x25_frame.specs.{Frame.{PlainFrame, sabm, ua}, Reading.{frame_of}, declared.error.FrameError.{FrameError}}
 use Rattle.x25_frame.specs.declared.error.FrameError.TheVariants.{Short}
-use Rattle.x25_link.specs.{declared.error.LinkError.{LinkError}, Station.{LinkStation, awaits_ua, Settings as LinkSettings}, Hearing.{other, Step as LinkStep}}
 use Rattle.x25_link.specs.laws.NoteLaw.{Tells}
 use Rattle.x25_link.specs.Link.{timer_refusal, timer_step, connect_refusal, connect_step, disconnect_refusal, disconnect_step, probe_refusal, relink_refusal}
 use Rattle.x25_link.specs.Link.{relink_step}
@@ -18,8 +16,7 @@ use Rattle.x25_station.specs.Step.{Step, follows, led_by, fires, connects, conne
 use Rattle.x25_station.specs.laws.KeepLaw.{IsKept, KeptBy, ConnectKeeps}
 use Rattle.x25_world.specs.{SetUp.{is_a, reads_as, carries}, declared.set_up.SetUpFrame.{SetUpFrame}, declared.set_up.SetUpFrame.TheVariants.{Sabm, Ua}}
 use Rattle.x25_world.specs.World.{World, Declined, Commands, Fires, of_station, refusal_of, is_on_line, fired, after, after_step, Happened, Loses, Damages}
-use Rattle.x25_world.specs.World.{on_line, lost, damaged}
-use Rattle.x25_world.specs.{laws.Claims.{link_of, IsNoConnect}, laws.LawsBelow.{SessionLaws}}
+use Rattle.x25_world.specs.{World.{on_line, lost, damaged}, laws.Claims.{link_of, IsNoConnect}, laws.LawsBelow.{SessionLaws}}
 use Rattle.x25_world.proofs.Known.{IsConfigured, true_false}
 use Rattle.x25_world.proofs.sessions.SessionReaches.{Beginning, set_up, MayAct, MayAsk, IsAt, may_ask, sessions_act, SessionsReach}
 use Rattle.x25_world.proofs.sessions.SessionJoined.{SessionsJoined, Goes, gave_none, stays, relined}
@@ -27,6 +24,7 @@ use Rattle.x25_world.proofs.sessions.SessionFollows.{Lead, no_command, connect, 
 use Rattle.x25_world.proofs.sessions.SessionBeside.{none_more}
 use Rattle.x25_peer.proofs.{Granted.{connects_in_down, relinks_in_up, timer_silent}, sessions.LinkSteps.{act_goes, probe_acts, relink_goes}}
 use Rattle.x25_line.proofs.sessions.SessionsForgotten.{octets_removed, octets_replaced}
+use Rattle.x25_link.specs.{declared.error.LinkError.{LinkError}, Station.{LinkStation, awaits_ua, Settings as LinkSettings}, Hearing.{other, Step as LinkStep}}
 use Rattle.x25_bits.specs.Role as bits
 use Rattle.x25_line.specs.laws.Stations as line
 use Rattle.x25_line.specs.laws.Sessions as links

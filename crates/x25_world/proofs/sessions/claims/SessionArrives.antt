@@ -1,7 +1,6 @@
 -- Where a stretch is open, the sessions of both ends that stand meet each other; and where the one end is idle, all arrived.
 use Rattle.std.proofs.Common.{◌≡◌, ℕ, ◌≤◌, inl, inr, List, [], length, Bool, true, false, Some, refl, sym, ap, ◌∙◌, subst, arith, Option, None, if◌then◌else◌}
-use Rattle.std.proofs.Common.{◌+◌, ◌==◌, zero, suc, nat_le}
-use Rattle.std.proofs.lemmas.Bool.{eqb-true, eq-eqb, leb-true, and_parts, true_from_ne_false}
+use Rattle.std.proofs.{Common.{◌==◌, zero, suc, nat_le}, lemmas.Bool.{eqb-true, eq-eqb, leb-true, and_parts, true_from_ne_false}}
 use Rattle.x25_bits.specs.{declared.role.Role.{Role}, declared.role.Role.TheVariants.{Dte, Dce}}
 use Rattle.x25_link.specs.{Hearing.{other}, Station.{is_up}}
 use Rattle.x25_line.specs.{laws.Sessions.{Meeting}, laws.SessionClaims.{EachMeetsLatest, IdleHasArrived}}
@@ -45,13 +44,10 @@ stretch_of channels l k name is = by (is_channel channels k) (is_open (l.circuit
     by true false channel opened there = absurd (cc)
     by false o channel opened there = absurd (cc)
 
-none_of_sum : (a b : ℕ) → a + b ≡ 0 → (a ≡ 0) × (b ≡ 0)
-none_of_sum a b e = (omega arith, omega arith)
-
 none_waits : (circuits : ℕ → Circuit) (n k : ℕ) → waits_up_to circuits n ≡ 0 → 1 ≤ k → k ≤ n → waits (circuits k) ≡ 0
 none_waits circuits zero k none low high = absurd (omega arith)
 none_waits circuits (suc n) k none low high =
-    let parts = none_of_sum (waits_up_to circuits n) (waits (circuits (suc n))) none in
+    let parts : (waits_up_to circuits n ≡ 0) × (waits (circuits (suc n)) ≡ 0) = (omega (arith, none), omega (arith, none)) in
     by (k == suc n) refl (λ below. none_waits circuits n k parts.0 low below) parts.1
   where
     lower : k ≤ suc n → (k ≡ suc n → ⊥) → k ≤ n
@@ -62,9 +58,6 @@ none_waits circuits (suc n) k none low high =
     by false is rest here = rest (lower high (λ e. true_false (sym (eq-eqb k (suc n) e) ∙ is)))
 
 -- ---- an end that is idle
-
-link_idle : (cfg : Cfg) (end : Role) (s : Station) → is_idle (settings_from end cfg) s ≡ true → link.is_idle s.link ≡ true
-link_idle cfg end s idle = (and_parts (link.is_idle s.link) (waits_up_to s.layer.circuits cfg.channels.count == 0) idle).0
 
 -- between an idle end and the other one, where all that its link was handed down arrived, and the same stretch is open at both
 idle_between : (cfg : Cfg) (end : Role) (s t : Station) (giver taker : layer.End) (k : ℕ) (name : Name) → giver.layer ≡ s.layer → taker.layer ≡ t.layer
@@ -192,7 +185,8 @@ module _ (laws : SessionLaws) {cfg : Cfg} (fine : IsConfigured cfg) where
       let near_session = h.near.sessions n stands.begun.0 (omega arith) in
       let far_session = h.far.sessions m stands.begun.1 (omega arith) in
       let met = some_map (λ p. p.near ≡ n) (λ (p : Meeting) is. is.0) h.links.met stands.has_met in
-      let arrived = (known_sessions IdleHasArrived laws.idle fine h.reach).near (ap (λ x. link.is_idle x) h.near.link ∙ link_idle cfg end w.near idle)
+      let arrived = (known_sessions IdleHasArrived laws.idle fine h.reach).near
+      (ap (λ x. link.is_idle x) h.near.link ∙ (and_parts (link.is_idle w.near.link) (waits_up_to w.near.layer.circuits cfg.channels.count == 0) idle).0)
       (inr met) in
       let all : as_read taker.taken ≡ as_read giver.given = sym far_session.up ∙ ap (all_read cfg) arrived ∙ near_session.down in
       let named : name_of giver.layer k ≡ name = ap (λ l. name_of l k) of_giver ∙ (stretch_of cfg.channels w.near.layer k name here).named in

@@ -1,8 +1,7 @@
 -- What is handed up and told in a session of an end: a beginning of what was handed down in the one that it meets, and nothing where it
 -- meets none. So what came beside a packet was given there, and what is told as confirmed was handed up.
 use Rattle.std.proofs.Common.{◌≡◌, ℕ, zero, suc, ◌==◌, ◌≤◌, ◌<◌, nat_le, ◌⊎◌, inl, inr, List, [], ◌∷◌, ◌++◌, Bool, true, false, ◌&&◌, Some, None, refl, sym, ap}
-use Rattle.std.proofs.Common.{◌∙◌, subst, arith}
-use Rattle.std.proofs.lemmas.Bool.{eqb-true, leb-true, leb-false}
+use Rattle.std.proofs.{Common.{◌∙◌, subst, arith}, lemmas.Bool.{eqb-true, leb-true, leb-false}}
 use Rattle.x25_bits.specs.{declared.role.Role.{Role}, declared.role.Role.TheVariants.{Dte, Dce}}
 use Rattle.x25_link.specs.{Hearing.{other}, Station.{is_up}}
 use Rattle.x25_line.specs.{laws.SessionClaims.{OnlyBegunHaveLists, IsInOrder, MetAreInOrder}, laws.Sessions.{Meeting, from_nothing}}
@@ -64,14 +63,11 @@ before_first {p} (e ∷ entries) first =
     let goes_on = begins_after e first in
     ap (λ b. entry_if b e ++ session_from 0 q entries) (none_is_first q goes_on) ∙ before_first entries goes_on
 
-session_zero : (entries : List StationEntry) → session_from 0 none_begun entries ≡ []
-session_zero entries = before_first entries (λ stands. absurd (cc))
-
 -- a session that isn't begun has no entry
 pub unbegun_nothing : {since : Beginning} {cfg : Cfg} {end : Role} {w : World} (h : SessionsJoined since cfg end w) (n : ℕ) → (n ≡ 0)
     ⊎ (h.links.near.begun < n) → session_at end n w.transcript ≡ []
 unbegun_nothing {end} {w} h n never = elim never [
-  | inl zeroth ↦ ap (λ k. session_from k none_begun (entries_at end w.transcript)) zeroth ∙ session_zero (entries_at end w.transcript)
+  | inl zeroth ↦ ap (λ k. session_from k none_begun (entries_at end w.transcript)) zeroth ∙ before_first (entries_at end w.transcript) (λ stands. absurd (cc))
   | inr later ↦ (h.near.later n later).entries
 ]
 

@@ -71,14 +71,11 @@ unmet_up Met h unmet = elim h [ inl none ↦ none.0 | inr one ↦ absurd (none-s
 pub told_met : (Met : ℕ → ℕ → Type 0) {n : ℕ} (m : ℕ) {up : List (List ℕ)} {met : Option ℕ} → Hears Met n up met → met ≡ Some m → MetBegun (Met n m) n m
 told_met Met {n} m hears some = elim hears [
   | inl none ↦ absurd (none-some m (sym none.1 ∙ some))
-  | inr one ↦ of_same one.session (some_is one.session m (sym one.told ∙ some)) (record { has_met = one.has_met; begun = one.begun })
+  | inr one ↦ rw (sym (some_is one.session m (sym one.told ∙ some))) (record { has_met = one.has_met; begun = one.begun })
 ]
   where
     some_is : (a b : ℕ) → Some a ≡ Some b → a ≡ b
     some_is a b e = cc
-
-    of_same : (a : ℕ) → a ≡ m → MetBegun (Met n a) n a → MetBegun (Met n m) n m
-    of_same a same h = rw (sym same) h
 
 module _ {since : Beginning} (laws : SessionLaws) (cfg : Cfg) (fine : IsConfigured cfg) (w : World) (h : SessionsJoined since cfg Dte w) where
   met_by_links : (end : Role) (n m : ℕ) → meets end n w.transcript ≡ Some m → MetBegun (HasMetAt end n m h.links.met) n m

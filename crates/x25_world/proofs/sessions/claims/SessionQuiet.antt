@@ -1,11 +1,9 @@
 -- Over set-up and re-set-up no error of procedure is ever put on the line, or told to a user.
-use Rattle.std.proofs.Common.{◌≡◌, ℕ, zero, suc, List, [], ◌∷◌, Ok, Contains, sym, subst, arith, ◌≤◌, ◌<◌, ◌⊎◌, inl, inr}
-use Rattle.std.proofs.lemmas.List.Elements.{All-nil}
+use Rattle.std.proofs.{Common.{◌≡◌, ℕ, zero, suc, List, [], ◌∷◌, Ok, Contains, sym, subst, arith, ◌≤◌, ◌<◌, ◌⊎◌, inl, inr}, lemmas.List.Elements.{All-nil}}
 use Rattle.x25_bits.specs.{declared.role.Role.{Role}, declared.role.Role.TheVariants.{Dte, Dce}}
 use Rattle.x25_frame.specs.{Frame.{PlainFrame, info, frmr}, Spelling.{spelling_of, information_of}, Reading.{frame_of}, laws.ReadingLaw.{ReadsSpelled}}
-use Rattle.x25_packet.specs.{Packet.{PlainPacket}}
-use Rattle.x25_line.specs.{laws.StationClaims.{NoFrmr, IsWhole, AreWhole}}
-use Rattle.x25_line.specs.laws.SessionClaims.{OnlyBegunHaveLists, NoSessionSendsFrmr, AllSessionsSendWhole}
+use Rattle.x25_packet.specs.Packet.{PlainPacket}
+use Rattle.x25_line.specs.{laws.StationClaims.{NoFrmr, IsWhole, AreWhole}, laws.SessionClaims.{OnlyBegunHaveLists, NoSessionSendsFrmr, AllSessionsSendWhole}}
 use Rattle.x25_layer.specs.laws.Quiet.{AreQuiet, AreNoFaults}
 use Rattle.x25_station.specs.{Config.{longest_packet}, declared.config.Cfg.{Cfg}, Entry.{layer_notices}, laws.ReadLaw.{AreOctets}}
 use Rattle.x25_world.specs.{World.{OnTap, World}, laws.Claims.{IsQuietRead, IsQuietFrame, IsQuietTap, HasNoProcedureError, entries_at}}

@@ -1,7 +1,6 @@
 -- Where both links are idle, and a pull at the one end changes nothing, what waits in an open stretch there waits for the user at the other end.
 use Rattle.std.proofs.Common.{◌≡◌, ℕ, ◌+◌, ◌<◌, inr, List, [], ◌∷◌, ◌++◌, length, Bool, true, false, Some, None, if◌then◌else◌, ◌==◌, ◌&&◌, refl, sym, ap}
-use Rattle.std.proofs.Common.{subst, ◌∙◌, arith, length-append}
-use Rattle.std.proofs.lemmas.Bool.{eqb-true, and_parts}
+use Rattle.std.proofs.{Common.{subst, ◌∙◌, arith, length-append}, lemmas.Bool.{eqb-true, and_parts}}
 use Rattle.x25_bits.specs.{declared.role.Role.{Role}, declared.role.Role.TheVariants.{Dte, Dce}}
 use Rattle.x25_packet.specs.Packet.{PlainPacket}
 use Rattle.x25_link.specs.{Hearing.{other}, Link.{alone}, Station.{LinkStation, is_up}}
