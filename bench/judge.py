@@ -3,7 +3,8 @@
 
     judge.py [PROGRAM]
 
-The traces are what `sim --tap` puts on the line for scripts of the race, at most 5,000 frames of each. What an empty input takes isn't in a figure.
+The traces are what `sim --tap` puts on the line for scripts of the race, at most 5,000 frames of each; and as many of its mix, which are of no session.
+What an empty input takes isn't in a figure.
 """
 import os
 import subprocess
@@ -11,6 +12,7 @@ import sys
 import tempfile
 
 from building import TOP
+from race import mixed, trace as trace_of
 from scripts import SIM, both_ways, chance, one_octet, random_line, round_of_16, script, user
 from timing import instructions
 
@@ -42,8 +44,13 @@ def taken(task, trace):
     return counts[0] - counts[1]
 
 
-for name, (channels, one, times) in KINDS.items():
-    chance.seed(name)
-    trace = frames(channels, one, times)
+def told(name, trace):
+    """Writes the line of a trace."""
     judge, decode = (taken(task, trace) / len(trace) for task in ("judge", "decode"))
     print(f"{name:24s} judge {judge:6,.0f} a line, decode {decode:5,.0f}: {judge / decode:.2f} times")
+
+
+for name, (channels, one, times) in KINDS.items():
+    chance.seed(name)
+    told(name, frames(channels, one, times))
+told("a mix of no session", trace_of(mixed, 5_000).encode().splitlines(True))

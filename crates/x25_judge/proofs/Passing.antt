@@ -1,60 +1,24 @@
 -- A frame between two ends in a session, with nothing on the way.
-use Rattle.std.proofs.Common.{Bool, true, false, ◌≡◌, ◌==◌, ◌&&◌, not, nat_lt, ℕ, refl, ap, ◌∙◌}
-use Rattle.std.specs.Prelude.{if◌then◌else◌}
-use Rattle.std.proofs.lemmas.Bool.{and_parts, eq-eqb, not-true}
-use Rattle.x25_frame.specs.Frame.{PlainFrame, info, rr, rnr, rej, sabm, disc, ua, dm, frmr}
+use Rattle.std.proofs.Common.{Bool, true, false, ◌≡◌, nat_lt, ℕ, refl, ap, ◌∙◌}
+use Rattle.x25_frame.specs.Frame.{PlainFrame, info}
 use Rattle.x25_judge.specs.Held.{differs, is_same, keeps}
-use Rattle.x25_judge.specs.Links.{end_sent, end_shown, facts, held_by, is_blind, is_counted, judges, mind, minds, numbers, numbers_by, quiet}
+use Rattle.x25_judge.specs.Links.{end_sent, end_shown, held_by, is_blind, judges, mind, minds, quiet}
 use Rattle.x25_judge.specs.Links.{quietly, sees, sees_as, sees_by, sent_by, shown, steady}
 use Rattle.x25_judge.specs.declared.links.End.{End}
-use Rattle.x25_judge.specs.declared.links.Facts.{Facts}
 use Rattle.x25_judge.specs.declared.links.Sent.{Sent}
 use Rattle.x25_judge.specs.declared.manners.Manners.{Manners}
-use Rattle.x25_possible_links.specs.code.Steps.{IsStep, IsTaken, Stepped, are_sure, far, has_sent, in_session, is_large, is_sure, latest}
-use Rattle.x25_possible_links.specs.code.Steps.{marked, unread}
+use Rattle.x25_possible_links.specs.code.Steps.{IsStep, IsTaken, Stepped, facts, in_session, marked, numbers, unread}
 use Rattle.x25_possible_links.specs.declared.frame.Frame.{Frame}
+use Rattle.x25_possible_links.specs.declared.set.Facts.{Facts}
 use Rattle.x25_possible_links.specs.declared.set.LinkSet.{LinkSet}
 use Rattle.x25_possible_links.specs.declared.set.Told.TheVariants.{Nothing}
 use Rattle.x25_possible_links.specs.declared.stand.Numbers.{Numbers}
-use Rattle.x25_possible_links.specs.declared.stand.Stand.{Stand}
-use Rattle.x25_possible_links.specs.declared.stand.Stand.TheVariants.{Up, Free}
-
--- ---- what is known of an end in a session
-
-not_large : (k : Numbers) → are_sure k ≡ true → is_large (Up k) ≡ false
-not_large k c = not-true (is_large (Up k)) (and_parts (not (is_large (Up k))) (nat_lt k.taken far) c).0
-
-numbers_are : (s : LinkSet) (k : Numbers) → are_sure k ≡ true → numbers (in_session k s) ≡ Up k
-numbers_are s k h = ap (λ b. numbers_by (if b then Free else Up k) (if b then Free else Up k)) (not_large k h)
-
-facts_are : (s : LinkSet) (k : Numbers) → are_sure k ≡ true → facts (in_session k s) ≡ (steady true k).facts
-facts_are s k h =
-    ap (λ (u : Stand). record (steady true k).facts {
-      stand = u;
-      is_sure = is_sure (latest (in_session k s).spots.items (in_session k s).way.items);
-      is_counted = is_counted u (in_session k s);
-    }) (numbers_are s k h)
-    ∙ ap (λ (b : Bool). record (steady true k).facts {
-      is_sure = is_sure (if b then Free else Up k);
-      is_counted = has_sent k.sent (if b then Free else Up k) && true;
-    }) (not_large k h)
-    ∙ ap (λ (b : Bool). record (steady true k).facts { is_sure = b; is_counted = (k.sent == k.sent) && true })
-    (and_parts (not (is_large (Up k))) (nat_lt k.taken far) h).1
-    ∙ ap (λ (b : Bool). record (steady true k).facts { is_counted = b && true }) (eq-eqb k.sent k.sent refl)
-
--- ---- a frame goes
+use Rattle.x25_possible_links.specs.declared.stand.Stand.TheVariants.{Up}
 
 shown_so : (frame : PlainFrame) (d : Bool) → shown frame d ≡ marked d (shown frame false)
 unfolding shown
 shown_so (info ns nr p octets) d = refl
-shown_so (rr command nr pf) d = refl
-shown_so (rnr command nr pf) d = refl
-shown_so (rej command nr pf) d = refl
-shown_so (sabm p) d = refl
-shown_so (disc p) d = refl
-shown_so (ua f) d = refl
-shown_so (dm f) d = refl
-shown_so (frmr f why) d = refl
+shown_so frame d = refl
 
 sent_so : (frame : PlainFrame) (e : End) (k next : Numbers) (x : Frame) (d : Bool) → IsStep x k next e.set
     → sent_by frame (marked d x) e ≡ steady (is_same e.held frame) k
@@ -66,13 +30,12 @@ sent_so frame e k next x d step =
       takes_unread = nat_lt (unread r.set.way.items) (unread e.set.way.items);
     }) (step.step d)
     ∙ ap (λ (s : LinkSet). record {
-      facts = facts s;
+      facts = facts e.set;
       told = Nothing;
       is_same = is_same e.held frame;
       takes_unread = nat_lt 0 (unread s.way.items);
     }) step.stands
-    ∙ ap (λ (a : Facts). record { facts = a; told = Nothing; is_same = is_same e.held frame; takes_unread = false })
-    (facts_are e.set k step.sure)
+    ∙ ap (λ (a : Facts). record (steady (is_same e.held frame) k) { facts = a }) step.known
 
 pub passing : (window : ℕ) (frame : PlainFrame) (own other : End) (k next taken : Numbers) (m n : Manners)
     → IsStep (shown frame false) k next own.set → IsTaken (shown frame false) taken other.set → ((polls : ℕ) (is_same : Bool) → judges polls frame (steady is_same k).facts ≡ true)
@@ -93,7 +56,7 @@ passing window frame own other k next taken m n step take judged minded =
     ∙ ap (λ (b : Bool). mind one two (minds window t two.set frame (record (quietly own.manners other.manners) {
       seen = record quiet { is_judged = b };
     }))) (judged other.manners.polls (is_same own.held frame))
-    ∙ ap (mind one two) (minded (is_same own.held frame) two.set (numbers_are other.set taken take.sure))
+    ∙ ap (mind one two) (minded (is_same own.held frame) two.set take.there)
   where
     d : Bool
     d = differs own.held frame

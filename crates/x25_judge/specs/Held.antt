@@ -1,5 +1,5 @@
 -- The octets of the last I frame of each number that an end sent, where they are known (profile).
-use Rattle.std.specs.Prelude.{ℕ, ◌%◌, nat_le, Bool, true, false, not, ◌&&◌, List, [], if◌then◌else◌, length, replicate}
+use Rattle.std.specs.Prelude.{ℕ, ◌%◌, nat_le, Bool, false, not, ◌&&◌, List, [], if◌then◌else◌, length, replicate}
 use Rattle.std.specs.Prelude.{slice_index_or, slice_set}
 use Rattle.std.specs.Str.{bytes_eq}
 use Rattle.x25_frame.specs.Frame.{PlainFrame, info}

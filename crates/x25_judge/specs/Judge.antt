@@ -31,7 +31,6 @@ use Rattle.x25_judge.specs.declared.doubt.At.TheVariants.{Line as OnLine}
 use Rattle.x25_judge.specs.declared.doubt.Lack.{Lack}
 use Rattle.x25_judge.specs.declared.doubt.Lack.TheVariants.{Any}
 use Rattle.x25_judge.specs.declared.judge.Judge.{Judge}
-use Rattle.x25_judge.specs.declared.judge.Remark.{Remark}
 use Rattle.x25_judge.specs.declared.links.End.{End}
 use Rattle.x25_judge.specs.declared.links.Seen.{Seen}
 use Rattle.x25_judge.specs.declared.judge.Strictness.{Strictness}
@@ -160,21 +159,21 @@ no_frame (NoInfoAllowed control) = Some NoFrame
 no_frame TooLong = Some NoFrame
 
 -- not judged, where that counts
-abbrev pub is_open : Strictness → Remark → Bool
+abbrev pub is_open : Strictness → Seen → Bool
 is_open s r = s.unjudged && not r.is_judged
 
 abbrev pub breaks_by : Strictness → Option Rule → Bool
 breaks_by s rule = breaks_order rule || (breaks_manners rule && s.manners)
 
 -- what is in doubt counts where what isn't judged does
-abbrev pub counts_by : Strictness → Bool → Remark → Bool
+abbrev pub counts_by : Strictness → Bool → Seen → Bool
 counts_by s in_doubt r = ((not in_doubt || s.unjudged) && breaks_by s r.rule) || is_open s r
 
 -- one more rule, or one more of manners, that was told
 abbrev pub tallies : Bool → Option Rule → Judge → Judge
 tallies in_doubt rule j = record j { told = tallied in_doubt (breaks_order rule) (breaks_manners rule) j.told }
 
-abbrev pub told_as : Judge → Role → List ℕ → Bool → Remark → Judge → Answer
+abbrev pub told_as : Judge → Role → List ℕ → Bool → Seen → Judge → Answer
 told_as j from octets in_doubt r next = record {
   next = tallies in_doubt r.rule next;
   text = mark_of from ++ line_text j.reading from octets ++ remark_text from in_doubt r.rule r.note ++ codes "\n";
@@ -182,12 +181,12 @@ told_as j from octets in_doubt r next = record {
   counts = counts_by j.strictness in_doubt r;
 }
 
-abbrev pub told_of : Judge → Role → List ℕ → Remark → Judge → Answer
+abbrev pub told_of : Judge → Role → List ℕ → Seen → Judge → Answer
 told_of j from octets r next = told_as j from octets (explains_told (lack_of j from) r.rule) r next
 
 -- a frame, as it is seen by the link layer and by the packet layer
-abbrev pub remark_by : PlainFrame → Seen → Verdict → Remark
-remark_by frame t v = record {
+abbrev pub remark_by : PlainFrame → Seen → Verdict → Seen
+remark_by frame t v = record t {
   rule = all_told t.rule v.rule;
   note = first_note (unjudged_note v.unjudged) t.note;
   is_judged = t.is_judged && covers frame t.is_again v.is_judged;
@@ -200,22 +199,19 @@ next_by from frame t s j = counts_carried from frame t.seen.is_again s.verdict.i
 abbrev pub book_of : Judge → Role → PlainFrame → Seen → book.Seen
 book_of j from frame t = book.sees from j.reading frame (breaks_order t.rule) j.book
 
-abbrev pub book_by : Judge → Role → PlainFrame → Both → book.Seen
-book_by j from frame t = book_of j from frame t.seen
-
 abbrev pub told_frame : Judge → Role → List ℕ → PlainFrame → Both → Answer
-told_frame j from octets frame t = told_of j from octets (remark_by frame t.seen (book_by j from frame t).verdict)
-    (next_by from frame t (book_by j from frame t) j)
+told_frame j from octets frame t = told_of j from octets (remark_by frame t.seen (book_of j from frame t.seen).verdict)
+    (next_by from frame t (book_of j from frame t.seen) j)
 
 abbrev pub seen_by : Judge → Role → PlainFrame → Both
 seen_by j from frame = sees j.window frame (own_of from j) (other_of from j)
 
-abbrev pub remark_of : Judge → Role → PlainFrame → Both → Remark
-remark_of j from frame t = remark_by frame t.seen (book_by j from frame t).verdict
+abbrev pub remark_of : Judge → Role → PlainFrame → Both → Seen
+remark_of j from frame t = remark_by frame t.seen (book_of j from frame t.seen).verdict
 
 -- octets that spell no frame are judged where they aren't damaged
-abbrev pub remark_missed : FrameError → Missed → Remark
-remark_missed e m = record { rule = no_frame e; note = m.note; is_judged = is_some (no_frame e) }
+abbrev pub remark_missed : FrameError → Missed → Seen
+remark_missed e m = record { rule = no_frame e; note = m.note; is_again = false; is_judged = is_some (no_frame e) }
 
 abbrev pub missed_by : Judge → Role → Missed
 missed_by j from = misses (own_of from j) (other_of from j)

@@ -1,6 +1,6 @@
 -- Both ends of a link, frame by frame: which rule is told, what is noted, and what is judged. The rules of order are
 -- those of `link_rules` of x25_possible_links; how they are named, and manners, are of this crate.
-use Rattle.std.specs.Prelude.{ℕ, ◌+◌, ◌-◌, ◌%◌, ◌==◌, nat_lt, nat_le, Bool, true, false, not, ◌&&◌, ◌||◌, if◌then◌else◌}
+use Rattle.std.specs.Prelude.{ℕ, ◌-◌, ◌%◌, ◌==◌, nat_lt, nat_le, Bool, true, false, not, ◌&&◌, ◌||◌, if◌then◌else◌}
 use Rattle.std.specs.Prelude.{List, [], ◌∷◌, Option, Some, None, is_some}
 use Rattle.x25_frame.specs.Frame.{PlainFrame, info, rr, rnr, rej, sabm, disc, ua, dm, frmr}
 use Rattle.x25_judge.specs.Held.{Held, differs, forgets, forgets_all, is_same, keeps, none_held}
@@ -9,7 +9,6 @@ use Rattle.x25_judge.specs.Manners.{place_of}
 use Rattle.x25_judge.specs.Note.{first_note}
 use Rattle.x25_judge.specs.Rule.{first}
 use Rattle.x25_judge.specs.declared.links.End.{End}
-use Rattle.x25_judge.specs.declared.links.Facts.{Facts}
 use Rattle.x25_judge.specs.declared.links.Minding.{Minding}
 use Rattle.x25_judge.specs.declared.links.Sent.{Sent}
 use Rattle.x25_judge.specs.declared.links.Seen.{Seen}
@@ -22,9 +21,10 @@ use Rattle.x25_judge.specs.declared.rule.Rule.{Rule}
 use Rattle.x25_judge.specs.declared.rule.Rule.TheVariants.{Differs, Falls, NotUp, OverWindow, UaUnasked, Unsent}
 use Rattle.x25_packet_judge.specs.Numbers.{apart}
 use Rattle.x25_possible_links.specs.code.Steps as steps
-use Rattle.x25_possible_links.specs.code.Steps.{latest, plainest, sends_to, shows_to, unknown}
+use Rattle.x25_possible_links.specs.code.Steps.{facts, numbers, sends_to, session_facts, shows_to, unknown}
 use Rattle.x25_possible_links.specs.declared.frame.Frame.{Frame}
 use Rattle.x25_possible_links.specs.declared.frame.Frame.TheVariants.{Disc, Dm, Frmr, Info, Ready, Sabm, Ua, Unread}
+use Rattle.x25_possible_links.specs.declared.set.Facts.{Facts}
 use Rattle.x25_possible_links.specs.declared.set.LinkSet.{LinkSet}
 use Rattle.x25_possible_links.specs.declared.set.Told.{Told}
 use Rattle.x25_possible_links.specs.declared.set.Told.TheVariants.{Broken, Nothing, Skips}
@@ -48,12 +48,10 @@ shown (frmr f why) differs = Frmr
 -- ---- which rule
 
 -- an N(R) that it may not send: whichever is nearer (2.3.4.9)
-abbrev pub invalid_by : ℕ → ℕ → ℕ → Numbers → Rule
-invalid_by least most nr k =
-    if nat_le (apart least nr) k.told && nat_lt (apart least nr) (apart nr most) then Falls least else Unsent most
-
 abbrev pub invalid : Numbers → ℕ → Rule
-invalid k nr = invalid_by (k.told % 8) (k.taken % 8) nr k
+invalid k nr =
+    if nat_le (apart (k.told % 8) nr) k.told && nat_lt (apart (k.told % 8) nr) (apart nr (k.taken % 8))
+    then Falls (k.told % 8) else Unsent (k.taken % 8)
 
 abbrev pub broken_up : Numbers → Frame → Rule
 broken_up k (Info ns nr differs) =
@@ -77,35 +75,12 @@ rule_of (Broken s) x = Some (broken s x)
 
 -- ---- an end
 
--- its numbers, where octets that spell no frame were none; where it isn't in a session then, where they were any
-abbrev pub numbers_by : Stand → Stand → Stand
-numbers_by (Up k) s = Up k
-numbers_by t s = s
-
-abbrev pub numbers : LinkSet → Stand
-numbers s = numbers_by (plainest s.spots.items s.way.items) (latest s.spots.items s.way.items)
-
 abbrev pub place_in : Stand → Place
 place_in (Up k) = place_of k
 place_in s = place_of (record { sent = 0; acked = 0; taken = 0; told = 0 })
 
 abbrev pub place : End → Place
 place e = place_in (numbers e.set)
-
--- V(S) is known, or none
-abbrev pub is_counted : Stand → LinkSet → Bool
-is_counted (Up k) s = steps.agree k.sent s.way.items s.spots.items
-is_counted t s = true
-
-abbrev pub facts : LinkSet → Facts
-facts s = record {
-  stand = numbers s;
-  is_sure = steps.is_certain s;
-  is_counted = is_counted (numbers s) s;
-  is_known = steps.is_known s;
-  is_shown = steps.is_known s && steps.is_followed s;
-  is_answering = steps.judges_answer s;
-}
 
 abbrev pub judges_final : ℕ → Bool → Facts → Bool
 judges_final polls f a = not f || (not (polls == 0) || a.is_shown)
@@ -134,9 +109,6 @@ forgets_in s h = forgets_all h
 abbrev pub forgets_each : List Spot → Held → Held
 forgets_each [] h = h
 forgets_each (q ∷ qs) h = forgets_each qs (forgets_in q.stand h)
-
-abbrev pub forgets_all_sent : End → End
-forgets_all_sent e = record e { held = forgets_each e.set.spots.items e.held }
 
 -- nothing was sent
 abbrev pub no_end : End
@@ -179,16 +151,13 @@ minded_as Nothing window k t ns p differs m =
     if t.facts.is_counted then manners.sends window (place_of k) ns p false m
     else if ns == k.sent % 8 then manners.quiet m else manners.notes SentBehindDamage t.is_same m
 
-abbrev pub minded_by : ℕ → Numbers → Sent → ℕ → Bool → Bool → Manners → Minded
-minded_by window k t ns p differs m = minded_as t.told window k t ns p differs m
-
 -- numbers are left out, where the end isn't known to be in a session
 abbrev pub skipped_by : Told → ℕ → Stand → ℕ → Bool → Minding → Minding
 skipped_by (Skips s) window stand ns p b = by_own (manners.sends window (place_in stand) ns p true b.own) b
 skipped_by told window stand ns p b = b
 
 abbrev pub counts_in : Stand → ℕ → Sent → ℕ → Bool → Minding → Minding
-counts_in (Up k) window t ns p b = by_own (minded_by window k t ns p (is_differing b.seen.rule) b.own) b
+counts_in (Up k) window t ns p b = by_own (minded_as t.told window k t ns p (is_differing b.seen.rule) b.own) b
 counts_in s window t ns p b = skipped_by t.told window s ns p b
 
 abbrev pub is_above : Stand → ℕ → Bool
@@ -251,19 +220,7 @@ quietly own other = record { own = own; other = other; seen = quiet }
 
 -- in a session, with nothing on the way
 abbrev pub steady : Bool → Numbers → Sent
-steady is_same k = record {
-  facts = record {
-    stand = Up k;
-    is_sure = true;
-    is_counted = true;
-    is_known = true;
-    is_shown = true;
-    is_answering = true;
-  };
-  told = Nothing;
-  is_same = is_same;
-  takes_unread = false;
-}
+steady is_same k = record { facts = session_facts k; told = Nothing; is_same = is_same; takes_unread = false }
 
 -- ---- a frame: both ends, and what is said of it
 
@@ -339,8 +296,8 @@ abbrev pub misses : End → End → Missed
 misses own other = record {
   own = record {
     set = (sends_to Unread own.set).set;
-    held = (forgets_all_sent own).held;
-    manners = manners.missed own.manners;
+    held = forgets_each own.set.spots.items own.held;
+    manners = manners.asks_on own.manners.is_polling own.manners;
   };
   other = record other {
     set = shows_to Unread other.set;

@@ -93,9 +93,6 @@ sent_back far m = record m {
 
 -- ---- octets that spell no frame
 
-abbrev pub missed : Manners → Manners
-missed m = asks_on m.is_polling m
-
 abbrev pub unheard : ℕ → Manners → Manners
 unheard pending m = record (sent_back pending m) { is_astray = true; is_rejecting = false }
 

@@ -74,7 +74,6 @@ impl Answerer {
     }
 
     /// Answers a line, and before that tells what stands beside what it asks.
-    #[inline(always)]
     fn answer_parts<W: Sink>(&mut self, line: &[u8], writer: &mut W) -> Result<(), Failed>
         ensures kept { OnOk result (W.is_marked writer.new ≡ W.is_marked writer.old) }
         ensures replies { length line.now ≤ most_line → Replies result (W.contents writer.old) (W.contents writer.new)
@@ -93,7 +92,6 @@ impl Answerer {
     }
 
     /// Answers a line, `None` where it is too long.
-    #[inline(always)]
     fn answer_line<W: Sink>(&mut self, line: Option<&[u8]>, writer: &mut W) -> Result<(), Failed>
         ensures kept { OnOk result (W.is_marked writer.new ≡ W.is_marked writer.old) }
         ensures replies { (first : List ℕ) → MatchOption line.entry (most_line < length first) (λ held.
@@ -154,7 +152,6 @@ impl LineTaker for Answerer {
 
     ghost ended = { λ s old now lines input. WritesLines s.0 old now lines (output_by s.0 s.1 input) };
 
-    #[inline(always)]
     fn take_line<W: Sink>(&mut self, line: Option<&[u8]>, writer: &mut W) -> Result<(), Fault> {
         match self.answer_line(line, writer) {
             Ok(()) => Ok(()),

@@ -12,10 +12,10 @@ ghost use Rattle.x25_frame.specs.Frame.{plain};
 ghost use Rattle.x25_packet_judge.specs.Book.{IsRead};
 ghost use Rattle.x25_judge.specs.Doubt.{explains_told};
 ghost use Rattle.x25_judge.specs.Links.{quiet};
-ghost use Rattle.x25_judge.specs.Judge.{all_told, answer_to, begins_at, behind, broken_text};
+ghost use Rattle.x25_judge.specs.Judge.{answer_to, begins_at, behind, broken_text};
 ghost use Rattle.x25_judge.specs.Judge.{counts_carried, doubt_text, is_nothing, is_settled, lack_of, last_line};
 ghost use Rattle.x25_judge.specs.Judge.{counts_frame, end_of, forgotten, gap_of};
-ghost use Rattle.x25_judge.specs.Judge.{book_by, book_of, counts_by, counts_packet, counts_text, covers, missed_by};
+ghost use Rattle.x25_judge.specs.Judge.{book_of, counts_by, counts_text, covers, missed_by};
 ghost use Rattle.x25_judge.specs.Judge.{next_by, next_missed, no_frame, read_of, remark_by, remark_missed, remark_of};
 ghost use Rattle.x25_judge.specs.Judge.{noted_text, remark_text, seen_by, sign_of, tallies};
 
@@ -31,7 +31,7 @@ use x25_decode::{Reading, push_gap, read_gap, read_sent};
 use x25_frame::{Frame, FrameError, N1, Role, decode};
 use x25_io::{Failed, Output, Sink};
 use x25_packet::{Packet, PacketError, channel, decode_within, longest_user};
-use x25_packet_judge::{Book, PacketRule};
+use x25_packet_judge::Book;
 use x25_possible_links::LinkSet;
 use x25_text::{
     MOST_OCTETS, MOST_TEXT, ROOM, Text, push_fault, push_frame, push_other_frame, push_packet,
@@ -70,24 +70,6 @@ pub(crate) struct Judge {
     pub(crate) told: Tally,
     pub(crate) at: At,
     pub(crate) has_gap: bool,
-}
-
-/// The rule that a frame breaks, what is noted of it, and whether all of it was judged.
-#[derive(Clone, Copy)]
-pub(crate) struct Remark {
-    pub(crate) rule: Option<Rule>,
-    pub(crate) note: Option<Note>,
-    pub(crate) is_judged: bool,
-}
-
-/// A rule of the link layer is told before one of the packet layer, and so are manners.
-fn all_told(rule: Option<Rule>, packet: Option<PacketRule>) -> Option<Rule>
-    ensures { result ≡ all_told rule packet }
-{
-    match packet {
-        Some(packet) => first(rule, Some(Rule::Packet { rule: packet })),
-        None => rule,
-    }
 }
 
 /// The rule that octets break which spell no frame, where they aren't damaged.
@@ -286,16 +268,6 @@ impl Judge {
         }
     }
 
-    /// Counts a packet.
-    fn count_packet(&mut self, from: Role, channel: u16, is_judged: bool)
-        ensures { self.new ≡ counts_packet from channel is_judged self.old }
-    {
-        match from {
-            Role::Dte => self.dte_packets.add(channel, is_judged),
-            Role::Dce => self.dce_packets.add(channel, is_judged),
-        }
-    }
-
     /// Counts the packet of an I frame that wasn't sent before.
     #[tactic(auto, unfolding(crate::specs::Judge::counts_carried))]
     fn count_carried(&mut self, from: Role, frame: &Frame, is_again: bool, is_judged: bool)
@@ -307,15 +279,11 @@ impl Judge {
         if is_again {
             return;
         }
-        self.count_packet(from, channel(info).unwrap_or(0), is_judged);
-    }
-
-    /// Counts a rule that is told.
-    fn tally(&mut self, in_doubt: bool, rule: Rule)
-        ensures { self.new ≡ tallies in_doubt (Some rule) self.old }
-    {
-        let is_manners = rule.is_of_manners();
-        self.told = self.told.more(in_doubt, !is_manners, is_manners);
+        let channel = channel(info).unwrap_or(0);
+        match from {
+            Role::Dte => self.dte_packets.add(channel, is_judged),
+            Role::Dce => self.dce_packets.add(channel, is_judged),
+        }
     }
 
     /// Appends the rule that was broken, which is counted, or what is noted, and a line feed; whether that counts for
@@ -326,7 +294,7 @@ impl Judge {
         from: Role,
         strictness: Strictness,
         lack: Lack,
-        remark: Remark,
+        remark: Seen,
         text: &mut Text,
     ) -> bool
         requires { length text.old + (MOST_REMARK + 1) ≤ ROOM }
@@ -342,10 +310,11 @@ impl Judge {
             return is_open;
         };
         let in_doubt = lack.explains(rule);
-        self.tally(in_doubt, rule);
+        let is_manners = rule.is_of_manners();
+        self.told = self.told.more(in_doubt, !is_manners, is_manners);
         push_broken(from, in_doubt, rule, text);
         text.push(b"\n");
-        let breaks = !rule.is_of_manners() || (rule.is_of_manners() && strictness.manners);
+        let breaks = !is_manners || strictness.manners;
         ((!in_doubt || strictness.unjudged) && breaks) || is_open
     }
 
@@ -409,7 +378,7 @@ impl Judge {
         frame: &Frame,
         packet: &Result<Packet, PacketError>,
         seen: Seen,
-    ) -> Remark
+    ) -> Seen
         requires { IsRead self.old.reading (plain frame.now) packet.now }
         ensures next { let s = book_of self.old from (plain frame.now) seen in self.new
             ≡ counts_carried from (plain frame.now) seen.is_again s.verdict.is_judged
@@ -422,19 +391,23 @@ impl Judge {
             .sees(from, self.reading, frame, packet, breaks_order(seen.rule));
         self.count_frame(from, seen.is_judged);
         self.count_carried(from, frame, seen.is_again, verdict.is_judged);
-        Remark {
-            rule: all_told(seen.rule, verdict.rule),
+        Seen {
+            rule: match verdict.rule {
+                Some(rule) => first(seen.rule, Some(Rule::Packet { rule })),
+                None => seen.rule,
+            },
             note: first_note(unjudged_note(verdict.unjudged), seen.note),
             is_judged: seen.is_judged && covers(frame, seen.is_again, verdict.is_judged),
+            ..seen
         }
     }
 
     /// The rule that a frame breaks, and what is noted of it.
     #[inline(never)]
-    fn sees(&mut self, from: Role, frame: &Frame, packet: &Result<Packet, PacketError>) -> Remark
+    fn sees(&mut self, from: Role, frame: &Frame, packet: &Result<Packet, PacketError>) -> Seen
         requires { IsRead self.old.reading (plain frame.now) packet.now }
         ensures next { self.new ≡ next_by from (plain frame.now) (seen_by self.old from (plain frame.now))
-            (book_by self.old from (plain frame.now) (seen_by self.old from (plain frame.now))) self.old }
+            (book_of self.old from (plain frame.now) (seen_by self.old from (plain frame.now)).seen) self.old }
         ensures remark { result ≡ remark_of self.old from (plain frame.now) (seen_by self.old from (plain frame.now)) }
     {
         let seen = self.look(from, frame);
@@ -458,7 +431,7 @@ impl Judge {
         ensures next { let t = seen_by self.old from (plain frame.now) in
             let r = remark_of self.old from (plain frame.now) t in
             self.new ≡ tallies (explains_told lack r.rule) r.rule
-            (next_by from (plain frame.now) t (book_by self.old from (plain frame.now) t) self.old) }
+            (next_by from (plain frame.now) t (book_of self.old from (plain frame.now) t.seen) self.old) }
         ensures text { let r = remark_of self.old from (plain frame.now) (seen_by self.old from (plain frame.now)) in
             text.new ≡ text.old ++ (remark_text from (explains_told lack r.rule) r.rule r.note ++ codes "\n") }
         ensures counts { let r = remark_of self.old from (plain frame.now) (seen_by self.old from (plain frame.now)) in
@@ -474,7 +447,7 @@ impl Judge {
     }
 
     /// The rule that octets break which spell no frame.
-    fn misses(&mut self, from: Role, error: FrameError) -> Remark
+    fn misses(&mut self, from: Role, error: FrameError) -> Seen
         ensures next { self.new ≡ next_missed from error (missed_by self.old from) self.old }
         ensures remark { result ≡ remark_missed error (missed_by self.old from) }
     {
@@ -482,9 +455,10 @@ impl Judge {
         self.book.misses(from);
         let rule = no_frame(error);
         self.count_frame(from, rule.is_some());
-        Remark {
+        Seen {
             rule,
             note,
+            is_again: false,
             is_judged: rule.is_some(),
         }
     }

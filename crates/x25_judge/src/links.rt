@@ -3,6 +3,7 @@ ghost use Rattle.std.specs.Prelude.{◌≡◌, ℕ, Bool, true, false, IfOk};
 ghost use Rattle.x25_frame.specs.Frame.{plain};
 ghost use Rattle.x25_judge.specs.Held.{keeps, is_same as same_octets};
 ghost use Rattle.x25_judge.specs.Links as definition;
+ghost use Rattle.x25_possible_links.specs.code.Steps.{numbers};
 ghost use Rattle.x25_possible_links.specs.declared.set.LinkSet.{LinkSet};
 ghost use Rattle.x25_possible_links.specs.declared.stand.Stand.TheVariants.{Up};
 
@@ -13,7 +14,7 @@ use crate::rule::{Rule, first};
 use std::alloc::{AllocError, Global};
 use x25_frame::Frame;
 use x25_packet_judge::apart;
-use x25_possible_links::{Frame as Shown, LinkSet, Numbers, Spot, Stand, Told};
+use x25_possible_links::{Facts, Frame as Shown, LinkSet, Numbers, Spot, Stand, Told};
 
 /// One end.
 #[derive(Drop)]
@@ -31,22 +32,6 @@ pub(crate) struct Seen {
     pub(crate) note: Option<Note>,
     pub(crate) is_again: bool,
     pub(crate) is_judged: bool,
-}
-
-/// What is known of an end before a frame that it sends.
-#[derive(Clone, Copy)]
-pub(crate) struct Facts {
-    /// Its numbers.
-    stand: Stand,
-    /// It is known what it may acknowledge.
-    is_sure: bool,
-    /// V(S) is known, or none.
-    is_counted: bool,
-    is_known: bool,
-    /// All is shown that its next response may answer.
-    is_shown: bool,
-    /// It is known whether its next UA answers something.
-    is_answering: bool,
 }
 
 /// A frame: what is known of its end before it, and what is told of it.
@@ -68,19 +53,17 @@ pub(crate) struct Minding {
     seen: Seen,
 }
 
-impl Facts {
-    /// Whether its next frame is judged, where the other end sent so many commands with P=1 that aren't answered.
-    #[tactic(auto, unfolding(crate::specs::Links::judges))]
-    fn judges(self, polls: u8, frame: &Frame) -> bool
-        ensures { result ≡ definition.judges polls (plain frame.now) self }
-    {
-        match frame {
-            Frame::I { .. } => self.is_sure && self.is_counted,
-            Frame::Rr { .. } | Frame::Rnr { .. } | Frame::Rej { .. } => self.is_sure,
-            Frame::Sabm { .. } | Frame::Disc { .. } => true,
-            Frame::Ua { .. } => self.is_answering,
-            Frame::Dm { f } | Frame::Frmr { f, .. } => !*f || (polls != 0 || self.is_shown),
-        }
+/// Whether the next frame of an end is judged, where the other one sent so many commands with P=1 that aren't answered.
+#[tactic(auto, unfolding(crate::specs::Links::judges))]
+fn judges(facts: &Facts, polls: u8, frame: &Frame) -> bool
+    ensures { result ≡ definition.judges polls (plain frame.now) facts.now }
+{
+    match frame {
+        Frame::I { .. } => facts.is_sure && facts.is_counted,
+        Frame::Rr { .. } | Frame::Rnr { .. } | Frame::Rej { .. } => facts.is_sure,
+        Frame::Sabm { .. } | Frame::Disc { .. } => true,
+        Frame::Ua { .. } => facts.is_answering,
+        Frame::Dm { f } | Frame::Frmr { f, .. } => !*f || (polls != 0 || facts.is_shown),
     }
 }
 
@@ -97,15 +80,12 @@ impl Seen {
         }
     }
 
-    fn with(self, minded: Minded) -> Seen
-        ensures { result ≡ definition.with_minded minded self }
+    fn adds(&mut self, minded: Minded)
+        ensures { self.new ≡ definition.with_minded minded self.old }
     {
-        Seen {
-            rule: first(self.rule, minded.rule),
-            note: first_note(self.note, minded.note),
-            is_again: self.is_again || minded.is_again,
-            ..self
-        }
+        self.rule = first(self.rule, minded.rule);
+        self.note = first_note(self.note, minded.note);
+        self.is_again = self.is_again || minded.is_again;
     }
 }
 
@@ -197,17 +177,6 @@ fn blind_note(was: bool, is: bool) -> Option<Note>
     }
 }
 
-/// Its numbers, where octets that spell no frame were none; where it isn't in a session then, where they were any.
-fn numbers(set: &LinkSet) -> Stand
-    ensures { result ≡ definition.numbers set.now }
-{
-    let stand = set.plainest();
-    match stand {
-        Stand::Up(_) => stand,
-        _ => set.latest(),
-    }
-}
-
 fn place_in(stand: Stand) -> Place
     ensures { result ≡ definition.place_in stand }
 {
@@ -223,9 +192,9 @@ fn place_in(stand: Stand) -> Place
 }
 
 fn place(set: &LinkSet) -> Place
-    ensures { result ≡ definition.place_in (definition.numbers set.now) }
+    ensures { result ≡ definition.place_in (numbers set.now) }
 {
-    place_in(numbers(set))
+    place_in(set.numbers())
 }
 
 fn forget_in(held: &mut Held, stand: Stand)
@@ -259,60 +228,25 @@ impl End {
         })
     }
 
-    /// Holds the octets of an I frame; where numbers were left out, none other.
-    fn holds(&mut self, told: Told, frame: &Frame)
-        ensures { self.new ≡ record self.old {
-          held = keeps (definition.held_by told self.old.held) (plain frame.now);
-        } }
-    {
-        if matches!(told, Told::Skips(_)) {
-            self.held.forget_all();
-        }
-        self.held.keep(frame);
-    }
-
-    /// What is known of it before a frame.
-    fn facts(&self) -> Facts
-        ensures { result ≡ definition.facts self.now.set }
-    {
-        let stand = numbers(&self.set);
-        let is_known = self.set.is_known();
-        Facts {
-            stand,
-            is_sure: self.set.is_sure(),
-            is_counted: match stand {
-                Stand::Up(k) => self.set.agrees(k.sent),
-                _ => true,
-            },
-            is_known,
-            is_shown: is_known && self.set.is_followed(),
-            is_answering: self.set.judges_answer(),
-        }
-    }
-
     /// It sends a frame.
     fn sends(&mut self, is_same: bool, shown: Shown, frame: &Frame) -> Sent
         requires { is_same ≡ same_octets self.old.held (plain frame.now) }
         ensures own { self.new ≡ definition.end_sent (plain frame.now) shown self.old }
         ensures sent { result ≡ definition.sent_by (plain frame.now) shown self.old }
     {
-        let facts = self.facts();
+        let facts = self.set.facts();
         let unread = self.set.unread();
         let told = self.set.sends(shown);
-        self.holds(told, frame);
+        if matches!(told, Told::Skips(_)) {
+            self.held.forget_all();
+        }
+        self.held.keep(frame);
         Sent {
             facts,
             told,
             is_same,
             takes_unread: self.set.unread() < unread,
         }
-    }
-
-    /// Octets of numbers that it may have sent are known no longer.
-    fn forgets(&mut self)
-        ensures { self.new ≡ definition.forgets_all_sent self.old }
-    {
-        forget_each(&mut self.held, self.set.spots.as_slice());
     }
 }
 
@@ -352,7 +286,7 @@ fn minded(
     differs: bool,
     manners: Manners,
 ) -> Minded
-    ensures { result ≡ definition.minded_by window k sent.now ns p differs manners }
+    ensures { result ≡ definition.minded_as sent.now.told window k sent.now ns p differs manners }
 {
     match sent.told {
         Told::Broken(_) => says(None, None, sent.is_same || differs, manners),
@@ -368,173 +302,139 @@ fn minded(
 }
 
 impl Minding {
-    fn by_own(self, minded: Minded) -> Minding
-        ensures { result ≡ definition.by_own minded self }
+    fn by_own(&mut self, minded: Minded)
+        ensures { self.new ≡ definition.by_own minded self.old }
     {
-        Minding {
-            own: minded.manners,
-            seen: self.seen.with(minded),
-            ..self
-        }
+        self.own = minded.manners;
+        self.seen.adds(minded);
     }
 
     /// A command.
-    fn asks(self, p: bool) -> Minding
-        ensures { result ≡ definition.asks p self }
+    fn asks(&mut self, p: bool)
+        ensures { self.new ≡ definition.asks p self.old }
     {
         if p {
-            self.by_own(self.own.asks())
-        } else {
-            self
+            self.by_own(self.own.asks());
         }
     }
 
     /// A response, where it is shown or not what it may answer.
-    #[inline(always)]
-    fn answers(self, f: bool, is_shown: bool) -> Minding
-        ensures { result ≡ definition.answers f is_shown self }
+    fn answers(&mut self, f: bool, is_shown: bool)
+        ensures { self.new ≡ definition.answers f is_shown self.old }
     {
         if f {
             let minded = self.other.answered(is_shown);
-            Minding {
-                other: minded.manners,
-                seen: self.seen.with(minded),
-                ..self
-            }
-        } else {
-            self
+            self.other = minded.manners;
+            self.seen.adds(minded);
         }
     }
 
-    #[inline(always)]
-    fn bits(self, command: bool, pf: bool, is_shown: bool) -> Minding
-        ensures { result ≡ definition.bits command pf is_shown self }
+    fn bits(&mut self, command: bool, pf: bool, is_shown: bool)
+        ensures { self.new ≡ definition.bits command pf is_shown self.old }
     {
         if command {
-            self.asks(pf)
+            self.asks(pf);
         } else {
-            self.answers(pf, is_shown)
+            self.answers(pf, is_shown);
         }
     }
 
     /// Numbers of the end begin anew.
-    fn begins(self) -> Minding
-        ensures { result ≡ definition.begins self }
+    fn begins(&mut self)
+        ensures { self.new ≡ definition.begins self.old }
     {
-        Minding {
-            own: self.own.begun(),
-            ..self
-        }
+        self.own = self.own.begun();
     }
 
     /// Numbers are left out in front of an N(S), of an end that isn't known to be in a session.
-    fn skips(self, window: u8, stand: Stand, told: Told, ns: u8, p: bool) -> Minding
-        ensures { result ≡ definition.skipped_by told window stand ns p self }
+    fn skips(&mut self, window: u8, stand: Stand, told: Told, ns: u8, p: bool)
+        ensures { self.new ≡ definition.skipped_by told window stand ns p self.old }
     {
-        match told {
-            Told::Skips(_) => self.by_own(self.own.sends(window, place_in(stand), ns, p, true)),
-            _ => self,
+        if matches!(told, Told::Skips(_)) {
+            self.by_own(self.own.sends(window, place_in(stand), ns, p, true));
         }
     }
 
     /// The N(S) of an I frame.
-    fn counts(self, window: u8, sent: &Sent, ns: u8, p: bool) -> Minding
-        ensures { result ≡ definition.counts_in sent.now.facts.stand window sent.now ns p self }
+    fn counts(&mut self, window: u8, sent: &Sent, ns: u8, p: bool)
+        ensures { self.new ≡ definition.counts_in sent.now.facts.stand window sent.now ns p self.old }
     {
+        let differs = matches!(self.seen.rule, Some(Rule::Differs));
         match sent.facts.stand {
-            Stand::Up(k) => self.by_own(minded(
-                window,
-                k,
-                sent,
-                ns,
-                p,
-                matches!(self.seen.rule, Some(Rule::Differs)),
-                self.own,
-            )),
+            Stand::Up(k) => self.by_own(minded(window, k, sent, ns, p, differs, self.own)),
             stand => self.skips(window, stand, sent.told, ns, p),
         }
     }
 
     /// An N(R), to an end that may be in these places.
-    fn hears(self, sent: &Sent, to: &LinkSet, nr: u8) -> Minding
-        ensures { result ≡ definition.hears sent.now to.now nr self }
+    fn hears(&mut self, sent: &Sent, to: &LinkSet, nr: u8)
+        ensures { self.new ≡ definition.hears sent.now to.now nr self.old }
     {
-        let note = if sent.takes_unread {
-            heard_note(sent.facts.stand, nr, place(to).next)
-        } else {
-            None
-        };
-        Minding {
-            own: self.own.hears(is_above(sent.facts.stand, nr)),
-            other: self.other.heard(),
-            seen: Seen {
-                note: first_note(self.seen.note, note),
-                ..self.seen
-            },
+        if sent.takes_unread {
+            let note = heard_note(sent.facts.stand, nr, place(to).next);
+            self.seen.note = first_note(self.seen.note, note);
         }
+        self.own = self.own.hears(is_above(sent.facts.stand, nr));
+        self.other = self.other.heard();
     }
 
     /// What may set V(S) of the other end back to an N(R).
-    fn sends_back(self, to: &LinkSet, nr: u8) -> Minding
-        ensures { result ≡ definition.sends_back to.now nr self }
+    fn sends_back(&mut self, to: &LinkSet, nr: u8)
+        ensures { self.new ≡ definition.sends_back to.now nr self.old }
     {
-        Minding {
-            other: self.other.sent_back(apart(place(to).next, nr)),
-            ..self
-        }
+        self.other = self.other.sent_back(apart(place(to).next, nr));
     }
 
     /// RR or RNR.
-    fn ready(self, sent: &Sent, to: &LinkSet, command: bool, nr: u8, pf: bool) -> Minding
-        ensures { result ≡ definition.ready_minded sent.now to.now command nr pf self }
+    fn ready(&mut self, sent: &Sent, to: &LinkSet, command: bool, nr: u8, pf: bool)
+        ensures { self.new ≡ definition.ready_minded sent.now to.now command nr pf self.old }
     {
-        let both = self
-            .bits(command, pf, sent.facts.is_known)
-            .hears(sent, to, nr);
+        self.bits(command, pf, sent.facts.is_known);
+        self.hears(sent, to, nr);
         if pf && !command {
-            both.sends_back(to, nr)
-        } else {
-            both
+            self.sends_back(to, nr);
         }
     }
 
     /// REJ.
-    fn reject(self, sent: &Sent, to: &LinkSet, command: bool, nr: u8, pf: bool) -> Minding
-        ensures { result ≡ definition.reject_minded sent.now to.now command nr pf self }
+    fn reject(&mut self, sent: &Sent, to: &LinkSet, command: bool, nr: u8, pf: bool)
+        ensures { self.new ≡ definition.reject_minded sent.now to.now command nr pf self.old }
     {
-        let both = self
-            .bits(command, pf, sent.facts.is_known)
-            .hears(sent, to, nr);
-        both.by_own(both.own.rejects(sent.facts.is_sure))
-            .sends_back(to, nr)
+        self.bits(command, pf, sent.facts.is_known);
+        self.hears(sent, to, nr);
+        self.by_own(self.own.rejects(sent.facts.is_sure));
+        self.sends_back(to, nr);
     }
 
     /// UA.
-    fn accepts(self, f: bool, is_shown: bool) -> Minding
-        ensures { result ≡ definition.accepts f is_shown self }
+    fn accepts(&mut self, f: bool, is_shown: bool)
+        ensures { self.new ≡ definition.accepts f is_shown self.old }
     {
-        if self.seen.rule.is_some() {
-            self
-        } else {
-            self.begins().answers(f, is_shown)
+        if self.seen.rule.is_none() {
+            self.begins();
+            self.answers(f, is_shown);
         }
     }
 
     /// A frame, to an end that may be in these places.
     #[tactic(auto, unfolding(crate::specs::Links::minds))]
-    fn minds(self, window: u8, sent: &Sent, to: &LinkSet, frame: &Frame) -> Minding
-        ensures { result ≡ definition.minds window sent.now to.now (plain frame.now) self }
+    fn minds(&mut self, window: u8, sent: &Sent, to: &LinkSet, frame: &Frame)
+        ensures { self.new ≡ definition.minds window sent.now to.now (plain frame.now) self.old }
     {
         match frame {
-            Frame::I { ns, nr, p, .. } => self
-                .asks(*p)
-                .counts(window, sent, ns.get(), *p)
-                .hears(sent, to, nr.get()),
+            Frame::I { ns, nr, p, .. } => {
+                self.asks(*p);
+                self.counts(window, sent, ns.get(), *p);
+                self.hears(sent, to, nr.get());
+            }
             Frame::Rr { command, nr, pf } | Frame::Rnr { command, nr, pf } => {
-                self.ready(sent, to, *command, nr.get(), *pf)
+                self.ready(sent, to, *command, nr.get(), *pf);
             }
             Frame::Rej { command, nr, pf } => self.reject(sent, to, *command, nr.get(), *pf),
-            Frame::Sabm { p } => self.begins().asks(*p),
+            Frame::Sabm { p } => {
+                self.begins();
+                self.asks(*p);
+            }
             Frame::Disc { p } => self.asks(*p),
             Frame::Ua { f } => self.accepts(*f, sent.facts.is_shown),
             Frame::Dm { f } | Frame::Frmr { f, .. } => self.answers(*f, sent.facts.is_shown),
@@ -563,7 +463,7 @@ fn minds_quietly(
 ) -> bool
     ensures judged { result ≡ true → (polls : ℕ) (is_same : Bool)
         → definition.judges polls (plain frame.now) (definition.steady is_same k).facts ≡ true }
-    ensures minded { result ≡ true → (is_same : Bool) (there : LinkSet) → definition.numbers there ≡ Up to
+    ensures minded { result ≡ true → (is_same : Bool) (there : LinkSet) → numbers there ≡ Up to
         → definition.minds window (definition.steady is_same k) there (plain frame.now)
         (definition.quietly own.old other.old) ≡ definition.quietly own.new other.new }
     ensures own { result ≡ false → own.new ≡ own.old }
@@ -656,14 +556,14 @@ pub(crate) fn sees(own: &mut End, other: &mut End, window: u8, frame: &Frame) ->
         rule: rule_of(sent.told, shown),
         note: blind_note(was_blind, is_blind(own, other)),
         is_again: false,
-        is_judged: sent.facts.judges(other.manners.polls, frame),
+        is_judged: judges(&sent.facts, other.manners.polls, frame),
     };
-    let both = Minding {
+    let mut both = Minding {
         own: own.manners,
         other: other.manners,
         seen,
     };
-    let both = both.minds(window, &sent, &other.set, frame);
+    both.minds(window, &sent, &other.set, frame);
     own.manners = both.own;
     other.manners = both.other;
     both.seen
@@ -676,8 +576,8 @@ pub(crate) fn misses(own: &mut End, other: &mut End) -> Option<Note>
     ensures note { result ≡ (definition.misses own.old other.old).note }
 {
     let was_blind = is_blind(own, other);
-    own.forgets();
-    own.manners = own.manners.missed();
+    forget_each(&mut own.held, own.set.spots.as_slice());
+    own.manners = own.manners.asks_on(own.manners.is_polling);
     other.manners = other.manners.unheard(place(&other.set).pending);
     let _ = own.set.sends(Shown::Unread);
     other.set.shows(Shown::Unread);

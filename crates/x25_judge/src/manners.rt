@@ -116,7 +116,7 @@ impl Manners {
     // ---- P and F
 
     /// It may have sent P=1.
-    fn asks_on(self, is_polling: bool) -> Manners
+    pub(crate) fn asks_on(self, is_polling: bool) -> Manners
         ensures { result ≡ definition.asks_on is_polling self }
     {
         Manners {
@@ -209,13 +209,6 @@ impl Manners {
     }
 
     // ---- octets that spell no frame
-
-    /// It sends some: they may have been a command with P=1.
-    pub(crate) fn missed(self) -> Manners
-        ensures { result ≡ definition.missed self }
-    {
-        self.asks_on(self.is_polling)
-    }
 
     /// Some are sent to it: they may have been an I frame, and REJ.
     pub(crate) fn unheard(self, pending: u8) -> Manners

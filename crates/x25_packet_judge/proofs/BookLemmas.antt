@@ -20,11 +20,11 @@ takes_is from of packet b all is = ap (λ a. if a then book.restarts from (item_
 -- ---- channels and restarts behind it
 
 one_set : (role from : Role) (channel of : ℕ) (x : Packet) (cs : Channels) (on : Bool) → (channel % 4096 == of % 4096) ≡ on
-    → end_of role (channel_of channel (put of (channels.judges from x (channel_of of cs)).channel cs))
+    → end_of role (channel_of channel (put of (channels.judges of from x (channel_of of cs)).channel cs))
     ≡ (if on then behind_item (seen_by role from x) (end_of role (channel_of channel cs)) else end_of role (channel_of channel cs))
 one_set role from channel of x cs true is =
     let same : channel % 4096 ≡ of % 4096 = grind (arith, is, nat_tests) in
-    ap (end_of role) (put_same of channel _ cs same) ∙ judged_ends role from x (channel_of of cs)
+    ap (end_of role) (put_same of channel _ cs same) ∙ judged_ends of role from x (channel_of of cs)
     ∙ ap (λ (n : ℕ). behind_item (seen_by role from x) (end_of role (unwrap_or (slice_index_or cs.seen n None) cs.usual))) (sym same)
 one_set role from channel of x cs false is = ap (end_of role) (put_other of channel _ cs (λ same. absurd (grind (arith, is, same, nat_tests))))
 
@@ -92,16 +92,16 @@ AreUnknown = (s : Set) (x : Packet) → is_known s ≡ false → (sends_to x s).
 -- of a packet of a channel, where RESTART is to be answered first or not
 abbrev of_one : Bool → Role → ℕ → Packet → Channel → Verdict
 of_one e from of x c = if e then record { rule = Some RestartAwaited; unjudged = None; is_judged = true }
-    else book.verdict_of of (channels.judges from x c).finding
+    else (channels.judges of from x c).verdict
 
 one_rule : AreUnknown → (from : Role) (of : ℕ) (x : Packet) (c : Channel) (e : Bool)
     → (of_one e from of x c).rule ≡ (if e then Some RestartAwaited else rule_of (sends_to x (end_of from c)).told x)
 one_rule unknown from of x c true = refl
-one_rule unknown from of x c false = judged_rule from x c (unknown (end_of from c) x)
+one_rule unknown from of x c false = judged_rule of from x c (unknown (end_of from c) x)
 
-one_judged : (from : Role) (of : ℕ) (x : Packet) (c : Channel) (e : Bool) → (of_one e from of x c).is_judged ≡ (e || (sent x (end_of from c)).finding.is_judged)
+one_judged : (from : Role) (of : ℕ) (x : Packet) (c : Channel) (e : Bool) → (of_one e from of x c).is_judged ≡ (e || (sent x (end_of from c)).verdict.is_judged)
 one_judged from of x c true = refl
-one_judged from of x c false = judged_is from x c
+one_judged from of x c false = judged_is of from x c
 
 abbrev is_early : Role → Book → Bool
 is_early from b = refuses from (if is_quiet from b then any_channel else b.restarts)
@@ -122,12 +122,12 @@ module _ (from : Role) (of : ℕ) (packet : PlainPacket) (b : Book) where
       ∙ ap (λ a. if not a && is_early from b then Some RestartAwaited else rule_of (sends_to (item_of packet) (asked from of b a)).told (item_of packet)) (sym is)
 
   pub judged_so : (all : Bool) → is_of_all packet ≡ all → (book.takes from of packet b).verdict.is_judged
-      ≡ (awaits from packet b || (is_restart packet || (sent (item_of packet) (asked_of from of packet b)).finding.is_judged))
+      ≡ (awaits from packet b || (is_restart packet || (sent (item_of packet) (asked_of from of packet b)).verdict.is_judged))
   judged_so false is =
       ap (λ (s : book.Seen). s.verdict.is_judged) (takes_is from of packet b false is)
       ∙ one_judged from of (item_of packet) (channel_of of b.channels) (is_early from b)
-      ∙ ap (λ a. (not a && is_early from b) || (sent (item_of packet) (asked from of b a)).finding.is_judged) (sym is)
-      ∙ ap (λ r. awaits from packet b || (r || (sent (item_of packet) (asked_of from of packet b)).finding.is_judged)) (sym (or_parts (is_restart packet) _ is).0)
+      ∙ ap (λ a. (not a && is_early from b) || (sent (item_of packet) (asked from of b a)).verdict.is_judged) (sym is)
+      ∙ ap (λ r. awaits from packet b || (r || (sent (item_of packet) (asked_of from of packet b)).verdict.is_judged)) (sym (or_parts (is_restart packet) _ is).0)
   judged_so true is =
       ap (λ (s : book.Seen). s.verdict.is_judged) (takes_is from of packet b true is)
-      ∙ ap (λ a. (not a && is_early from b) || (is_restart packet || (sent (item_of packet) (asked from of b a)).finding.is_judged)) (sym is)
+      ∙ ap (λ a. (not a && is_early from b) || (is_restart packet || (sent (item_of packet) (asked from of b a)).verdict.is_judged)) (sym is)

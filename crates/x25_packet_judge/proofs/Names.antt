@@ -13,9 +13,9 @@ unfoldable pub use Rattle.x25_packet_judge.specs.Item.{item_of}
 pub use Rattle.x25_packet_judge.specs.PacketRule.{is_order, is_of_manners}
 pub use Rattle.x25_packet_judge.specs.declared.book.Book.{Book}
 pub use Rattle.x25_packet_judge.specs.declared.channel.Channel.{Channel}
-pub use Rattle.x25_packet_judge.specs.declared.packet_rule.PacketRule.TheVariants.{RestartAwaited, ClearAwaited, NoCall, PacketUnsent, ResetAwaited}
-pub use Rattle.x25_packet_judge.specs.laws.BookClaims.{asked_of, awaits, behind_item, end_of, is_quiet, refuses, seen_by, set_of, BooksFollowTapes, begins_with, is_its, RestartsBegin, behind_all, is_manners, is_on, moved, of_restarts, tape_of_restarts, tape_on, rule_told, BooksTellExactly, InnocentTapesStayUntold, IsBehind, MaySend, Spoken}
-pub use Rattle.x25_possible.specs.code.Steps.{is_known, sends_to, behind, begun, shows_to}
+pub use Rattle.x25_packet_judge.specs.declared.packet_rule.PacketRule.TheVariants.{RestartAwaited, PacketUnsent}
+pub use Rattle.x25_packet_judge.specs.laws.BookClaims.{asked_of, awaits, behind_item, end_of, is_quiet, refuses, seen_by, set_of, BooksFollowTapes, begins_with, RestartsBegin, behind_all, is_manners, is_on, moved, of_restarts, tape_of_restarts, tape_on, rule_told, BooksTellExactly, InnocentTapesStayUntold, IsBehind, MaySend, Spoken}
+pub use Rattle.x25_possible.specs.code.Steps.{is_known, sends_to, behind, begun}
 pub use Rattle.x25_possible.specs.declared.packet.Packet.{Packet}
 pub use Rattle.x25_possible.specs.declared.packet.Packet.TheVariants.{Elsewhere, Restart, RestartConf, Data, Rr, Rnr}
 pub use Rattle.x25_possible.specs.declared.set.Set.{Set}

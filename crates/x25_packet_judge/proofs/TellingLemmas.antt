@@ -1,10 +1,10 @@
 -- What is told of a packet, by the set of its sender.
-use Rattle.x25_packet_judge.proofs.Names.{and_parts, or_parts, both_ways, cond_both, ◌≡◌, ◌∙◌, ℕ, Bool, true, false, Option, Some, None, refl, sym, ap, ◌-◌, ◌%◌, ◌==◌, is_some, not, ◌&&◌, ◌||◌, if◌then◌else◌, nat_lt, nat_le, unwrap_or, Role, Dte, Dce, rule_of, sent, is_of_manners, is_order, Channel, ClearAwaited, NoCall, PacketUnsent, ResetAwaited, RestartAwaited, end_of, is_manners, seen_by, behind_item, IsBroken, IsRude, IsUntold, is_known, sends_to, Packet, Data, Rr, Rnr, Set, Told, Nothing, Rude, Broken}
+use Rattle.x25_packet_judge.proofs.Names.{and_parts, or_parts, both_ways, cond_both, ◌≡◌, ◌∙◌, ℕ, Bool, true, false, Option, Some, None, refl, sym, ap, ◌-◌, ◌%◌, ◌==◌, is_some, not, ◌&&◌, ◌||◌, if◌then◌else◌, nat_lt, nat_le, unwrap_or, Role, Dte, Dce, rule_of, sent, is_of_manners, is_order, Channel, PacketUnsent, end_of, is_manners, seen_by, behind_item, IsBroken, IsRude, IsUntold, is_known, sends_to, Packet, Data, RestartConf, Rr, Rnr, Set, Told, Nothing, Rude, Broken}
 use Rattle.x25_packet_judge.specs.Numbers.{apart}
-use Rattle.x25_packet_judge.specs.declared.channel.Finding.{Finding}
+use Rattle.x25_packet_judge.specs.declared.book.Verdict.{Verdict}
 use Rattle.x25_packet_judge.specs.declared.packet_rule.PacketRule.{PacketRule}
 use Rattle.x25_possible.specs.declared.phase.Phase.{Phase}
-use Rattle.x25_possible.specs.declared.phase.Phase.TheVariants.{Talks, Resets, Clears, Restarts}
+use Rattle.x25_possible.specs.declared.phase.Phase.TheVariants.{Talks}
 use Rattle.x25_possible.specs.declared.phase.Talk.{Talk}
 use Rattle.x25_packet_judge.specs.Channel as channels
 use Rattle.x25_packet_judge.specs.Reason as reason
@@ -26,23 +26,6 @@ follows_is k ps size = cond_both (not (ps == k.sent % 8)) _ _ (λ r. is_of_manne
     (λ _. cond_both (nat_le 7 (k.sent - k.acked)) _ _ (λ r. is_of_manners r ≡ false) (λ _. refl)
     (λ _. cond_both (nat_lt 0 k.most && nat_lt k.most size) _ _ (λ r. is_of_manners r ≡ false) (λ _. refl) (λ _. refl)))
 
-either : (b : Bool) (r s : PacketRule) → is_of_manners r ≡ false → is_of_manners s ≡ false → is_of_manners (if b then r else s) ≡ false
-either true r s h i = h
-either false r s h i = i
-
-module _ (x : Packet) (rule : PacketRule) (h : is_of_manners rule ≡ false) where
-  in_restart : is_of_manners (reason.in_restart x rule) ≡ false
-  in_restart = either (reason.confirms_restart x) _ _ refl h
-
-  in_clear : is_of_manners (reason.in_clear x rule) ≡ false
-  in_clear = either (reason.confirms_clear x) _ _ refl in_restart
-
-  out_of_call : is_of_manners (reason.out_of_call x rule) ≡ false
-  out_of_call = either (reason.calls x) _ _ refl (either (reason.accepts x) _ _ refl in_clear)
-
-  in_reset : is_of_manners (reason.in_reset x rule) ≡ false
-  in_reset = either (reason.confirms_reset x) _ _ refl out_of_call
-
 in_call : (k : Talk) (x : Packet) → is_of_manners (reason.in_call k x) ≡ false
 in_call k (Data q m ps pr size) = strays_are (apart pr (k.told % 8)) (k.taken - k.told) k (reason.follows k ps size) (follows_is k ps size)
 in_call k (Rr pr) = strays_are (apart pr (k.told % 8)) (k.taken - k.told) k (PacketUnsent 0) refl
@@ -51,10 +34,8 @@ in_call k x = refl
 
 reasons_are : (s : Phase) (x : Packet) → is_of_manners (reason.reason s x) ≡ false
 reasons_are (Talks k) x = in_call k x
-reasons_are (Resets limits) x = in_reset x ResetAwaited refl
-reasons_are Clears x = in_clear x ClearAwaited refl
-reasons_are Restarts x = in_restart x RestartAwaited refl
-reasons_are s x = out_of_call x NoCall refl
+reasons_are s RestartConf = refl
+reasons_are s x = refl
 
 -- ---- by what is told of a set
 
@@ -90,9 +71,9 @@ ends_move Dte Dce x c = refl
 ends_move Dce Dte x c = refl
 ends_move Dce Dce x c = refl
 
-pub judged_ends : (role from : Role) (x : Packet) (c : Channel) → end_of role (channels.judges from x c).channel ≡ behind_item (seen_by role from x) (end_of role c)
+pub judged_ends : (n : ℕ) (role from : Role) (x : Packet) (c : Channel) → end_of role (channels.judges n from x c).channel ≡ behind_item (seen_by role from x) (end_of role c)
 unfolding channels.judges
-judged_ends role from x c = ends_move role from x c
+judged_ends n role from x c = ends_move role from x c
 
 -- nothing is told where it isn't judged
 abbrev Unknown : Packet → Set → Type 0
@@ -107,19 +88,19 @@ none_known : (x : Packet) (s : Set) → Unknown x s → (known : Bool) → is_kn
 none_known x s unknown true is h = none_of _ (or_parts _ _ h).0
 none_known x s unknown false is h = sym (ap (λ (t : Told). rule_of t x) (unknown is))
 
-marked_judged : (g h : Finding) (b : Bool) → h.is_judged ≡ false → g.is_judged ≡ b → (if b then g else h).is_judged ≡ b
+marked_judged : (g h : Verdict) (b : Bool) → h.is_judged ≡ false → g.is_judged ≡ b → (if b then g else h).is_judged ≡ b
 marked_judged g h true none is = is
 marked_judged g h false none is = none
 
-marked_rule : (g h : Finding) (b : Bool) → h.rule ≡ None → (b ≡ false → None ≡ g.rule) → (if b then g else h).rule ≡ g.rule
+marked_rule : (g h : Verdict) (b : Bool) → h.rule ≡ None → (b ≡ false → None ≡ g.rule) → (if b then g else h).rule ≡ g.rule
 marked_rule g h true none is = refl
 marked_rule g h false none is = none ∙ is refl
 
-pub judged_rule : (from : Role) (x : Packet) (c : Channel) → Unknown x (end_of from c) → (channels.judges from x c).finding.rule ≡ rule_of (sends_to x (end_of from c)).told x
+pub judged_rule : (n : ℕ) (from : Role) (x : Packet) (c : Channel) → Unknown x (end_of from c) → (channels.judges n from x c).verdict.rule ≡ rule_of (sends_to x (end_of from c)).told x
 unfolding channels.judges
-judged_rule from x c unknown =
-    marked_rule (channels.takes from x c).finding (channels.passed (channels.takes from x c).channel).finding _ refl (none_known x (end_of from c) unknown _ refl)
+judged_rule n from x c unknown =
+    marked_rule (channels.takes from x c).verdict (channels.passed n (channels.takes from x c).channel).verdict _ refl (none_known x (end_of from c) unknown _ refl)
 
-pub judged_is : (from : Role) (x : Packet) (c : Channel) → (channels.judges from x c).finding.is_judged ≡ (sent x (end_of from c)).finding.is_judged
+pub judged_is : (n : ℕ) (from : Role) (x : Packet) (c : Channel) → (channels.judges n from x c).verdict.is_judged ≡ (sent x (end_of from c)).verdict.is_judged
 unfolding channels.judges
-judged_is from x c = marked_judged (channels.takes from x c).finding (channels.passed (channels.takes from x c).channel).finding _ refl refl
+judged_is n from x c = marked_judged (channels.takes from x c).verdict (channels.passed n (channels.takes from x c).channel).verdict _ refl refl

@@ -20,7 +20,6 @@ use Rattle.x25_packet_judge.specs.declared.book.Book.{Book}
 use Rattle.x25_packet_judge.specs.declared.book.Verdict.{Verdict}
 use Rattle.x25_packet_judge.specs.declared.channel.Channel.{Channel}
 use Rattle.x25_packet_judge.specs.declared.channel.Event.TheVariants.{Sends, Loss}
-use Rattle.x25_packet_judge.specs.declared.channel.Finding.{Finding}
 use Rattle.x25_packet_judge.specs.declared.layers.Layers.{Layers}
 use Rattle.x25_packet_judge.specs.declared.packet_rule.PacketRule.TheVariants.{NoPacket, RestartAwaited}
 use Rattle.x25_possible.specs.declared.packet.Packet.{Packet as Item}
@@ -72,15 +71,8 @@ passed b unjudged = seen b (record { rule = None; unjudged = unjudged; is_judged
 abbrev pub quiet : Book → Seen
 quiet b = passed b None
 
-abbrev pub verdict_of : ℕ → Finding → Verdict
-verdict_of channel f = record {
-  rule = f.rule;
-  unjudged = if f.is_first then Some channel else None;
-  is_judged = f.is_judged;
-}
-
 abbrev pub puts : ℕ → channels.Found → Book → Seen
-puts channel f b = seen (record b { channels = put channel f.channel b.channels }) (verdict_of channel f.finding)
+puts channel f b = seen (record b { channels = put channel f.channel b.channels }) f.verdict
 
 -- a packet of a channel, before which RESTART may have to be answered
 abbrev pub told_early : Bool → Seen → Seen
@@ -92,7 +84,7 @@ with_restarts c b = record b { restarts = c }
 
 abbrev pub judges : Role → ℕ → Item → Book → Seen
 judges from channel x b = told_early (channels.is_early from b.restarts)
-    (puts channel (channels.judges from x (channel_of channel b.channels))
+    (puts channel (channels.judges channel from x (channel_of channel b.channels))
     (with_restarts (channels.takes from Elsewhere b.restarts).channel b))
 
 -- where nothing was sent since the set-up, the packet layer may go on from before it
@@ -104,7 +96,7 @@ follows from channel x is_first b =
 abbrev pub restarts : Role → Item → Bool → Book → Seen
 restarts from x is_judged b = let f = channels.takes from x b.restarts in
     seen (record b { restarts = f.channel; channels = all_happens (Sends from x) b.channels })
-    (record { rule = f.finding.rule; unjudged = None; is_judged = is_judged || f.finding.is_judged })
+    (record { rule = f.verdict.rule; unjudged = None; is_judged = is_judged || f.verdict.is_judged })
 
 abbrev pub spoken : Role → Book → Book
 spoken from b = keeps from (layers.speaks (layers_of from b)) b
@@ -129,57 +121,46 @@ takes from channel packet b =
 abbrev pub misses_on : ℕ → Book → Seen
 misses_on channel b =
     if channel == 0 then passed (forgets b) (Some 0)
-    else puts channel (channels.misses (channel_of channel b.channels)) b
+    else puts channel (channels.misses channel (channel_of channel b.channels)) b
 
 -- DIAGNOSTIC changes nothing of calls and restarts
 abbrev pub diagnoses : PlainKind → Bool
 diagnoses (form.diagnostic number explanation) = true
 diagnoses kind = false
 
-abbrev pub is_diagnostic : Result PlainForm PacketError → Bool
-is_diagnostic (Ok w) = diagnoses w.kind
-is_diagnostic (Err e) = false
-
+-- in the form that a station writes
 abbrev pub takes_read : Role → ℕ → Result PlainPacket PacketError → Book → Seen
 takes_read from channel (Ok packet) b = takes from channel packet b
 takes_read from channel (Err e) b = misses_on channel b
-
--- in the form that a station writes
-abbrev pub reads_written : Role → ℕ → ℕ → List ℕ → Book → Seen
-reads_written from channel most octets b = takes_read from channel (packet_of most octets) b
 
 -- by the general format identifier; packets modulo 128 aren't read
 abbrev pub is_modulo_8 : List ℕ → Bool
 is_modulo_8 [] = false
 is_modulo_8 (first ∷ octets) = first / 16 % 4 == 1
 
--- octets of that format that are no packet in any form
-abbrev pub is_no_packet : List ℕ → Result PlainForm PacketError → Bool
-is_no_packet octets (Ok w) = false
-is_no_packet octets (Err e) = is_modulo_8 octets
-
 abbrev pub tells_no_packet : ℕ → Book → Seen
 tells_no_packet channel b =
     seen (misses_on channel b).book (record { rule = Some NoPacket; unjudged = None; is_judged = true })
 
+-- which no station takes: DIAGNOSTIC, another packet, or of that format none in any form
+abbrev pub untaken : ℕ → List ℕ → Result PlainForm PacketError → Book → Seen
+untaken channel octets (Ok w) b = if diagnoses w.kind then quiet b else misses_on channel b
+untaken channel octets (Err e) b = if is_modulo_8 octets then tells_no_packet channel b else misses_on channel b
+
 -- in any form: as the packet that a station takes it for
-abbrev pub takes_any : Role → ℕ → Bool → Bool → Result PlainPacket PacketError → Book → Seen
-takes_any from channel diagnoses is_none (Ok packet) b = takes from channel packet b
-takes_any from channel diagnoses is_none (Err e) b =
-    if diagnoses then quiet b
-    else if is_none then tells_no_packet channel b
-    else misses_on channel b
+abbrev pub takes_any : Role → ℕ → List ℕ → Result PlainForm PacketError → Result PlainPacket PacketError → Book → Seen
+takes_any from channel octets form (Ok packet) b = takes from channel packet b
+takes_any from channel octets form (Err e) b = untaken channel octets form b
 
 abbrev pub reads_any : Role → ℕ → ℕ → List ℕ → Book → Seen
 reads_any from channel most octets b =
-    takes_any from channel (is_diagnostic (form_in most octets)) (is_no_packet octets (form_in most octets))
-    (taken_in most octets) b
+    takes_any from channel octets (form_in most octets) (taken_in most octets) b
 
 abbrev pub reads_on : Role → Reading → List ℕ → Option ℕ → Book → Seen
 reads_on from reading octets None b = quiet b
 reads_on from reading octets (Some channel) b =
     if reading.wide then reads_any from channel (longest_user reading.long) octets b
-    else reads_written from channel (longest_user reading.long) octets b
+    else takes_read from channel (packet_of (longest_user reading.long) octets) b
 
 -- what information reads as, in the form that a station writes
 abbrev pub IsPacketOf : Bool → List ℕ → Result Packet PacketError → Type 0
@@ -204,14 +185,10 @@ hears from number b =
     then keeps from (layers.hears number (layers_of from b)) (forgets b)
     else keeps from (layers.hears number (layers_of from b)) b
 
-abbrev pub reads_if : Bool → Role → Reading → List ℕ → Book → Seen
-reads_if may from reading octets b = if may then reads from reading octets b else quiet b
-
 -- an I frame, by N(S)
 unfoldable pub moves : Role → Reading → ℕ → List ℕ → Book → Seen
-moves from reading number octets b =
-    reads_if (layers.may_judge number (layers_of from b)) from reading octets
-    (keeps from (layers.moves number (layers_of from b)) b)
+moves from reading number octets b = let next = keeps from (layers.moves number (layers_of from b)) b in
+    if layers.may_judge number (layers_of from b) then reads from reading octets next else quiet next
 
 -- one that breaks a rule of the link layer may hide packets
 unfoldable pub sends_info : Role → Reading → ℕ → ℕ → List ℕ → Bool → Book → Seen

@@ -1,5 +1,5 @@
 -- Both ends of a logical channel, each as the set of states in which it may be, and what is told of a packet.
-use Rattle.std.specs.Prelude.{Bool, true, false, not, ◌&&◌, ◌||◌, if◌then◌else◌, Option, Some, None, is_some}
+use Rattle.std.specs.Prelude.{ℕ, Bool, true, false, not, ◌&&◌, ◌||◌, if◌then◌else◌, Option, Some, None, is_some}
 use Rattle.x25_bits.specs.declared.role.Role.{Role}
 use Rattle.x25_bits.specs.declared.role.Role.TheVariants.{Dte, Dce}
 use Rattle.x25_packet_judge.specs.PacketRule.{is_order}
@@ -7,7 +7,7 @@ use Rattle.x25_packet_judge.specs.Reason.{manners, reason}
 use Rattle.x25_packet_judge.specs.declared.channel.Channel.{Channel}
 use Rattle.x25_packet_judge.specs.declared.channel.Event.{Event}
 use Rattle.x25_packet_judge.specs.declared.channel.Event.TheVariants.{Sends, Loss}
-use Rattle.x25_packet_judge.specs.declared.channel.Finding.{Finding}
+use Rattle.x25_packet_judge.specs.declared.book.Verdict.{Verdict}
 use Rattle.x25_packet_judge.specs.declared.packet_rule.PacketRule.{PacketRule}
 use Rattle.x25_possible.specs.code.Steps as sets
 use Rattle.x25_possible.specs.declared.packet.Packet.{Packet}
@@ -45,16 +45,16 @@ rule_of (Broken s) x = Some (reason s x)
 
 pub record Sent : Type 0 where
   pub set : Set
-  pub finding : Finding
+  pub verdict : Verdict
 
 -- it is judged where the set was known, and is, or a rule is told
-abbrev pub found_by : Option PacketRule → Bool → Finding
-found_by rule is_judged = record { rule = rule; is_judged = is_judged; is_first = false }
+abbrev pub found_by : Option PacketRule → Bool → Verdict
+found_by rule is_judged = record { rule = rule; unjudged = None; is_judged = is_judged }
 
 abbrev pub sent_as : Packet → Bool → sets.Stepped → Sent
 sent_as x was_known s = record {
   set = s.set;
-  finding = found_by (rule_of s.told x) (was_known && (is_some (rule_of s.told x) || sets.is_known s.set));
+  verdict = found_by (rule_of s.told x) (was_known && (is_some (rule_of s.told x) || sets.is_known s.set));
 }
 
 abbrev pub sent : Packet → Set → Sent
@@ -63,7 +63,7 @@ sent x s = sent_as x (sets.is_known s) (sets.sends_to x s)
 -- behind a packet, and what is told of it
 pub record Found : Type 0 where
   pub channel : Channel
-  pub finding : Finding
+  pub verdict : Verdict
 
 abbrev pub takes : Role → Packet → Channel → Found
 takes from x c = record {
@@ -71,7 +71,7 @@ takes from x c = record {
     dte = by_end from (sent x c.dte).set (sets.shows_to x c.dte);
     dce = by_end from (sets.shows_to x c.dce) (sent x c.dce).set;
   };
-  finding = (sent x (by_end from c.dte c.dce)).finding;
+  verdict = (sent x (by_end from c.dte c.dce)).verdict;
 }
 
 -- of all channels
@@ -87,30 +87,30 @@ is_known c = sets.is_known c.dte && sets.is_known c.dce
 abbrev pub noted : Bool → Channel → Channel
 noted is_noted c = record c { is_noted = is_noted }
 
-abbrev pub passed : Channel → Found
-passed c = record {
+abbrev pub passed : ℕ → Channel → Found
+passed n c = record {
   channel = noted true c;
-  finding = record { rule = None; is_judged = false; is_first = not c.is_noted };
+  verdict = record { rule = None; unjudged = if c.is_noted then None else Some n; is_judged = false };
 }
 
-abbrev pub marked : Finding → Channel → Found
-marked g c = record {
+abbrev pub marked : ℕ → Verdict → Channel → Found
+marked n g c = record {
   channel = noted (if g.is_judged then c.is_noted && not (is_known c) else true) c;
-  finding = if g.is_judged then g else (passed c).finding;
+  verdict = if g.is_judged then g else (passed n c).verdict;
 }
 
-unfoldable pub judges : Role → Packet → Channel → Found
-judges from x c = marked (takes from x c).finding (takes from x c).channel
+unfoldable pub judges : ℕ → Role → Packet → Channel → Found
+judges n from x c = marked n (takes from x c).verdict (takes from x c).channel
 
 -- one that isn't read
 abbrev pub doubted : Channel → Channel
 doubted c = record c { dte = sets.doubted c.dte; dce = sets.doubted c.dce }
 
-abbrev pub misses : Channel → Found
-misses c = passed (doubted c)
+abbrev pub misses : ℕ → Channel → Found
+misses n c = passed n (doubted c)
 
 -- ---- a packet of another channel
 
 -- a RESTART is to be answered first
 abbrev pub is_early : Role → Channel → Bool
-is_early from c = is_order (takes from Elsewhere c).finding.rule
+is_early from c = is_order (takes from Elsewhere c).verdict.rule

@@ -56,26 +56,20 @@ late l = if l.is_fresh then record l { asked = less l.asked }
 
 -- ---- both
 
-abbrev pub with_own : Layer → Layers → Layers
-with_own own t = record t { own = own }
-
-abbrev pub with_other : Layer → Layers → Layers
-with_other other t = record t { other = other }
-
 -- packets of the first end were missed, and so may be what the other end answers
 abbrev pub loses : Layers → Layers
-loses t = if t.other.is_fresh then with_own (lost t.own) t else with_other (lost t.other) (with_own (lost t.own) t)
+loses t = record { own = lost t.own; other = if t.other.is_fresh then t.other else lost t.other }
 
 -- SABM or UA of the first end: its packets begin anew
 abbrev pub begins : ℕ → Layers → Layers
-begins asked t = with_own (begun asked) (with_other (set_up_again t.other) t)
+begins asked t = record { own = begun asked; other = set_up_again t.other }
 
 -- SABM or DISC asks for UA or DM
 abbrev pub asks_more : Layers → Layers
-asks_more t = with_other (record t.other { asked = min (t.other.asked + 1) 255 }) t
+asks_more t = record t { other = record t.other { asked = min (t.other.asked + 1) 255 } }
 
 abbrev pub answers : Layers → Layers
-answers t = with_own (record t.own { asked = less t.own.asked }) t
+answers t = record t { own = record t.own { asked = less t.own.asked } }
 
 -- An N(R) is about the packets of the other end, but where one of both is behind a set-up.
 abbrev pub may_hear : Layers → Bool
@@ -88,12 +82,12 @@ finds_other number t = may_hear t
 
 -- a frame that may belong to no set-up
 abbrev pub worn : Layers → Layers
-worn t = with_own (record t.own { is_fresh = false }) t
+worn t = record t { own = record t.own { is_fresh = false } }
 
 abbrev pub hears : ℕ → Layers → Layers
 hears number t =
-    if finds_other number t then with_other (found_at number t.other) (worn t)
-    else if may_hear t then with_other (record t.other { acked = number }) (worn t)
+    if finds_other number t then record (worn t) { other = found_at number t.other }
+    else if may_hear t then record (worn t) { other = record t.other { acked = number } }
     else worn t
 
 -- packets are seen in the order of N(S), each once
@@ -105,13 +99,14 @@ abbrev pub may_judge : ℕ → Layers → Bool
 may_judge number t = is_followed t.other.track && is_next number t
 
 abbrev pub moves : ℕ → Layers → Layers
-moves number t = if is_next number t then with_own (record t.own { next = min (t.own.next + 1) 255 % 8 }) t else t
+moves number t =
+    if is_next number t then record t { own = record t.own { next = min (t.own.next + 1) 255 % 8 } } else t
 
 abbrev pub asks : Layers → Layers
 asks t = begins t.own.asked (asks_more t)
 
 abbrev pub accepts : Layers → Layers
-accepts t = if t.other.is_fresh then begins (less t.own.asked) t else with_own (late t.own) t
+accepts t = if t.other.is_fresh then begins (less t.own.asked) t else record t { own = late t.own }
 
 -- octets that spell none may have been UA, where one was asked for
 abbrev pub misses : Layers → Layers
@@ -119,4 +114,4 @@ misses t = if nat_lt 0 t.own.asked then loses (worn t) else worn t
 
 -- the first end sends a packet
 abbrev pub speaks : Layers → Layers
-speaks t = with_own (record t.own { is_quiet = false }) t
+speaks t = record t { own = record t.own { is_quiet = false } }

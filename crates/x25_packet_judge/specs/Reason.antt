@@ -1,6 +1,6 @@
 -- Which rule a packet breaks that no state of its sender allows, by the state that has taken most, and which manners.
 -- ITU-T X.25 (10/96), sections 3.3, 4.1, 4.3 and 4.4.
-use Rattle.std.specs.Prelude.{ℕ, ◌-◌, ◌%◌, ◌==◌, nat_lt, nat_le, not, ◌&&◌, Bool, true, false, if◌then◌else◌, Option}
+use Rattle.std.specs.Prelude.{ℕ, ◌-◌, ◌%◌, ◌==◌, nat_lt, nat_le, not, ◌&&◌, if◌then◌else◌, Option}
 use Rattle.std.specs.Prelude.{Some, None, unwrap_or}
 use Rattle.x25_packet_judge.specs.Numbers.{apart}
 use Rattle.x25_packet_judge.specs.declared.packet_rule.PacketRule.{PacketRule}
@@ -14,37 +14,22 @@ use Rattle.x25_possible.specs.declared.phase.Talk.{Talk}
 
 -- ---- what breaks a rule of its own wherever it isn't allowed, and any other packet
 
-abbrev pub confirms_restart : Packet → Bool
-confirms_restart RestartConf = true
-confirms_restart x = false
-
-abbrev pub confirms_clear : Packet → Bool
-confirms_clear ClearConf = true
-confirms_clear x = false
-
-abbrev pub confirms_reset : Packet → Bool
-confirms_reset ResetConf = true
-confirms_reset x = false
-
-abbrev pub calls : Packet → Bool
-calls (Call terms) = true
-calls x = false
-
-abbrev pub accepts : Packet → Bool
-accepts (Accept said) = true
-accepts x = false
-
 abbrev pub in_restart : Packet → PacketRule → PacketRule
-in_restart x rule = if confirms_restart x then rules.RestartUnasked else rule
+in_restart RestartConf rule = rules.RestartUnasked
+in_restart x rule = rule
 
 abbrev pub in_clear : Packet → PacketRule → PacketRule
-in_clear x rule = if confirms_clear x then rules.ClearUnasked else in_restart x rule
+in_clear ClearConf rule = rules.ClearUnasked
+in_clear x rule = in_restart x rule
 
 abbrev pub out_of_call : Packet → PacketRule → PacketRule
-out_of_call x rule = if calls x then rules.CallAgain else if accepts x then rules.AcceptUnasked else in_clear x rule
+out_of_call (Call terms) rule = rules.CallAgain
+out_of_call (Accept said) rule = rules.AcceptUnasked
+out_of_call x rule = in_clear x rule
 
 abbrev pub in_reset : Packet → PacketRule → PacketRule
-in_reset x rule = if confirms_reset x then rules.ResetUnasked else out_of_call x rule
+in_reset ResetConf rule = rules.ResetUnasked
+in_reset x rule = out_of_call x rule
 
 -- ---- in a call
 

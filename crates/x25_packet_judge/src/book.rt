@@ -5,7 +5,7 @@ ghost use Rattle.x25_packet.specs.Packet.{plain};
 ghost use Rattle.x25_packet_judge.specs.Book as definition;
 ghost use Rattle.x25_packet.specs.Grammar.{form_in};
 
-use crate::channel::{Channel, Event, Finding};
+use crate::channel::{Channel, Event};
 use crate::channels::Channels;
 use crate::item::item_of;
 use crate::layers::{Layer, Layers, advance, hear};
@@ -47,23 +47,13 @@ fn told(rule: PacketRule) -> Verdict
 }
 
 /// Of a packet that wasn't judged.
-fn passed(unjudged: Option<u16>) -> Verdict
+pub(crate) fn passed(unjudged: Option<u16>) -> Verdict
     ensures { result ≡ record { rule = None; unjudged = unjudged; is_judged = false } }
 {
     Verdict {
         rule: None,
         unjudged,
         is_judged: false,
-    }
-}
-
-/// Whether octets are a DIAGNOSTIC in any form.
-fn is_diagnostic(most: usize, octets: &[u8]) -> bool
-    ensures { result ≡ definition.is_diagnostic (form_in most octets.now) }
-{
-    match decode(most, octets) {
-        Ok(packet) => matches!(packet.kind, Kind::Diagnostic { .. }),
-        Err(_) => false,
     }
 }
 
@@ -74,30 +64,6 @@ fn is_modulo_8(octets: &[u8]) -> bool
     match octets {
         [first, ..] => *first / 16 % 4 == 1,
         [] => false,
-    }
-}
-
-/// Whether octets of that format are no packet in any form.
-fn is_no_packet(most: usize, octets: &[u8]) -> bool
-    ensures { result ≡ definition.is_no_packet octets.now (form_in most octets.now) }
-{
-    match decode(most, octets) {
-        Ok(_) => false,
-        Err(_) => is_modulo_8(octets),
-    }
-}
-
-fn verdict_of(channel: u16, finding: Finding) -> Verdict
-    ensures { result ≡ definition.verdict_of channel finding }
-{
-    Verdict {
-        rule: finding.rule,
-        unjudged: if finding.is_first {
-            Some(channel)
-        } else {
-            None
-        },
-        is_judged: finding.is_judged,
     }
 }
 
@@ -163,11 +129,11 @@ impl Book {
         ensures verdict { result ≡ (definition.judges from channel item self.old).verdict }
     {
         let is_early = self.restarts.passes_over(from);
-        let finding = self.channels.judges(channel, from, item);
+        let verdict = self.channels.judges(channel, from, item);
         if is_early {
             told(PacketRule::RestartAwaited)
         } else {
-            verdict_of(channel, finding)
+            verdict
         }
     }
 
@@ -176,12 +142,12 @@ impl Book {
         ensures book { self.new ≡ (definition.restarts from item is_judged self.old).book }
         ensures verdict { result ≡ (definition.restarts from item is_judged self.old).verdict }
     {
-        let finding = self.restarts.takes(from, item);
+        let verdict = self.restarts.takes(from, item);
         self.channels.happens(Event::Sends(from, item));
         Verdict {
-            rule: finding.rule,
+            rule: verdict.rule,
             unjudged: None,
-            is_judged: is_judged || finding.is_judged,
+            is_judged: is_judged || verdict.is_judged,
         }
     }
 
@@ -206,7 +172,6 @@ impl Book {
     }
 
     /// Packets of an end were missed, of any channels.
-    #[inline(never)]
     fn forget(&mut self)
         ensures { self.new ≡ definition.forgets self.old }
     {
@@ -232,8 +197,23 @@ impl Book {
             self.forget();
             return passed(Some(0));
         }
-        let finding = self.channels.misses(channel);
-        verdict_of(channel, finding)
+        self.channels.misses(channel)
+    }
+
+    /// What no station takes: DIAGNOSTIC, another packet, or octets that are none in any form.
+    fn leaves(&mut self, channel: u16, most: usize, octets: &[u8]) -> Verdict
+        ensures book { self.new ≡ (definition.untaken channel octets.now (form_in most octets.now) self.old).book }
+        ensures verdict { result
+            ≡ (definition.untaken channel octets.now (form_in most octets.now) self.old).verdict }
+    {
+        match decode(most, octets) {
+            Ok(packet) if matches!(packet.kind, Kind::Diagnostic { .. }) => passed(None),
+            Err(_) if is_modulo_8(octets) => {
+                self.misses_on(channel);
+                told(PacketRule::NoPacket)
+            }
+            _ => self.misses_on(channel),
+        }
     }
 
     /// A packet in any form, which is judged as the one that a station takes it for.
@@ -243,12 +223,7 @@ impl Book {
     {
         match take(most, octets) {
             Ok(taken) => self.takes(from, channel, &taken),
-            Err(_) if is_diagnostic(most, octets) => passed(None),
-            Err(_) if is_no_packet(most, octets) => {
-                self.misses_on(channel);
-                told(PacketRule::NoPacket)
-            }
-            Err(_) => self.misses_on(channel),
+            Err(_) => self.leaves(channel, most, octets),
         }
     }
 

@@ -4,6 +4,7 @@ ghost use Rattle.x25_packet_judge.specs.Channel as definition;
 ghost use Rattle.x25_possible.specs.code.Steps.{begun};
 ghost use Rattle.x25_possible.specs.declared.packet.Packet.TheVariants.{Elsewhere};
 
+use crate::book::{Verdict, passed};
 use crate::packet_rule::{PacketRule, is_order};
 use crate::reason::{manners, reason};
 use x25_bits::Role;
@@ -25,15 +26,6 @@ pub(crate) enum Event {
     Loss,
 }
 
-/// What is told of a packet, whether it was judged, and whether it is to be noted that it wasn't.
-#[derive(Clone, Copy)]
-pub(crate) struct Finding {
-    pub(crate) rule: Option<PacketRule>,
-    pub(crate) is_judged: bool,
-    pub(crate) is_first: bool,
-}
-
-#[inline(always)]
 fn rule_of(told: Told, packet: Packet) -> Option<PacketRule>
     ensures { result ≡ definition.rule_of told packet }
 {
@@ -58,17 +50,16 @@ fn is_begun(set: &Set) -> bool
 }
 
 /// An end sends a packet.
-#[inline(always)]
-fn sent(own: &mut Set, packet: &Packet) -> Finding
+fn sent(own: &mut Set, packet: &Packet) -> Verdict
     ensures own { own.new ≡ (definition.sent packet.now own.old).set }
-    ensures finding { result ≡ (definition.sent packet.now own.old).finding }
+    ensures verdict { result ≡ (definition.sent packet.now own.old).verdict }
 {
     let was_known = own.is_known();
     let rule = rule_of(own.sends(packet), *packet);
-    Finding {
+    Verdict {
         rule,
+        unjudged: None,
         is_judged: was_known && (rule.is_some() || own.is_known()),
-        is_first: false,
     }
 }
 
@@ -128,9 +119,9 @@ impl Channel {
 
     /// An end sends a packet, which may come to the other one at any moment.
     #[inline(always)]
-    pub(crate) fn takes(&mut self, from: Role, packet: Packet) -> Finding
+    pub(crate) fn takes(&mut self, from: Role, packet: Packet) -> Verdict
         ensures channel { self.new ≡ (definition.takes from packet self.old).channel }
-        ensures finding { result ≡ (definition.takes from packet self.old).finding }
+        ensures verdict { result ≡ (definition.takes from packet self.old).verdict }
     {
         match from {
             Role::Dte => {
@@ -165,8 +156,8 @@ impl Channel {
         if is_begun(&self.dte) && is_begun(&self.dce) {
             return false;
         }
-        let finding = self.takes(from, Packet::Elsewhere);
-        is_order(finding.rule)
+        let verdict = self.takes(from, Packet::Elsewhere);
+        is_order(verdict.rule)
     }
 
     fn is_known(&self) -> bool
@@ -176,49 +167,44 @@ impl Channel {
     }
 
     /// It isn't judged, which is noted once.
-    pub(crate) fn passes(&mut self) -> Finding
-        ensures channel { self.new ≡ (definition.passed self.old).channel }
-        ensures finding { result ≡ (definition.passed self.old).finding }
+    pub(crate) fn passes(&mut self, number: u16) -> Verdict
+        ensures channel { self.new ≡ (definition.passed number self.old).channel }
+        ensures verdict { result ≡ (definition.passed number self.old).verdict }
     {
-        let is_first = !self.is_noted;
+        let unjudged = if self.is_noted { None } else { Some(number) };
         self.is_noted = true;
-        Finding {
-            rule: None,
-            is_judged: false,
-            is_first,
-        }
+        passed(unjudged)
     }
 
     /// What isn't judged is noted once, until both ends are known.
-    fn marks(&mut self, finding: Finding) -> Finding
-        ensures channel { self.new ≡ (definition.marked finding self.old).channel }
-        ensures finding { result ≡ (definition.marked finding self.old).finding }
+    fn marks(&mut self, number: u16, verdict: Verdict) -> Verdict
+        ensures channel { self.new ≡ (definition.marked number verdict self.old).channel }
+        ensures verdict { result ≡ (definition.marked number verdict self.old).verdict }
     {
-        if !finding.is_judged {
-            return self.passes();
+        if !verdict.is_judged {
+            return self.passes(number);
         }
         self.is_noted = self.is_noted && !self.is_known();
-        finding
+        verdict
     }
 
     /// The same as `takes`, and where it isn't judged that is noted.
-    #[inline(always)]
     #[tactic(auto, unfolding(crate::specs::Channel::judges))]
-    pub(crate) fn judges(&mut self, from: Role, packet: Packet) -> Finding
-        ensures channel { self.new ≡ (definition.judges from packet self.old).channel }
-        ensures finding { result ≡ (definition.judges from packet self.old).finding }
+    pub(crate) fn judges(&mut self, number: u16, from: Role, packet: Packet) -> Verdict
+        ensures channel { self.new ≡ (definition.judges number from packet self.old).channel }
+        ensures verdict { result ≡ (definition.judges number from packet self.old).verdict }
     {
-        let finding = self.takes(from, packet);
-        self.marks(finding)
+        let verdict = self.takes(from, packet);
+        self.marks(number, verdict)
     }
 
     /// A packet that isn't read.
-    pub(crate) fn misses(&mut self) -> Finding
-        ensures channel { self.new ≡ (definition.misses self.old).channel }
-        ensures finding { result ≡ (definition.misses self.old).finding }
+    pub(crate) fn misses(&mut self, number: u16) -> Verdict
+        ensures channel { self.new ≡ (definition.misses number self.old).channel }
+        ensures verdict { result ≡ (definition.misses number self.old).verdict }
     {
         self.dte.doubt();
         self.dce.doubt();
-        self.passes()
+        self.passes(number)
     }
 }

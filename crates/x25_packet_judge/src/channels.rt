@@ -4,7 +4,8 @@ ghost use Rattle.std.specs.Option.{option_map};
 ghost use Rattle.x25_packet_judge.specs.Channel as definition;
 ghost use Rattle.x25_packet_judge.specs.Channels.{Channels, all_alike, all_happens, channel_of, padded, put};
 
-use crate::channel::{Channel, Event, Finding};
+use crate::book::Verdict;
+use crate::channel::{Channel, Event};
 use std::alloc::{AllocError, Global};
 use std::marker::Model;
 use x25_bits::Role;
@@ -45,39 +46,51 @@ fn pad(seen: &mut Vec<Option<Channel>>, index: usize)
 }
 
 /// The first packet of one.
-fn begins(place: &mut Option<Channel>, usual: &Channel, from: Role, packet: Packet) -> Finding
-    ensures place { place.new ≡ Some (definition.judges from packet usual.now).channel }
-    ensures finding { result ≡ (definition.judges from packet usual.now).finding }
+fn begins(
+    place: &mut Option<Channel>,
+    usual: &Channel,
+    number: u16,
+    from: Role,
+    packet: Packet,
+) -> Verdict
+    ensures place { place.new ≡ Some (definition.judges number from packet usual.now).channel }
+    ensures verdict { result ≡ (definition.judges number from packet usual.now).verdict }
 {
     let mut channel = usual.copy();
-    let finding = channel.judges(from, packet);
+    let verdict = channel.judges(number, from, packet);
     *place = Some(channel);
-    finding
+    verdict
 }
 
 /// A packet of one.
-fn judges(place: &mut Option<Channel>, usual: &Channel, from: Role, packet: Packet) -> Finding
-    ensures place { place.new ≡ Some (definition.judges from packet (unwrap_or place.old usual.now)).channel }
-    ensures finding { result ≡ (definition.judges from packet (unwrap_or place.old usual.now)).finding }
+fn judges(
+    place: &mut Option<Channel>,
+    usual: &Channel,
+    number: u16,
+    from: Role,
+    packet: Packet,
+) -> Verdict
+    ensures place { place.new ≡ Some (definition.judges number from packet (unwrap_or place.old usual.now)).channel }
+    ensures verdict { result ≡ (definition.judges number from packet (unwrap_or place.old usual.now)).verdict }
 {
     match place {
-        Some(channel) => channel.judges(from, packet),
-        None => begins(place, usual, from, packet),
+        Some(channel) => channel.judges(number, from, packet),
+        None => begins(place, usual, number, from, packet),
     }
 }
 
 /// A packet of one that isn't read.
-fn misses(place: &mut Option<Channel>, usual: &Channel) -> Finding
-    ensures place { place.new ≡ Some (definition.misses (unwrap_or place.old usual.now)).channel }
-    ensures finding { result ≡ (definition.misses (unwrap_or place.old usual.now)).finding }
+fn misses(place: &mut Option<Channel>, usual: &Channel, number: u16) -> Verdict
+    ensures place { place.new ≡ Some (definition.misses number (unwrap_or place.old usual.now)).channel }
+    ensures verdict { result ≡ (definition.misses number (unwrap_or place.old usual.now)).verdict }
 {
     match place {
-        Some(channel) => channel.misses(),
+        Some(channel) => channel.misses(number),
         None => {
             let mut channel = usual.copy();
-            let finding = channel.misses();
+            let verdict = channel.misses(number);
             *place = Some(channel);
-            finding
+            verdict
         }
     }
 }
@@ -111,24 +124,25 @@ impl Channels {
     }
 
     /// A packet of a channel.
-    pub(crate) fn judges(&mut self, channel: u16, from: Role, packet: Packet) -> Finding
+    pub(crate) fn judges(&mut self, number: u16, from: Role, packet: Packet) -> Verdict
         ensures channels { self.new
-            ≡ put channel (definition.judges from packet (channel_of channel self.old)).channel self.old }
-        ensures finding { result ≡ (definition.judges from packet (channel_of channel self.old)).finding }
+            ≡ put number (definition.judges number from packet (channel_of number self.old)).channel self.old }
+        ensures verdict { result ≡ (definition.judges number from packet (channel_of number self.old)).verdict }
     {
-        let index = usize::from(channel) % CHANNELS;
+        let index = usize::from(number) % CHANNELS;
         pad(&mut self.seen, index);
-        judges(&mut self.seen[index], &self.usual, from, packet)
+        judges(&mut self.seen[index], &self.usual, number, from, packet)
     }
 
     /// A packet of a channel that isn't read.
-    pub(crate) fn misses(&mut self, channel: u16) -> Finding
-        ensures channels { self.new ≡ put channel (definition.misses (channel_of channel self.old)).channel self.old }
-        ensures finding { result ≡ (definition.misses (channel_of channel self.old)).finding }
+    pub(crate) fn misses(&mut self, number: u16) -> Verdict
+        ensures channels { self.new
+            ≡ put number (definition.misses number (channel_of number self.old)).channel self.old }
+        ensures verdict { result ≡ (definition.misses number (channel_of number self.old)).verdict }
     {
-        let index = usize::from(channel) % CHANNELS;
+        let index = usize::from(number) % CHANNELS;
         pad(&mut self.seen, index);
-        misses(&mut self.seen[index], &self.usual)
+        misses(&mut self.seen[index], &self.usual, number)
     }
 
     /// To all channels.

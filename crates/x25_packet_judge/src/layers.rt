@@ -81,14 +81,12 @@ impl Layer {
     }
 
     /// Not all of its packets were seen.
-    pub(crate) fn lost(self) -> Layer
+    pub(crate) fn lost(mut self) -> Layer
         ensures { result ≡ definition.lost self }
     {
-        Layer {
-            track: Track::Unseen,
-            is_fresh: false,
-            ..self
-        }
+        self.track = Track::Unseen;
+        self.is_fresh = false;
+        self
     }
 
     /// Behind a set-up of the other end, where it goes on from before.
@@ -106,22 +104,14 @@ impl Layer {
     }
 
     /// Behind a UA of it that comes again, where the other end sent frames since the first one.
-    pub(crate) fn late(self) -> Layer
+    pub(crate) fn late(mut self) -> Layer
         ensures { result ≡ definition.late self }
     {
-        let asked = less(self.asked);
-        if self.is_fresh {
-            Layer { asked, ..self }
-        } else {
-            Layer {
-                track: match self.track {
-                    Track::Unseen => Track::Unseen,
-                    Track::Dropped | Track::Followed => Track::Dropped,
-                },
-                asked,
-                ..self
-            }
+        self.asked = less(self.asked);
+        if !self.is_fresh && matches!(self.track, Track::Followed) {
+            self.track = Track::Dropped;
         }
+        self
     }
 }
 
@@ -133,27 +123,17 @@ pub(crate) struct Layers {
 }
 
 impl Layers {
-    fn with_own(self, own: Layer) -> Layers
-        ensures { result ≡ definition.with_own own self }
-    {
-        Layers { own, ..self }
-    }
-
-    fn with_other(self, other: Layer) -> Layers
-        ensures { result ≡ definition.with_other other self }
-    {
-        Layers { other, ..self }
-    }
-
     /// Packets of the end that sends were missed.
     pub(crate) fn lost(self) -> Layers
         ensures { result ≡ definition.loses self }
     {
-        let next = self.with_own(self.own.lost());
-        if self.other.is_fresh {
-            next
-        } else {
-            next.with_other(self.other.lost())
+        Layers {
+            own: self.own.lost(),
+            other: if self.other.is_fresh {
+                self.other
+            } else {
+                self.other.lost()
+            },
         }
     }
 
@@ -161,28 +141,26 @@ impl Layers {
     fn begins(self, asked: u8) -> Layers
         ensures { result ≡ definition.begins asked self }
     {
-        self.with_other(self.other.set_up_again())
-            .with_own(Layer::begun(asked))
+        Layers {
+            own: Layer::begun(asked),
+            other: self.other.set_up_again(),
+        }
     }
 
     /// SABM or DISC asks for UA or DM.
-    pub(crate) fn asks_more(self) -> Layers
+    pub(crate) fn asks_more(mut self) -> Layers
         ensures { result ≡ definition.asks_more self }
     {
-        self.with_other(Layer {
-            asked: self.other.asked.saturating_add(1),
-            ..self.other
-        })
+        self.other.asked = self.other.asked.saturating_add(1);
+        self
     }
 
     /// The end sends DM.
-    pub(crate) fn answers(self) -> Layers
+    pub(crate) fn answers(mut self) -> Layers
         ensures { result ≡ definition.answers self }
     {
-        self.with_own(Layer {
-            asked: less(self.own.asked),
-            ..self.own
-        })
+        self.own.asked = less(self.own.asked);
+        self
     }
 
     /// The end sends SABM.
@@ -199,22 +177,22 @@ impl Layers {
         if self.other.is_fresh {
             self.begins(less(self.own.asked))
         } else {
-            self.with_own(self.own.late())
+            Layers {
+                own: self.own.late(),
+                ..self
+            }
         }
     }
 
     /// The first end sends octets that are no frame: they may have been UA, where one was asked for.
-    pub(crate) fn misses(self) -> Layers
+    pub(crate) fn misses(mut self) -> Layers
         ensures { result ≡ definition.misses self }
     {
-        let next = self.with_own(Layer {
-            is_fresh: false,
-            ..self.own
-        });
+        self.own.is_fresh = false;
         if 0 < self.own.asked {
-            next.lost()
+            self.lost()
         } else {
-            next
+            self
         }
     }
 }

@@ -45,10 +45,9 @@ fn follows(talk: Talk, ps: u8, size: u16) -> PacketRule
 fn in_restart(packet: Packet, rule: PacketRule) -> PacketRule
     ensures { result ≡ definition.in_restart packet rule }
 {
-    if matches!(packet, Packet::RestartConf) {
-        PacketRule::RestartUnasked
-    } else {
-        rule
+    match packet {
+        Packet::RestartConf => PacketRule::RestartUnasked,
+        _ => rule,
     }
 }
 
@@ -56,10 +55,9 @@ fn in_restart(packet: Packet, rule: PacketRule) -> PacketRule
 fn in_clear(packet: Packet, rule: PacketRule) -> PacketRule
     ensures { result ≡ definition.in_clear packet rule }
 {
-    if matches!(packet, Packet::ClearConf) {
-        PacketRule::ClearUnasked
-    } else {
-        in_restart(packet, rule)
+    match packet {
+        Packet::ClearConf => PacketRule::ClearUnasked,
+        _ => in_restart(packet, rule),
     }
 }
 
@@ -78,10 +76,9 @@ fn out_of_call(packet: Packet, rule: PacketRule) -> PacketRule
 fn in_reset(packet: Packet, rule: PacketRule) -> PacketRule
     ensures { result ≡ definition.in_reset packet rule }
 {
-    if matches!(packet, Packet::ResetConf) {
-        PacketRule::ResetUnasked
-    } else {
-        out_of_call(packet, rule)
+    match packet {
+        Packet::ResetConf => PacketRule::ResetUnasked,
+        _ => out_of_call(packet, rule),
     }
 }
 

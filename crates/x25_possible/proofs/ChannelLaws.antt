@@ -428,9 +428,6 @@ talk_more t k j Elsewhere h may = refl
 talk_more t k j y h may = absurd (both_ways (may_talk t k y) refl may)
 
 -- what was taken at once in a state is so in the next one too
-IsAgain : Phase → Packet → Type 0
-IsAgain s x = at_once s x ≡ Some s
-
 resets_again : (k : Talk) (x : Packet) (u : Phase) (limits : Limits) → talk_at_once k x ≡ Some u
     → dropped_in_call x (Resets limits) ≡ Some (Resets limits)
 resets_again k (Call terms) u limits e = refl

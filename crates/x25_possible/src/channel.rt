@@ -151,7 +151,6 @@ fn talked(t: u32, talk: Talk, q: bool, m: bool) -> Talk
     }
 }
 
-#[inline(always)]
 fn sends_data(t: u32, talk: Talk, q: bool, m: bool, ps: u8, pr: u8, size: u16) -> Option<Phase>
     requires { IsSmall (Talks talk) }
     ensures { result ≡ definition.talk_sends t talk (Data q m ps pr size) }
@@ -304,21 +303,21 @@ fn restarted_sends(packet: Packet) -> Option<Phase>
 }
 
 /// Where it is behind a packet that it sends; None where it may not.
-pub(crate) fn sends(phase: Phase, packet: Packet) -> Option<Phase>
-    requires { IsSmall phase }
-    ensures { result ≡ definition.sends phase packet }
+pub(crate) fn sends(phase: &Phase, packet: &Packet) -> Option<Phase>
+    requires { IsSmall phase.now }
+    ensures { result ≡ definition.sends phase.now packet.now }
 {
     match phase {
-        Phase::Idle => idle_sends(packet),
-        Phase::Calls(_) => ending_sends(phase, packet),
-        Phase::WasCalled(terms) => called_sends(terms, packet),
-        Phase::Talks(talk) => talk_sends(talk, packet),
-        Phase::Resets(limits) => resets_sends(limits, packet),
-        Phase::WasReset(limits) => reset_sends(limits, packet),
-        Phase::Clears => clears_sends(packet),
-        Phase::Restarts => silent_sends(packet),
-        Phase::WasCleared => cleared_sends(packet),
-        Phase::WasRestarted => restarted_sends(packet),
+        Phase::Idle => idle_sends(*packet),
+        Phase::Calls(_) => ending_sends(*phase, *packet),
+        Phase::WasCalled(terms) => called_sends(*terms, *packet),
+        Phase::Talks(talk) => talk_sends(*talk, *packet),
+        Phase::Resets(limits) => resets_sends(*limits, *packet),
+        Phase::WasReset(limits) => reset_sends(*limits, *packet),
+        Phase::Clears => clears_sends(*packet),
+        Phase::Restarts => silent_sends(*packet),
+        Phase::WasCleared => cleared_sends(*packet),
+        Phase::WasRestarted => restarted_sends(*packet),
     }
 }
 
@@ -451,21 +450,21 @@ fn restarted_takes(packet: Packet) -> Option<Phase>
 }
 
 /// Where it is behind a packet that comes; None where it has to answer first.
-pub(crate) fn takes(role: Role, phase: Phase, packet: Packet) -> Option<Phase>
-    requires { IsSmall phase }
-    ensures { result ≡ definition.takes role phase packet }
+pub(crate) fn takes(role: Role, phase: &Phase, packet: &Packet) -> Option<Phase>
+    requires { IsSmall phase.now }
+    ensures { result ≡ definition.takes role phase.now packet.now }
 {
     match phase {
-        Phase::Idle => Some(idle_takes(packet)),
-        Phase::Calls(terms) => Some(calls_takes(role, terms, packet)),
-        Phase::WasCalled(terms) => Some(ended_by(packet, Phase::WasCalled(terms))),
-        Phase::Talks(talk) => Some(talk_takes(talk, packet)),
-        Phase::Resets(limits) => Some(resets_takes(limits, packet)),
-        Phase::WasReset(limits) => reset_takes(limits, packet),
-        Phase::Clears => Some(clears_takes(packet)),
-        Phase::WasCleared => cleared_takes(packet),
-        Phase::Restarts => Some(restarts_takes(packet)),
-        Phase::WasRestarted => restarted_takes(packet),
+        Phase::Idle => Some(idle_takes(*packet)),
+        Phase::Calls(terms) => Some(calls_takes(role, *terms, *packet)),
+        Phase::WasCalled(_) => Some(ended_by(*packet, *phase)),
+        Phase::Talks(talk) => Some(talk_takes(*talk, *packet)),
+        Phase::Resets(limits) => Some(resets_takes(*limits, *packet)),
+        Phase::WasReset(limits) => reset_takes(*limits, *packet),
+        Phase::Clears => Some(clears_takes(*packet)),
+        Phase::WasCleared => cleared_takes(*packet),
+        Phase::Restarts => Some(restarts_takes(*packet)),
+        Phase::WasRestarted => restarted_takes(*packet),
     }
 }
 
@@ -504,21 +503,21 @@ fn talk_at_once(talk: Talk, packet: Packet) -> Option<Phase>
 }
 
 /// Where it is behind a packet that comes and may be taken at once.
-pub(crate) fn at_once(phase: Phase, packet: Packet) -> Option<Phase>
-    requires { IsSmall phase }
-    ensures { result ≡ definition.at_once phase packet }
+pub(crate) fn at_once(phase: &Phase, packet: &Packet) -> Option<Phase>
+    requires { IsSmall phase.now }
+    ensures { result ≡ definition.at_once phase.now packet.now }
 {
     match phase {
-        Phase::Talks(talk) => talk_at_once(talk, packet),
-        Phase::Idle | Phase::Calls(_) => dropped(packet, phase),
-        Phase::Resets(_) => dropped_in_call(packet, phase),
+        Phase::Talks(talk) => talk_at_once(*talk, *packet),
+        Phase::Idle | Phase::Calls(_) => dropped(*packet, *phase),
+        Phase::Resets(_) => dropped_in_call(*packet, *phase),
         Phase::Clears => match packet {
             Packet::Clear | Packet::ClearConf | Packet::Restart | Packet::RestartConf => None,
-            _ => Some(phase),
+            _ => Some(Phase::Clears),
         },
         Phase::Restarts => match packet {
             Packet::Restart | Packet::RestartConf => None,
-            _ => Some(phase),
+            _ => Some(Phase::Restarts),
         },
         _ => None,
     }
@@ -549,24 +548,15 @@ pub(crate) fn alone_sends(phase: Phase, packet: Packet) -> Option<Phase>
     ensures { result ≡ steps.alone_sends phase packet }
 {
     if is_polite(phase, packet) {
-        small_in(sends(phase, packet))
+        small_in(sends(&phase, &packet))
     } else {
         None
     }
 }
 
-/// Where it is behind one that is taken at once.
-pub(crate) fn alone_takes(phase: Phase, packet: Packet) -> Option<Phase>
-    requires { IsSmall phase }
-    ensures { result ≡ steps.alone_takes phase packet }
-{
-    small_in(at_once(phase, packet))
-}
-
 // ---- in flow control, as most are
 
 /// Its numbers.
-#[inline(always)]
 pub(crate) fn flow(phase: Phase) -> Option<Talk>
     ensures same { result ≡ steps.flow_in (steps.small phase) }
     ensures small { IfSome result (λ k. IsSmall (Talks k)) }

@@ -5,7 +5,7 @@ ghost use Rattle.x25_possible.specs.code.Steps as definition;
 ghost use Rattle.x25_possible.specs.code.Steps.{IsAlone, IsStep, IsTaken};
 ghost use Rattle.x25_possible.specs.declared.phase.Phase.TheVariants.{Talks};
 
-use crate::channel::{alone_sends, alone_takes, dropped, flow, flow_sends, flow_takes, small};
+use crate::channel::{alone_sends, dropped, flow, flow_sends, flow_takes, small};
 use crate::packet::Packet;
 use crate::phase::{Phase, Talk};
 use crate::spots::{
@@ -228,7 +228,7 @@ impl Set {
     fn breaks(&mut self, packet: Packet, next: &mut Spots)
         ensures { self.new ≡ definition.breaks packet self.old }
     {
-        if gone(true, self.role, &self.spots, &self.way, packet, next) && !next.is_empty() {
+        if gone(true, self.role, &self.spots, &self.way, &packet, next) && !next.is_empty() {
             self.take(next);
         } else {
             self.lose();
@@ -308,7 +308,7 @@ impl Set {
         ensures told { result ≡ (definition.sent packet self.old).told }
     {
         let mut next = Spots::new();
-        if !gone(false, self.role, &self.spots, &self.way, packet, &mut next) {
+        if !gone(false, self.role, &self.spots, &self.way, &packet, &mut next) {
             self.give_up();
             Told::Nothing
         } else if next.is_empty() {
@@ -337,7 +337,6 @@ impl Set {
     }
 
     /// Its one state becomes another.
-    #[inline(always)]
     fn stands(&mut self, phase: Phase)
         requires { IsAlone self.old }
         ensures { self.new ≡ definition.alone_in phase self.old }
@@ -346,7 +345,6 @@ impl Set {
     }
 
     /// Its numbers, where that is in flow control.
-    #[inline(always)]
     fn flow(&self) -> Option<Talk>
         ensures same { result ≡ definition.flow_in (definition.alone self.now) }
         ensures small { IfSome result (λ k. IsSmall (Talks k)) }
@@ -448,17 +446,7 @@ impl Set {
         }
     }
 
-    /// Where it is behind a packet that comes, where the whole of that is this.
-    fn hears_alone(&self, packet: Packet) -> Option<Phase>
-        ensures { IfSome result (λ next. IsTaken packet next self.now) }
-    {
-        match self.alone() {
-            Some(phase) => alone_takes(phase, packet),
-            None => None,
-        }
-    }
-
-    /// The same in flow control.
+    /// Where it is in flow control behind a packet that comes, where the whole of that is this.
     #[inline(always)]
     fn hears(&self, packet: Packet) -> Option<Talk>
         ensures { IfSome result (λ next. IsTaken packet (Talks next) self.now) }
@@ -473,10 +461,6 @@ impl Set {
     fn shows_any(&mut self, packet: Packet)
         ensures { self.new ≡ definition.shows_to packet self.old }
     {
-        if let Some(next) = self.hears_alone(packet) {
-            self.stands(next);
-            return;
-        }
         if self.is_blind() {
             self.awaits(packet);
             return;

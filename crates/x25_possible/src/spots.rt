@@ -4,8 +4,8 @@ ghost use Rattle.x25_possible.specs.code.Steps as definition;
 ghost use Rattle.x25_possible.specs.declared.phase.Phase.TheVariants.{Idle};
 
 use crate::channel::{at_once, found, goes_on, is_bound, is_large, is_polite, sends, takes};
-use crate::packet::{Packet, Terms};
-use crate::phase::{Limits, Phase};
+use crate::packet::Packet;
+use crate::phase::Phase;
 use arrayvec::ArrayVec;
 use x25_bits::Role;
 
@@ -18,21 +18,6 @@ pub struct Spot {
 
 pub type Spots = ArrayVec<Spot, 16>;
 
-fn same_limits(one: Limits, two: Limits) -> bool
-    ensures { result ≡ definition.same_limits one two }
-{
-    one.most == two.most && one.window == two.window
-}
-
-fn same_terms(one: Terms, two: Terms) -> bool
-    ensures { result ≡ definition.same_terms one two }
-{
-    one.calling_size == two.calling_size
-        && one.called_size == two.called_size
-        && one.calling_window == two.calling_window
-        && one.called_window == two.called_window
-}
-
 /// Whether two states are surely one.
 fn is_same(one: Phase, two: Phase) -> bool
     ensures { result ≡ definition.is_same one two }
@@ -43,10 +28,10 @@ fn is_same(one: Phase, two: Phase) -> bool
         (Phase::WasCleared, Phase::WasCleared) => true,
         (Phase::Restarts, Phase::Restarts) => true,
         (Phase::WasRestarted, Phase::WasRestarted) => true,
-        (Phase::Calls(one), Phase::Calls(two)) => same_terms(one, two),
-        (Phase::WasCalled(one), Phase::WasCalled(two)) => same_terms(one, two),
-        (Phase::Resets(one), Phase::Resets(two)) => same_limits(one, two),
-        (Phase::WasReset(one), Phase::WasReset(two)) => same_limits(one, two),
+        (Phase::Calls(one), Phase::Calls(two)) => one == two,
+        (Phase::WasCalled(one), Phase::WasCalled(two)) => one == two,
+        (Phase::Resets(one), Phase::Resets(two)) => one == two,
+        (Phase::WasReset(one), Phase::WasReset(two)) => one == two,
         _ => false,
     }
 }
@@ -92,7 +77,7 @@ fn settle(role: Role, phase: Phase, at: usize, way: &[Packet], out: &mut Spots) 
         if at >= way.len() {
             return keep(out, Spot { phase, at });
         }
-        if let Some(next) = at_once(phase, way[at]) {
+        if let Some(next) = at_once(&phase, &way[at]) {
             phase = next;
             at += 1;
             continue;
@@ -100,7 +85,7 @@ fn settle(role: Role, phase: Phase, at: usize, way: &[Packet], out: &mut Spots) 
         if !keep(out, Spot { phase, at }) {
             return false;
         }
-        let Some(next) = takes(role, phase, way[at]) else {
+        let Some(next) = takes(role, &phase, &way[at]) else {
             return true;
         };
         phase = next;
@@ -112,20 +97,21 @@ fn settle(role: Role, phase: Phase, at: usize, way: &[Packet], out: &mut Spots) 
 fn goes(
     breaks: bool,
     role: Role,
-    spot: Spot,
+    spot: &Spot,
     way: &[Packet],
-    packet: Packet,
+    packet: &Packet,
     out: &mut Spots,
 ) -> bool
-    ensures { definition.made result out.new.items ≡ definition.goes breaks role way.now packet spot out.old.items }
+    ensures { definition.made result out.new.items
+        ≡ definition.goes breaks role way.now packet.now spot.now out.old.items }
 {
     if is_large(spot.phase) {
         return false;
     }
     let next = if breaks {
-        goes_on(spot.phase, packet)
+        goes_on(spot.phase, *packet)
     } else {
-        sends(spot.phase, packet)
+        sends(&spot.phase, packet)
     };
     match next {
         None => true,
@@ -138,14 +124,14 @@ fn go_all(
     role: Role,
     spots: &[Spot],
     way: &[Packet],
-    packet: Packet,
+    packet: &Packet,
     out: &mut Spots,
 ) -> bool
     ensures { definition.made result out.new.items
-        ≡ definition.go_all breaks role way.now packet spots.now out.old.items }
+        ≡ definition.go_all breaks role way.now packet.now spots.now out.old.items }
 {
     for spot in spots {
-        if !goes(breaks, role, *spot, way, packet, out) {
+        if !goes(breaks, role, spot, way, packet, out) {
             return false;
         }
     }
@@ -153,13 +139,13 @@ fn go_all(
 }
 
 /// Adds all that one comes to as the other end sends a packet, the last on the way. False: no room.
-fn grows(role: Role, spot: Spot, last: usize, way: &[Packet], out: &mut Spots) -> bool
-    ensures { definition.made result out.new.items ≡ definition.grows role last way.now spot out.old.items }
+fn grows(role: Role, spot: &Spot, last: usize, way: &[Packet], out: &mut Spots) -> bool
+    ensures { definition.made result out.new.items ≡ definition.grows role last way.now spot.now out.old.items }
 {
     if spot.at >= last {
         settle(role, spot.phase, last, way, out)
     } else {
-        keep(out, spot)
+        keep(out, *spot)
     }
 }
 
@@ -167,7 +153,7 @@ fn grow_all(role: Role, spots: &[Spot], last: usize, way: &[Packet], out: &mut S
     ensures { definition.made result out.new.items ≡ definition.grow_all role last way.now spots.now out.old.items }
 {
     for spot in spots {
-        if !grows(role, *spot, last, way, out) {
+        if !grows(role, spot, last, way, out) {
             return false;
         }
     }
@@ -258,11 +244,11 @@ pub(crate) fn gone(
     role: Role,
     spots: &Spots,
     way: &ArrayVec<Packet, 16>,
-    packet: Packet,
+    packet: &Packet,
     out: &mut Spots,
 ) -> bool
     ensures { definition.made result out.new.items
-        ≡ definition.go_all breaks role way.now.items packet spots.now.items [] }
+        ≡ definition.go_all breaks role way.now.items packet.now spots.now.items [] }
 {
     out.clear();
     go_all(breaks, role, spots.as_slice(), way.as_slice(), packet, out)
@@ -331,10 +317,10 @@ pub(crate) fn latest(spots: &[Spot]) -> Phase
     phase
 }
 
-fn may_send(phase: Phase, packet: Packet) -> bool
-    ensures { result ≡ definition.may_send phase packet }
+fn may_send(phase: &Phase, packet: &Packet) -> bool
+    ensures { result ≡ definition.may_send phase.now packet.now }
 {
-    if is_large(phase) {
+    if is_large(*phase) {
         return false;
     }
     sends(phase, packet).is_some()
@@ -361,7 +347,7 @@ pub(crate) fn rude(spots: &[Spot], packet: Packet) -> Option<Phase>
     }
     let mut found = None;
     for spot in spots {
-        if may_send(spot.phase, packet) {
+        if may_send(&spot.phase, &packet) {
             if is_polite(spot.phase, packet) {
                 return None;
             }

@@ -10,12 +10,12 @@ use Rattle.x25_possible_links.specs.laws.Link.{counts, heard, may_acknowledge, m
 use Rattle.x25_possible_links.specs.laws.Places.{sends}
 use Rattle.x25_possible_links.specs.code.Steps.{IsInSession, IsStep, IsTaken, all_of, and_then, first_of, grow_all, in_session}
 use Rattle.x25_possible_links.specs.code.Steps.{are_near, are_sure, is_large, far, marked, near, near_numbers, session, session_of, sent_to, sends_to, settles, shown_to, shows_to}
-use Rattle.x25_possible_links.specs.code.Steps.{kept_by, spot_at, telling, up_hears, up_sends, walk_all, walks, with_first}
+use Rattle.x25_possible_links.specs.code.Steps.{facts, has_sent, is_counted, is_sure, numbers, numbers_by, session_facts}
+use Rattle.x25_possible_links.specs.code.Steps.{kept_by, spot_at, up_hears, up_sends, walk_all, walks, with_first}
 use Rattle.x25_possible_links.specs.declared.frame.Frame.{Frame}
 use Rattle.x25_possible_links.specs.declared.frame.Frame.TheVariants.{Info, Ready, Sabm, Disc, Ua, Dm, Frmr, Unread, Before}
 use Rattle.x25_possible_links.specs.declared.link.Mode.TheVariants.{Right}
 use Rattle.x25_possible_links.specs.declared.set.LinkSet.{LinkSet}
-use Rattle.x25_possible_links.specs.declared.set.Told.TheVariants.{Nothing}
 use Rattle.x25_possible_links.specs.declared.spots.Spot.{Spot}
 use Rattle.x25_possible_links.specs.declared.stand.Numbers.{Numbers}
 use Rattle.x25_possible_links.specs.declared.stand.Stand.{Stand}
@@ -56,6 +56,21 @@ sure_by k a b c d =
 
 not_large : (k : Numbers) → are_sure k ≡ true → is_large (Up k) ≡ false
 not_large k c = not-true (is_large (Up k)) (and_parts (not (is_large (Up k))) (nat_lt k.taken far) c).0
+
+numbers_are : (s : LinkSet) (k : Numbers) → are_sure k ≡ true → numbers (in_session k s) ≡ Up k
+numbers_are s k h = ap (λ b. let u = if b then Free else Up k in numbers_by u u) (not_large k h)
+
+facts_are : (s : LinkSet) (k : Numbers) → are_sure k ≡ true → facts (in_session k s) ≡ session_facts k
+facts_are s k h =
+    ap (λ b. let u = if b then Free else Up k in record (session_facts k) {
+      stand = numbers_by u u;
+      is_sure = is_sure u;
+      is_counted = is_counted (numbers_by u u) (in_session k s);
+    }) (not_large k h)
+    ∙ ap (λ b. record (session_facts k) { is_sure = nat_lt k.taken far; is_counted = has_sent k.sent (if b then Free else Up k) && true }) (not_large k h)
+    ∙ ap (λ b. record (session_facts k) { is_sure = b; is_counted = (k.sent == k.sent) && true })
+    (and_parts (not (is_large (Up k))) (nat_lt k.taken far) h).1
+    ∙ ap (λ b. record (session_facts k) { is_counted = b && true }) (eq-eqb k.sent k.sent refl)
 
 near_sure : (k : Numbers) → are_near k ≡ true → are_sure k ≡ true
 near_sure k h =
@@ -203,7 +218,7 @@ pub step_is : (s : LinkSet) (k next : Numbers) (x : Frame) → session s ≡ Som
 step_is s k next x is e =
     let at = session_is s k is in
     let sure = near_sure k at.1 in record {
-      sure = sure;
+      known = ap facts at.0 ∙ facts_are s k sure;
       stands = at.0;
       step = λ differs. ap (sends_to (marked differs x)) at.0
           ∙ ap (λ o. sent_to (marked differs x) o (in_session k s))
@@ -272,7 +287,7 @@ taken_is s k x is = go (up_hears k x) refl
     go None e = tt
     go (Some next) e =
         let sure = hears_sure k next x at.1 e in record {
-          sure = sure;
+          there = numbers_are s next sure;
           before = record { numbers = k; stands = at.0 };
           step = λ differs. ap (shows_to (marked differs x)) at.0
               ∙ ap (shown_to (in_session k s) (marked differs x ∷ []))

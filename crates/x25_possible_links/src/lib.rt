@@ -10,6 +10,6 @@ mod stand;
 
 pub use frame::Frame;
 pub use law::{guilty_are_told, innocents_stay_untold, links_tell_exactly, rows_are_told};
-pub use set::{LinkSet, Told};
+pub use set::{Facts, LinkSet, Told};
 pub use spots::{Spot, Spots};
 pub use stand::{Numbers, Stand};

@@ -104,7 +104,6 @@ fn up_counts(k: Numbers, frame: Frame) -> Option<Stand>
 }
 
 /// What has a number, or may have.
-#[inline(always)]
 fn counts(stand: Stand, frame: Frame) -> Option<Stand>
     requires { IsSmall stand }
     ensures { result ≡ definition.counts (places.number_of stand frame) (places.least_of stand frame) stand frame }
@@ -426,7 +425,6 @@ pub(crate) enum Mode {
 }
 
 /// Where it is behind a frame that it sends so, with the way from there on in front of it; None where it can't.
-#[inline(always)]
 pub(crate) fn moves(
     mode: Mode,
     stand: Stand,

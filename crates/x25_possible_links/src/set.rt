@@ -49,6 +49,22 @@ pub enum Told {
     Broken(Stand),
 }
 
+/// What is known of an end before a frame that it sends.
+#[derive(Clone, Copy)]
+pub struct Facts {
+    /// Its numbers.
+    pub stand: Stand,
+    /// It is known what it may acknowledge.
+    pub is_sure: bool,
+    /// V(S) is known, or none.
+    pub is_counted: bool,
+    pub is_known: bool,
+    /// All is shown that its next response may answer.
+    pub is_shown: bool,
+    /// It is known whether its next UA answers something: SABM or DISC may wait for it, or all that waits is shown.
+    pub is_answering: bool,
+}
+
 fn are_known(spots: &[Spot]) -> bool
     ensures { result ≡ definition.are_known spots.now }
 {
@@ -125,31 +141,42 @@ impl LinkSet {
     }
 
     /// Where the one of the places stands that has come farthest, once all has come.
-    pub fn latest(&self) -> Stand
+    fn latest(&self) -> Stand
         ensures { result ≡ definition.latest self.now.spots.items self.now.way.items }
     {
         latest(self.spots.as_slice(), self.way.as_slice())
     }
 
-    /// Where it stands once all has come, where octets that spell no frame, of either end, were none.
-    pub fn plainest(&self) -> Stand
-        ensures { result ≡ definition.plainest self.now.spots.items self.now.way.items }
+    /// Its numbers once all has come, where octets that spell no frame, of either end, were none; where it isn't in a
+    /// session then, where they were any.
+    pub fn numbers(&self) -> Stand
+        ensures { result ≡ definition.numbers self.now }
     {
-        plainest(self.spots.as_slice(), self.way.as_slice())
+        let stand = plainest(self.spots.as_slice(), self.way.as_slice());
+        match stand {
+            Stand::Up(_) => stand,
+            _ => self.latest(),
+        }
     }
 
-    /// Whether nothing that can't be read may have come to it, and it is known what it may acknowledge.
-    pub fn is_sure(&self) -> bool
-        ensures { result ≡ definition.is_certain self.now }
+    /// What is known of it before a frame.
+    pub fn facts(&self) -> Facts
+        ensures { result ≡ definition.facts self.now }
     {
-        self.is_known() && (self.unread() == 0 && is_sure(self.latest()))
-    }
-
-    /// Whether it has sent so many I frames in each place that is in a session once all has come.
-    pub fn agrees(&self, sent: u64) -> bool
-        ensures { result ≡ definition.agree sent self.now.way.items self.now.spots.items }
-    {
-        agree(sent, self.spots.as_slice(), self.way.as_slice())
+        let stand = self.numbers();
+        let is_known = self.is_known();
+        let is_followed = self.is_followed();
+        Facts {
+            stand,
+            is_sure: is_known && (self.unread() == 0 && is_sure(self.latest())),
+            is_counted: match stand {
+                Stand::Up(k) => agree(k.sent, self.spots.as_slice(), self.way.as_slice()),
+                _ => true,
+            },
+            is_known,
+            is_shown: is_known && is_followed,
+            is_answering: self.has_request() || is_followed,
+        }
     }
 
     /// How much on the way can't be read.
@@ -157,13 +184,6 @@ impl LinkSet {
         ensures { result ≡ definition.unread self.now.way.items }
     {
         unread(self.way.as_slice())
-    }
-
-    /// Whether UA of it is judged: SABM or DISC may wait for it, or all that waits is shown.
-    pub fn judges_answer(&self) -> bool
-        ensures { result ≡ definition.judges_answer self.now }
-    {
-        has_request(self.way.as_slice()) || has_all(self.way.as_slice())
     }
 
     /// Whether SABM or DISC may wait for it.

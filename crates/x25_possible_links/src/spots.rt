@@ -19,7 +19,6 @@ pub struct Spot {
 pub type Spots = ArrayVec<Spot, 16>;
 
 /// Whether one of them stands for all that this one does.
-#[inline(always)]
 fn is_covered(spots: &[Spot], spot: Spot) -> bool
     ensures { result ≡ definition.is_covered spot spots.now }
 {
@@ -32,7 +31,6 @@ fn is_covered(spots: &[Spot], spot: Spot) -> bool
 }
 
 /// Adds one that none covers. False: no room.
-#[inline(always)]
 fn keep(out: &mut Spots, spot: Spot) -> bool
     ensures { definition.made result out.new.items ≡ definition.kept spot out.old.items }
 {
@@ -47,7 +45,6 @@ fn keep(out: &mut Spots, spot: Spot) -> bool
 }
 
 /// Where it is once it has made the best of what it loses nothing by; None where a number is too large.
-#[inline(always)]
 fn best(stand: Stand, at: usize, way: &[Frame]) -> Option<Spot>
     ensures { result ≡ definition.best at (drop at way.now) stand }
 {
@@ -66,7 +63,6 @@ fn best(stand: Stand, at: usize, way: &[Frame]) -> Option<Spot>
 }
 
 /// Adds a stand, once it has made the best of what it loses nothing by. False: no room.
-#[inline(always)]
 fn settle(stand: Stand, at: usize, way: &[Frame], out: &mut Spots) -> bool
     ensures { definition.made result out.new.items ≡ definition.settles at (drop at way.now) stand out.old.items }
 {
@@ -77,7 +73,6 @@ fn settle(stand: Stand, at: usize, way: &[Frame], out: &mut Spots) -> bool
 }
 
 /// Adds the first place from there on in which it may send a frame. False: no room.
-#[inline(always)]
 fn goes(mode: Mode, frame: Frame, stand: Stand, at: usize, way: &[Frame], out: &mut Spots) -> bool
     ensures { definition.made result out.new.items
         ≡ definition.goes mode frame way.now at (drop at way.now) stand out.old.items }
@@ -233,7 +228,6 @@ pub(crate) fn least(spots: &[Spot], most: usize) -> usize
 // ---- where they stand once all has come
 
 /// Free where a number is too large.
-#[inline(always)]
 fn come(stand: Stand, at: usize, way: &[Frame]) -> Stand
     ensures { result ≡ definition.come (drop at way.now) stand }
 {
@@ -288,7 +282,6 @@ pub(crate) fn hurry_all(count: usize, front: &[Frame], spots: &mut [Spot])
 }
 
 /// Where it stands once all has come, where octets that spell no frame were none.
-#[inline(always)]
 fn gone(stand: Stand, at: usize, way: &[Frame]) -> Stand
     ensures { result ≡ definition.gone (drop at way.now) stand }
 {
@@ -307,7 +300,6 @@ fn gone(stand: Stand, at: usize, way: &[Frame]) -> Stand
 }
 
 /// Of the first of those that have come farthest.
-#[inline(always)]
 pub(crate) fn latest(spots: &[Spot], way: &[Frame]) -> Stand
     ensures { result ≡ definition.latest spots.now way.now }
 {
@@ -324,7 +316,6 @@ pub(crate) fn latest(spots: &[Spot], way: &[Frame]) -> Stand
 }
 
 /// Of the first of all: no octets were sent that spell no frame.
-#[inline(always)]
 pub(crate) fn plainest(spots: &[Spot], way: &[Frame]) -> Stand
     ensures { result ≡ definition.plainest spots.now way.now }
 {

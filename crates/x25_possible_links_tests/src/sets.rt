@@ -98,7 +98,7 @@ fn tells_behind_a_long_way(rt: HostRuntime) {
         set.shows(Frame::Ready(0));
         assert!(rt; matches!(set.sends(Frame::Ready(0)), Told::Nothing));
     }
-    assert!(rt; !set.is_blind && set.is_sure());
+    assert!(rt; !set.is_blind && set.facts().is_sure);
     assert!(rt; matches!(set.sends(Frame::Ready(3)), Told::Broken(_)));
 }
 
@@ -155,13 +155,12 @@ fn digit(is_so: bool) -> u8 {
     if is_so { b'1' } else { b'0' }
 }
 
-/// What it has sent where it has come farthest, where octets that spell no frame were none, and where it is known to be
-/// in a session; how much can't be read.
-fn stands(tape: &[u8]) -> (u64, u64, u64, usize) {
+/// What it has sent, where octets that spell no frame were none, and where it is known to be in a session; how much
+/// can't be read.
+fn stands(tape: &[u8]) -> (u64, u64, usize) {
     let set = behind(tape);
     (
-        sent_by(set.latest()),
-        sent_by(set.plainest()),
+        sent_by(set.numbers()),
         match set.takes(Frame::Ready(0)) {
             Some(k) => k.sent,
             None => 99,
@@ -170,32 +169,33 @@ fn stands(tape: &[u8]) -> (u64, u64, u64, usize) {
     )
 }
 
-/// Whether it is known, surely, agrees on one I frame, and whether UA of it is judged and what it may answer is shown.
+/// Whether it is known, surely, with V(S), and whether UA of it is judged and what it may answer is shown.
 fn marks(tape: &[u8]) -> [u8; 5] {
     let set = behind(tape);
+    let facts = set.facts();
     [
-        digit(set.is_known()),
-        digit(set.is_sure()),
-        digit(set.agrees(1)),
-        digit(set.judges_answer()),
+        digit(set.is_known() && facts.is_known),
+        digit(facts.is_sure),
+        digit(facts.is_counted),
+        digit(facts.is_answering),
         digit(set.is_followed()),
     ]
 }
 
-static KNOWN: [(&[u8], (u64, u64, u64, usize), [u8; 5]); 13] = [
-    (b"", (99, 99, 99, 0), *b"00100"),
-    (b"<S", (99, 99, 99, 0), *b"00110"),
-    (b">0<S", (99, 99, 99, 0), *b"00110"),
-    (b">S", (98, 98, 99, 0), *b"11100"),
-    (b">U", (0, 0, 99, 0), *b"11000"),
-    (b">D", (97, 97, 99, 0), *b"11100"),
-    (b">X", (99, 99, 99, 0), *b"00100"),
-    (b">S<U>0", (1, 1, 1, 0), *b"11111"),
-    (b">S<U>01", (2, 2, 2, 0), *b"11011"),
-    (b">S<U>0X", (1, 1, 99, 0), *b"11011"),
-    (b">S<U>0<X", (1, 1, 99, 1), *b"10111"),
-    (b">S<U>0<S", (1, 1, 99, 0), *b"11111"),
-    (b">S<U>0b", (1, 1, 99, 0), *b"10111"),
+static KNOWN: [(&[u8], (u64, u64, usize), [u8; 5]); 13] = [
+    (b"", (99, 99, 0), *b"00100"),
+    (b"<S", (99, 99, 0), *b"00110"),
+    (b">0<S", (99, 99, 0), *b"00110"),
+    (b">S", (98, 99, 0), *b"11100"),
+    (b">U", (0, 99, 0), *b"11100"),
+    (b">D", (97, 99, 0), *b"11100"),
+    (b">X", (99, 99, 0), *b"00100"),
+    (b">S<U>0", (1, 1, 0), *b"11111"),
+    (b">S<U>01", (2, 2, 0), *b"11111"),
+    (b">S<U>0X", (1, 99, 0), *b"11011"),
+    (b">S<U>0<X", (1, 99, 1), *b"10111"),
+    (b">S<U>0<S", (1, 99, 0), *b"11111"),
+    (b">S<U>0b", (1, 99, 0), *b"10111"),
 ];
 
 #[test]
@@ -210,7 +210,7 @@ fn step(set: &mut LinkSet, frame: Frame) -> u64 {
     match set.steps(frame) {
         Some((_, next)) => {
             set.stands(next);
-            sent_by(set.latest())
+            sent_by(set.numbers())
         }
         None => 99,
     }

@@ -1,5 +1,5 @@
 -- Manners tell no rule of order, and nothing of what is told of the link.
-use Rattle.x25_judge.proofs.verdicts.Names.{◌≡◌, ℕ, ◌<◌, ◌≤◌, ◌%◌, ◌==◌, Bool, true, false, Option, Some, None, refl, arith, is_some, not, nat_lt, nat_le, ◌&&◌, ◌||◌, and_parts, cond_both, leb-true, ltb-true, PlainFrame, info, rr, rnr, rej, sabm, disc, ua, dm, frmr, accepts, answers, asks, bits, by_other, by_own, counts_in, hears, minded_as, minded_by, minds, ready_minded, place_in, reject_minded, skipped_by, first, is_of_manners, Minding, Sent, Manners, Minded, Rule, OverWindow, is_of_order, LinkSet, Told, Nothing, Skips, Broken, Numbers, Stand, Up}
+use Rattle.x25_judge.proofs.verdicts.Names.{◌≡◌, ℕ, ◌<◌, ◌≤◌, ◌%◌, ◌==◌, Bool, true, false, Option, Some, None, refl, arith, is_some, not, nat_lt, nat_le, ◌&&◌, ◌||◌, and_parts, cond_both, leb-true, ltb-true, PlainFrame, info, rr, rnr, rej, sabm, disc, ua, dm, frmr, accepts, answers, asks, bits, by_other, by_own, counts_in, hears, minded_as, minds, ready_minded, place_in, reject_minded, skipped_by, first, is_of_manners, Minding, Sent, Manners, Minded, Rule, OverWindow, is_of_order, LinkSet, Told, Nothing, Skips, Broken, Numbers, Stand, Up}
 use Rattle.std.specs.Prelude.{if◌then◌else◌}
 use Rattle.x25_judge.specs.{Links.{begins}, declared.manners.Place.{Place}}
 use Rattle.x25_judge.specs.Manners as manners
@@ -92,7 +92,7 @@ module _ (P : Option Rule → Bool → Type 0)
   skipped_has told window s ns p b h = h
 
   counts_has : (s : Stand) (window : ℕ) (t : Sent) (ns : ℕ) (p : Bool) (b : Minding) → Has b → Has (counts_in s window t ns p b)
-  counts_has (Up k) window t ns p b h = own_has (minded_by window k t ns p _ b.own) b (minded_fair t.told window k t ns p _ b.own) h
+  counts_has (Up k) window t ns p b h = own_has (minded_as t.told window k t ns p _ b.own) b (minded_fair t.told window k t ns p _ b.own) h
   counts_has s window t ns p b h = skipped_has t.told window s ns p b h
 
   ready_has : (t : Sent) (to : LinkSet) (command : Bool) (nr : ℕ) (pf : Bool) (b : Minding) → Has b → Has (ready_minded t to command nr pf b)

@@ -1,5 +1,5 @@
 -- What counts as judged is told of: an N(S), and F=1.
-use Rattle.x25_judge.proofs.verdicts.Names.{◌≡◌, ◌==◌, inl, inr, ℕ, ◌≤◌, arith, Bool, true, false, List, Option, Some, None, refl, sym, ap, ◌∙◌, subst, eq-eqb, le-leb, nat_le, nat_lt, ◌&&◌, ◌||◌, not, is_some, eqb-true, and_parts, and_cases, or_cases, or_parts, both_ways, cond_both, Role, PlainFrame, info, rr, rnr, rej, dm, frmr, differs, all_told, book_by, other_of, own_of, seen_by, first, is_of_manners, Judge, End, Minding, Sent, Manners, Minded, Rule, Packet, Repeats, is_final, is_up, rule_of, IsOutOfPlace, JudgedFinalsAreTold, JudgedSendingsAreTold, PacketRule, Frame, Info, LinkSet, Told, Broken, Nothing, Numbers, Stand, Up}
+use Rattle.x25_judge.proofs.verdicts.Names.{◌≡◌, ◌==◌, inl, inr, ℕ, ◌≤◌, arith, Bool, true, false, List, Option, Some, None, refl, sym, ap, ◌∙◌, subst, eq-eqb, le-leb, nat_le, nat_lt, ◌&&◌, ◌||◌, not, is_some, eqb-true, and_parts, and_cases, or_cases, or_parts, both_ways, cond_both, Role, PlainFrame, info, rr, rnr, rej, dm, frmr, differs, all_told, book_of, other_of, own_of, seen_by, first, is_of_manners, Judge, End, Minding, Sent, Manners, Minded, Rule, Packet, Repeats, is_final, is_up, rule_of, IsOutOfPlace, JudgedFinalsAreTold, JudgedSendingsAreTold, PacketRule, Frame, Info, LinkSet, Told, Broken, Nothing, Numbers, Stand, Up}
 use Rattle.x25_judge.specs.declared.rule.Rule.TheVariants.{Skips}
 use Rattle.x25_possible_links.specs.declared.set.Told.TheVariants.{Skips as SkipsOf}
 use Rattle.x25_judge.specs.declared.note.Note.TheVariants.{PollAgain, SentAgain}
@@ -33,7 +33,7 @@ all_of r None h = h
 all_of r (Some packet) h = first_keeps r (Some (Packet packet)) h
 
 pub tells_of : (from : Role) (j : Judge) (frame : PlainFrame) → IsTold (seen_by j from frame).seen.rule → IsTold (rule_of j from frame)
-tells_of from j frame h = all_of (seen_by j from frame).seen.rule (book_by j from frame (seen_by j from frame)).verdict.rule h
+tells_of from j frame h = all_of (seen_by j from frame).seen.rule (book_of j from frame (seen_by j from frame).seen).verdict.rule h
 
 -- ---- F=1
 
@@ -67,13 +67,13 @@ module _ (window : ℕ) (frame : PlainFrame) (x : Frame) (was : Bool) (own other
     seen = links.seen_of was (links.is_blind (links.end_sent frame x own) (links.end_shown x other)) other.manners.polls frame x t;
   }
 
-  judged_is : (links.sees_as window frame x was own other).seen.is_judged ≡ links.judges other.manners.polls frame (links.facts own.set)
+  judged_is : (links.sees_as window frame x was own other).seen.is_judged ≡ links.judges other.manners.polls frame (steps.facts own.set)
   unfolding links.minds links.judges
   judged_is = minds_has (λ r judged. judged ≡ before.seen.is_judged) (λ r m judged fair h. h) window t (steps.shows_to x other.set) frame before refl
 
   final_is : is_final frame ≡ true → (links.sees_as window frame x was own other).seen.is_judged ≡ true → other.manners.polls ≡ 0 → IsTold (links.sees_as window frame x was own other).seen.rule
   final_is final judged none = minds_tells window t (steps.shows_to x other.set) before (λ sure. (and_parts (steps.is_known own.set) _ sure).0) none frame final
-      (subst (λ n. links.judges n frame (links.facts own.set) ≡ true) none (sym judged_is ∙ judged))
+      (subst (λ n. links.judges n frame (steps.facts own.set) ≡ true) none (sym judged_is ∙ judged))
 
 pub judged_finals_are_told : JudgedFinalsAreTold
 judged_finals_are_told from j frame final judged none =
@@ -143,14 +143,14 @@ asks_tells true b h = first_keeps b.seen.rule (manners.asks b.own).rule h
 asks_tells false b h = h
 
 module _ (window : ℕ) (x : Frame) (was : Bool) (own other : End) (ns nr : ℕ) (p : Bool) (octets : List ℕ) where
-  number_is : (links.sees_as window (info ns nr p octets) x was own other).seen.is_judged ≡ true → is_up (links.numbers own.set) ≡ true
+  number_is : (links.sees_as window (info ns nr p octets) x was own other).seen.is_judged ≡ true → is_up (steps.numbers own.set) ≡ true
       → IsOutOfPlace ns p own.manners (links.place own) → IsTold (links.sees_as window (info ns nr p octets) x was own other).seen.rule
   unfolding links.minds links.judges
   number_is judged up out =
       let frame = info ns nr p octets in
       let b = before window frame x was own other in
-      let sure = and_parts (steps.is_certain own.set) (links.is_counted (links.numbers own.set) own.set) (sym (judged_is window frame x was own other) ∙ judged) in
-      stand_tells window (t window frame x was own other) ns p (links.asks p b) (links.numbers own.set) x sure.1 up
+      let sure = and_parts (steps.is_certain own.set) (steps.is_counted (steps.numbers own.set) own.set) (sym (judged_is window frame x was own other) ∙ judged) in
+      stand_tells window (t window frame x was own other) ns p (links.asks p b) (steps.numbers own.set) x sure.1 up
       (λ broken. asks_tells p b broken) (stays_out ns p p (links.place own) b out)
 
 pub judged_sendings_are_told : JudgedSendingsAreTold

@@ -15,9 +15,9 @@ pub use Rattle.x25_frame.specs.declared.error.FrameError.TheVariants.{Short, Bad
 pub use Rattle.x25_frame.specs.laws.ReadingLaw.{ReadsWhatIsSpelled, ReadsSpelled}
 pub use Rattle.x25_judge.specs.Held.{Held, none_held, forgets, forgets_all, is_held, kept}
 unfoldable pub use Rattle.x25_judge.specs.Held.{no_octets, differs, keeps}
-pub use Rattle.x25_judge.specs.Judge.{all_told, book_by, gap_of, missed_by, next_missed, no_frame, other_of, own_of, past_gap, read_of, seen_by, sent_of, tallies, Answer, counts_packet, is_open, told_frame, remark_of, next_by, begins}
+pub use Rattle.x25_judge.specs.Judge.{all_told, book_of, gap_of, missed_by, next_missed, no_frame, other_of, own_of, past_gap, read_of, seen_by, sent_of, tallies, Answer, counts_packet, is_open, told_frame, remark_of, next_by, begins}
 unfoldable pub use Rattle.x25_judge.specs.Judge.{answer_to, counts_carried}
-pub use Rattle.x25_judge.specs.Links.{forgets_each, held_by, Both, accepts, answers, asks, bits, by_other, by_own, counts_in, hears, minded_as, minded_by, ready_minded, place_in, reject_minded, skipped_by, forgets_in}
+pub use Rattle.x25_judge.specs.Links.{forgets_each, held_by, Both, accepts, answers, asks, bits, by_other, by_own, counts_in, hears, minded_as, ready_minded, place_in, reject_minded, skipped_by, forgets_in}
 unfoldable pub use Rattle.x25_judge.specs.Links.{shown, minds}
 pub use Rattle.x25_judge.specs.Rule.{is_of_manners, breaks_order, first}
 pub use Rattle.x25_judge.specs.declared.judge.Judge.{Judge}

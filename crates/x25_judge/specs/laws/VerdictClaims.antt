@@ -6,13 +6,14 @@ use Rattle.x25_frame.specs.Frame.{PlainFrame, info, sabm, ua}
 use Rattle.x25_judge.specs.Held.{differs}
 use Rattle.x25_decode.specs.declared.answer.Reading.{Reading}
 use Rattle.x25_judge.specs.Judge.{answer_to, begins, other_of, own_of, seen_by}
-use Rattle.x25_judge.specs.Links.{numbers, place, shown}
+use Rattle.x25_judge.specs.Links.{place, shown}
 use Rattle.x25_judge.specs.Manners.{goes_on, may_go_back, seen_place}
 use Rattle.x25_judge.specs.declared.judge.Judge.{Judge}
 use Rattle.x25_judge.specs.declared.judge.Strictness.{Strictness}
 use Rattle.x25_judge.specs.declared.manners.Manners.{Manners}
 use Rattle.x25_judge.specs.declared.manners.Place.{Place}
 use Rattle.x25_possible.specs.laws.Possible.{IsUnexplained, Item, Own, Stands}
+use Rattle.x25_possible_links.specs.code.Steps.{numbers}
 use Rattle.x25_possible_links.specs.laws.Link.{State, link_rules}
 use Rattle.x25_possible_links.specs.laws.Sets.{IsRoomy, IsTimely}
 use Rattle.x25_possible_links.specs.declared.frame.Frame.{Frame}

@@ -1,6 +1,7 @@
 -- What is told of an end by a book, packet by packet, and what a book is behind the packets of both ends.
 use Rattle.std.specs.Prelude.{◌≡◌, ℕ, ◌%◌, ◌==◌, Bool, true, false, not, ◌&&◌, ◌||◌, if◌then◌else◌, List, [], ◌∷◌}
 use Rattle.std.specs.Prelude.{Option, Some, None, is_some}
+use Rattle.x25_bits.specs.Role.{other}
 use Rattle.x25_bits.specs.declared.role.Role.{Role}
 use Rattle.x25_bits.specs.declared.role.Role.TheVariants.{Dte, Dce}
 use Rattle.x25_packet.specs.Packet.{PlainPacket, restart, restart_conf}
@@ -90,13 +91,10 @@ pub record BooksTellExactly : Type 0 where
 
 -- ---- packets of both ends
 
-abbrev pub is_its : Role → Role → Bool
-is_its Dte Dte = true
-is_its Dce Dce = true
-is_its role from = false
-
 abbrev pub seen_by : Role → Role → Packet → Item Packet
-seen_by role from x = if is_its role from then Own x else Other x
+seen_by Dte Dte x = Own x
+seen_by Dce Dce x = Own x
+seen_by role from x = Other x
 
 abbrev pub behind_item : Item Packet → Set → Set
 behind_item (Own x) s = (sends_to x s).set
@@ -175,12 +173,11 @@ pub record InnocentTapesStayUntold : Type 0 where
       → is_manners (rule_told from channel packet (behind_all ps b)) ≡ false
 
 -- Behind a set-up of the link one end restarts, and the other one confirms it: all channels begin so, and restarts.
-abbrev pub begins_with : Role → Role → Role → List (Item Packet)
-begins_with role from other = seen_by role other RestartConf ∷ seen_by role from Restart ∷ []
+abbrev pub begins_with : Role → Role → List (Item Packet)
+begins_with role from = seen_by role (other from) RestartConf ∷ seen_by role from Restart ∷ []
 
 abbrev pub RestartsBegin : Type 0
 RestartsBegin =
-    (b : Book) (t : Layers) (role up from other : Role) (channel one two cause diagnostic : ℕ)
-    → is_its from other ≡ false
-    → IsBehind role channel (begins_with role from other) (begins_with role from other)
-    (takes other two restart_conf (takes from one (restart cause diagnostic) (begins up t b)).book).book
+    (b : Book) (t : Layers) (role up from : Role) (channel one two cause diagnostic : ℕ)
+    → IsBehind role channel (begins_with role from) (begins_with role from)
+    (takes (other from) two restart_conf (takes from one (restart cause diagnostic) (begins up t b)).book).book

@@ -10,6 +10,7 @@ use Rattle.x25_possible_links.specs.declared.frame.Frame.{Frame}
 use Rattle.x25_possible_links.specs.declared.frame.Frame.TheVariants.{Info, Ready, Sabm, Disc, Ua, Unread, Before}
 use Rattle.x25_possible_links.specs.declared.link.Mode.{Mode}
 use Rattle.x25_possible_links.specs.declared.link.Mode.TheVariants.{Right, Skipping, Wrong}
+use Rattle.x25_possible_links.specs.declared.set.Facts.{Facts}
 use Rattle.x25_possible_links.specs.declared.set.LinkSet.{LinkSet}
 use Rattle.x25_possible_links.specs.declared.set.Told.{Told}
 use Rattle.x25_possible_links.specs.declared.set.Told.TheVariants.{Nothing, Skips, Broken}
@@ -297,10 +298,6 @@ abbrev pub has_request : List Frame → Bool
 has_request [] = false
 has_request (x ∷ way) = is_request x || has_request way
 
--- what UA of it may answer is shown, or it may answer a request that is
-abbrev pub judges_answer : LinkSet → Bool
-judges_answer s = has_request s.way.items || has_all s.way.items
-
 abbrev pub is_sure : Stand → Bool
 is_sure (Up k) = nat_lt k.taken far
 is_sure Free = false
@@ -309,6 +306,30 @@ is_sure s = true
 -- it is known what it may acknowledge
 abbrev pub is_certain : LinkSet → Bool
 is_certain s = is_known s && (unread s.way.items == 0 && is_sure (latest s.spots.items s.way.items))
+
+-- its numbers, where octets that spell no frame were none; where it isn't in a session then, where they were any
+abbrev pub numbers_by : Stand → Stand → Stand
+numbers_by (Up k) s = Up k
+numbers_by t s = s
+
+abbrev pub numbers : LinkSet → Stand
+numbers s = numbers_by (plainest s.spots.items s.way.items) (latest s.spots.items s.way.items)
+
+-- V(S) is known, or none
+abbrev pub is_counted : Stand → LinkSet → Bool
+is_counted (Up k) s = agree k.sent s.way.items s.spots.items
+is_counted t s = true
+
+-- what UA of it may answer is shown, or it may answer a request that is
+abbrev pub facts : LinkSet → Facts
+facts s = record {
+  stand = numbers s;
+  is_sure = is_certain s;
+  is_counted = is_counted (numbers s) s;
+  is_known = is_known s;
+  is_shown = is_known s && is_followed s;
+  is_answering = has_request s.way.items || is_followed s;
+}
 
 -- a set, and what is told
 pub record Stepped : Type 0 where
@@ -428,6 +449,17 @@ session s = session_of s.way.items s.spots.items
 abbrev pub in_session : Numbers → LinkSet → LinkSet
 in_session k s = set_as s [] (spot_at 0 (Up k) ∷ [])
 
+-- all is known of it
+abbrev pub session_facts : Numbers → Facts
+session_facts k = record {
+  stand = Up k;
+  is_sure = true;
+  is_counted = true;
+  is_known = true;
+  is_shown = true;
+  is_answering = true;
+}
+
 pub record IsInSession (s : LinkSet) : Type 0 where
   pub numbers : Numbers
   pub stands : s ≡ in_session numbers s
@@ -453,12 +485,12 @@ takes x s = takes_by (session s) x
 
 -- then the set becomes so
 pub record IsStep (x : Frame) (k next : Numbers) (s : LinkSet) : Type 0 where
-  pub sure : are_sure k ≡ true
+  pub known : facts s ≡ session_facts k
   pub stands : s ≡ in_session k s
   pub step : (differs : Bool) → sends_to (marked differs x) s ≡ telling Nothing (in_session next s)
 
 pub record IsTaken (x : Frame) (next : Numbers) (s : LinkSet) : Type 0 where
-  pub sure : are_sure next ≡ true
+  pub there : numbers (in_session next s) ≡ Up next
   pub before : IsInSession s
   pub step : (differs : Bool) → shows_to (marked differs x) s ≡ in_session next s
 
