@@ -366,7 +366,6 @@ pub extern "C" fn x25_receive_all(
 }
 
 // Sends a message, whose confirmation is asked or isn't, and pulls behind it.
-#[inline(always)]
 fn send(alloc: Global, slot: &mut Slot, channel: u16, q: bool, d: bool, user: &[u8]) -> u32
     ensures { Answers slot.old.handle.held slot.new.handle.held result
         (Asks (Requests (OnChannel channel (Sends (record { q = q; d = d }) user.now)))) }

@@ -135,7 +135,6 @@ impl Event {
         }
     }
 
-    #[inline(always)]
     fn of_asked(channel: u16, name: &Stretch, asked: &Asked) -> Event
         ensures { result ≡ asked_event channel (plain_name name.now) (plain_asked asked.now) }
     {
@@ -174,7 +173,6 @@ impl Event {
         }
     }
 
-    #[inline(always)]
     fn of_told(channel: u16, name: &Stretch, told: &Told) -> Event
         ensures { result ≡ told_event channel (plain_name name.now) (plain_told told.now) }
     {
@@ -220,7 +218,6 @@ impl Event {
     }
 
     /// What an entry of the transcript says.
-    #[inline(always)]
     pub(crate) fn of_entry(entry: &Entry) -> Event
         ensures { result ≡ entry_event (plain_entry entry.now) }
     {

@@ -21,7 +21,6 @@ pub(crate) enum Happening<'a> {
 
 /// Lets it happen to a station.
 // In each export the event is known, so that nothing is left of it.
-#[inline(always)]
 pub(crate) fn happen(
     station: &mut Station,
     event: Happening<'_>,

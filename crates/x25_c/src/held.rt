@@ -78,7 +78,6 @@ impl Held {
     }
 
     /// Lets something happen to the station, and pulls behind it.
-    #[inline(always)]
     pub(crate) fn happen(&mut self, event: Happening<'_>) -> Result<(), StationError>
         ensures happens { Happens self.old self.new result (event_of event.entry) }
         ensures alone { IsAlone self.new }
@@ -89,7 +88,6 @@ impl Held {
     }
 
     // The same behind what was answered before.
-    #[inline(always)]
     fn go_on(&mut self, event: Happening<'_>) -> Result<(), StationError>
         ensures happens { Happens self.old self.new result (event_of event.entry) }
         ensures earlier { self.new.earlier ≡ self.old.earlier }
@@ -106,7 +104,6 @@ impl Held {
     }
 
     /// Takes octets that came, and pulls behind it.
-    #[inline(always)]
     pub(crate) fn receive(&mut self, octets: &[u8])
         ensures happens { Happens self.old self.new (Ok tt) (Comes octets.now) }
         ensures alone { IsAlone self.new }
@@ -117,7 +114,6 @@ impl Held {
     }
 
     // The same behind what was answered before.
-    #[inline(always)]
     fn take(&mut self, octets: &[u8])
         ensures happens { Happens self.old self.new (Ok tt) (Comes octets.now) }
         ensures earlier { self.new.earlier ≡ self.old.earlier }
@@ -298,7 +294,6 @@ impl Held {
     }
 
     // Item `i` behind the frames and a timer that passed: the entries, and then what becomes of timer T1.
-    #[inline(always)]
     fn last_item(&self, i: usize) -> Option<Item<'_>>
         ensures { option_map plain_item result ≡ slice_get (last_items self.now) i }
     {
@@ -317,7 +312,6 @@ impl Held {
     }
 
     // Item `i` behind the frames.
-    #[inline(always)]
     fn later_item(&self, i: usize) -> Option<Item<'_>>
         ensures { option_map plain_item result ≡ slice_get (later_items self.now) i }
     {
@@ -329,7 +323,6 @@ impl Held {
     }
 
     /// Item `i` of the answer.
-    #[inline(always)]
     pub(crate) fn item(&self, i: usize) -> Option<Item<'_>>
         ensures { option_map plain_item result ≡ slice_get (items_of self.now) i }
     {

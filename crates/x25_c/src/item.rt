@@ -22,7 +22,6 @@ pub(crate) enum Item<'a> {
 
 impl<'a> Item<'a> {
     // In the place of its call the event is written where C has it, and not copied there.
-    #[inline(always)]
     pub(crate) fn event(&self) -> Event
         ensures { result ≡ event_at (plain_item self.now) }
     {

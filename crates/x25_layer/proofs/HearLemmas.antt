@@ -88,6 +88,9 @@ heard_from old mid new told left f h still same by = record {
   spare = by.spare;
 }
 
+pub fits_as : (c : LayerSettings) (v : code.Layer) (l m : Layer) → l ≡ m → FitsLayer c v l → FitsLayer c v m
+fits_as c v l m same fits = subst (λ (n : Layer). FitsLayer c v n) same fits
+
 -- fewer than three octets are dropped
 pub hears_none : (wide : Bool) (most : ℕ) (c : LayerSettings) (l : Layer) (octets : List ℕ) → channel_in octets ≡ None → answer_to c l octets (read_in wide most octets) ≡ drops l.restarting l.restarts l.circuits
 unfolding read_of

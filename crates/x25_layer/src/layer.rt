@@ -154,7 +154,6 @@ impl Layer {
     }
 
     /// The octets of the packet that the call before has to put into the link; none where it has none to put.
-    #[inline(always)]
     pub fn to_put(&self) -> &[u8]
         ensures { result.now ≡ self.now.sheet }
     {

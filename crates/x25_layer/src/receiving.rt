@@ -1,18 +1,13 @@
 //! Octets that the link handed up. ITU-T X.25 (10/96), sections 3.3 and 4, and Annex C.
-ghost use Rattle.std.specs.Prelude.{◌≡◌, ◌+◌, [], length, true};
+ghost use Rattle.std.specs.Prelude.{◌≡◌, [], true};
 ghost use Rattle.x25_packet.specs.Spelling.{longest_user};
-ghost use Rattle.x25_packet.specs.Taking.{read_in};
 ghost use Rattle.x25_circuit.specs.code.PartialMessage.{spares};
-ghost use Rattle.x25_circuit.specs.code.Replies.{RepliesWith, Says, IsSendable, handed_over, notices_of, plain_owed};
-ghost use Rattle.x25_layer.specs.Layer.{LayerSettings, notices_on};
-ghost use Rattle.x25_layer.specs.Ranges.{is_number};
-ghost use Rattle.x25_layer.specs.Layer.{Layer as State};
-ghost use Rattle.x25_layer.specs.code.FitsLayer.{FitsLayer};
+ghost use Rattle.x25_circuit.specs.code.Replies.{RepliesWith, handed_over, notices_of};
+ghost use Rattle.x25_layer.specs.Layer.{notices_on};
 ghost use Rattle.x25_layer.specs.code.Answering.{Hears};
-ghost use Rattle.x25_layer.specs.Asking.{with_circuit};
 ghost use Rattle.x25_layer.specs.Full.{HasCountsLeft, HaveCountsLeft, IsNotFull};
 ghost use Rattle.x25_layer.specs.Report.{plain_report, handed_over_in};
-ghost use Rattle.x25_layer.specs.Receiving.{plain_read, IsOfChannel, circuit_hears, hears_on, answer_to, layer_hears};
+ghost use Rattle.x25_layer.specs.Receiving.{plain_read, IsOfChannel, circuit_hears, hears_on, layer_hears};
 
 use crate::full::is_full;
 use crate::layer::Layer;
@@ -60,35 +55,6 @@ fn told_on<'a>(channel: u16, collided: bool, notice: Option<Notice<'a>>) -> Repo
 }
 
 impl Layer {
-    // The circuit of a configured channel takes a packet, or octets that spell none.
-    fn hear_channel<'a>(
-        &mut self,
-        channel: u16,
-        read: &Result<Packet<'a>, PacketError>,
-        spare: &mut Option<Octets>,
-    ) -> Reply<'a>
-        requires channel { is_number (length self.old.circuits.items) channel ≡ true }
-        requires kind { IsOfChannel (plain_read read.now) }
-        requires left { HaveCountsLeft self.old.circuits.items }
-        requires spare { spares spare.old ≡ 1 }
-        ensures layer { (c : LayerSettings) (l : State) → FitsLayer c self.old l
-            → FitsLayer c self.new
-            (with_circuit l channel (circuit_hears c.circuit (l.circuits channel) (plain_read read.now)).next) }
-        ensures says { (c : LayerSettings) (l : State) → FitsLayer c self.old l
-            → Says result (circuit_hears c.circuit (l.circuits channel) (plain_read read.now)).owed
-            (circuit_hears c.circuit (l.circuits channel) (plain_read read.now)).notices }
-        ensures range { IsSendable (plain_owed result.packet) }
-        ensures spare { spares spare.new + handed_over result.notice ≡ 1 }
-    {
-        let place = usize::from(channel) - 1;
-        let circuit = &mut self.circuits[place];
-        let reply = hear_circuit(circuit, read, spare);
-        let is_full = is_full(circuit);
-        self.busy.note(channel, circuit);
-        self.counts_left &= !is_full;
-        reply
-    }
-
     // A packet of a channel, or octets that spell none. They are dropped while a restart is under way, and where the
     // channel isn't configured.
     fn hear_on<'a>(
@@ -110,33 +76,18 @@ impl Layer {
         if self.circuit(channel).is_none() {
             return Report::Nothing;
         }
+        let place = usize::from(channel) - 1;
+        let circuit = &mut self.circuits[place];
         let Reply {
             packet,
             collided,
             notice,
-        } = self.hear_channel(channel, read, spare);
+        } = hear_circuit(circuit, read, spare);
+        let is_full = is_full(circuit);
+        self.busy.note(channel, circuit);
+        self.counts_left &= !is_full;
         self.sheet.spell_owed(channel, packet);
         told_on(channel, collided, notice)
-    }
-
-    // Octets that the link handed up, whatever they are. With `wide` they are read in all forms.
-    fn hear<'a>(&mut self, wide: bool, octets: &'a [u8], spare: &mut Option<Octets>) -> Report<'a>
-        requires left { IsNotFull self.old }
-        requires spare { spares spare.old ≡ 1 }
-        requires none { self.old.sheet ≡ [] }
-        ensures { Hears self.old self.new result (spares spare.new)
-            (λ c l. answer_to c l octets.now (read_in wide (longest_user self.old.long_data) octets.now)) }
-    {
-        let Some(channel) = channel(octets) else {
-            return Report::Nothing;
-        };
-        taking_keeps_octets();
-        let read = read(wide, longest_user(self.long_data), octets);
-        match &read {
-            Ok(Packet::Restart { cause, diagnostic }) => self.hear_restart(*cause, *diagnostic),
-            Ok(Packet::RestartConf) => self.hear_restart_conf(),
-            _ => self.hear_on(channel, &read, spare),
-        }
     }
 
     /// Takes octets that the link handed up, and leaves the packet that is owed for them to be put. It answers what is
@@ -163,6 +114,15 @@ impl Layer {
     {
         self.counts_left = true;
         self.sheet.clear();
-        self.hear(wide, octets, spare)
+        let Some(channel) = channel(octets) else {
+            return Report::Nothing;
+        };
+        taking_keeps_octets();
+        let read = read(wide, longest_user(self.long_data), octets);
+        match &read {
+            Ok(Packet::Restart { cause, diagnostic }) => self.hear_restart(*cause, *diagnostic),
+            Ok(Packet::RestartConf) => self.hear_restart_conf(),
+            _ => self.hear_on(channel, &read, spare),
+        }
     }
 }

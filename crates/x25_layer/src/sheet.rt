@@ -41,7 +41,6 @@ impl Sheet {
     }
 
     /// The octets of the packet.
-    #[inline(always)]
     pub(crate) fn as_slice(&self) -> &[u8]
         ensures { result.now ≡ self.now }
     {

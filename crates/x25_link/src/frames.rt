@@ -90,9 +90,10 @@ impl Frames {
         requires fits { length (information_of (plain frame.now)) ≤ 4099 }
         ensures { self.new ≡ self.old ++ spelling_of from (plain frame.now) ∷ [] }
     {
-        let place = self.count;
-        spell(from, frame, &mut self.places[place]);
-        self.count = place + 1;
+        let octets = &mut self.places[self.count];
+        octets.clear();
+        encode(from, frame, octets).unwrap();
+        self.count += 1;
     }
 }
 
@@ -108,15 +109,4 @@ fn fill(places: &mut Vec<Vec<u8>>, alloc: Global) -> Result<(), AllocError>
         places.push_reserved(Vec::with_capacity(alloc, LONGEST_FRAME)?);
     }
     Ok(())
-}
-
-// Spells a frame in a place, over the one that stood there.
-#[inline(always)]
-fn spell(from: Role, frame: &Frame, octets: &mut Vec<u8>)
-    requires { length (information_of (plain frame.now)) + 4 ≤ vec_capacity octets.old }
-    ensures octets { octets.new.items ≡ spelling_of from (plain frame.now) }
-    ensures memory { vec_capacity octets.new ≡ vec_capacity octets.old }
-{
-    octets.clear();
-    encode(from, frame, octets).unwrap();
 }

@@ -1,4 +1,4 @@
-ghost use Rattle.std.specs.Prelude.{◌≡◌, None, Some, false, true};
+ghost use Rattle.std.specs.Prelude.{◌≡◌, None, Some, false};
 
 use crate::phase::{Notes, Reason};
 
@@ -50,8 +50,13 @@ impl<'a> Heard<'a> {
         ensures notes { result.notes ≡ record { down = None; up = false } }
         ensures acknowledged { result.acknowledged ≡ acknowledged }
     {
-        let mut heard = Heard::noted(None, false);
-        heard.acknowledged = acknowledged;
-        heard
+        Heard {
+            packet: None,
+            notes: Notes {
+                down: None,
+                up: false,
+            },
+            acknowledged,
+        }
     }
 }

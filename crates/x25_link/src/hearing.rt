@@ -2,7 +2,6 @@
 ghost use Rattle.std.specs.Prelude.{◌≡◌, ℕ, ◌+◌, ◌<◌, ◌≤◌, List, length, Ok, Err, true, false};
 ghost use Rattle.x25_frame.specs.Frame.{plain};
 ghost use Rattle.x25_frame.specs.Reading.{frame_of};
-ghost use Rattle.x25_frame.specs.Spelling.{is_command};
 ghost use Rattle.x25_link.specs.Station.{Settings, LinkStation as StationState, is_up, may_send, owes_ready};
 ghost use Rattle.x25_link.specs.code.Fits.{FitsStation, FitsSide, FitsHeard, Leads, Hears};
 ghost use Rattle.x25_link.specs.Hearing.{numbered, hears_info, polls, peer_is, goes_back, quiet, row_of_frame, row_of};
@@ -132,19 +131,6 @@ impl LinkStation {
         }
     }
 
-    // Octets, in Up.
-    fn hear_up<'a>(&mut self, octets: &'a [u8], out: &mut Frames) -> Heard<'a>
-        requires place { length out.old < 25 }
-        ensures step { Hears self.old self.new out.old out.new result
-            (λ c t. row_of c octets.now (frame_of (other c.role) c.longest octets.now) t) }
-        ensures one { length out.new ≤ length out.old + 1 }
-    {
-        match decode(self.role.other(), self.parameters.n1, octets) {
-            Ok(frame) => self.hear_frame(octets, frame, out),
-            Err(error) => self.hear_error(octets, error, out),
-        }
-    }
-
     // ---- the other phases
 
     // A command with P=1 is answered by DM.
@@ -240,10 +226,13 @@ impl LinkStation {
             (λ c t. hears c octets.now (frame_of (other c.role) c.longest octets.now) t.near.phase t) }
         ensures one { length out.new ≤ length out.old + 1 }
     {
-        if self.phase.is_up() {
-            return self.hear_up(octets, out);
+        if !self.phase.is_up() {
+            return self.hear_apart(octets, out);
         }
-        self.hear_apart(octets, out)
+        match decode(self.role.other(), self.parameters.n1, octets) {
+            Ok(frame) => self.hear_frame(octets, frame, out),
+            Err(error) => self.hear_error(octets, error, out),
+        }
     }
 
     /// Takes octets, and sends what they ask for.

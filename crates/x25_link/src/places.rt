@@ -30,15 +30,6 @@ impl Model for Packet {
 }
 
 impl Packet {
-    // The packet that stands in this place.
-    fn of(octets: Vec<u8>) -> Packet
-        requires place { vec_capacity octets ≡ room_for (vec_len octets) }
-        requires short { vec_len octets ≤ 4099 }
-        ensures { result ≡ octets.items }
-    {
-        Packet { octets }
-    }
-
     /// How many octets it has.
     fn len(&self) -> usize
         ensures { result ≡ length self.now }
@@ -96,13 +87,6 @@ impl<const ROOM: usize> Spares<ROOM> {
         let mut places = Vec::with_capacity(alloc, count)?;
         fill(&mut places, alloc, count)?;
         Ok(Spares { places })
-    }
-
-    // How many places have no packet.
-    fn left(&self) -> usize
-        ensures { result ≡ self.now.left }
-    {
-        self.places.len()
     }
 
     // Takes a place, and puts octets there, over those that stood there.
@@ -177,9 +161,9 @@ impl Places {
         ensures { result ≡ left_for self.now.short self.now.long length }
     {
         if length <= SHORT {
-            self.short.left()
+            self.short.places.len()
         } else {
-            self.long.left()
+            self.long.places.len()
         }
     }
 
@@ -193,9 +177,11 @@ impl Places {
         ensures long_ones { self.new.long.all ≡ self.old.long.all }
     {
         if packet.len() <= SHORT {
-            Packet::of(self.short.take(packet))
+            let octets = self.short.take(packet);
+            Packet { octets }
         } else {
-            Packet::of(self.long.take(packet))
+            let octets = self.long.take(packet);
+            Packet { octets }
         }
     }
 

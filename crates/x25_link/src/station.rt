@@ -54,27 +54,16 @@ impl LinkStation {
         self.outgoing.waiting() > BUSY_ABOVE
     }
 
-    // Sends a frame that carries no packet, in its caller's place.
-    #[inline(always)]
-    #[tactic(auto, using(crate::proofs::FitsLemmas::made_more))]
-    fn send_here(&self, frame: &Frame, out: &mut Frames)
-        requires place { length out.old < 25 }
-        requires short { length (information_of (plain frame.now)) ≤ 3 }
-        ensures step { Leads self.now self.now out.old out.new (λ c t. sends (plain frame.now) t) }
-        ensures one { length out.new ≡ length out.old + 1 }
-    {
-        out.push(self.role, frame);
-    }
-
     /// Sends a frame that carries no packet.
     #[inline(never)]
+    #[tactic(auto, using(crate::proofs::FitsLemmas::made_more))]
     pub fn send(&self, frame: &Frame, out: &mut Frames)
         requires place { length out.old < 25 }
         requires short { length (information_of (plain frame.now)) ≤ 3 }
         ensures step { Leads self.now self.now out.old out.new (λ c t. sends (plain frame.now) t) }
         ensures one { length out.new ≡ length out.old + 1 }
     {
-        self.send_here(frame, out);
+        out.push(self.role, frame);
     }
 
     /// Sends RR, or RNR where the station is busy.
@@ -89,7 +78,7 @@ impl LinkStation {
             self.send(&Frame::Rnr { command, nr, pf }, out);
         } else {
             self.said_busy = false;
-            self.send_here(&Frame::Rr { command, nr, pf }, out);
+            out.push(self.role, &Frame::Rr { command, nr, pf });
         }
     }
 

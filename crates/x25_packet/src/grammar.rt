@@ -39,6 +39,7 @@ const INTERRUPT_OCTETS: usize = 32;
 /// The most octets of explanation in a diagnostic packet.
 const EXPLANATION_OCTETS: usize = 3;
 
+#[inline(always)]
 fn bare<'a, M: Made<'a>>(head: Head, kind: Kind<'a>, body: &[u8]) -> Result<M, PacketError>
     requires { HasAddresses head.bit_8 (plain_kind kind) }
     ensures { Makes M.gives head result (bare (plain_kind kind.entry) body.now) }

@@ -129,7 +129,7 @@ impl Station {
             → FitsStation c self.old s → RefusesOnly result (commands c s (command_of command.entry)) }
     {
         out.clear();
-        let ran = self.timer_runs();
+        let ran = self.link.timer_runs();
         let answer = self.carry_out(&command, out);
         out.timer = self.timer_behind(ran, false, false, out.entries.as_slice());
         answer

@@ -4,16 +4,13 @@ ghost use Rattle.std.specs.Prelude.{◌≡◌, ◌==◌, ◌⊎◌, ◌+◌, ◌
 ghost use Rattle.x25_packet.specs.Packet.{PlainPacket};
 ghost use Rattle.x25_packet.specs.Spelling.{spelling_of};
 ghost use Rattle.x25_circuit.specs.Request.{plain_request};
-ghost use Rattle.x25_circuit.specs.code.PartialMessage.{spares};
 ghost use Rattle.x25_link.specs.code.FitsLink.{LinkState as State, FitsWhole, after_put_to, limit_of, up_of};
 ghost use Rattle.x25_link.specs.code.FitsLink.{waiting_of};
 ghost use Rattle.x25_link.specs.code.Frames.{places_left};
 ghost use Rattle.x25_layer.specs.Layer.{LayerSettings};
 ghost use Rattle.x25_layer.specs.Layer.{Layer as LayerState};
 ghost use Rattle.x25_layer.specs.Calls.{Asks, Dials, Restarts, PullsAll, free_channel};
-ghost use Rattle.x25_layer.specs.Full.{IsNotFull};
-ghost use Rattle.x25_layer.specs.Report.{plain_report, handed_over_in};
-ghost use Rattle.x25_layer.specs.laws.Rounds.{LinkView, Putting, begin, rounds, hears, comes_up};
+ghost use Rattle.x25_layer.specs.laws.Rounds.{Putting, begin, rounds, comes_up};
 ghost use Rattle.x25_layer.specs.code.Answering.{spelled};
 ghost use Rattle.x25_layer.specs.code.FitsLayer.{FitsLayer};
 ghost use Rattle.x25_station.specs.code.OverLink.{after_all, after_octets, seen_at, Drives};
@@ -22,9 +19,9 @@ ghost use Rattle.x25_given.specs.Writing.{write};
 ghost use Rattle.x25_station.specs.Giving.{suits};
 ghost use Rattle.x25_station.specs.Receiving.{CanPut, PutsBehind};
 
-use x25_circuit::{Octets, Proposal, Request};
+use x25_circuit::{Proposal, Request};
 use x25_given::Writing;
-use x25_layer::{Layer, LayerError, LinkState, Report, calls_are_runs};
+use x25_layer::{Layer, LayerError, LinkState, calls_are_runs};
 use x25_link::Link;
 
 /// A data packet is pulled where fewer packets than these wait in the link.
@@ -98,9 +95,9 @@ fn pull_all(layer: &mut Layer, link: &mut Link)
     }
 }
 
-// Puts what a call of the layer has to put, and pulls.
+/// Puts what a call of the layer has to put, and pulls.
 #[inline(always)]
-fn drive(layer: &mut Layer, link: &mut Link)
+pub(crate) fn drive(layer: &mut Layer, link: &mut Link)
     requires up { up_of link.old ≡ true }
     requires free { (layer.old.sheet ≡ []) ⊎ (waiting_of link.old < 256) }
     requires places { 16 ≤ places_left link.old.frames }
@@ -125,30 +122,6 @@ pub(crate) fn come_up_alone(layer: &mut Layer, link: &mut Link)
     calls_are_runs();
     layer.up();
     put(link, layer.to_put());
-}
-
-/// Octets that the link handed up.
-#[inline(always)]
-pub(crate) fn packet_up<'a>(
-    layer: &mut Layer,
-    link: &mut Link,
-    wide: bool,
-    octets: &'a [u8],
-    spare: &mut Option<Octets>,
-) -> Report<'a>
-    requires put { CanPut link.old }
-    requires left { IsNotFull layer.old }
-    requires spare { spares spare.old ≡ 1 }
-    ensures puts { PutsBehind layer.old link.old layer.new link.new
-        (λ view c l. (hears view c wide l octets.now).step) }
-    ensures told { (c : LayerSettings) (l : LayerState) (view : LinkView) → FitsLayer c layer.old l
-        → plain_report result ≡ (hears view c wide l octets.now).notices }
-    ensures nothing { plain_report result ≡ [] → result ≡ Report.Nothing }
-    ensures spare { spares spare.new + handed_over_in result ≡ 1 }
-{
-    let told = layer.packet(wide, octets, spare);
-    drive(layer, link);
-    told
 }
 
 /// What a user asks of the circuit of a channel.

@@ -1,12 +1,12 @@
 //! Entries of what the packet layer tells, in memory of the step.
 ghost use Rattle.std.specs.Prelude.{◌≡◌, ◌+◌, ◌<◌, ◌≤◌, ◌++◌, [], ◌∷◌, length, map, Some, true};
 ghost use Rattle.std.specs.List.{sum_by};
-ghost use Rattle.x25_circuit.specs.code.Replies.{handed_over, plain_notice, notices_of};
-ghost use Rattle.x25_layer.specs.Layer.{Layer as LayerState, LayerSettings, is_channel, notices_on};
+ghost use Rattle.x25_circuit.specs.code.Replies.{handed_over, plain_notice};
+ghost use Rattle.x25_layer.specs.Layer.{Layer as LayerState, LayerSettings, is_channel};
 ghost use Rattle.x25_layer.specs.code.FitsLayer.{FitsLayer};
 ghost use Rattle.x25_layer.specs.laws.Transcript.{name_of};
 ghost use Rattle.x25_layer.specs.Report.{handed_over_in, plain_report};
-ghost use Rattle.x25_station.specs.Entry.{bringing, entries_beside, may_bring, of_channel, station_told};
+ghost use Rattle.x25_station.specs.Entry.{bringing, entries_beside, of_channel, station_told};
 ghost use Rattle.x25_station.specs.code.PlainEntry.{plain_entry, plain_said, plain_told};
 ghost use Rattle.x25_station.specs.Receiving.{IsShort, AreTellable};
 ghost use Rattle.x25_station.specs.Beside.{AreFew, plain_beside};
@@ -90,36 +90,7 @@ fn told_of(memory: &mut Memory, notice: Notice<'_>) -> Told
     }
 }
 
-// Enters what the user of a channel is told: first that this end's own call was dropped, where it was, and then the
-// notice.
-fn enter_notices(
-    layer: &Layer,
-    memory: &mut Memory,
-    channel: u16,
-    collided: bool,
-    notice: Option<Notice<'_>>,
-    entries: &mut Vec<Entry>,
-)
-    requires texts { 3 ≤ memory.old.texts }
-    requires room { HasPlaces 2 entries.old }
-    ensures few { GrowsBy 2 entries.old entries.new }
-    ensures lends { Lends (handed_over notice.entry) entries.old.items entries.new.items memory.old memory.new }
-    ensures least { memory.old.texts ≤ memory.new.texts + 3 }
-    ensures entered { (c : LayerSettings) (l : LayerState) → FitsLayer c layer.now l
-        → AreTellable c (notices_on channel (notices_of collided notice.entry)) →
-        map plain_entry entries.new.items ≡ map plain_entry entries.old.items
-        ++ station_told l (notices_on channel (notices_of collided notice.entry)) }
-{
-    if collided {
-        enter(layer, entries, channel, Said::Told(Told::Collided));
-    }
-    if let Some(notice) = notice {
-        let told = told_of(memory, notice);
-        enter(layer, entries, channel, Said::Told(told));
-    }
-}
-
-/// Enters what the layer reported.
+/// Enters what the layer reported: of a channel first that this end's own call was dropped, where it was.
 pub(crate) fn enter_told(
     layer: &Layer,
     memory: &mut Memory,
@@ -142,7 +113,15 @@ pub(crate) fn enter_told(
             channel,
             collided,
             notice,
-        } => enter_notices(layer, memory, channel, collided, notice, entries),
+        } => {
+            if collided {
+                enter(layer, entries, channel, Said::Told(Told::Collided));
+            }
+            if let Some(notice) = notice {
+                let told = told_of(memory, notice);
+                enter(layer, entries, channel, Said::Told(told));
+            }
+        }
         Report::Restarted { cause, diagnostic } => {
             entries.push_reserved(Entry::WasRestarted { cause, diagnostic });
         }
@@ -151,29 +130,22 @@ pub(crate) fn enter_told(
     }
 }
 
-// Whether a notice is of a call, of its acceptance or of its end.
-fn may_bring(notice: &Notice<'_>) -> bool
-    ensures { result ≡ may_bring (plain_notice notice.now) }
-{
-    match notice {
-        Notice::Incoming { .. }
-        | Notice::Connected { .. }
-        | Notice::Cleared { .. }
-        | Notice::ClearDone => true,
-        _ => false,
-    }
-}
-
-/// The channel of what the layer reported, where that is of a packet that may bring more.
+/// The channel of what the layer reported, where that is of a packet that may bring more: of a call, of its acceptance
+/// or of its end.
 pub(crate) fn bringing(told: &Report<'_>) -> Option<u16>
     ensures { result ≡ bringing (plain_report told.now) }
 {
     match told {
         Report::Channel {
             channel,
-            notice: Some(notice),
+            notice: Some(
+                Notice::Incoming { .. }
+                | Notice::Connected { .. }
+                | Notice::Cleared { .. }
+                | Notice::ClearDone,
+            ),
             ..
-        } if may_bring(notice) => Some(*channel),
+        } => Some(*channel),
         _ => None,
     }
 }

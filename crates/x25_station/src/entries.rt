@@ -92,8 +92,8 @@ impl Entries {
     pub(crate) fn clear(&mut self)
         ensures { self.new.items ≡ [] }
     {
-        if !self.list.is_empty() {
-            take_all_back(&mut self.list, &mut self.memory);
+        while let Some(entry) = self.list.pop() {
+            self.memory.take_back(entry);
         }
     }
 
@@ -104,16 +104,5 @@ impl Entries {
     {
         let Entries { list, .. } = self;
         list
-    }
-}
-
-// Lets go of all entries of a list. Their memory comes back.
-fn take_all_back(list: &mut Vec<Entry>, memory: &mut Memory)
-    requires { IsWhole list.old memory.old }
-    ensures whole { IsWhole list.new memory.new }
-    ensures none { list.new.items ≡ [] }
-{
-    while let Some(entry) = list.pop() {
-        memory.take_back(entry);
     }
 }

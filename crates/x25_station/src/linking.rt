@@ -8,7 +8,7 @@ ghost use Rattle.x25_station.specs.code.FitsStation.{FitsStation, Does, IsEmpty,
 ghost use Rattle.x25_station.specs.code.PlainEntry.{plain_entry};
 ghost use Rattle.x25_station.specs.Config.{Settings};
 ghost use Rattle.x25_station.specs.Station.{Station as State};
-ghost use Rattle.x25_station.specs.Step.{connects, connects_asked, disconnects, fires, layer_down, probes, relinks};
+ghost use Rattle.x25_station.specs.Step.{connects_asked, disconnects, fires, layer_down, probes, relinks};
 
 use crate::entries::Entries;
 use crate::entry::Entry;
@@ -20,32 +20,21 @@ use x25_layer::Layer;
 use x25_link::Reason;
 
 impl Station {
-    // Begins to set the link up, into a step that is empty, of which nothing is told yet.
-    fn set_up(&mut self, out: &mut Step) -> Result<(), StationError>
-        requires { IsEmpty out.old }
-        ensures does { Does self.old self.new out.new result connects }
-        ensures only { (c : Settings) (s : State) → FitsStation c self.old s → RefusesOnly result (connects c s) }
-        ensures entries { out.new.entries ≡ out.old.entries }
-    {
-        steps_keep_bounds();
-        match self.link.connect() {
-            Ok(_) => {
-                self.link.swap_frames(&mut out.frames);
-                Ok(())
-            }
-            Err(error) => Err(StationError::of_link(error)),
-        }
-    }
-
     /// Begins to set the link up.
     pub(crate) fn connect_asked(&mut self, out: &mut Step) -> Result<(), StationError>
         requires { IsEmpty out.old }
         ensures does { Does self.old self.new out.new result connects_asked }
         ensures only { (c : Settings) (s : State) → FitsStation c self.old s → RefusesOnly result (connects_asked c s) }
     {
-        self.set_up(out)?;
-        out.entries.push(Entry::ConnectAsked);
-        Ok(())
+        steps_keep_bounds();
+        match self.link.connect() {
+            Ok(_) => {
+                out.entries.push(Entry::ConnectAsked);
+                self.link.swap_frames(&mut out.frames);
+                Ok(())
+            }
+            Err(error) => Err(StationError::of_link(error)),
+        }
     }
 
     /// A firing of timer T1 of the link.
@@ -57,7 +46,7 @@ impl Station {
         ensures timer { TellsTimer self.old out.new.timer result true fires }
     {
         out.clear();
-        let ran = self.timer_runs();
+        let ran = self.link.timer_runs();
         let answer = self.fire(out);
         out.timer = self.timer_behind(ran, answer.is_ok(), false, out.entries.as_slice());
         answer

@@ -1,13 +1,13 @@
-ghost use Rattle.std.specs.Prelude.{◌≡◌, ◌+◌, ◌<◌, ◌≤◌, length, take, vec_len, vec_capacity, IfOk, OnOk};
+ghost use Rattle.std.specs.Prelude.{◌≡◌, ◌+◌, ◌<◌, ◌≤◌, take, vec_len, vec_capacity, IfOk, OnOk};
 ghost use Rattle.x25_circuit.specs.code.PartialMessage.{spares};
-ghost use Rattle.x25_station.specs.code.Memory.{all_memory, messages_asked, messages_in, messages_said, messages_told};
-ghost use Rattle.x25_station.specs.code.Memory.{texts_asked, texts_in, texts_said, texts_told};
+ghost use Rattle.x25_station.specs.code.Memory.{all_memory, messages_in};
+ghost use Rattle.x25_station.specs.code.Memory.{texts_in};
 
 use crate::entry::{Asked, Entry, Said, Told};
 use crate::text::Text;
 use std::alloc::{AllocError, Global};
 use std::marker::Model;
-use x25_circuit::{LONGEST_MESSAGE, Octets};
+use x25_circuit::{LONGEST_MESSAGE, Message, Octets};
 use x25_packet::Digits;
 
 /// The most texts that the entries of a step have: the two addresses of a call and its user data, and the two of what
@@ -120,72 +120,6 @@ impl Memory {
         self.texts.push_reserved(text);
     }
 
-    fn take_message(&mut self, message: Octets)
-        requires { self.old.messages ≡ 0 }
-        ensures texts { self.new.texts ≡ self.old.texts }
-        ensures messages { self.new.messages ≡ 1 }
-    {
-        self.message = Some(message);
-    }
-
-    fn take_asked(&mut self, asked: Asked)
-        requires texts { self.old.texts + texts_asked asked ≤ 5 }
-        requires messages { self.old.messages + messages_asked asked ≤ 1 }
-        ensures texts { self.new.texts ≡ self.old.texts + texts_asked asked }
-        ensures messages { self.new.messages ≡ self.old.messages + messages_asked asked }
-    {
-        match asked {
-            Asked::Call {
-                called,
-                calling,
-                user,
-                ..
-            } => {
-                self.take_text(called);
-                self.take_text(calling);
-                self.take_text(user);
-            }
-            Asked::Send { user, .. } => self.take_message(user),
-            Asked::Interrupt { user } => self.take_text(user),
-            _ => {}
-        }
-    }
-
-    fn take_told(&mut self, told: Told)
-        requires texts { self.old.texts + texts_told told ≤ 5 }
-        requires messages { self.old.messages + messages_told told ≤ 1 }
-        ensures texts { self.new.texts ≡ self.old.texts + texts_told told }
-        ensures messages { self.new.messages ≡ self.old.messages + messages_told told }
-    {
-        match told {
-            Told::Incoming {
-                called,
-                calling,
-                user,
-                ..
-            } => {
-                self.take_text(called);
-                self.take_text(calling);
-                self.take_text(user);
-            }
-            Told::Delivered(message) => self.take_message(message.user),
-            Told::Interrupted { user } => self.take_text(user),
-            _ => {}
-        }
-    }
-
-    fn take_said(&mut self, said: Said)
-        requires texts { self.old.texts + texts_said said ≤ 5 }
-        requires messages { self.old.messages + messages_said said ≤ 1 }
-        ensures texts { self.new.texts ≡ self.old.texts + texts_said said }
-        ensures messages { self.new.messages ≡ self.old.messages + messages_said said }
-    {
-        match said {
-            Said::Asked(asked) => self.take_asked(asked),
-            Said::Told(told) => self.take_told(told),
-        }
-    }
-
     /// Takes back what an entry has of it.
     pub(crate) fn take_back(&mut self, entry: Entry)
         requires texts { self.old.texts + texts_in entry ≤ 5 }
@@ -194,7 +128,39 @@ impl Memory {
         ensures messages { self.new.messages ≡ self.old.messages + messages_in entry }
     {
         match entry {
-            Entry::OnChannel { said, .. } => self.take_said(said),
+            Entry::OnChannel {
+                said: Said::Asked(
+                    Asked::Call {
+                        called,
+                        calling,
+                        user,
+                        ..
+                    },
+                )
+                | Said::Told(
+                    Told::Incoming {
+                        called,
+                        calling,
+                        user,
+                        ..
+                    },
+                ),
+                ..
+            } => {
+                self.take_text(called);
+                self.take_text(calling);
+                self.take_text(user);
+            }
+            Entry::OnChannel {
+                said: Said::Asked(Asked::Interrupt { user })
+                | Said::Told(Told::Interrupted { user }),
+                ..
+            } => self.take_text(user),
+            Entry::OnChannel {
+                said: Said::Asked(Asked::Send { user, .. })
+                | Said::Told(Told::Delivered(Message { user, .. })),
+                ..
+            } => self.message = Some(user),
             Entry::Beside {
                 facilities,
                 user,

@@ -33,9 +33,9 @@ impl Station {
         if out.frames.len() > MOST_FRAMES {
             return;
         }
-        let ran = self.timer_runs();
+        let ran = self.link.timer_runs();
         self.pull_frames(&mut out.frames);
-        out.timer = out.timer.pulled(ran, self.timer_runs());
+        out.timer = out.timer.pulled(ran, self.link.timer_runs());
     }
 
     // The frames of a pull come behind others, which the link has meanwhile.

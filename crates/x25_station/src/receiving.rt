@@ -21,7 +21,7 @@ ghost use Rattle.x25_station.specs.Step.{entries_of_answer, entries_of_packet};
 
 use crate::beside::beside_of;
 use crate::confirming::{confirmed, unconfirmed_on};
-use crate::driving::{come_up_alone, packet_up};
+use crate::driving::{come_up_alone, drive};
 use crate::entering::{bringing, enter_beside, enter_told};
 use crate::entries::Entries;
 use crate::entry::Entry;
@@ -77,7 +77,8 @@ fn hear(
 {
     taking_keeps_octets();
     let mut spare = entries.memory.take_spare();
-    let told = packet_up(layer, link, wide, packet, &mut spare);
+    let told = layer.packet(wide, packet, &mut spare);
+    drive(layer, link);
     entries.memory.give_spare(spare);
     let channel = bringing(&told);
     enter_told(layer, &mut entries.memory, told, &mut entries.list);
@@ -150,21 +151,9 @@ impl Station {
         ensures timer { TellsTimer self.old out.new.timer (Ok tt) false (λ c s. Did (receives c s octets.now)) }
     {
         out.clear();
-        let ran = self.timer_runs();
-        let acknowledged = self.come(octets, out);
+        let ran = self.link.timer_runs();
+        let acknowledged = self.take(octets, out);
         out.timer = self.timer_behind(ran, false, acknowledged, out.entries.as_slice());
-    }
-
-    // Octets come, into a step that is empty. It says whether frames were acknowledged.
-    fn come(&mut self, octets: &[u8], out: &mut Step) -> bool
-        requires { IsEmpty out.old }
-        ensures does { Does self.old self.new out.new (Ok tt) (λ c s. Did (receives c s octets.now)) }
-        ensures acknowledged { SaysAcknowledged self.old octets.now result }
-    {
-        if self.is_full() {
-            return self.abandon(octets, out);
-        }
-        self.take(octets, out)
     }
 
     // Whether the link is up and a count is at its most.
@@ -196,14 +185,15 @@ impl Station {
         heard.acknowledged
     }
 
-    // Octets that the link takes.
+    // Octets come, into a step that is empty. It says whether frames were acknowledged.
     fn take(&mut self, octets: &[u8], out: &mut Step) -> bool
-        requires left { up_of self.old.link ≡ true → IsNotFull self.old.layer }
-        requires goes_on { (c : Settings) (s : State) → FitsStation c self.old s → abandons c s ≡ false }
-        requires empty { IsEmpty out.old }
+        requires { IsEmpty out.old }
         ensures does { Does self.old self.new out.new (Ok tt) (λ c s. Did (receives c s octets.now)) }
         ensures acknowledged { SaysAcknowledged self.old octets.now result }
     {
+        if self.is_full() {
+            return self.abandon(octets, out);
+        }
         steps_keep_bounds();
         notes_what_changes();
         holds_few();

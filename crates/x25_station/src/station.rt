@@ -166,10 +166,4 @@ impl Station {
         }
         self.layer.name(channel)
     }
-
-    pub(crate) fn timer_runs(&self) -> bool
-        ensures { (c : Settings) (s : State) → FitsStation c self.now s → result ≡ timer_runs s.link.phase s.link }
-    {
-        self.link.timer_runs()
-    }
 }

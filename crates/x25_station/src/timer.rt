@@ -1,13 +1,12 @@
 //! What becomes of timer T1 at a step.
-ghost use Rattle.std.specs.Prelude.{◌≡◌, ◌||◌, not, map};
-ghost use Rattle.x25_station.specs.Entry.{StationEntry};
+ghost use Rattle.std.specs.Prelude.{◌≡◌, not, map};
 ghost use Rattle.x25_station.specs.code.FitsStation.{FitsStation};
 ghost use Rattle.x25_station.specs.code.PlainEntry.{plain_entry};
 ghost use Rattle.x25_station.specs.Config.{Settings};
 ghost use Rattle.x25_station.specs.Station.{Station as State};
 ghost use Rattle.x25_station.specs.Step.{Did, Step as PlainStep};
 ghost use Rattle.x25_station.specs.Timer as definition;
-ghost use Rattle.x25_station.specs.Timer.{is_acknowledged, is_of_link, pulled_timer, runs as runs_in};
+ghost use Rattle.x25_station.specs.Timer.{is_acknowledged, pulled_timer, runs as runs_in};
 ghost use Rattle.x25_station.specs.Timer.{standing as standing_timer, tells_link as tell_link, timer_at};
 
 use crate::entry::Entry;
@@ -54,18 +53,12 @@ impl Timer {
     }
 }
 
-fn is_note(entry: &Entry) -> bool
-    ensures { result ≡ is_of_link (plain_entry entry.now) }
-{
-    matches!(entry, Entry::LinkUp | Entry::LinkDown(_))
-}
-
 /// Whether the link came up or went down.
 pub(crate) fn tells_link(entries: &[Entry]) -> bool
     ensures { result ≡ tell_link (map plain_entry entries.now) }
 {
     for entry in entries {
-        if is_note(entry) {
+        if matches!(entry, Entry::LinkUp | Entry::LinkDown(_)) {
             return true;
         }
     }
@@ -77,7 +70,7 @@ impl Station {
     pub(crate) fn standing(&self) -> Timer
         ensures { (c : Settings) (s : State) → FitsStation c self.now s → result ≡ standing_timer s }
     {
-        Timer::of(self.timer_runs(), false)
+        Timer::of(self.link.timer_runs(), false)
     }
 
     /// What became of T1 at a step with these entries, before which it ran or not, by whether it fired and whether the
@@ -95,6 +88,6 @@ impl Station {
     {
         let is_noted = tells_link(entries);
         let is_anew = !ran | (has_fired | (is_noted | acknowledged));
-        Timer::of(self.timer_runs(), is_anew)
+        Timer::of(self.link.timer_runs(), is_anew)
     }
 }

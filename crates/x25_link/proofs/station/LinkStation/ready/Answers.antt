@@ -1,6 +1,8 @@
 use Rattle.std.proofs.Common.{sym, true, false}
-use Rattle.x25_link.specs.Station.{with_near}
-use Rattle.x25_link.proofs.FitsLemmas.{said}
+use Rattle.x25_frame.specs.Frame.{rr}
+use Rattle.x25_link.specs.Station.{sends, with_near}
+use Rattle.x25_link.specs.code.Fits.{FitsSide}
+use Rattle.x25_link.proofs.FitsLemmas.{said, made_more}
 use Rattle.x25_link.proofs.station.LinkStation.ready.Goals as goal
 
 pub returns-then-is_busy-clause-step : goal.returns-then-is_busy-clause-step
@@ -14,5 +16,9 @@ pub returns-else-is_busy-clause-step : goal.returns-else-is_busy-clause-step
 returns-else-is_busy-clause-step c = λ d before t fits.
     let busy = c.if-is_busy.ensures d t.near fits.near in
     let number = c.wanted-nr.ensures.state _ fits.near.taken in
-    let sent = c.send_here.ensures.step d before (with_near t (record t.near { said_busy = false })) (record { near = said d _ t.near false fits.near; out = fits.out }) in
+    let frame = rr c.args.command c.wanted-nr.result.number c.args.pf in
+    let sent : FitsSide d _ before c.push.new.self (sends frame (with_near t (record t.near { said_busy = false }))) = record {
+      near = said d _ t.near false fits.near;
+      out = made_more d c.args.self.now.role before c.args.out.now c.push.new.self t.out frame fits.near.role fits.out c.push.ensures;
+    } in
     rw (sym busy) (rw number at sent)

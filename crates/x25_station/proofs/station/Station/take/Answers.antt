@@ -1,17 +1,13 @@
-use Rattle.std.proofs.Common.{◌≡◌, ◌+◌, ◌-◌, ◌<◌, ◌≤◌, ◌++◌, ℕ, nat_le, drop, if◌then◌else◌, length, map, All, option_copied, arith, ap, sym, ◌∙◌}
-use Rattle.std.proofs.lemmas.List.Elements.{All-from_get_or}
+use Rattle.std.proofs.Common.{◌≡◌, ◌-◌, ◌≤◌, length, All, option_copied, arith, ap, sym, ◌∙◌}
 use Rattle.x25_link.specs.declared.phase.Notes.{Notes}
 use Rattle.x25_link.specs.Hearing.{Step as LinkStep}
 use Rattle.x25_link.specs.Link.{take_step}
 use Rattle.x25_link.specs.code.FitsLink.{FitsWhole, up_of}
 use Rattle.x25_layer.specs.Full.{IsNotFull}
-use Rattle.x25_station.specs.Confirming.{named_by}
-use Rattle.x25_station.specs.Entry.{entries_noted}
-use Rattle.x25_station.specs.code.PlainEntry.{plain_entry}
 use Rattle.x25_station.specs.Receiving.{CanPut, kept_of}
-use Rattle.x25_station.specs.Config.{link_settings, layer_settings}
+use Rattle.x25_station.specs.Config.{link_settings}
 use Rattle.x25_station.specs.Station.{all_put}
-use Rattle.x25_station.specs.Step.{receives, entries_heard}
+use Rattle.x25_station.specs.Step.{receives}
 use Rattle.x25_station.proofs.FrameLemmas.{few_heard}
 use Rattle.x25_station.proofs.OutcomeLemmas.{still_meant}
 use Rattle.x25_station.proofs.TakeLemmas.{up_can_put, handed_can_put, handed_was_up, put_by_meaning, least_by_meaning, up_by_meaning, few_made, if_some}
@@ -31,7 +27,7 @@ follow-requires-clause-put c = if_some c.take-heard.result.packet (λ x. CanPut 
 
 pub follow-requires-clause-left : goal.follow-requires-clause-left
 follow-requires-clause-left c = if_some c.take-heard.result.packet (λ x. IsNotFull c.args.self.now.layer) (λ p is.
-    (c.requires.left (up_by_meaning _ _ (up_of c.args.self.now.link) c.args.self.now.meant (λ c' s fits.
+    (c.is_full.ensures.left c.if-is_full.false (up_by_meaning _ _ (up_of c.args.self.now.link) c.args.self.now.meant (λ c' s fits.
     let lk = link_settings c' in
     handed_was_up c.notes_what_changes.ensures.take_hands_up c' c.args.self.now.link c.args.octets.now s.link p.now fits.link
     (sym ((c.take-heard.ensures.heard lk s.link fits.link).packet) ∙ ap option_copied is)))))
@@ -45,8 +41,8 @@ invariant_of-self c = record {
       let whole : FitsWhole c.take-heard.new.self (kept_of lk k.side) = record { link = c.take-heard.ensures.state lk s.link fits.link; kept = c.take-heard.ensures.frames lk s.link fits.link } in (
         c',
         (receives c' s c.args.octets.now).near,
-        took_fits c' fits.same s c.args.octets.now (option_copied c.take-heard.result.packet) c.take-heard.result.notes c.follow.new.link c.swap_frames.new.self c.follow.new.layer (c.requires.goes_on c' s fits) (heard.packet, heard.notes)
-            (c.follow.ensures.puts.link c' s.layer k.side fits.layer whole) (c.follow.ensures.puts.layer c' s.layer k.side fits.layer whole) (ap (λ l. l.station) c.swap_frames.ensures.link) (ap (λ l. l.frames) c.swap_frames.ensures.link ∙ c.requires.empty.frames)
+        took_fits c' fits.same s c.args.octets.now (option_copied c.take-heard.result.packet) c.take-heard.result.notes c.follow.new.link c.swap_frames.new.self c.follow.new.layer (sym (c.is_full.ensures.value c' s fits) ∙ c.if-is_full.false) (heard.packet, heard.notes)
+            (c.follow.ensures.puts.link c' s.layer k.side fits.layer whole) (c.follow.ensures.puts.layer c' s.layer k.side fits.layer whole) (ap (λ l. l.station) c.swap_frames.ensures.link) (ap (λ l. l.frames) c.swap_frames.ensures.link ∙ c.requires.frames)
             (c.steps_keep_bounds.ensures.receive c' s c.args.octets.now fits.kept),
       ));
 }
@@ -58,8 +54,8 @@ returns-clause-does c = record {
       let k : LinkStep = take_step lk c.args.octets.now s.link in
       let heard = c.take-heard.ensures.heard lk s.link fits.link in
       let whole : FitsWhole c.take-heard.new.self (kept_of lk k.side) = record { link = c.take-heard.ensures.state lk s.link fits.link; kept = c.take-heard.ensures.frames lk s.link fits.link } in
-      took_fits c' fits.same s c.args.octets.now (option_copied c.take-heard.result.packet) c.take-heard.result.notes c.follow.new.link c.swap_frames.new.self c.follow.new.layer (c.requires.goes_on c' s fits) (heard.packet, heard.notes)
-      (c.follow.ensures.puts.link c' s.layer k.side fits.layer whole) (c.follow.ensures.puts.layer c' s.layer k.side fits.layer whole) (ap (λ l. l.station) c.swap_frames.ensures.link) (ap (λ l. l.frames) c.swap_frames.ensures.link ∙ c.requires.empty.frames)
+      took_fits c' fits.same s c.args.octets.now (option_copied c.take-heard.result.packet) c.take-heard.result.notes c.follow.new.link c.swap_frames.new.self c.follow.new.layer (sym (c.is_full.ensures.value c' s fits) ∙ c.if-is_full.false) (heard.packet, heard.notes)
+      (c.follow.ensures.puts.link c' s.layer k.side fits.layer whole) (c.follow.ensures.puts.layer c' s.layer k.side fits.layer whole) (ap (λ l. l.station) c.swap_frames.ensures.link) (ap (λ l. l.frames) c.swap_frames.ensures.link ∙ c.requires.frames)
       (c.steps_keep_bounds.ensures.receive c' s c.args.octets.now fits.kept);
   frames = λ c' s fits.
       let lk = link_settings c' in
@@ -68,13 +64,13 @@ returns-clause-does c = record {
       let whole : FitsWhole c.take-heard.new.self (kept_of lk k.side) = record { link = c.take-heard.ensures.state lk s.link fits.link; kept = c.take-heard.ensures.frames lk s.link fits.link } in
       let link = c.follow.ensures.puts.link c' s.layer k.side fits.layer whole in
       c.swap_frames.ensures.frames
-      ∙ took_sends c' fits.same s c.args.octets.now (option_copied c.take-heard.result.packet) c.take-heard.result.notes _ (c.requires.goes_on c' s fits) (heard.packet, heard.notes) link.kept;
+      ∙ took_sends c' fits.same s c.args.octets.now (option_copied c.take-heard.result.packet) c.take-heard.result.notes _ (sym (c.is_full.ensures.value c' s fits) ∙ c.if-is_full.false) (heard.packet, heard.notes) link.kept;
   entries = λ c' s fits.
       let lk = link_settings c' in
       let k : LinkStep = take_step lk c.args.octets.now s.link in
       let heard = c.take-heard.ensures.heard lk s.link fits.link in
       let whole : FitsWhole c.take-heard.new.self (kept_of lk k.side) = record { link = c.take-heard.ensures.state lk s.link fits.link; kept = c.take-heard.ensures.frames lk s.link fits.link } in
-      took_enters c' fits.same s c.args.octets.now (option_copied c.take-heard.result.packet) c.take-heard.result.notes _ (c.requires.goes_on c' s fits) (heard.packet, heard.notes)
+      took_enters c' fits.same s c.args.octets.now (option_copied c.take-heard.result.packet) c.take-heard.result.notes _ (sym (c.is_full.ensures.value c' s fits) ∙ c.if-is_full.false) (heard.packet, heard.notes)
       (c.follow.ensures.entries c' s.layer k.side fits.layer whole);
   refused = λ c' s fits. tt;
   stays = λ c' s fits. tt;
@@ -97,4 +93,4 @@ pub returns-clause-acknowledged : goal.returns-clause-acknowledged
 returns-clause-acknowledged c = λ c' s fits.
     let lk = link_settings c' in
     let heard = c.take-heard.ensures.heard lk s.link fits.link in
-    heard.acknowledged ∙ took_acknowledged c' s c.args.octets.now (c.requires.goes_on c' s fits)
+    heard.acknowledged ∙ took_acknowledged c' s c.args.octets.now (sym (c.is_full.ensures.value c' s fits) ∙ c.if-is_full.false)

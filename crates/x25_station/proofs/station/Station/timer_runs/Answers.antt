@@ -1,5 +1,0 @@
-use Rattle.x25_station.specs.Config.{link_settings}
-use Rattle.x25_station.proofs.station.Station.timer_runs.Goals as goal
-
-pub returns : goal.returns
-returns c = λ c' s fits. c.timer_runs.ensures (link_settings c') s.link fits.link
