@@ -254,7 +254,7 @@ uint32_t x25_pull(x25_station *station);
 uint32_t x25_t1(x25_station *station);
 /* The octets of a frame came, as they stand between the flags, frame check sequence included. They are taken, whatever they are. */
 uint32_t x25_receive(x25_station *station, const uint8_t *octets, size_t octets_count);
-/* Several frames came, one behind another: each is received as by x25_receive. octets are those of all, and counts says how many
+/* Several frames came, one after another: each is received as by x25_receive. octets are those of all, and counts says how many
    each has. How many were taken is written to taken; what is answered to all of these is one answer, and the station is as they
    left it. 34 where the octets of the next aren't there; X25_NO_MEMORY where it is refused for what was answered to those before. */
 uint32_t x25_receive_all(x25_station *station, const uint8_t *octets, size_t octets_count, const size_t *counts, size_t counts_count,
@@ -291,7 +291,7 @@ bool x25_next(const x25_station *station, uint64_t *at);
            switch (event.kind) .. */
 bool x25_take(const x25_station *station, size_t i, x25_event *event, uint8_t *room, size_t size);
 /* Takes items from first on, as x25_take does, as many as there are or as fit: each is written to the next of events, of which
-   there is room for most, and its octets to room, behind those of the items before. How many were taken is answered. */
+   there is room for most, and its octets to room, after those of the items before. How many were taken is answered. */
 size_t x25_take_all(const x25_station *station, size_t first, x25_event *events, size_t most, uint8_t *room, size_t size);
 /* What else item i has: the address that is called and the one that calls, 0 to 15 digits as "0" to "9", and the facilities that
    came beside, at most 109 octets. Each is copied to the front of text or room where it fits; its length is answered in any case,

@@ -4,6 +4,7 @@
  *     ./tunnel dte 7001 7002 listen a.sock &     each client of a.sock becomes a call
  *     ./tunnel dce 7002 7001 connect b.sock &    each call that comes becomes a connection to the server of b.sock
  */
+#define _POSIX_C_SOURCE 200809L
 #include <arpa/inet.h>
 #include <errno.h>
 #include <poll.h>

@@ -61,6 +61,12 @@ class Declared(unittest.TestCase):
         self.assertEqual((done.returncode, done.stderr), (0, ""), done.stdout)
 
 
+class Missing(unittest.TestCase):
+    def test_where_a_library_is_looked_for_is_said(self):
+        with mock.patch.dict(os.environ, X25_LIBRARY="/nowhere"), self.assertRaisesRegex(OSError, "^/nowhere/libx25.so: .*X25_LIBRARY"):
+            x25.Station(x25.DTE)
+
+
 class Answers(unittest.TestCase):
     """What the binding of Python makes of the answers of a library, whose calls a test says."""
 
@@ -241,7 +247,7 @@ class Examples(ToolCase):
 
     def in_c(self):
         path, source = f"{self.folder}/tunnel", os.path.join(self.FOLDER, "c", "tunnel.c")
-        words = ["-std=gnu11", "-Wall", "-Wextra", "-Werror", "-O1", f"-I{support.ROOT}/include", source, ARCHIVE, "-o", path]
+        words = ["-std=c11", "-Wall", "-Wextra", "-Werror", "-O1", f"-I{support.ROOT}/include", source, ARCHIVE, "-o", path]
         subprocess.run(["cc", *words], check=True)
         return [path]
 

@@ -359,7 +359,7 @@ class Connections(ToolCase):
         done = support.run("pcap2x25.py", "--connection", "2", given=self.capture())
         self.assertEqual((done.returncode, done.stdout.count(b"\n"), done.stderr), (0, 1, b""))
         self.assertEqual(x25lines.frame_line(done.stdout[:-1]).octets[:-2], b"\x01\x00" + ACCEPT)
-        self.assert_refused(support.run("pcap2x25.py", "--connection", "3", given=self.capture()), "there are 2 connections, and no number 3")
+        self.assert_refused(support.run("pcap2x25.py", "--connection", "3", given=self.capture()), "there is no connection 3: the last is 2")
         self.assertEqual(support.run("pcap2x25.py", "--connection", "0").returncode, 2)
 
     def test_the_list(self):

@@ -106,8 +106,9 @@ class Charts(ToolCase):
         trace = support.run("pcap2x25.py", "--time", capture).stdout
         drawn = self.chart(trace, "--x25", support.PROGRAM)
         self.assertEqual((self.chart(b"", "--x25", support.PROGRAM, capture), drawn.count("\n")), (drawn, trace.count(b"\n") + 2))
+        self.assertRegex(drawn, r"(?m)-- SABM cmd P=1 -+>\|  2026-03-0[123] \d\d:\d\d:02\.000$")
         done = support.run("chart.py", "--connection", "2", capture)
-        self.assertEqual((done.returncode, done.stderr), (2, b"chart.py: there are 1 connections, and no number 2\n"))
+        self.assertEqual((done.returncode, done.stderr), (2, b"chart.py: there is no connection 2: the last is 1\n"))
 
     def test_long_texts_are_cut(self):
         for line in (b"> I cmd P=0 S=0 R=0 | DATA ch=1 S=0 R=0 M=0 Q=0 data=" + b"00" * 4096, b"dce message ch=1 at 1.0.0 q=0 data=" + b"00" * 65535):

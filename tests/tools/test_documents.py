@@ -108,8 +108,8 @@ class English(unittest.TestCase):
     IN_PLACE = re.compile(r"\b(?:fell|far|stations|commands?(?:\{.*?\})?|leave) behind\b|\bbehind (?:a pipe|the other|the next one|`0`)|is behind it")
 
     def test_what_comes_later_comes_after(self):
-        """In documents, and in what Python says in comments and in texts."""
-        texts = dict(self.texts(*self.WITH_NUMBERS))
+        """In documents, in the header for C, and in what Python says in comments and in texts."""
+        texts = dict(self.texts(*self.WITH_NUMBERS)) | {"include/x25.h": text_of("include/x25.h")}
         for path in (path for path in files() if path.endswith(".py") and os.path.basename(path) != os.path.basename(__file__)):
             tokens = tokenize.generate_tokens(io.StringIO(text_of(path)).readline)
             texts[path] = "\n".join(token.string for token in tokens if token.type in (tokenize.COMMENT, tokenize.STRING))

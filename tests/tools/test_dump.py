@@ -212,6 +212,14 @@ class Dump(ToolCase):
                 self.assertEqual(self.dump(given, *words, status=1).splitlines()[:1], [] if words else ["? 60 no such line"])
 
     @support.needs_program
+    def test_text_that_is_no_trace(self):
+        """A line of it is answered as any that is none, and at the end it is said once what was looked for."""
+        for given, lines in (b"# Notes\n01 3f eb df\n", 2), (b"# made by hand\n", 1):
+            done = support.run("x25dump.py", "--x25", support.PROGRAM, given=given)
+            self.assertEqual((done.returncode, done.stdout.count(b"\n")), (1, lines))
+            self.assertIn(b"nothing was found: the input is no capture, and none of its lines is of a trace", done.stderr)
+
+    @support.needs_program
     def test_times_of_the_day(self):
         given = b"".join(b"%d.25\t> 013febdf\n" % (86_400 * day) for day in (20_000, 20_000, 20_001))
         environment = {**os.environ, "TZ": "UTC"}
@@ -302,7 +310,7 @@ class Dump(ToolCase):
         self.assertEqual(rows[4], "9.000000000 #2 > CALL ch=1 called=123 calling=4567 fac=- data=41")
         one = self.dump(self.capture(), "--connection", "2", "--messages", "--x25", support.PROGRAM)
         self.assertEqual(one, "9.000000000 #2 > ch=1 Q=0 message, 2 octets\n    0000  " + "68 69".ljust(48) + " hi\n")
-        self.assert_refused(support.run("x25dump.py", "--connection", "3", "--x25", support.PROGRAM, given=self.capture()), "and no number 3")
+        self.assert_refused(support.run("x25dump.py", "--connection", "3", "--x25", support.PROGRAM, given=self.capture()), "there is no connection 3: the last is 2")
 
     @support.needs_program
     def test_a_broken_rule_stands_behind_its_frame(self):

@@ -188,6 +188,14 @@ class Lacking(ToolCase):
             done = support.run("x25dump.py", "--judge", word, "--x25", PROGRAM, given=given)
             self.assertEqual((done.stdout, done.stderr), (right, b""))
 
+    def test_a_trace_of_one_end_alone(self):
+        of_dte = trace([frame for frame in MISSING if frame[0] == ">"])
+        hint = b"x25dump.py: no frame is of the DCE: if its frames are missing, --at either says so\n"
+        for words, sign, status, said in (([], b" ! ", 1, hint), (["--at", "line"], b" ! ", 1, hint), (["--at", "either"], b" !? ", 0, b"")):
+            done = support.run("x25dump.py", "--judge", *words, "--x25", PROGRAM, given=of_dte)
+            self.assertEqual((done.returncode, done.stderr), (status, said))
+            self.assertIn(sign, done.stdout)
+
     def test_directions_are_right_where_one_frame_has_its_senders_address(self):
         told = "dce: no frame of LAPB has these octets (2.3.5.4)"
         of_dte = ("<", bytes([1, SABM]))
@@ -201,7 +209,7 @@ class Lacking(ToolCase):
 
     def test_what_has_no_frames_is_not_judged(self):
         for given, said in (
-            (b"# none\n\n", b"nothing was judged: no line has a frame in hexadecimal digits"),
+            (b"# none\n\n", b"nothing was found: the input is no capture, and none of its lines is of a trace, as `> 013febdf` is"),
             (b"> SABM cmd P=1\n", b"nothing was judged: no line has a frame in hexadecimal digits"),
             (b"> SABM cmd P=1\n> 013febdf\n", b"left out: line of `x25 decode`, which isn't judged (1)"),
         ):

@@ -41,7 +41,7 @@ def rows(decoder: decoding.Decoder, blocks: Iterable[tuple[int, list[bytes]]]) -
                 if parts := decoding.parted(line, answer):
                     given, text = parts
                     time = x25lines.nanoseconds(given)
-                    found.append(Frame(text[0], text[2:], None, given if time is None else x25lines.seconds(time)))
+                    found.append(Frame(text[0], text[2:], None, given if time is None else x25lines.moment(time)))
                 elif line:
                     found.append(row(number, line))
         finally:

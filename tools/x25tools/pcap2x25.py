@@ -370,7 +370,7 @@ def lines_of(converter: Converter, file: x25lines.Readable, options: argparse.Na
         are_wanted = [connection.number == wanted for connection in connections]
         yield list(itertools.compress(times, are_wanted)), list(itertools.compress(lines, are_wanted))
     if 0 < len(converter.connections()) < wanted:
-        raise BadInput(f"there are {len(converter.connections())} connections, and no number {wanted}")
+        raise BadInput(f"there is no connection {wanted}: the last is {len(converter.connections())}")
 
 
 def tell_of_one(converter: Converter, options: argparse.Namespace) -> int:

@@ -96,8 +96,9 @@ class Reader:
         self._options = options
         self._time = x25lines.seconds if options.epoch else x25lines.moment
         self.status = 0
-        # With --judge: whether there were frames in digits, and how many lines of `x25 decode`.
-        self._has_frames, self._texts_seen = False, 0
+        # With --judge: the directions of the frames in digits that there were, and how many lines of `x25 decode`.
+        self._directions: set[str] = set()
+        self._texts_seen = 0
 
     def shown(self, file: x25lines.Readable) -> Iterator[list[Thing]]:
         """Whatever the file holds."""
@@ -125,13 +126,13 @@ class Reader:
             connections, times, lines = found
             yield connections, times, "".join(lines)
         if 0 < len(converter.connections()) < (wanted or 1):
-            raise BadInput(f"there are {len(converter.connections())} connections, and no number {wanted}")
+            raise BadInput(f"there is no connection {wanted}: the last is {len(converter.connections())}")
         if self._options.at not in (None, "either") and captures.DROPPED in converter.notes and not all(it.is_made_up for it in converter.connections()):
             x25lines.warn("so --at doesn't hold: what was dropped may explain what is told")
         yield converter.tell()
 
     def _lines(self, file: x25lines.Readable) -> Iterator[list[Thing]]:
-        trace, doubts, is_empty = pcap2x25.Connection(1, None, False), pcap2x25.Doubts(), not file.peek(1)
+        trace, doubts, is_empty, has_found = pcap2x25.Connection(1, None, False), pcap2x25.Doubts(), not file.peek(1), False
         with decoding.Decoder(self._options.x25, ["--loose", *reading(self._options)]) as decoder:
             for _, lines in x25lines.blocks_of_lines(file):
                 if self._options.swap or self._options.fcs is False:
@@ -142,12 +143,18 @@ class Reader:
                 answers = decoding.answers(decoder, lines)
                 if self._options.judge:
                     answers = self._judged(lines, answers, trace)
-                yield [("", trace, answer) if answer[:1] in COLOURS else self._other(line, answer, trace) for line, answer in zip(lines, answers)]
+                things = [("", trace, answer) if answer[:1] in COLOURS else self._other(line, answer, trace) for line, answer in zip(lines, answers)]
+                has_found = has_found or any(text[:1] not in "?#" for _, _, text in things)
+                yield things
 
         if is_empty:
             self._say("nothing was found: the input is empty")
-        elif self._options.judge and not self._has_frames:
+        elif not has_found:
+            self._say("nothing was found: the input is no capture, and none of its lines is of a trace, as `> 013febdf` is")
+        elif self._options.judge and not self._directions:
             self._say("nothing was judged: no line has a frame in hexadecimal digits")
+        elif self.status and len(self._directions) == 1 and self._options.at in (None, "line"):
+            self._say(f"no frame is of the {'DCE' if '>' in self._directions else 'DTE'}: if its frames are missing, --at either says so")
         elif self._texts_seen:
             self._say(f"left out: line of `x25 decode`, which isn't judged ({self._texts_seen})")
         self.status = max(self.status, doubts.tell())
@@ -170,7 +177,7 @@ class Reader:
         """The answers to lines, those to frames with what is told of each after it."""
         frames = [line.rpartition(b"\t")[2].decode() if decoding.parted(line, answer) else None for line, answer in zip(lines, answers)]
         asked = [f"{frame}\n" for frame in frames if frame]
-        self._has_frames |= bool(asked)
+        self._directions |= {frame[0] for frame in frames if frame}
         texts = iter(self._decoder.texts("".join(asked), [trace] * len(asked)))
         return ["".join(answer.rpartition("\t")[:2]) + next(texts) if frame else answer for frame, answer in zip(frames, answers)]
 

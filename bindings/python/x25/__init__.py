@@ -302,7 +302,10 @@ def load(path: str | None = None) -> ctypes.PyDLL:
     """The library at a path, or where `library_path` says."""
     path = path or library_path()
     if path not in _loaded:
-        library = ctypes.PyDLL(path)
+        try:
+            library = ctypes.PyDLL(path)
+        except OSError as error:
+            raise OSError(f"{error} (`make lib` leaves libx25.so in build, and the variable X25_LIBRARY names another folder)") from None
         for name, (parameters, result) in _FUNCTIONS.items():
             function = getattr(library, f"x25_{name}")
             function.argtypes, function.restype = parameters, result

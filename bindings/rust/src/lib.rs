@@ -352,7 +352,7 @@ impl Station {
         self.answer(number)
     }
 
-    /// Several frames came, one behind another, each received as by `receive`, up to one that is refused.
+    /// Several frames came, one after another, each received as by `receive`, up to one that is refused.
     pub fn receive_all(&mut self, frames: &[impl AsRef<[u8]>]) -> Received {
         let octets: Vec<u8> = frames
             .iter()
