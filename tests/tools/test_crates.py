@@ -62,7 +62,7 @@ class Lemmas(unittest.TestCase):
         ("x25_line", "x25_link"): {"EndLemmas"},
         ("x25_peer", "x25_line"): {"Meetings", "SessionSays", "SessionSeenRuns"},
         ("x25_world", "x25_peer"): {"Granted", "LinkSteps", "ReadLemmas", "SessionLayers"},
-        ("x25_world", "x25_line"): {"HealingSteps", "Meetings", "SessionLines", "SessionsForgotten"},
+        ("x25_world", "x25_line"): {"HealingSteps", "Lists", "Meetings", "SessionLines", "SessionsForgotten"},
         ("x25_sim", "x25_world"): {"Established", "WorldLemmas"},
         ("x25_joined", "x25_world"): {"Growing", "SessionRequests", "WorldLemmas"},
         ("x25_judge", "x25_line"): {"StationLines", "StationPeers", "StationRuns", "StationSays", "StationSends"},

@@ -1,6 +1,6 @@
 //! Two programs `x25 station`, or one and any peer, joined by a line, as laws about what they read and write. Each is
 //! the contract of a function that does nothing.
-ghost use Rattle.x25_world.specs.laws.Claims.{IsNamed};
+ghost use Rattle.x25_world.specs.laws.Claims.{HasNoProcedureError, IsNamed};
 ghost use Rattle.x25_world.specs.laws.SessionClaims.{SessionsKeepOrder};
 ghost use Rattle.x25_joined.specs.laws.BesidePeerClaims.{KeepsSessions, OfProgram};
 ghost use Rattle.x25_joined.specs.laws.JoinedClaims.{AreLawful, AreWorlds, Arrive, OfPrograms, OfProgramsUpOnce};
@@ -38,13 +38,14 @@ pub fn two_programs_are_a_world()
 /// - `arrives`: what is handed up is all of the messages and interrupts of a stretch, where the end that gives is idle,
 /// as its last mark says, and both
 ///   ends have that stretch open.
-/// - `named`: what `two_stations_keep_order` says of the transcript.
+/// - `named`, `quiet`: what `two_stations_keep_order` says of the transcript and of what was put on the line.
 ///
 /// Premises: those of `two_programs_are_a_world`.
 pub fn two_programs_keep_order()
     ensures lawful { UntilSecondUp AreLawful }
     ensures arrives { UntilSecondUp Arrive }
     ensures named { OfProgramsUpOnce IsNamed }
+    ensures quiet { OfProgramsUpOnce HasNoProcedureError }
 {
     two_programs_are_a_world();
     two_stations_keep_order();

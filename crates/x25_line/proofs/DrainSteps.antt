@@ -4,7 +4,7 @@ use Rattle.std.proofs.Common.{◌≡◌, ℕ, suc, zero, ◌+◌, ◌-◌, ◌*�
 use Rattle.std.proofs.{Common.{Result, Ok, Err, refl, sym, ap, subst, arith}, lemmas.Bool.{leb-true, eqb-true, eqb-false}}
 use Rattle.std.specs.Prelude.{◌==◌, ◌&&◌}
 use Rattle.x25_link.proofs.EndLemmas.{true_false}
-use Rattle.x25_frame.specs.{Frame.{PlainFrame, info, rr, rnr, rej, sabm, disc, ua, dm, frmr}, Spelling.{is_command, poll_or_final}, Reading.{frame_of}}
+use Rattle.x25_frame.specs.{Frame.{PlainFrame, info, rr, rnr, rej, sabm, disc, ua, dm}, Spelling.{is_command, poll_or_final}, Reading.{frame_of}}
 use Rattle.x25_frame.specs.{declared.error.FrameError.{FrameError}, declared.error.FrameError.TheVariants.{Undefined, NoInfoAllowed, TooLong}}
 use Rattle.x25_link.specs.{declared.phase.Phase.{Phase}, declared.phase.Phase.TheVariants.{Down, Waiting, Up, Closed}}
 use Rattle.x25_link.specs.Station.{Settings, LinkStation, Side, with_nothing, sends, ended}
@@ -102,20 +102,20 @@ module _ (c : Settings) (n1 back low : ℕ) (s : LinkStation) (small : c.window 
 
   -- with nothing heard yet
   begins : W s.outgoing.acked before (alone s)
-  begins = record { load = omega arith; acked = refl; place = low_place; given = refl; sent = omega arith; phase = refl; spelled = tt }
+  begins = record { load = omega arith; stands = record { acked = refl; place = low_place; given = refl; sent = omega arith; phase = refl }; spelled = tt }
 
   goes_on : (cost asks : ℕ) {n : ℕ} {t : Side} → n + 1 ≤ cost + before → W s.outgoing.acked n t → T cost asks t
   goes_on cost asks {n} {t} le h =
       let e = W-ended n1 c.window back low s.outgoing.acked (top_of s) s.outgoing.given s.phase small within many heavy n h in
       let u : Side = ended c.window t in
       record {
-        place = omega (arith, e.acked, e.place);
-        given = inl e.given;
+        place = omega (arith, e.stands.acked, e.stands.place);
+        given = inl e.stands.given;
         spelled = e.spelled;
         by = inl (record {
-          acked = e.acked;
-          changes = omega (arith, e.acked, e.sent, ap length e.given, ap phase_weight e.phase);
-          load = omega (arith, le, e.load, ap (λ m. weights back m u.out) e.acked);
+          acked = e.stands.acked;
+          changes = omega (arith, e.stands.acked, e.stands.sent, ap length e.stands.given, ap phase_weight e.stands.phase);
+          load = omega (arith, le, e.load, ap (λ m. weights back m u.out) e.stands.acked);
         });
       }
 
@@ -125,12 +125,12 @@ module _ (c : Settings) (n1 back low : ℕ) (s : LinkStation) (small : c.window 
       let e = W-ended n1 c.window back low a (top_of s) s.outgoing.given s.phase small within many heavy n h in
       let u : Side = ended c.window t in
       record {
-        place = omega (arith, e.acked, e.place);
-        given = inl e.given;
+        place = omega (arith, e.stands.acked, e.stands.place);
+        given = inl e.stands.given;
         spelled = e.spelled;
         by = inr (record {
-          fewer = omega (arith, e.acked, e.sent, ap length e.given, ap phase_weight e.phase, more, high);
-          load = omega (arith, le, e.load, ap (λ m. weights back m u.out) e.acked);
+          fewer = omega (arith, e.stands.acked, e.stands.sent, ap length e.stands.given, ap phase_weight e.stands.phase, more, high);
+          load = omega (arith, le, e.load, ap (λ m. weights back m u.out) e.stands.acked);
         });
       }
 
@@ -145,28 +145,28 @@ module _ (c : Settings) (n1 back low : ℕ) (s : LinkStation) (small : c.window 
       let e = W-ended n1 c.window back low 0 0 [] p small tt (omega arith) some (cost + 8 * back)
       (record {
         load = omega (arith, le, times_more back (to_take low 0) 7 first, seven_times back);
-        acked = refl;
-        place = omega arith;
-        given = refl;
-        sent = omega arith;
-        phase = refl;
+        stands = record { acked = refl; place = omega arith; given = refl; sent = omega arith; phase = refl };
         spelled = spelled;
       }) in
       let u : Side = ended c.window t in
       record {
-        place = omega (arith, e.acked, e.place);
-        given = inr e.given;
+        place = omega (arith, e.stands.acked, e.stands.place);
+        given = inr e.stands.given;
         spelled = e.spelled;
         by = inr (record {
-          fewer = omega (arith, e.acked, e.sent, ap length e.given, ap phase_weight e.phase, fewer);
-          load = omega (arith, e.load, ap (λ m. weights back m u.out) e.acked);
+          fewer = omega (arith, e.stands.acked, e.stands.sent, ap length e.stands.given, ap phase_weight e.stands.phase, fewer);
+          load = omega (arith, e.load, ap (λ m. weights back m u.out) e.stands.acked);
         });
       }
 
   -- ---- frames with a number
 
   hears_number : (nr : ℕ) → W (heard nr s) before (acknowledged nr (alone s))
-  hears_number nr = record { load = omega arith; acked = refl; place = omega arith; given = refl; sent = omega arith; phase = refl; spelled = tt }
+  hears_number nr = record {
+    load = omega arith;
+    stands = record { acked = refl; place = omega arith; given = refl; sent = omega arith; phase = refl };
+    spelled = tt;
+  }
 
   went : (cost nr : ℕ) {n : ℕ} {t : Side} → n + 1 ≤ cost + before → is_valid nr s ≡ true → W (heard nr s) n t → T cost 0 t
   went cost nr {n} {t} le valid h = by (heard nr s == s.outgoing.acked) refl
@@ -204,6 +204,20 @@ module _ (c : Settings) (n1 back low : ℕ) (s : LinkStation) (small : c.window 
   abbrev cost_of : PlainFrame → ℕ
   cost_of f = weight back low f
 
+  -- RR, or RNR of a busy peer
+  ready_took : (octets : List ℕ) (busy command : Bool) (nr : ℕ) (pf : Bool) → s.phase ≡ Up
+      → T (ready_weight back command pf) 0 (numbered c octets nr (λ u. quiet (polls command pf (peer_is busy u))) (alone s)).side
+  ready_took octets busy command nr pf up =
+      let w = ready_weight back command pf in
+      let le = ready_some back some command pf in
+      numbered_took octets nr w (λ u. quiet (polls command pf (peer_is busy u))) le up
+      (λ t h. (
+        before + (w - 1),
+        omega (arith, le),
+        W-polls n1 c.window back low (heard nr s) (top_of s) s.outgoing.given s.phase small within many heavy (before + (w - 1)) command pf (omega (arith, le))
+            (W-peer n1 c.window back low (heard nr s) (top_of s) s.outgoing.given s.phase small within many heavy busy h),
+      ))
+
   frame_took : (octets : List ℕ) (f : PlainFrame) → s.phase ≡ Up → T (cost_of f) (asks_set_up f) (row_of_frame c octets f (alone s)).side
   frame_took octets (info ns nr p x) up =
       numbered_took octets nr (cost_of (info ns nr p x)) (hears_info c.window ns p x) (weight_some back low some (info ns nr p x)) up
@@ -212,26 +226,8 @@ module _ (c : Settings) (n1 back low : ℕ) (s : LinkStation) (small : c.window 
         omega arith,
         W-info n1 c.window back low (heard nr s) (top_of s) s.outgoing.given s.phase small within many heavy before ns p x t h,
       ))
-  frame_took octets (rr command nr pf) up =
-      let w = ready_weight back command pf in
-      let le = ready_some back some command pf in
-      numbered_took octets nr w (λ u. quiet (polls command pf (peer_is false u))) le up
-      (λ t h. (
-        before + (w - 1),
-        omega (arith, le),
-        W-polls n1 c.window back low (heard nr s) (top_of s) s.outgoing.given s.phase small within many heavy (before + (w - 1)) command pf (omega (arith, le))
-            (W-peer n1 c.window back low (heard nr s) (top_of s) s.outgoing.given s.phase small within many heavy false h),
-      ))
-  frame_took octets (rnr command nr pf) up =
-      let w = ready_weight back command pf in
-      let le = ready_some back some command pf in
-      numbered_took octets nr w (λ u. quiet (polls command pf (peer_is true u))) le up
-      (λ t h. (
-        before + (w - 1),
-        omega (arith, le),
-        W-polls n1 c.window back low (heard nr s) (top_of s) s.outgoing.given s.phase small within many heavy (before + (w - 1)) command pf (omega (arith, le))
-            (W-peer n1 c.window back low (heard nr s) (top_of s) s.outgoing.given s.phase small within many heavy true h),
-      ))
+  frame_took octets (rr command nr pf) up = ready_took octets false command nr pf up
+  frame_took octets (rnr command nr pf) up = ready_took octets true command nr pf up
   frame_took octets (rej command nr pf) up =
       let w = rej_weight back command pf in
       let le = rej_some back some command pf in
@@ -278,27 +274,15 @@ module _ (c : Settings) (n1 back low : ℕ) (s : LinkStation) (small : c.window 
       by false e = silent f (asks_set_up f)
 
   down_took : (f : PlainFrame) → s.phase ≡ Down → T (cost_of f) (asks_set_up f) (when_down f (alone s)).side
-  down_took (info ns nr p x) is = declined (info ns nr p x)
-  down_took (rr command nr pf) is = declined (rr command nr pf)
-  down_took (rnr command nr pf) is = declined (rnr command nr pf)
-  down_took (rej command nr pf) is = declined (rej command nr pf)
   down_took (sabm p) is = anew 2 1 0 Up (ua p ∷ []) (omega arith) (record { in_range = tt; carries = refl; within = tt; asks_not = refl }, tt) (omega arith)
   down_took (disc p) is = says_one 2 0 (omega arith) refl (record { in_range = tt; carries = refl; within = tt; asks_not = refl })
-  down_took (ua f) is = declined (ua f)
-  down_took (dm f) is = declined (dm f)
-  down_took (frmr f why) is = declined (frmr f why)
+  down_took f is = declined f
 
   waiting_took : (f : PlainFrame) → s.phase ≡ Waiting → T (cost_of f) (asks_set_up f) (when_waiting f (alone s)).side
-  waiting_took (info ns nr p x) is = silent (info ns nr p x) 0
-  waiting_took (rr command nr pf) is = silent (rr command nr pf) 0
-  waiting_took (rnr command nr pf) is = silent (rnr command nr pf) 0
-  waiting_took (rej command nr pf) is = silent (rej command nr pf) 0
   waiting_took (sabm p) is = says_one 2 1 (omega arith) refl (record { in_range = tt; carries = refl; within = tt; asks_not = refl })
   waiting_took (disc p) is = says_one 2 0 (omega arith) refl (record { in_range = tt; carries = refl; within = tt; asks_not = refl })
   waiting_took (ua true) is = anew 1 0 0 Up [] (omega arith) tt (omega (arith, ap phase_weight is))
-  waiting_took (ua false) is = silent (ua false) 0
-  waiting_took (dm f) is = silent (dm f) 0
-  waiting_took (frmr f why) is = silent (frmr f why) 0
+  waiting_took f is = silent f 0
 
   hears_took : (octets : List ℕ) (r : Result PlainFrame FrameError) (p : Phase) → s.phase ≡ p
       → T (read_weight back low r) (asks_in r) (hears c octets r p (alone s)).side

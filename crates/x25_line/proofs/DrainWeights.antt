@@ -4,7 +4,7 @@ use Rattle.std.proofs.{Common.{Err, refl, sym, ap, subst, arith, length-append},
 use Rattle.std.specs.Prelude.{◌==◌, slice_index_or}
 use Rattle.x25_frame.specs.{Frame.{PlainFrame, info, rr, rnr, rej, sabm, disc}, Spelling.{information_of, IsInRange, MayCarry, IsWithin}}
 use Rattle.x25_frame.specs.declared.error.FrameError.{FrameError}
-use Rattle.x25_link.specs.declared.phase.Phase.{Phase}
+use Rattle.x25_link.specs.{declared.phase.Phase.{Phase}, Outgoing.{Outgoing}}
 use Rattle.x25_link.specs.Station.{LinkStation, Side, is_up, is_busy, wanted, with_near, sends, ready, next_frame, send_next, may_send, pumped, owes_ready}
 use Rattle.x25_link.specs.{Station.{finished, ended}, Hearing.{Step, is_taken, takes, answers, rejects_gap, passes_over, hears_info, peer_is, goes_back, polls}}
 use Rattle.x25_link.proofs.EndLemmas.{open_is}
@@ -121,23 +121,22 @@ once_more back low n false e =
 
 module _ (n1 k back low a top : ℕ) (gs : List (List ℕ)) (p : Phase) (small : k ≤ 7) (within : AllWithin n1 gs) (high : length gs ≤ top)
     (heavy : 4 * length gs + 2 ≤ back) where
+  pub record Stands (o : Outgoing) (q : Phase) : Type 0 where
+    pub acked : o.acked ≡ a
+    pub place : a ≤ o.place
+    pub given : o.given ≡ gs
+    pub sent : o.sent ≤ top
+    pub phase : q ≡ p
+
   pub record Weighs (n : ℕ) (t : Side) : Type 0 where
     pub load : weights back a t.out + station_weight back low t.near ≤ n
-    pub acked : t.near.outgoing.acked ≡ a
-    pub place : a ≤ t.near.outgoing.place
-    pub given : t.near.outgoing.given ≡ gs
-    pub sent : t.near.outgoing.sent ≤ top
-    pub phase : t.near.phase ≡ p
+    pub stands : Stands t.near.outgoing t.near.phase
     pub spelled : AreSpelled n1 t.out
 
   pub W-more : {n : ℕ} (m : ℕ) {t : Side} → n ≤ m → Weighs n t → Weighs m t
   W-more m le h = record {
     load = omega (arith, le, h.load);
-    acked = h.acked;
-    place = h.place;
-    given = h.given;
-    sent = h.sent;
-    phase = h.phase;
+    stands = h.stands;
     spelled = h.spelled;
   }
 
@@ -149,11 +148,7 @@ module _ (n1 k back low a top : ℕ) (gs : List (List ℕ)) (p : Phase) (small :
   pub W-sends : {n : ℕ} {f : PlainFrame} {t : Side} → IsSpelled n1 f → Weighs n t → Weighs (n + weight back a f) (sends f t)
   W-sends {f = f} {t} spelled h = record {
     load = omega (arith, weights_more back a t.out (f ∷ []), h.load);
-    acked = h.acked;
-    place = h.place;
-    given = h.given;
-    sent = h.sent;
-    phase = h.phase;
+    stands = h.stands;
     spelled = spelled_more t.out h.spelled spelled;
   }
 
@@ -161,20 +156,12 @@ module _ (n1 k back low a top : ℕ) (gs : List (List ℕ)) (p : Phase) (small :
   W-said : {n : ℕ} (b : Bool) {t : Side} → Weighs n t → Weighs (n + 1) (with_near t (record t.near { said_busy = b }))
   W-said true h = record {
     load = omega (arith, h.load);
-    acked = h.acked;
-    place = h.place;
-    given = h.given;
-    sent = h.sent;
-    phase = h.phase;
+    stands = h.stands;
     spelled = h.spelled;
   }
   W-said false h = record {
     load = omega (arith, h.load);
-    acked = h.acked;
-    place = h.place;
-    given = h.given;
-    sent = h.sent;
-    phase = h.phase;
+    stands = h.stands;
     spelled = h.spelled;
   }
 
@@ -182,11 +169,7 @@ module _ (n1 k back low a top : ℕ) (gs : List (List ℕ)) (p : Phase) (small :
   W-ended_busy n said h =
       record {
         load = omega (arith, h.load, ap (more_if 1) said);
-        acked = h.acked;
-        place = h.place;
-        given = h.given;
-        sent = h.sent;
-        phase = h.phase;
+        stands = h.stands;
         spelled = h.spelled;
       }
 
@@ -211,20 +194,23 @@ module _ (n1 k back low a top : ℕ) (gs : List (List ℕ)) (p : Phase) (small :
 
   W-send_next : {n : ℕ} {t : Side} → may_send k t.near ≡ true → Weighs n t → Weighs n (send_next t)
   W-send_next {t = t} may h =
+      let now = h.stands in
       let o = open_is k t.near may in
       let number : (t.near.outgoing.place % 8 == (a + 7) % 8) ≡ false =
-      not_eighth a t.near.outgoing.place h.place (omega (arith, small, o.room, h.acked)) _ refl in
+      not_eighth a t.near.outgoing.place now.place (omega (arith, small, o.room, now.acked)) _ refl in
       record {
         load = omega (arith, weights_more back a t.out ((next_frame t.near) ∷ []), ap (more_if (8 * back)) number, o.packet, h.load);
-        acked = h.acked;
-        place = omega (arith, h.place);
-        given = h.given;
-        sent = omega (arith, h.sent, o.packet, ap length h.given, high);
-        phase = h.phase;
+        stands = record {
+          acked = now.acked;
+          place = omega (arith, now.place);
+          given = now.given;
+          sent = omega (arith, now.sent, o.packet, ap length now.given, high);
+          phase = now.phase;
+        };
         spelled = spelled_more t.out h.spelled (record {
           in_range = (below_eight t.near.outgoing.place, below_eight (length t.near.taken));
           carries = tt;
-          within = packet_within t.near.outgoing.given t.near.outgoing.place (subst (AllWithin n1) (sym h.given) within);
+          within = packet_within t.near.outgoing.given t.near.outgoing.place (subst (AllWithin n1) (sym now.given) within);
           asks_not = refl;
         });
       }
@@ -251,11 +237,7 @@ module _ (n1 k back low a top : ℕ) (gs : List (List ℕ)) (p : Phase) (small :
   W-gap q {t} none h =
       record {
         load = omega (arith, weights_more back a t.out ((rej false (wanted t.near) q) ∷ []), rej_is q, ap (more_if back) none, h.load);
-        acked = h.acked;
-        place = h.place;
-        given = h.given;
-        sent = h.sent;
-        phase = h.phase;
+        stands = h.stands;
         spelled = spelled_more t.out h.spelled (record { in_range = below_eight (length t.near.taken); carries = refl; within = tt; asks_not = refl });
       }
     where
@@ -287,11 +269,7 @@ module _ (n1 k back low a top : ℕ) (gs : List (List ℕ)) (p : Phase) (small :
       let same : times back (to_take low (length (t.near.taken ++ x ∷ []))) ≡ times back (to_take low (r + 1)) = ap (λ m. times back (to_take low m)) grown in
       record {
         load = omega (arith, h.load, more, same);
-        acked = h.acked;
-        place = h.place;
-        given = h.given;
-        sent = h.sent;
-        phase = h.phase;
+        stands = h.stands;
         spelled = h.spelled;
       }
 
@@ -312,18 +290,14 @@ module _ (n1 k back low a top : ℕ) (gs : List (List ℕ)) (p : Phase) (small :
   -- ---- RR, RNR and REJ
 
   pub W-peer : {n : ℕ} (b : Bool) {t : Side} → Weighs n t → Weighs n (peer_is b t)
-  W-peer b h = record { load = h.load; acked = h.acked; place = h.place; given = h.given; sent = h.sent; phase = h.phase; spelled = h.spelled }
+  W-peer b h = record { load = h.load; stands = h.stands; spelled = h.spelled }
 
   pub W-goes_back : {n : ℕ} {t : Side} → Weighs n t → Weighs (n + 4 * length gs) (goes_back t)
   W-goes_back h =
-      let many = ap length h.given in
+      let now = h.stands in
       record {
-        load = omega (arith, h.load, many);
-        acked = h.acked;
-        place = omega (arith, h.acked);
-        given = h.given;
-        sent = h.sent;
-        phase = h.phase;
+        load = omega (arith, h.load, ap length now.given);
+        stands = record { acked = now.acked; place = omega (arith, now.acked); given = now.given; sent = now.sent; phase = now.phase };
         spelled = h.spelled;
       }
 
@@ -334,7 +308,7 @@ module _ (n1 k back low a top : ℕ) (gs : List (List ℕ)) (p : Phase) (small :
   W-polls {n} m false true {t} le h =
       W-more m (omega (arith, le, heavy))
       (W-goes_back
-      (record { load = h.load; acked = h.acked; place = h.place; given = h.given; sent = h.sent; phase = h.phase; spelled = h.spelled }))
+      (record { load = h.load; stands = h.stands; spelled = h.spelled }))
   W-polls {n} m false false le h = W-more m (omega (arith, le)) h
 
   pub W-rej : (n m : ℕ) (command pf : Bool) (t : Side) → n + rej_weight back command pf ≤ m + 1 → Weighs n t

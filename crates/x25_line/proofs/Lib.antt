@@ -15,6 +15,7 @@ pub mod StationSays
 pub mod StationHears
 pub mod StationPeers
 pub mod PeerOrder
+pub mod PeerStations
 pub mod TapeLemmas
 pub mod rows
 pub mod HealingLines

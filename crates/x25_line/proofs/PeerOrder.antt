@@ -1,5 +1,5 @@
 -- A station and any peer keep the way in both directions, whatever happens, and that says the claims.
-use Rattle.std.proofs.Common.{◌≡◌, ℕ, zero, suc, ◌≤◌, List, [], ◌∷◌, ◌++◌, inl, length, remove, true, false, Option, None, refl, sym, ap, ◌∙◌, subst, arith}
+use Rattle.std.proofs.Common.{◌≡◌, ℕ, zero, suc, ◌≤◌, List, [], ◌∷◌, ◌++◌, length, remove, true, false, Option, None, refl, sym, ap, ◌∙◌, subst, arith}
 use Rattle.x25_bits.specs.declared.role.Role.{Role}
 use Rattle.x25_frame.specs.{Reading.{frame_of}, laws.ReadingLaw.{ReadsSpelled}}
 use Rattle.x25_window.specs.code.Modulo.{resolved}
@@ -10,9 +10,10 @@ use Rattle.x25_line.specs.laws.PeerJoined.{JoinedOnce, our_end, with_peer, Happe
 use Rattle.x25_line.specs.{laws.PeerJoined.{goes_on}, laws.PeerClaims.{WithAnyPeer, WithAnyLapbPeer, KeepsOrder, FindsNoFault}}
 use Rattle.x25_line.proofs.{Lists.{each_append, each_removed, each_replaced}, sessions.Letters.{visible_said, visible_fine}, Kept.{Way}}
 use Rattle.x25_line.proofs.Order.{Told, only, only_append, Left, left_front, left_deeper, Hold, starts, hold_turned, handed, says, left, makes}
-use Rattle.x25_line.proofs.{StationClaimLemmas.{in_order}, StationSays.{machine_of, MayDo}, StationPeers.{Seen, peer_acts}}
-use Rattle.x25_line.proofs.{Order.{in_order as peers_in_order, valid_front, by_frmr, no_fault}, StationRuns.{noted_before}, StationEvents.{each_hands_one}}
-use Rattle.x25_line.specs.{laws.Said.{Said, Carried, Tells, Odd as OddSaid, said}, laws.Peer.{Peer, fresh_peer, MaySay}}
+use Rattle.x25_line.proofs.{StationClaimLemmas.{in_order}, StationSays.{machine_of, MayDo}, StationPeers.{Seen, seen_so, start_seen, peer_acts}}
+use Rattle.x25_line.proofs.StationEvents.{each_hands_one}
+use Rattle.x25_line.proofs.{Order.{in_order as peers_in_order, valid_front, by_frmr, no_fault}, StationRuns.{noted_before}}
+use Rattle.x25_line.specs.{laws.Said.{Said, Carried, Tells, Odd as OddSaid, said}, laws.Peer.{Peer, MaySay}}
 use Rattle.x25_line.specs.laws.PeerJoined as joined
 
 -- ---- what is told on a line of octets
@@ -95,18 +96,7 @@ JoinedHolds Odd c w = Seen c (Odd → ⊥) (IsWith Odd c w.peer) (our_end w)
 after : (Odd : Type 0) {c : Settings} {w : JoinedOnce} (h : JoinedHolds Odd c w) {q : Peer} (out back : List (List ℕ))
     → Hold q h.peer (tolds (other c.role) c.longest back) (tolds c.role c.longest out)
     → ((Odd → ⊥) → Each (IsFine (other c.role) c.longest) back) → JoinedHolds Odd c (record { near = w.near; peer = q; out = out; back = back })
-after Odd {c} h {q} out back hold lapb =
-    record {
-      peer = h.peer;
-      reached = record { hold = hold_turned hold; lapb = lapb };
-      fits = h.fits;
-      room = h.room;
-      told = h.told;
-      within = h.within;
-      down = h.down;
-      up = h.up;
-      fine = h.fine;
-    }
+after Odd h out back hold lapb = seen_so refl h (record { hold = hold_turned hold; lapb = lapb })
 
 -- what is answered by FRMR is sent where it may be
 sends_odd : (Odd : Type 0) (p q : Peer) {s : Said} → MaySay Odd p s q → (Odd → ⊥) → s ≡ OddSaid → ⊥
@@ -152,28 +142,14 @@ abbrev taker : Peer → StationEnd
 taker p = record { station = fresh; down = []; up = p.taken; reasons = []; came_up = false }
 
 start_holds : (Odd : Type 0) (c : Settings) → JoinedHolds Odd c joined.start
-start_holds Odd c = record {
-  peer = fresh_peer;
-  reached = record { hold = starts; lapb = λ lapb. tt };
-  fits = inl (record {
-    up = refl;
-    sound = record { place_low = omega arith; place_high = omega arith; sent_high = omega arith; room = omega arith };
-    same = refl;
-  });
-  room = omega arith;
-  told = omega arith;
-  within = tt;
-  down = refl;
-  up = refl;
-  fine = λ lapb. tt;
-}
+start_holds Odd c = start_seen (record { hold = starts; lapb = λ lapb. tt })
 
 module _ (reads : ReadsSpelled) (laws : Laws) where
   ours : (Odd : Type 0) (c : Settings) → c.window ≤ 7 → (w : JoinedOnce) → JoinedHolds Odd c w → (act : Act) → (acts c act (our_end w)).near.came_up ≡ false
       → JoinedHolds Odd c (with_peer w.peer (acts c act (our_end w)))
   ours Odd c high w h act once =
       let k = peer_acts c high reads laws (Odd → ⊥) (IsWith Odd c w.peer) (station_may Odd c w.peer) act (our_end w) h once in
-      record { peer = k.peer; reached = k.reached; fits = k.fits; room = k.room; told = k.told; within = k.within; down = k.down; up = k.up; fine = k.fine }
+      seen_so refl k k.reached
 
   reached_holds : (Odd : Type 0) {c : Settings} → c.window ≤ 7 → {w : JoinedOnce} → ReachedOnce Odd c w → w.near.came_up ≡ false → JoinedHolds Odd c w
   reached_holds Odd {c} high at_start once = start_holds Odd c

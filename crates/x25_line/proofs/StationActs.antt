@@ -1,6 +1,6 @@
 -- What follows of each act of a station that was set up once, where it is known of a few kinds of steps.
-use Rattle.std.proofs.Common.{◌≡◌, ℕ, suc, ◌≤◌, List, [], ◌∷◌, inl, inr, length, remove, Bool, true, false, if◌then◌else◌, Some, None, Result, refl, sym, ap}
-use Rattle.std.proofs.{Common.{◌∙◌, subst}, lemmas.Bool.{leb-true}}
+use Rattle.std.proofs.Common.{◌≡◌, ℕ, suc, ◌≤◌, List, [], ◌∷◌, inl, inr, length, remove, Bool, true, false, if◌then◌else◌, Option, Some, None, Result, refl}
+use Rattle.std.proofs.{Common.{sym, ap}, Common.{◌∙◌, subst}, lemmas.Bool.{leb-true}}
 use Rattle.std.specs.Prelude.{nat_le, nat_lt}
 use Rattle.x25_frame.specs.{Frame.{PlainFrame, sabm}, Reading.{frame_of}, declared.error.FrameError.{FrameError}}
 use Rattle.x25_link.specs.{declared.phase.Phase.{Phase}, declared.phase.Phase.TheVariants.{Down, Waiting, Up, Closed}}
@@ -9,7 +9,7 @@ use Rattle.x25_link.specs.Link.{take_step, put_step, put_refusal, timer_step, ti
 use Rattle.x25_link.specs.{Link.{disconnect_refusal, abandon_step}, laws.WindowMachine.{Window, nothing}, laws.SetUp.{Is, TakesPart}}
 use Rattle.x25_link.specs.laws.WindowLaw.{Stays, Follows, IsOut, StaysOut}
 use Rattle.x25_line.specs.laws.Stations.{Stations, Act, Put, Deliver, T1, Connect, Disconnect, Abandon, Probe, Lose, Damage, after_step, unless, delivered}
-use Rattle.x25_line.specs.{laws.Stations.{replaced, is_visible, acts}, laws.Sessions.{sabm_in}, laws.LawsBelow.{Laws}}
+use Rattle.x25_line.specs.{laws.Stations.{replaced, is_visible, acts}, laws.WholeNumbers.{place_taken}, laws.Sessions.{sabm_in}, laws.LawsBelow.{Laws}}
 use Rattle.x25_line.proofs.{Choices.{unless_by, if_by}, StationLines.{AreParting}}
 use Rattle.x25_line.proofs.StationSteps.{out_not_up, AsUp, IsAway, FitsEnd, up_of, not_both, stays_out, in_vain, Parts, ends_parts, declining_parting}
 use Rattle.x25_line.proofs.StationHears.{sabm_or_not, sets_none_up}
@@ -17,26 +17,28 @@ use Rattle.x25_line.proofs.StationAway.{closed_takes, waits_on, waiting_parting,
 
 -- What is known of the near end of w, whose machine's end is e, and of each kind of step: of a station that is Up, as octets come
 -- (`takes`), a packet is handed down (`puts`), or nothing is brought (`rests`); steps that part, with octets taken off the line
--- (`passes`) or none (`parts`); what happens to the line to it; and nothing (`still`). Q is of what comes of it.
-pub record OfSteps (c : Settings) (w : Stations) (e : Window) (Q : Stations → Type 0) : Type 0 where
+-- (`passes`) or none (`parts`); what happens to the line to it; and nothing (`still`, and `none_comes` where no octets are there). Q is of
+-- the place at which octets are taken off that line, and of what comes of it.
+pub record OfSteps (c : Settings) (w : Stations) (e : Window) (Q : Option ℕ → Stations → Type 0) : Type 0 where
   pub fits : FitsEnd c w.near.station e
-  pub still : Q w
+  pub still : Q None w
+  pub none_comes : w.back ≡ [] → Q (Some 0) w
   pub takes : (o : List ℕ) (os : List (List ℕ)) → w.back ≡ o ∷ os → AsUp c w.near.station e → sabm_in (frame_of (other c.role) c.longest o) ≡ 0
-      → Q (after_step c w os [] (take_step c o w.near.station))
+      → Q (Some 0) (after_step c w os [] (take_step c o w.near.station))
   pub puts : (packet : List ℕ) → AsUp c w.near.station e → length packet ≤ c.longest
-      → Q (after_step c w w.back (packet ∷ []) (put_step c packet w.near.station))
-  pub rests : (step : Step) → AsUp c w.near.station e → Stays c.window nothing w.near.station step → Q (after_step c w w.back [] step)
-  pub parts : (step : Step) → Parts w.near.station step → Q (after_step c w w.back [] step)
-  pub passes : (o : List ℕ) (os : List (List ℕ)) → w.back ≡ o ∷ os → (step : Step) → Parts w.near.station step → Q (after_step c w os [] step)
-  pub loses : (i : ℕ) → Q (record w { back = remove w.back i })
-  pub damages : (i : ℕ) (octets : List ℕ) → is_visible octets ≡ true → Q (record w { back = replaced w.back i octets })
+      → Q None (after_step c w w.back (packet ∷ []) (put_step c packet w.near.station))
+  pub rests : (step : Step) → AsUp c w.near.station e → Stays c.window nothing w.near.station step → Q None (after_step c w w.back [] step)
+  pub parts : (step : Step) → Parts w.near.station step → Q None (after_step c w w.back [] step)
+  pub passes : (o : List ℕ) (os : List (List ℕ)) → w.back ≡ o ∷ os → (step : Step) → Parts w.near.station step → Q (Some 0) (after_step c w os [] step)
+  pub loses : (i : ℕ) → Q (Some i) (record w { back = remove w.back i })
+  pub damages : (i : ℕ) (octets : List ℕ) → is_visible octets ≡ true → Q (Some i) (record w { back = replaced w.back i octets })
 
-module _ {c : Settings} (laws : Laws) {w : Stations} {e : Window} {Q : Stations → Type 0} (k : OfSteps c w e Q) where
+module _ {c : Settings} (laws : Laws) {w : Stations} {e : Window} {Q : Option ℕ → Stations → Type 0} (k : OfSteps c w e Q) where
   abbrev s : LinkStation
   s = w.near.station
 
-  deliver_step : (os : List (List ℕ)) → w.back ≡ os → (delivered c os w).near.came_up ≡ false → Q (delivered c os w)
-  deliver_step [] is once = k.still
+  deliver_step : (os : List (List ℕ)) → w.back ≡ os → (delivered c os w).near.came_up ≡ false → Q (Some 0) (delivered c os w)
+  deliver_step [] is once = k.none_comes is
   deliver_step (o ∷ os) is once = go k.fits
     where
       r : Result PlainFrame FrameError
@@ -55,7 +57,7 @@ module _ {c : Settings} (laws : Laws) {w : Stations} {e : Window} {Q : Stations 
         | inr none ↦ none
       ]
 
-      stays : IsAway s → StaysOut step → Q (after_step c w os [] step)
+      stays : IsAway s → StaysOut step → Q (Some 0) (after_step c w os [] step)
       stays away out =
           k.passes o os is step
           (record {
@@ -65,7 +67,7 @@ module _ {c : Settings} (laws : Laws) {w : Stations} {e : Window} {Q : Stations 
             noted = stays_out away.away out.quiet;
           })
 
-      waits : IsAway s → s.phase ≡ Waiting → Q (after_step c w os [] step)
+      waits : IsAway s → s.phase ≡ Waiting → Q (Some 0) (after_step c w os [] step)
       waits away waiting =
           let i = laws.set_up.waits c o s waiting r refl in
           k.passes o os is step
@@ -76,22 +78,22 @@ module _ {c : Settings} (laws : Laws) {w : Stations} {e : Window} {Q : Stations 
             noted = stays_out (ap is_up waiting) (quiet_by step i.down not_up);
           })
 
-      by_phase : (q : Phase) → s.phase ≡ q → IsAway s → is_up q ≡ false → Q (after_step c w os [] step)
+      by_phase : (q : Phase) → s.phase ≡ q → IsAway s → is_up q ≡ false → Q (Some 0) (after_step c w os [] step)
       by_phase Down phase away may = stays away
           (laws.window.take_out c o s (subst IsOut (sym phase) tt) (sets_none_up r (no_sabm (subst TakesPart (sym phase) tt))))
       by_phase Waiting phase away may = waits away phase
       by_phase Up phase away may = not_both true refl may
       by_phase Closed phase away may = stays away (closed_takes c o s phase)
 
-      go : FitsEnd c s e → Q (after_step c w os [] step)
+      go : FitsEnd c s e → Q (Some 0) (after_step c w os [] step)
       go (inl u) = k.takes o os is u (no_sabm (up_takes_part s.phase u.up))
       go (inr away) = by_phase s.phase refl away away.away
 
-  put_by : (packet : List ℕ) → length packet ≤ c.longest → Q (unless (put_refusal s) w (after_step c w w.back (packet ∷ []) (put_step c packet s)))
+  put_by : (packet : List ℕ) → length packet ≤ c.longest → Q None (unless (put_refusal s) w (after_step c w w.back (packet ∷ []) (put_step c packet s)))
   put_by packet short = go k.fits
     where
-      go : FitsEnd c s e → Q (unless (put_refusal s) w (after_step c w w.back (packet ∷ []) (put_step c packet s)))
-      go (inl u) = unless_by Q (put_refusal s) k.still (λ _. k.puts packet u short)
+      go : FitsEnd c s e → Q None (unless (put_refusal s) w (after_step c w w.back (packet ∷ []) (put_step c packet s)))
+      go (inl u) = unless_by (Q None) (put_refusal s) k.still (λ _. k.puts packet u short)
       go (inr away) = rw away.away k.still
 
   -- a station that isn't Up sends SABM or DISC, and notes nothing
@@ -106,10 +108,10 @@ module _ {c : Settings} (laws : Laws) {w : Stations} {e : Window} {Q : Stations 
       }
 
   -- timer T1 runs out, in Up
-  timer_up : AsUp c s e → Q (after_step c w w.back [] (timer_step c s))
+  timer_up : AsUp c s e → Q None (after_step c w w.back [] (timer_step c s))
   timer_up u = by (nat_lt s.tries c.retries) (laws.window.timer c s (record { up = u.up; sound = u.sound }))
     where
-      by : (b : Bool) → Follows (if b then None else Some Retries) c.window nothing s (timer_step c s) → Q (after_step c w w.back [] (timer_step c s))
+      by : (b : Bool) → Follows (if b then None else Some Retries) c.window nothing s (timer_step c s) → Q None (after_step c w w.back [] (timer_step c s))
       by true stays = k.rests (timer_step c s) u stays
       by false ends = k.parts (timer_step c s) (ends_parts u.up tt (laws.timer_tells c s) ends)
 
@@ -122,24 +124,24 @@ module _ {c : Settings} (laws : Laws) {w : Stations} {e : Window} {Q : Stations 
         frames = subst AreParting (sym i.out) tt;
         away = subst IsAway (sym i.near) (record { away = refl; empty = refl });
         packet = i.packet;
-        noted = in_vain (ap is_up phase) i.down i.up;
+        noted = in_vain phase i.down i.up;
       }
 
-  timer_by : Q (unless (timer_refusal s) w (after_step c w w.back [] (timer_step c s)))
+  timer_by : Q None (unless (timer_refusal s) w (after_step c w w.back [] (timer_step c s)))
   timer_by = go k.fits
     where
-      by_phase : (q : Phase) → s.phase ≡ q → IsAway s → is_up q ≡ false → Q (unless (timer_refusal s) w (after_step c w w.back [] (timer_step c s)))
+      by_phase : (q : Phase) → s.phase ≡ q → IsAway s → is_up q ≡ false → Q None (unless (timer_refusal s) w (after_step c w w.back [] (timer_step c s)))
       by_phase Waiting phase away may =
-          unless_by Q (timer_refusal s) k.still
+          unless_by (Q None) (timer_refusal s) k.still
           (λ _. k.parts (timer_step c s) (waiting_timer away phase (nat_lt s.tries c.retries) (laws.set_up.timer c s phase)))
       by_phase Up phase away may = not_both true refl may
       by_phase q phase away may = rw (ap (λ q. timer_runs q s) phase) k.still
 
-      go : FitsEnd c s e → Q (unless (timer_refusal s) w (after_step c w w.back [] (timer_step c s)))
-      go (inl u) = unless_by Q (timer_refusal s) k.still (λ _. timer_up u)
+      go : FitsEnd c s e → Q None (unless (timer_refusal s) w (after_step c w w.back [] (timer_step c s)))
+      go (inl u) = unless_by (Q None) (timer_refusal s) k.still (λ _. timer_up u)
       go (inr away) = by_phase s.phase refl away away.away
 
-  connect_by : s.phase ≡ Down → FitsEnd c s e → Q (after_step c w w.back [] (connect_step c s))
+  connect_by : s.phase ≡ Down → FitsEnd c s e → Q None (after_step c w w.back [] (connect_step c s))
   connect_by phase (inl u) = not_both (is_up s.phase) u.up (ap is_up phase)
   connect_by phase (inr away) =
       k.parts (connect_step c s)
@@ -164,19 +166,23 @@ module _ {c : Settings} (laws : Laws) {w : Stations} {e : Window} {Q : Stations 
       by_phase Up phase may = not_both true refl may
       by_phase q phase may = closes (subst IsOut (sym phase) tt)
 
-  abandon_by : is_up s.phase ≡ true → Q (after_step c w w.back [] (abandon_step c s))
+  abandon_by : is_up s.phase ≡ true → Q None (after_step c w w.back [] (abandon_step c s))
   abandon_by up =
       let u = up_of k.fits up in
       k.parts (abandon_step c s) (ends_parts up tt (laws.abandon_tells c s) (laws.window.abandon c s (record { up = u.up; sound = u.sound })))
 
   -- what holds after each step of a station holds after each act by which no LinkUp is noted
-  pub of_act : (a : Act) → (acts c a w).near.came_up ≡ false → Q (acts c a w)
-  of_act (Put packet) once = if_by Q (nat_le (length packet) c.longest) k.still (λ short. put_by packet (leb-true _ _ short))
+  pub of_act : (a : Act) → (acts c a w).near.came_up ≡ false → Q (place_taken a) (acts c a w)
+  of_act (Put packet) once = if_by (Q None) (nat_le (length packet) c.longest) k.still (λ short. put_by packet (leb-true _ _ short))
   of_act Deliver once = deliver_step w.back refl once
   of_act T1 once = timer_by
-  of_act Connect once = unless_by Q (connect_refusal s.phase) k.still (λ accepted. connect_by (connects_from s.phase accepted) k.fits)
-  of_act Disconnect once = unless_by Q (disconnect_refusal s.phase) k.still (λ _. k.parts (disconnect_step c s) (disconnect_parts k.fits))
-  of_act Abandon once = if_by Q (is_up s.phase) k.still abandon_by
-  of_act Probe once = if_by Q (is_up s.phase) k.still (λ up. timer_up (up_of k.fits up))
+  of_act Connect once = unless_by (Q None) (connect_refusal s.phase) k.still (λ accepted. connect_by (connects_from s.phase accepted) k.fits)
+  of_act Disconnect once = unless_by (Q None) (disconnect_refusal s.phase) k.still (λ _. k.parts (disconnect_step c s) (disconnect_parts k.fits))
+  of_act Abandon once = if_by (Q None) (is_up s.phase) k.still abandon_by
+  of_act Probe once = if_by (Q None) (is_up s.phase) k.still (λ up. timer_up (up_of k.fits up))
   of_act (Lose i) once = k.loses i
-  of_act (Damage i octets) once = if_by Q (is_visible octets) k.still (k.damages i octets)
+  of_act (Damage i octets) once = by (is_visible octets) refl
+    where
+      by : (b : Bool) → is_visible octets ≡ b → Q (if b then Some i else None) (if b then record w { back = replaced w.back i octets } else w)
+      by true visible = k.damages i octets visible
+      by false visible = k.still

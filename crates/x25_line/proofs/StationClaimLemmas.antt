@@ -5,7 +5,8 @@ use Rattle.std.specs.Prelude.{◌&&◌}
 use Rattle.x25_frame.specs.laws.ReadingLaw.{ReadsSpelled}
 use Rattle.x25_window.specs.laws.Window.{End, Frame}
 use Rattle.x25_link.specs.{Outgoing.{waits}, Station.{Settings, LinkStation, is_up, lists_of, no_packets}, Link.{is_idle}}
-use Rattle.x25_line.specs.{laws.InWindow.{IsPrefix}, laws.Line.{Line}, laws.Stations.{StationEnd, Stations}, laws.WholeNumbers.{machine_at_start}}
+use Rattle.x25_line.specs.{laws.InWindow.{IsPrefix}, laws.Line.{Line}, laws.Stations.{StationEnd, Stations, start}}
+use Rattle.x25_line.specs.laws.WholeNumbers.{machine_run, machine_at_start, MachineGoesAlong}
 use Rattle.x25_line.specs.laws.StationClaims.{AreJoined, Always, InOrder, BothInOrder, HasItsLists, BothHaveTheirLists, BothNoteTheirEnds, IsBehind}
 use Rattle.x25_line.specs.{laws.StationClaims.{AreInWindow, NoFrmrSent, AllSentAreWhole}, laws.LawsBelow.{Laws}}
 use Rattle.x25_line.proofs.{Kept.{Way, Way-acked, InWindow-from_Kept}, StationSteps.{FitsEnd, up_of, Joint, Holds, not_both}}
@@ -104,8 +105,8 @@ pub holds_whole : {c d : Settings} → AreJoined c d → {w : Stations} → Hold
 holds_whole joined holds = rw joined.longest holds.1.whole
 
 module _ (reads : ReadsSpelled) (laws : Laws) where
-  reached : Always (Holds)
-  reached c d joined events once = run_once joined reads laws events (machine_at_start c d, start_machine joined) once
+  reached : Always Holds
+  reached c d joined events once = (machine_run c d events start (machine_at_start c d), run_once joined reads laws events (start_machine joined) once)
 
   pub keeps_order : Always BothInOrder
   keeps_order c d joined events once = holds_order (reached c d joined events once)
@@ -117,6 +118,10 @@ module _ (reads : ReadsSpelled) (laws : Laws) where
   keeps_notes c d joined events once =
       let h = (reached c d joined events once).1 in
       (h.near_has.notes.notes, h.far_has.notes.notes)
+
+  pub goes_along : MachineGoesAlong
+  unfolding reached
+  goes_along c d joined events once = is_behind (reached c d joined events once).1
 
   pub sends_no_frmr : Always NoFrmrSent
   sends_no_frmr c d joined events once = (reached c d joined events once).1.no_frmr

@@ -2,8 +2,7 @@
 use Rattle.std.proofs.Common.{◌≡◌, ◌≤◌, ◌%◌, ℕ, List, [], ◌∷◌, ◌++◌, ◌+◌, ◌⊎◌, inl, inr, length, Bool, true, false, if◌then◌else◌, Option, Some, None, Result}
 use Rattle.std.proofs.{Common.{Ok, Err, refl, sym, ap, ◌∙◌, arith, append-nil}, lemmas.List.{length_push}}
 use Rattle.std.specs.Prelude.{option_to_list}
-use Rattle.x25_frame.specs.{Frame.{PlainFrame, info, rr, rnr, rej, sabm, disc, ua, dm, frmr}, declared.error.FrameError.{FrameError}}
-use Rattle.x25_frame.specs.declared.error.FrameError.TheVariants.{Short}
+use Rattle.x25_frame.specs.{Frame.{PlainFrame, info, rr, rnr, rej, sabm}, declared.error.FrameError.{FrameError}, declared.error.FrameError.TheVariants.{Short}}
 use Rattle.x25_window.specs.{code.Modulo.{resolved}, laws.Window.{after}, laws.Window.Step.{Hear, Take}}
 use Rattle.x25_link.specs.{declared.phase.Reason.{Reason}, declared.phase.Reason.TheVariants.{Disc, FrmrSent, Reset, Local}, Station.{Settings, LinkStation}}
 use Rattle.x25_link.specs.{Hearing.{Step}, laws.WindowMachine.{Window, Input, receives}}
@@ -161,8 +160,4 @@ module _ {d : Settings} {s : LinkStation} {p : Peer} (facts : UpFacts d s p) (st
   stays_hears (Ok (rnr command nr pf)) no_sabm stays = tells (rnr command nr pf) nr (λ packet. refl) (λ y never. never) (true, refl) stays
   stays_hears (Ok (rej command nr pf)) no_sabm stays = tells (rej command nr pf) nr (λ packet. refl) (λ y never. never) (true, refl) stays
   stays_hears (Ok (sabm p)) no_sabm stays = absurd (omega (arith, no_sabm))
-  stays_hears (Ok (disc p)) no_sabm stays = passed_over (Ok (disc p)) refl (λ y never. never) stays
-  stays_hears (Ok (ua f)) no_sabm stays = passed_over (Ok (ua f)) refl (λ y never. never) stays
-  stays_hears (Ok (dm f)) no_sabm stays = passed_over (Ok (dm f)) refl (λ y never. never) stays
-  stays_hears (Ok (frmr f why)) no_sabm stays = passed_over (Ok (frmr f why)) refl (λ y never. never) stays
-  stays_hears (Err x) no_sabm stays = passed_over (Err x) refl (λ y never. never) stays
+  stays_hears r no_sabm stays = passed_over r refl (λ y never. never) stays

@@ -9,8 +9,9 @@ use Rattle.x25_frame.specs.{Reading.{frame_of, addressed_frame}, declared.error.
 use Rattle.x25_frame.specs.{declared.error.FrameError.TheVariants.{Short, BadFcs, Undefined, NoInfoAllowed, TooLong}, laws.ReadingLaw.{ReadsSpelled}}
 use Rattle.x25_window.specs.laws.Window.{Numbered, Frame}
 use Rattle.x25_link.specs.laws.WindowMachine.{ShowsItem, Shows, ShowAll}
-use Rattle.x25_line.specs.{laws.Stations.{replaced, is_visible}, laws.StationClaims.{number_in, numbered_on, NoFrmr, Each, IsHandedDown, AreWhole}}
+use Rattle.x25_line.specs.{laws.Stations.{replaced, is_visible}, laws.StationClaims.{number_in, numbered_on, NoFrmr, Each, IsHandedDown, IsWhole, AreWhole}}
 use Rattle.x25_line.specs.laws.WholeNumbers.{first_of, one_more, behind, place_of, taken_out}
+use Rattle.x25_line.proofs.Lists.{each_map, each_over}
 
 -- ---- frames by frames
 
@@ -134,11 +135,8 @@ handed_more xs ys more f h = tt
 -- where more was handed down
 pub whole_more : (n1 : ℕ) (xs ys : List (List ℕ)) → ((x : List ℕ) → Contains xs x → Contains ys x) → (fs : List PlainFrame) → AreWhole n1 xs fs
     → AreWhole n1 ys fs
-whole_more n1 xs ys more [] h = tt
-whole_more n1 xs ys more (f ∷ fs) h = (
-  record { in_range = h.0.in_range; carries = h.0.carries; within = h.0.within; packet = handed_more xs ys more f h.0.packet },
-  whole_more n1 xs ys more fs h.1,
-)
+whole_more n1 xs ys more = each_map (IsWhole n1 xs) (IsWhole n1 ys)
+    (λ f h. record { in_range = h.in_range; carries = h.carries; within = h.within; packet = handed_more xs ys more f h.packet })
 
 pub good_whole : (n1 : ℕ) (given more : List (List ℕ)) (fs : List PlainFrame) → AllGood n1 fs → AllHandedDown given fs → AreWhole n1 (given ++ more) fs
 good_whole n1 given more [] g h = tt
@@ -157,9 +155,8 @@ parting_no_frmr [] h = tt
 parting_no_frmr (f ∷ fs) h = orderly_no_frmr f fs h.0.orderly (parting_no_frmr fs h.1)
 
 pub parting_whole : (n1 : ℕ) (given : List (List ℕ)) (fs : List PlainFrame) → Each IsPart fs → AreWhole n1 given fs
-parting_whole n1 given [] h = tt
-parting_whole n1 given (f ∷ fs) h =
-    (record { in_range = h.0.in_range; carries = h.0.carries; within = h.0.within n1; packet = h.0.packet given }, parting_whole n1 given fs h.1)
+parting_whole n1 given = each_map IsPart (IsWhole n1 given)
+    (λ f h. record { in_range = h.in_range; carries = h.carries; within = h.within n1; packet = h.packet given })
 
 -- what was handed down at either end, and then more at the first
 pub first_more : (xs ys more : List (List ℕ)) (x : List ℕ) → Contains (xs ++ ys) x → Contains ((xs ++ more) ++ ys) x
@@ -184,8 +181,7 @@ module _ (reads : ReadsSpelled) (from : Role) (n1 : ℕ) where
   good_numbered (f ∷ fs) h = rw (good_reads h.0, h.0.number) (ap (λ es. f ∷ es) (good_numbered fs h.1))
 
   pub good_orderly : (fs : List PlainFrame) → AllGood n1 fs → AreOrderly from n1 (map (spelling_of from) fs)
-  good_orderly [] h = tt
-  good_orderly (f ∷ fs) h = (rw (good_reads h.0) h.0.orderly, good_orderly fs h.1)
+  good_orderly = each_over (IsGood n1) (λ o. IsOrderly (frame_of from n1 o)) (spelling_of from) (λ f h. rw (good_reads h) h.orderly)
 
   pub part_reads : {f : PlainFrame} → IsPart f → frame_of from n1 (spelling_of from f) ≡ Ok f
   part_reads {f} h = reads from n1 f (spelling_of from f) (record { in_range = h.in_range; carries = h.carries; within = h.within n1; spelling = refl })
@@ -195,8 +191,7 @@ module _ (reads : ReadsSpelled) (from : Role) (n1 : ℕ) where
   parting_numbered (f ∷ fs) h = rw (part_reads h.0, h.0.none) (parting_numbered fs h.1)
 
   pub parting_orderly : (fs : List PlainFrame) → Each IsPart fs → AreOrderly from n1 (map (spelling_of from) fs)
-  parting_orderly [] h = tt
-  parting_orderly (f ∷ fs) h = (rw (part_reads h.0) h.0.orderly, parting_orderly fs h.1)
+  parting_orderly = each_over IsPart (λ o. IsOrderly (frame_of from n1 o)) (spelling_of from) (λ f h. rw (part_reads h) h.orderly)
 
 -- ---- what is lost or damaged
 

@@ -7,12 +7,13 @@ use Rattle.x25_window.specs.{laws.Window.{after}, laws.Window.Step.{HandDown}}
 use Rattle.x25_link.specs.{declared.phase.Reason.{Reason}, declared.phase.Reason.TheVariants.{FrmrSent, Reset}, Station.{Settings, LinkStation, is_up}}
 use Rattle.x25_link.specs.{Hearing.{Step, other}, Link.{take_step, put_step}, laws.WindowMachine.{Window, Input, hands_down, nothing}}
 use Rattle.x25_link.specs.laws.WindowLaw.{window_of, after_input, ending_of, brought_by, Stays, Ends, Follows}
-use Rattle.x25_line.specs.{laws.Stations.{Stations, Act, after_step, acts}, laws.LawsBelow.{Laws}, laws.Said.{said}, laws.Peer.{Peer, MayHear}}
-use Rattle.x25_line.specs.{laws.PeerClaims.{IsNoFrmr}, laws.SessionClaims.{Each}, laws.Sessions.{sabm_in}}
+use Rattle.x25_line.specs.{laws.Stations.{Stations, Act, after_step, acts, start}, laws.LawsBelow.{Laws}, laws.Said.{said}}
+use Rattle.x25_line.specs.{laws.Peer.{Peer, fresh_peer, MayHear}, laws.PeerClaims.{IsNoFrmr}, laws.SessionClaims.{Each}, laws.Sessions.{sabm_in}}
 use Rattle.x25_line.proofs.{Lists.{each_append}, StationLines.{parts_of}, StationSends.{AllWithin, within_push}}
 use Rattle.x25_line.proofs.StationSteps.{AsUp, IsAway, FitsEnd, no_packet_of, Leaves, Noted, left_up, stays_out, in_vain, Parts, ends_parts, empty_lists}
-use Rattle.x25_line.proofs.{StationAway.{is_up_phase, frmr_three}, StationSays.{machine_of, MayDo, AllFree, parting_free, frmr_free, free_all, runs_said}}
-use Rattle.x25_line.proofs.{StationActs.{OfSteps, of_act}, StationHears.{passes, Hears, stays_hears, left_by, by_reset}}
+use Rattle.x25_line.proofs.{StationRuns.{fresh_sound}, StationAway.{is_up_phase, frmr_three}}
+use Rattle.x25_line.proofs.{StationSays.{machine_of, MayDo, AllFree, parting_free, frmr_free, free_all, runs_said}, StationActs.{OfSteps, of_act}}
+use Rattle.x25_line.proofs.StationHears.{passes, Hears, stays_hears, left_by, by_reset}
 
 -- the near end of w, with settings d, as a peer of which R is known
 pub record Seen (d : Settings) (Fine : Type 0) (R : List (List ℕ) → Peer → List (List ℕ) → Type 0) (w : Stations) : Type 0 where
@@ -26,6 +27,35 @@ pub record Seen (d : Settings) (Fine : Type 0) (R : List (List ℕ) → Peer →
   pub up : peer.taken ≡ w.near.up
   pub fine : Fine → Each IsNoFrmr w.near.reasons
 
+-- it is seen so in another world, where this is known of it there
+pub seen_so : {d : Settings} {Fine : Type 0} {R Q : List (List ℕ) → Peer → List (List ℕ) → Type 0} {w v : Stations} → v.near ≡ w.near
+    → (h : Seen d Fine R w) → Q v.back h.peer v.out → Seen d Fine Q v
+seen_so same h reached = record {
+  peer = h.peer;
+  reached = reached;
+  fits = rw same h.fits;
+  room = h.room;
+  told = h.told;
+  within = h.within;
+  down = rw same h.down;
+  up = rw same h.up;
+  fine = rw same h.fine;
+}
+
+-- as the link was just set up
+pub start_seen : {d : Settings} {Fine : Type 0} {R : List (List ℕ) → Peer → List (List ℕ) → Type 0} → R [] fresh_peer [] → Seen d Fine R start
+start_seen {d} reached = record {
+  peer = fresh_peer;
+  reached = reached;
+  fits = inl (record { up = refl; sound = fresh_sound d.window; same = refl });
+  room = omega arith;
+  told = omega arith;
+  within = tt;
+  down = refl;
+  up = refl;
+  fine = λ f. tt;
+}
+
 leaves_no_frmr : (reason : Reason) → Leaves reason → IsNoFrmr reason
 leaves_no_frmr FrmrSent l = absurd l
 leaves_no_frmr Reset l = absurd l
@@ -34,7 +64,7 @@ leaves_no_frmr reason l = tt
 no_frmr_noted : {s : LinkStation} {step : Step} → Noted s step → Each IsNoFrmr (option_to_list step.notes.down)
 no_frmr_noted (left_up reason leaves up down not_up) = rw down (leaves_no_frmr reason leaves, tt)
 no_frmr_noted (stays_out out quiet) = rw quiet tt
-no_frmr_noted (in_vain out down not_up) = rw down (tt, tt)
+no_frmr_noted (in_vain waits down not_up) = rw down (tt, tt)
 
 module _ (d : Settings) (high : d.window ≤ 7) (reads : ReadsSpelled) (laws : Laws) (Fine : Type 0) (R : List (List ℕ) → Peer → List (List ℕ) → Type 0)
     (does : MayDo d Fine R) where
@@ -190,24 +220,11 @@ module _ (d : Settings) (high : d.window ≤ 7) (reads : ReadsSpelled) (laws : L
       }))
       stays
 
-  -- the line to it
-  line_seen : {w : Stations} {os : List (List ℕ)} (h : S w) → R os h.peer w.out → S (record w { back = os })
-  line_seen h reached = record {
-    peer = h.peer;
-    reached = reached;
-    fits = h.fits;
-    room = h.room;
-    told = h.told;
-    within = h.within;
-    down = h.down;
-    up = h.up;
-    fine = h.fine;
-  }
-
-  of_steps : (w : Stations) (h : S w) → OfSteps d w (machine_of d.window h.peer) S
+  of_steps : (w : Stations) (h : S w) → OfSteps d w (machine_of d.window h.peer) (λ place. S)
   of_steps w h = record {
     fits = h.fits;
     still = h;
+    none_comes = λ is. h;
     takes = λ o os is u no_sabm. up_seen w h o os is u no_sabm;
     puts = λ packet u short. put_up w h packet u short;
     rests = λ step u stays. stays_seen h
@@ -215,8 +232,8 @@ module _ (d : Settings) (high : d.window ≤ 7) (reads : ReadsSpelled) (laws : L
         (subst (Ready w w.back [] None) (sym u.same) (left_so h h.reached))) stays;
     parts = λ step parts. parting_seen h (left_so h h.reached) parts;
     passes = λ o os is step parts. parting_seen h (passed w h o os is) parts;
-    loses = λ i. line_seen h (does.loses w.back h.peer w.out i h.reached);
-    damages = λ i octets visible. line_seen h (does.damages w.back h.peer w.out i octets visible h.reached);
+    loses = λ i. seen_so refl h (does.loses w.back h.peer w.out i h.reached);
+    damages = λ i octets visible. seen_so refl h (does.damages w.back h.peer w.out i octets visible h.reached);
   }
 
   -- what the near end does, it may do as a peer

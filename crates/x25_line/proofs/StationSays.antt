@@ -8,7 +8,7 @@ use Rattle.x25_link.specs.{Station.{Settings}, Hearing.{other}, declared.phase.R
 use Rattle.x25_link.specs.laws.WindowMachine.{Window, ShowsItem, Shows, ShowAll, IsSent, Runs, rests, goes_on}
 use Rattle.x25_line.specs.{laws.Stations.{replaced, is_visible}, laws.StationClaims.{Each, number_in}, laws.Peer.{Peer, MaySend, MayHear, numbered_to, told_to}}
 use Rattle.x25_line.proofs.StationLines.{IsGood, IsPart, good_reads, part_reads}
-use Rattle.x25_line.proofs.StationSends.{AllWithin, Item, item_at, single_of, tell_good, send_good, not_none}
+use Rattle.x25_line.proofs.{StationSends.{AllWithin, Item, item_at, single_of, tell_good, send_good, not_none}, Lists.{each_map}}
 use Rattle.x25_window.specs.{laws.Window.{Step, Allows, after, frame_of as machine_frame, frames_of, numbered}, laws.Window.Step.{Send, Tell}}
 
 -- the peer as an end of the window machine, with a station's k
@@ -123,8 +123,7 @@ free_sent p (rej command nr pf) none = cc
 free_sent p f none = refl
 
 pub parting_free : ReadsSpelled → (from : Role) (n1 : ℕ) (fs : List PlainFrame) → Each IsPart fs → AllFree from n1 fs
-parting_free reads from n1 [] h = tt
-parting_free reads from n1 (f ∷ fs) h = (record { reads = part_reads reads from n1 h.0; none = h.0.none }, parting_free reads from n1 fs h.1)
+parting_free reads from n1 = each_map IsPart (IsFree from n1) (λ f h. record { reads = part_reads reads from n1 h; none = h.none })
 
 pub frmr_free : ReadsSpelled → (from : Role) (n1 : ℕ) (f : Bool) (why : List ℕ) → length why ≡ 3 → AllFree from n1 (frmr f why ∷ [])
 frmr_free reads from n1 f why three =

@@ -1,7 +1,7 @@
 -- What holds of two stations and the window machine behind the line, and that a step of the near end keeps it.
 use Rattle.std.proofs.Common.{◌≡◌, ℕ, ◌+◌, ◌%◌, List, [], ◌∷◌, ◌++◌, ◌⊎◌, inl, inr, length, map, remove, Bool, true, false, Option, Some, None, Result, Ok, Err}
 use Rattle.std.proofs.{Common.{refl, sym, ap, ◌∙◌, subst, arith, append-nil}, lemmas.Bool.{le-leb}, lemmas.List.{replicate_more}}
-use Rattle.std.specs.Prelude.{option_to_list, drop, ◌||◌}
+use Rattle.std.specs.Prelude.{option_to_list, ◌||◌}
 use Rattle.x25_frame.specs.{Frame.{PlainFrame, info, rr, rnr, rej, sabm, disc, ua, dm}, Spelling.{spelling_of}, Reading.{frame_of}}
 use Rattle.x25_frame.specs.{laws.ReadingLaw.{ReadsSpelled}, declared.error.FrameError.{FrameError}}
 use Rattle.x25_frame.specs.declared.error.FrameError.TheVariants.{Short, BadFcs, BadAddress}
@@ -17,7 +17,8 @@ use Rattle.x25_line.specs.{laws.Stations.{StationEnd, Stations, after_step}, law
 use Rattle.x25_line.specs.laws.StationClaims.{AreJoined, NotesItsEnd, MachineReaches, near_moves, number_in, numbered_on, Each, NoFrmr, IsWhole, AreWhole}
 use Rattle.x25_line.specs.laws.WholeNumbers.{given, first_of, taken_out, counted, machine_after}
 use Rattle.x25_line.proofs.{Lists.{each_append}, Kept.{Kept, Way, Kept-moved, hears_valid}}
-use Rattle.x25_line.proofs.StationLines.{shows_append, Front, front_of, carried_of, IsOrderly, AreOrderly, consed, numbered_append, AreParting, IsPart}
+use Rattle.x25_line.proofs.StationLines.{shows_append, shows_first, Front, front_of, carried_of, IsOrderly, AreOrderly, consed, numbered_append, AreParting}
+use Rattle.x25_line.proofs.StationLines.{IsPart}
 use Rattle.x25_line.proofs.StationLines.{parts_of, no_frmr_append, good_no_frmr, parting_no_frmr, good_numbered, good_orderly, parting_numbered}
 use Rattle.x25_line.proofs.StationLines.{parting_orderly, whole_more, good_whole, parting_whole, first_more}
 use Rattle.x25_line.proofs.StationSends.{AllWithin, Sent, sent_given, runs_sent}
@@ -86,32 +87,26 @@ Holds c d w = (l : Line (List ℕ)) × Joint c d w l
 
 -- ---- the machine goes on
 
-abbrev pub not_taken : List (List ℕ) → List (List ℕ) → List (List ℕ)
-not_taken before now = drop (length before) now
+-- it may lose what stands at a place of the line
+lost : {c d : Settings} {w : Stations} {l : Line (List ℕ)} → Joint c d w l → (gone : Option ℕ)
+    → (let m = record l { back = taken_out gone l.back } in MachineReaches c.window d.window m × Kept m)
+lost h None = (h.reached, h.kept)
+lost {l = l} h (Some n) = (near_moves l (Loses n) h.reached tt, Kept-moved (Loses n) tt h.kept)
 
--- the machine `m` is `l` once the near end has acted, with these frames left on the line to it
-pub record Goes (c : Settings) (w v : Stations) (l m : Line (List ℕ)) (left : List (Frame (List ℕ))) : Type 0 where
-  pub near : m.near ≡ counted c.window v.near.station l.near
-  pub far : m.far ≡ l.far
-  pub out : m.out ≡ l.out ++ given m.near.acked (length m.near.taken) l.near.sent (numbered_on c.role c.longest (not_taken w.out v.out))
-  pub back : m.back ≡ left
+-- it is behind `v`, once the near end put these octets and what stands at a place is gone from the line to it
+abbrev pub Leads : Settings → Settings → Line (List ℕ) → Option ℕ → List (List ℕ) → Stations → Type 0
+Leads c d l gone put v = Joint c d v (machine_after c v.near.station put gone l)
 
-abbrev pub Leads : Settings → Settings → Stations → Line (List ℕ) → List (Frame (List ℕ)) → Stations → Type 0
-Leads c d w l left v = (m : Line (List ℕ)) × Joint c d v m × Goes c w v l m left
+-- so it is by a step of the near end
+abbrev pub StepLeads : Settings → Settings → Stations → Line (List ℕ) → Option ℕ → List (List ℕ) → List (List ℕ) → Step → Type 0
+StepLeads c d w l gone back down step = Leads c d l gone (map (spelling_of c.role) step.side.out) (after_step c w back down step)
 
--- so it is the machine that the definition says
-pub machine_is : (c : Settings) (station : LinkStation) (put : List (List ℕ)) (place : Option ℕ) (l m : Line (List ℕ)) → m.near
-    ≡ counted c.window station l.near → m.far ≡ l.far
-    → m.out ≡ l.out ++ given m.near.acked (length m.near.taken) l.near.sent (numbered_on c.role c.longest put) → m.back ≡ taken_out place l.back → m
-    ≡ machine_after c station put place l
-machine_is c station put place l m near far out back =
-    let frames : List PlainFrame = numbered_on c.role c.longest put in
-    let made : End (List ℕ) → End (List ℕ) → List (Frame (List ℕ)) → List (Frame (List ℕ)) → Line (List ℕ) =
-    λ near far out back. record { near = near; far = far; out = out; back = back } in
-    ap (λ out. made m.near m.far out m.back) out
-    ∙ ap (λ e. made e m.far (l.out ++ given e.acked (length e.taken) l.near.sent frames) m.back) near
-    ∙ ap (λ far. (let e = counted c.window station l.near in made e far (l.out ++ given e.acked (length e.taken) l.near.sent frames) m.back)) far
-    ∙ ap (λ back. (let e = counted c.window station l.near in made e l.far (l.out ++ given e.acked (length e.taken) l.near.sent frames) back)) back
+-- a machine of these ends and lines is the one that the definition says
+pub machine_is : (c : Settings) (station : LinkStation) (put : List (List ℕ)) (place : Option ℕ) (l : Line (List ℕ)) {near far : End (List ℕ)}
+    {out back : List (Frame (List ℕ))} → near ≡ counted c.window station l.near → far ≡ l.far
+    → out ≡ l.out ++ given near.acked (length near.taken) l.near.sent (numbered_on c.role c.longest put) → back ≡ taken_out place l.back
+    → (let m : Line (List ℕ) = record { near = near; far = far; out = out; back = back } in m) ≡ machine_after c station put place l
+machine_is c station put place l near far out back = rw (out, near, far, back) refl
 
 pub counted_up : (k : ℕ) (s : LinkStation) (e : Window) → is_up s.phase ≡ true → counted k s e ≡ window_of k s
 counted_up k s e up = rw up refl
@@ -124,32 +119,35 @@ pub counted_fits : {c : Settings} {s : LinkStation} {e : Window} → FitsEnd c s
 counted_fits {c} {s} {e} (inl u) = counted_up c.window s e u.up ∙ u.same
 counted_fits {c} {s} {e} (inr away) = counted_off c.window s e away.away
 
-pub put_behind : (xs ys : List (List ℕ)) → not_taken xs (xs ++ ys) ≡ ys
-put_behind [] ys = refl
-put_behind (x ∷ xs) ys = put_behind xs ys
-
 -- nothing that carries a number was put
 pub none_put : (l : Line (List ℕ)) (a r : ℕ) (fs : List PlainFrame) → fs ≡ [] → l.out ≡ l.out ++ given a r l.near.sent fs
 none_put l a r fs none = sym (append-nil l.out) ∙ ap (λ es. l.out ++ given a r l.near.sent es) (sym none)
 
-pub nothing_put : (xs : List (List ℕ)) → not_taken xs xs ≡ []
-nothing_put [] = refl
-nothing_put (x ∷ xs) = nothing_put xs
+-- the station is as it was, and so is the line, but for what is gone from that to the near end
+pub left_joint : {c d : Settings} {w : Stations} {l : Line (List ℕ)} → Joint c d w l → (gone : Option ℕ) {os : List (List ℕ)}
+    → ShowAll (numbered_on (other c.role) c.longest os) (taken_out gone l.back) → AreOrderly (other c.role) c.longest os
+    → Leads c d l gone [] (record w { back = os })
+left_joint {c} {d} {w} {l} h gone {os} shows orderly =
+    let left = lost h gone in
+    subst (Joint c d (record w { back = os }))
+    (machine_is c w.near.station [] gone l (sym (counted_fits h.near)) refl (sym (append-nil l.out)) refl)
+    (record {
+      reached = left.0;
+      kept = left.1;
+      near = h.near;
+      far = h.far;
+      out = h.out;
+      back = shows;
+      out_orderly = h.out_orderly;
+      back_orderly = orderly;
+      near_has = h.near_has;
+      far_has = h.far_has;
+      no_frmr = h.no_frmr;
+      whole = h.whole;
+    })
 
--- the line is as it was, with these frames left on that to the near end
-pub left_alone : (c d : Settings) (w v : Stations) (l m : Line (List ℕ)) → Joint c d w l → v.near.station ≡ w.near.station → v.out
-    ≡ w.out → m.near ≡ l.near → m.far ≡ l.far
-    → m.out ≡ l.out → Goes c w v l m m.back
-left_alone c d w v l m h station out near far frames = record {
-  near = near ∙ sym (counted_fits h.near) ∙ ap (λ s. counted c.window s l.near) (sym station);
-  far = far;
-  out = frames ∙ none_put l m.near.acked (length m.near.taken) (numbered_on c.role c.longest (not_taken w.out v.out))
-      (ap (λ os. numbered_on c.role c.longest os) (ap (not_taken w.out) out ∙ nothing_put w.out));
-  back = refl;
-}
-
-pub stands_still : {c d : Settings} {w : Stations} {l : Line (List ℕ)} → Joint c d w l → Leads c d w l l.back w
-stands_still {c} {d} {w} {l} h = (l, h, left_alone c d w w l l h refl refl refl refl refl)
+pub stands_still : {c d : Settings} {w : Stations} {l : Line (List ℕ)} → Joint c d w l → Leads c d l None [] w
+stands_still h = left_joint h None h.back h.back_orderly
 
 -- ---- what is noted
 
@@ -213,7 +211,7 @@ declining_parting (frame ∷ fs) h = absurd h
 pub data Noted (s : LinkStation) (step : Step) : Type 0 where
   left_up : (reason : Reason) → Leaves reason → is_up s.phase ≡ true → step.notes.down ≡ Some reason → step.notes.up ≡ false → Noted s step
   stays_out : is_up s.phase ≡ false → IsQuiet step → Noted s step
-  in_vain : is_up s.phase ≡ false → step.notes.down ≡ Some Retries → step.notes.up ≡ false → Noted s step
+  in_vain : s.phase ≡ Waiting → step.notes.down ≡ Some Retries → step.notes.up ≡ false → Noted s step
 
 noted_once : (c : Settings) (w : Stations) (back : List (List ℕ)) (step : Step) → NotesOnce w.near → is_up step.side.near.phase ≡ false
     → Noted w.near.station step → NotesOnce (after_step c w back [] step).near
@@ -225,8 +223,8 @@ noted_once c w back step h off (left_up reason leaves up down not_up) = record {
   };
   once = ap (λ b. w.near.came_up || b) not_up ∙ ap (λ b. b || false) h.once;
 }
-noted_once c w back step h off (in_vain out down not_up) =
-    let l = h.notes.left out in
+noted_once c w back step h off (in_vain waits down not_up) =
+    let l = h.notes.left (ap is_up waits) in
     record {
       notes = record {
         still_up = λ on. not_both (is_up step.side.near.phase) on off;
@@ -292,54 +290,45 @@ module _ {c d : Settings} (joined : AreJoined c d) (reads : ReadsSpelled) where
       → AreOrderly (other d.role) d.longest (out ++ map (spelling_of c.role) fs)
   orderly_out out fs more f = each_append (λ o. IsOrderly (frame_of (other d.role) d.longest o)) out (map (spelling_of c.role) fs) f (rw joined.near_role more)
 
-  -- and as its own end does
-  put_is : (out : List (List ℕ)) (fs es : List PlainFrame) → numbered_on c.role c.longest (map (spelling_of c.role) fs) ≡ es
-      → numbered_on c.role c.longest (not_taken out (out ++ map (spelling_of c.role) fs)) ≡ es
-  put_is out fs es is = ap (numbered_on c.role c.longest) (put_behind out (map (spelling_of c.role) fs)) ∙ is
-
   -- a station that stays Up: what comes has come, and then it sends
-  pub stays_joint : {w : Stations} {l : Line (List ℕ)} (m : Line (List ℕ)) {back down : List (List ℕ)} {input : Input} {step : Step} → Joint c d w l
+  pub stays_joint : {w : Stations} {l : Line (List ℕ)} (m : Line (List ℕ)) (gone : Option ℕ) → m.back ≡ taken_out gone l.back
+      → {back down : List (List ℕ)} {input : Input} {step : Step} → Joint c d w l
       → is_up w.near.station.phase ≡ true
       → Stage c d w l m back down step.packet (after_input input step.packet (window_of c.window w.near.station))
       → Stays c.window input w.near.station step
-      → Leads c d w l m.back (after_step c w back down step)
-  stays_joint {w} {l} m {back} {down} {input} {step} h was_up g stays =
+      → StepLeads c d w l gone back down step
+  stays_joint {w} {l} m gone left {back} {down} {input} {step} h was_up g stays =
       let v : Window = after_input input step.packet (window_of c.window w.near.station) in
       let t = runs_sent g.reached g.kept g.near g.within stays.sends in
-      let far = t.far ∙ g.far in (
-        t.line,
-        record {
-          reached = t.reached;
-          kept = t.kept;
-          near = inl (record { up = stays.up; sound = stays.sound; same = sym t.near });
-          far = rw far h.far;
-          out = rw (t.out ∙ ap (λ gs. gs ++ t.behind) g.out)
-              (numbers_out w.out step.side.out step.side.out l.out t.behind (good_numbered reads c.role d.longest step.side.out t.good) h.out t.shows);
-          back = rw t.back g.left;
-          out_orderly = orderly_out w.out step.side.out (good_orderly reads c.role d.longest step.side.out t.good) h.out_orderly;
-          back_orderly = g.orderly;
-          near_has = record {
-            down = g.given ∙ sym t.given ∙ ap (λ z. z.given) (sym t.near);
-            up = g.taken ∙ sym t.taken ∙ ap (λ z. z.taken) (sym t.near);
-            within = subst (AllWithin d.longest) (sym t.given ∙ ap (λ z. z.given) (sym t.near)) g.within;
-            notes = quiet_notes c w back down step h.near_has.notes stays.quiet (stays.up ∙ sym was_up);
-          };
-          far_has = rw far h.far_has;
-          no_frmr = no_frmr_append w.sent step.side.out h.no_frmr (good_no_frmr d.longest step.side.out t.good);
-          whole = each_append (IsWhole d.longest ((w.near.down ++ down) ++ w.far.down)) w.sent step.side.out
-              (whole_more d.longest (w.near.down ++ w.far.down) ((w.near.down ++ down) ++ w.far.down) (first_more w.near.down w.far.down down) w.sent h.whole)
-              (good_whole d.longest (w.near.down ++ down) w.far.down step.side.out t.good (rw g.given t.handed));
-        },
-        record {
-          near = t.near ∙ sym (counted_up c.window step.side.near l.near stays.up);
-          far = far;
-          out = t.out ∙ ap (λ gs. gs ++ t.behind) g.out
-              ∙ ap (λ gs. l.out ++ gs) (sends m v (window_of c.window step.side.near) step.side.out t (ap (λ z. z.sent) g.near ∙ g.same_sent) t.near)
-              ∙ ap (λ fs. l.out ++ given t.line.near.acked (length t.line.near.taken) l.near.sent fs)
-              (sym (put_is w.out step.side.out step.side.out (good_numbered reads c.role c.longest step.side.out (rw joined.longest t.good))));
-          back = t.back;
-        },
-      )
+      let far = t.far ∙ g.far in
+      subst (Joint c d (after_step c w back down step))
+      (machine_is c step.side.near (map (spelling_of c.role) step.side.out) gone l (t.near ∙ sym (counted_up c.window step.side.near l.near stays.up)) far
+      (t.out ∙ ap (λ gs. gs ++ t.behind) g.out
+      ∙ ap (λ gs. l.out ++ gs) (sends m v (window_of c.window step.side.near) step.side.out t (ap (λ z. z.sent) g.near ∙ g.same_sent) t.near)
+      ∙ ap (λ fs. l.out ++ given t.line.near.acked (length t.line.near.taken) l.near.sent fs)
+      (sym (good_numbered reads c.role c.longest step.side.out (rw joined.longest t.good)))) (t.back ∙ left))
+      (record {
+        reached = t.reached;
+        kept = t.kept;
+        near = inl (record { up = stays.up; sound = stays.sound; same = sym t.near });
+        far = rw far h.far;
+        out = rw (t.out ∙ ap (λ gs. gs ++ t.behind) g.out)
+            (numbers_out w.out step.side.out step.side.out l.out t.behind (good_numbered reads c.role d.longest step.side.out t.good) h.out t.shows);
+        back = rw t.back g.left;
+        out_orderly = orderly_out w.out step.side.out (good_orderly reads c.role d.longest step.side.out t.good) h.out_orderly;
+        back_orderly = g.orderly;
+        near_has = record {
+          down = g.given ∙ sym t.given ∙ ap (λ z. z.given) (sym t.near);
+          up = g.taken ∙ sym t.taken ∙ ap (λ z. z.taken) (sym t.near);
+          within = subst (AllWithin d.longest) (sym t.given ∙ ap (λ z. z.given) (sym t.near)) g.within;
+          notes = quiet_notes c w back down step h.near_has.notes stays.quiet (stays.up ∙ sym was_up);
+        };
+        far_has = rw far h.far_has;
+        no_frmr = no_frmr_append w.sent step.side.out h.no_frmr (good_no_frmr d.longest step.side.out t.good);
+        whole = each_append (IsWhole d.longest ((w.near.down ++ down) ++ w.far.down)) w.sent step.side.out
+            (whole_more d.longest (w.near.down ++ w.far.down) ((w.near.down ++ down) ++ w.far.down) (first_more w.near.down w.far.down down) w.sent h.whole)
+            (good_whole d.longest (w.near.down ++ down) w.far.down step.side.out t.good (rw g.given t.handed));
+      })
     where
       sends : (m : Line (List ℕ)) (v z : Window) (fs : List PlainFrame) (t : Sent c.window d.window d.longest m v z fs) → m.near.sent ≡ l.near.sent
           → t.line.near ≡ z
@@ -422,7 +411,7 @@ module _ {c d : Settings} (joined : AreJoined c d) (reads : ReadsSpelled) where
       → ((packet : Option (List ℕ)) → MayHandUp (receives f) packet (window_of c.window w.near.station)
       → Stage c d w l (come l (is_some packet) front.frame front.others) os [] packet
       (after_input (receives f) packet (window_of c.window w.near.station)))
-      → Leads c d w l (remove l.back 0) (after_step c w os [] step)
+      → StepLeads c d w l (Some 0) os [] step
   numbered_joint {w} {l} h u os {f} nr step front number follows stage =
       let stays : Stays c.window (receives f) w.near.station step =
       subst (λ o. Follows o c.window (receives f) w.near.station step)
@@ -430,8 +419,8 @@ module _ {c d : Settings} (joined : AreJoined c d) (reads : ReadsSpelled) where
       let valid = hears_valid front.others front.frame way in
       let there : if_valid (front.frame.ack % 8) e ≡ None = rw (valid.0, le-leb front.frame.ack e.sent valid.2) refl in
       ap (λ n. if_valid n (window_of c.window w.near.station)) number ∙ ap (λ z. if_valid (front.frame.ack % 8) z) u.same ∙ there) follows in
-      subst (λ left. Leads c d w l left (after_step c w os [] step)) (sym (ap (λ bs. remove bs 0) front.is))
-      (stays_joint (come l (is_some step.packet) front.frame front.others) h u.up (stage step.packet stays.hands_up) stays)
+      stays_joint (come l (is_some step.packet) front.frame front.others) (Some 0) (sym (ap (λ bs. remove bs 0) front.is)) h u.up
+      (stage step.packet stays.hands_up) stays
 
   -- ---- steps that bring nothing, and steps that leave
 
@@ -457,49 +446,43 @@ module _ {c d : Settings} (joined : AreJoined c d) (reads : ReadsSpelled) where
       → AreOrderly (other c.role) c.longest os → ShowAll (numbered_on (other c.role) c.longest os) l.back
       → {input : Input} {step : Step} → after_input input step.packet (window_of c.window w.near.station) ≡ window_of c.window w.near.station
       → ((y : List ℕ) → MayHandUp input (Some y) (window_of c.window w.near.station) → ⊥)
-      → Stays c.window input w.near.station step → Leads c d w l l.back (after_step c w os [] step)
+      → Stays c.window input w.near.station step → StepLeads c d w l None os [] step
   quiet_joint {w} {l} h u {os} orderly shows {input} {step} same never stays =
-      stays_joint l h u.up
+      stays_joint l None refl h u.up
       (rw same (quiet_stage h u orderly shows step.packet (no_packet_of input step.packet (window_of c.window w.near.station) never stays.hands_up))) stays
 
   -- a station that leaves or is out: a numbered frame that comes to it is lost to the machine
-  pub parts_joint : {w : Stations} {l : Line (List ℕ)} → Joint c d w l → {gs : List (Frame (List ℕ))} {os : List (List ℕ)} {step : Step}
-      → Kept (record { near = l.near; far = l.far; out = l.out; back = gs })
-      → MachineReaches c.window d.window (record { near = l.near; far = l.far; out = l.out; back = gs })
-      → ShowAll (numbered_on (other c.role) c.longest os) gs → AreOrderly (other c.role) c.longest os
-      → Parts w.near.station step → Leads c d w l gs (after_step c w os [] step)
-  parts_joint {w} {l} h {gs} {os} {step} kept reached shows orderly parts = (
-    record { near = l.near; far = l.far; out = l.out; back = gs },
-    record {
-      reached = reached;
-      kept = kept;
-      near = inr parts.away;
-      far = h.far;
-      out = subst (ShowAll (numbered_on (other d.role) d.longest (w.out ++ map (spelling_of c.role) step.side.out))) (append-nil l.out)
-          (numbers_out w.out step.side.out [] l.out [] (parting_numbered reads c.role d.longest step.side.out each) h.out tt);
-      back = shows;
-      out_orderly = orderly_out w.out step.side.out (parting_orderly reads c.role d.longest step.side.out each) h.out_orderly;
-      back_orderly = orderly;
-      near_has = record {
-        down = append-nil w.near.down ∙ h.near_has.down;
-        up = rw parts.packet (append-nil w.near.up ∙ h.near_has.up);
-        within = h.near_has.within;
-        notes = noted_once c w os step h.near_has.notes off parts.noted;
-      };
-      far_has = h.far_has;
-      no_frmr = no_frmr_append w.sent step.side.out h.no_frmr (parting_no_frmr step.side.out each);
-      whole = each_append (IsWhole d.longest ((w.near.down ++ []) ++ w.far.down)) w.sent step.side.out
-          (whole_more d.longest (w.near.down ++ w.far.down) ((w.near.down ++ []) ++ w.far.down) (first_more w.near.down w.far.down []) w.sent h.whole)
-          (parting_whole d.longest ((w.near.down ++ []) ++ w.far.down) step.side.out each);
-    },
-    record {
-      near = sym (counted_off c.window step.side.near l.near off);
-      far = refl;
-      out = none_put l l.near.acked (length l.near.taken) (numbered_on c.role c.longest (not_taken w.out (w.out ++ map (spelling_of c.role) step.side.out)))
-          (put_is w.out step.side.out [] (parting_numbered reads c.role c.longest step.side.out each));
-      back = refl;
-    },
-  )
+  pub parts_joint : {w : Stations} {l : Line (List ℕ)} → Joint c d w l → (gone : Option ℕ) {os : List (List ℕ)} {step : Step}
+      → ShowAll (numbered_on (other c.role) c.longest os) (taken_out gone l.back) → AreOrderly (other c.role) c.longest os
+      → Parts w.near.station step → StepLeads c d w l gone os [] step
+  parts_joint {w} {l} h gone {os} {step} shows orderly parts =
+      subst (Joint c d (after_step c w os [] step))
+      (machine_is c step.side.near (map (spelling_of c.role) step.side.out) gone l
+      (sym (counted_off c.window step.side.near l.near off)) refl
+      (none_put l l.near.acked (length l.near.taken) (numbered_on c.role c.longest (map (spelling_of c.role) step.side.out))
+      (parting_numbered reads c.role c.longest step.side.out each)) refl)
+      (record {
+        reached = (lost h gone).0;
+        kept = (lost h gone).1;
+        near = inr parts.away;
+        far = h.far;
+        out = subst (ShowAll (numbered_on (other d.role) d.longest (w.out ++ map (spelling_of c.role) step.side.out))) (append-nil l.out)
+            (numbers_out w.out step.side.out [] l.out [] (parting_numbered reads c.role d.longest step.side.out each) h.out tt);
+        back = shows;
+        out_orderly = orderly_out w.out step.side.out (parting_orderly reads c.role d.longest step.side.out each) h.out_orderly;
+        back_orderly = orderly;
+        near_has = record {
+          down = append-nil w.near.down ∙ h.near_has.down;
+          up = rw parts.packet (append-nil w.near.up ∙ h.near_has.up);
+          within = h.near_has.within;
+          notes = noted_once c w os step h.near_has.notes off parts.noted;
+        };
+        far_has = h.far_has;
+        no_frmr = no_frmr_append w.sent step.side.out h.no_frmr (parting_no_frmr step.side.out each);
+        whole = each_append (IsWhole d.longest ((w.near.down ++ []) ++ w.far.down)) w.sent step.side.out
+            (whole_more d.longest (w.near.down ++ w.far.down) ((w.near.down ++ []) ++ w.far.down) (first_more w.near.down w.far.down []) w.sent h.whole)
+            (parting_whole d.longest ((w.near.down ++ []) ++ w.far.down) step.side.out each);
+      })
     where
       off : is_up step.side.near.phase ≡ false
       off = parts.away.away
@@ -511,44 +494,41 @@ module _ {c d : Settings} (joined : AreJoined c d) (reads : ReadsSpelled) where
   pub ends_joint : {w : Stations} {l : Line (List ℕ)} → Joint c d w l → is_up w.near.station.phase ≡ true
       → {os : List (List ℕ)} {step : Step} {reason : Reason} → Leaves reason
       → ShowAll (numbered_on (other c.role) c.longest os) l.back → AreOrderly (other c.role) c.longest os
-      → Tells w.near.station step → Ends reason step → Leads c d w l l.back (after_step c w os [] step)
-  ends_joint {w} {l} h up {os} {step} {reason} leaves shows orderly tells ends = parts_joint h h.kept h.reached shows orderly (ends_parts up leaves tells ends)
+      → Tells w.near.station step → Ends reason step → StepLeads c d w l None os [] step
+  ends_joint {w} {l} h up {os} {step} {reason} leaves shows orderly tells ends = parts_joint h None shows orderly (ends_parts up leaves tells ends)
 
   -- ---- what comes, by what it reads as
 
   told_joint : {w : Stations} {l : Line (List ℕ)} → Joint c d w l → AsUp c w.near.station l.near
-      → {os : List (List ℕ)} {f : PlainFrame} (nr : ℕ) (step : Step)
-      → AreOrderly (other c.role) c.longest os → (front : Front f (numbered_on (other c.role) c.longest os) l.back) → nr ≡ front.frame.ack % 8
+      → {os : List (List ℕ)} (f : PlainFrame) (nr : ℕ) (step : Step)
+      → AreOrderly (other c.role) c.longest os → ShowAll (f ∷ numbered_on (other c.role) c.longest os) l.back
+      → ((g : Frame (List ℕ)) → Shows f g → nr ≡ g.ack % 8)
       → Follows (if_valid nr (window_of c.window w.near.station)) c.window (receives f) w.near.station step
       → ((packet : Option (List ℕ)) → after_input (receives f) packet (window_of c.window w.near.station) ≡ after (window_of c.window w.near.station) (Hear nr))
       → ((y : List ℕ) → MayHandUp (receives f) (Some y) (window_of c.window w.near.station) → ⊥)
-      → Leads c d w l (remove l.back 0) (after_step c w os [] step)
-  told_joint {w} {l} h u {os} {f} nr step orderly front number follows hears never =
-      numbered_joint h u os nr step front number follows
-      (λ packet up. rw (hears packet) (stage packet (no_packet_of (receives f) packet (window_of c.window w.near.station) never up)))
-    where
-      stage : (packet : Option (List ℕ)) → packet ≡ None
-          → Stage c d w l (come l (is_some packet) front.frame front.others) os [] packet (after (window_of c.window w.near.station) (Hear nr))
-      stage packet none = rw none (tell_stage h u orderly front.frame front.is front.rest_shows nr number)
+      → StepLeads c d w l (Some 0) os [] step
+  told_joint {w} {l} h u {os} f nr step orderly shows number follows hears never =
+      let front = front_of f (numbered_on (other c.role) c.longest os) l.back shows in
+      let told = number front.frame front.shows in
+      numbered_joint h u os nr step front told follows
+      (λ packet up. rw (hears packet, no_packet_of (receives f) packet (window_of c.window w.near.station) never up)
+      (tell_stage h u orderly front.frame front.is front.rest_shows nr told))
 
   -- octets come to an end that is Up
   pub read_joint : {w : Stations} {l : Line (List ℕ)} → Joint c d w l → AsUp c w.near.station l.near
       → (r : Result PlainFrame FrameError) {os : List (List ℕ)} {step : Step}
       → IsOrderly r → sabm_in r ≡ 0 → AreOrderly (other c.role) c.longest os → ShowAll (consed (number_in r) (numbered_on (other c.role) c.longest os)) l.back
       → Tells w.near.station step → Follows (ending_of r (window_of c.window w.near.station)) c.window (brought_by r) w.near.station step
-      → Leads c d w l (taken_out (first_of (number_in r)) l.back) (after_step c w os [] step)
+      → StepLeads c d w l (first_of (number_in r)) os [] step
   read_joint {w} {l} h u (Ok (info ns nr p x)) {os} {step} good none orderly shows tells follows =
       let front = front_of (info ns nr p x) (numbered_on (other c.role) c.longest os) l.back shows in
       numbered_joint h u os nr step front front.shows.1 follows (info_stage h u orderly front.is front.rest_shows ns nr p x front.shows)
   read_joint {w} {l} h u (Ok (rr command nr pf)) {os} {step} good none orderly shows tells follows =
-      let front = front_of (rr command nr pf) (numbered_on (other c.role) c.longest os) l.back shows in
-      told_joint h u nr step orderly front front.shows.1 follows (λ packet. refl) (λ y k. k)
+      told_joint h u (rr command nr pf) nr step orderly shows (λ g shown. shown.1) follows (λ packet. refl) (λ y k. k)
   read_joint {w} {l} h u (Ok (rnr command nr pf)) {os} {step} good none orderly shows tells follows =
-      let front = front_of (rnr command nr pf) (numbered_on (other c.role) c.longest os) l.back shows in
-      told_joint h u nr step orderly front front.shows.1 follows (λ packet. refl) (λ y k. k)
+      told_joint h u (rnr command nr pf) nr step orderly shows (λ g shown. shown.1) follows (λ packet. refl) (λ y k. k)
   read_joint {w} {l} h u (Ok (rej command nr pf)) {os} {step} good none orderly shows tells follows =
-      let front = front_of (rej command nr pf) (numbered_on (other c.role) c.longest os) l.back shows in
-      told_joint h u nr step orderly front front.shows.1 follows (λ packet. refl) (λ y k. k)
+      told_joint h u (rej command nr pf) nr step orderly shows (λ g shown. shown.1) follows (λ packet. refl) (λ y k. k)
   read_joint {w} {l} h u (Ok (disc p)) {os} {step} good none orderly shows tells follows = ends_joint h u.up tt shows orderly tells follows
   read_joint {w} {l} h u (Ok (ua f)) {os} {step} good none orderly shows tells follows = quiet_joint h u orderly shows refl (λ y k. k) follows
   read_joint {w} {l} h u (Ok (dm f)) {os} {step} good none orderly shows tells follows = ends_joint h u.up tt shows orderly tells follows
@@ -561,15 +541,6 @@ module _ {c d : Settings} (joined : AreJoined c d) (reads : ReadsSpelled) where
   -- ---- what comes to an end that isn't Up
 
   pub away_joint : {w : Stations} {l : Line (List ℕ)} → Joint c d w l → (m : Option PlainFrame) {os : List (List ℕ)} {step : Step}
-      → AreOrderly (other c.role) c.longest os
-      → ShowAll (consed m (numbered_on (other c.role) c.longest os)) l.back → Parts w.near.station step
-      → Leads c d w l (taken_out (first_of m) l.back) (after_step c w os [] step)
-  away_joint h None orderly shows parts = parts_joint h h.kept h.reached shows orderly parts
-  away_joint {w} {l} h (Some f) {os} {step} orderly shows parts =
-      let front = front_of f (numbered_on (other c.role) c.longest os) l.back shows in
-      let left : (List (Frame (List ℕ))) → Line (List ℕ) = λ bs. record { near = l.near; far = l.far; out = l.out; back = remove bs 0 } in
-      subst (λ gone. Leads c d w l gone (after_step c w os [] step)) (sym (ap (λ bs. remove bs 0) front.is))
-      (parts_joint h
-      (subst (λ bs. Kept (left bs)) front.is (Kept-moved (Loses 0) tt h.kept))
-      (subst (λ bs. MachineReaches c.window d.window (left bs)) front.is (near_moves l (Loses 0) h.reached tt))
-      front.rest_shows orderly parts)
+      → AreOrderly (other c.role) c.longest os → ShowAll (consed m (numbered_on (other c.role) c.longest os)) l.back → Parts w.near.station step
+      → StepLeads c d w l (first_of m) os [] step
+  away_joint {l = l} h m {os} orderly shows = parts_joint h (first_of m) (shows_first m (numbered_on (other c.role) c.longest os) l.back shows) orderly

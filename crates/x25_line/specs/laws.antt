@@ -4,6 +4,7 @@ pub mod LawsBelow
 pub mod Ends
 pub mod EndClaims
 pub mod StationClaims
+pub mod StationPeers
 pub mod SessionClaims
 pub mod HealingPuts
 pub mod Line

@@ -5,10 +5,12 @@ ghost use Rattle.x25_link.specs.laws.NoteLaw.{TakeHandsUp};
 ghost use Rattle.x25_link.specs.laws.BusyLaw.{BusyLaws};
 ghost use Rattle.x25_line.specs.laws.LawsBelow.{HealingLaws};
 ghost use Rattle.x25_line.specs.laws.StationClaims.{Always, BothInOrder, BothHaveTheirLists, BothNoteTheirEnds};
-ghost use Rattle.x25_line.specs.laws.StationClaims.{NoFrmrSent, AllSentAreWhole};
+ghost use Rattle.x25_line.specs.laws.StationClaims.{NoFrmrSent, AllSentAreWhole, OneLinkUnlessConnected};
 ghost use Rattle.x25_line.specs.laws.StationClaims.{EachEventHandsOne};
 ghost use Rattle.x25_line.specs.laws.PeerClaims.{WithAnyPeer, WithAnyLapbPeer, OnAnySilentTape};
 ghost use Rattle.x25_line.specs.laws.PeerClaims.{KeepsOrder, FindsNoFault};
+ghost use Rattle.x25_line.specs.laws.StationPeers.{AreBothPeers};
+ghost use Rattle.x25_line.specs.laws.WholeNumbers.{MachineGoesAlong, OnceStaysOnce};
 ghost use Rattle.x25_line.specs.laws.SessionClaims.{Throughout, MeetInStep, MetAreInOrder, UnmetHandNothingUp};
 ghost use Rattle.x25_line.specs.laws.SessionClaims.{OnlyBegunHaveLists, EachUpStands, EachHearsLatest, EachMeetsLatest};
 ghost use Rattle.x25_line.specs.laws.SessionClaims.{IdleHasArrived, NoSessionSendsFrmr, AllSessionsSendWhole};
@@ -48,15 +50,20 @@ pub(crate) fn laws_below()
 /// Connect among them, as long as the link isn't set up anew, by which an end notes LinkUp.
 ///
 /// What one end handed up is a beginning of what the other was handed down, and the same where the giver is idle. What
-/// an end counts as acknowledged was handed up. No FRMR is ever sent. Each frame ever sent may be spelled, and the
-/// packet of an I frame is one that was handed down. An end that left Up noted why, and then each time that it asked
-/// for set-up in vain.
+/// an end counts as acknowledged was handed up. The window machine that goes on from event to event is behind each
+/// moment, in which a frame on the line keeps the whole numbers that it was given as it was put, and its window holds
+/// all along. No FRMR is ever sent. Each frame ever sent may be spelled, and the packet of an I frame is one that was
+/// handed down. An end that left Up noted why, and then each time that it asked for set-up in vain. Where no Connect is
+/// accepted (`once`), the link is never set up anew, and an end notes one LinkDown at most.
 pub fn links_keep_order()
     ensures order { Always BothInOrder }
     ensures lists { Always BothHaveTheirLists }
     ensures notes { Always BothNoteTheirEnds }
+    ensures window { MachineGoesAlong }
     ensures no_frmr { Always NoFrmrSent }
     ensures whole { Always AllSentAreWhole }
+    ensures once { OneLinkUnlessConnected }
+    ensures before { OnceStaysOnce }
 {
     laws_below();
 }
@@ -82,6 +89,15 @@ pub fn any_peer_keeps_order()
 /// that it might.
 pub fn silent_tape_keeps_order()
     ensures { OnAnySilentTape KeepsOrder }
+{
+    laws_below();
+}
+
+/// Our own station keeps the rules of a peer. Of two link stations, as `links_keep_order` has them, after each list of
+/// events each is a peer of the other, which was handed down what that station was, took what it handed up, and sent
+/// nothing that is answered by FRMR. So they keep order as a station does with any peer.
+pub fn stations_are_peers()
+    ensures { Always AreBothPeers }
 {
     laws_below();
 }

@@ -18,7 +18,7 @@ use Rattle.x25_script.specs.laws.ReadingLaw.{IsOctet, PartInOctets, AsksInOctets
 use Rattle.x25_io.specs.Lines.{lines_of}
 use Rattle.x25_world.specs.World.{World, OnTap, AtEnd, mirrored, Act, Commands, Receives, Fires, Loses, Damages, Event, WorldOutcome, Happened, Declined, of_station, delivered, on_line, is_on_line, acts, swapped_back, acts_at, happens, refusal_of, after, run, AreAccepted, start, connected, established}
 use Rattle.x25_world.specs.declared.error.WorldError.{WorldError}
-use Rattle.x25_world.specs.laws.Claims.{ActsInOctets, AreInOctets, IsUpOnce, IsUpAtMostOnce, IsBeginning, IsNoConnect, NoneConnects, UpOnceUnlessConnected, UntilSecondUp}
+use Rattle.x25_world.specs.laws.Claims.{ActsInOctets, AreInOctets, IsUpOnce, IsUpAtMostOnce, IsBeginning, IsNoConnect, NoneConnects, UpOnceUnlessConnected, Always, UntilSecondUp}
 use Rattle.x25_world.specs.laws.SessionClaims.{Throughout, ThroughoutAlong}
 use Rattle.x25_sim.specs.Telling.{Saying, enters, taps, reads_nothing, refuses}
 use Rattle.x25_console.specs.Commands.{command_asked, part_asked}
@@ -26,7 +26,7 @@ use Rattle.x25_io.specs.HeldLine.{most_line}
 use Rattle.x25_world.specs.Healing.{next_end}
 use Rattle.x25_sim.specs.Stage.{Turn, and_then, frames_if, frames_told, marks_if, marked, step_told, told_between, turn_of, event_turn, delivered_to, drained, tried_of, tried, both_tried, most_times, fired, pulled, unless_empty, emptied, healed, line_turn, asked_in, asked_turn, turn, turns, connecting, set_up, opened, simulated}
 use Rattle.x25_sim.specs.declared.stage.Shown.{Shown}
-use Rattle.x25_sim.specs.laws.RunLaw.{entries_in, frames_in, begins, IsNoConnectLine, NoneAsks, IsRun, ScriptsAreRuns, OfScripts, OfAllScripts, UpOnceUnlessAsked, ScriptsAreTold, ScriptsAreTapped}
+use Rattle.x25_sim.specs.laws.RunLaw.{entries_in, frames_in, begins, IsNoConnectLine, NoneAsks, IsRun, ScriptsAreRuns, OfScripts, OfScriptsSetUp, OfAllScripts, UpOnceUnlessAsked, ScriptsAreTold, ScriptsAreTapped}
 use Rattle.x25_world.proofs.WorldLemmas.{run_append, accepted_append, octets_append}
 
 -- ---- a world only grows
@@ -399,6 +399,11 @@ begins_there cfg false = inr (inr refl)
 pub of_script : (Holds : Cfg → World → Type 0) → UntilSecondUp Holds → ScriptsAreRuns → OfScripts Holds
 of_script Holds until runs = λ cfg range down shown script once. let r = runs cfg down shown script in
     subst (Holds cfg) (sym r.next) (until cfg range (begins cfg down) (begins_there cfg down) r.events r.octets (subst (IsUpAtMostOnce cfg) r.next once))
+
+pub of_script_set_up : (Holds : Cfg → List Event → World → Type 0) → Always Holds → ScriptsAreRuns
+    → OfScriptsSetUp (λ (cfg : Cfg) (w : World). (events : List Event) × (run cfg events (established cfg) ≡ w) × Holds cfg events w)
+of_script_set_up Holds always runs = λ cfg range shown script once. let r = runs cfg false shown script in
+    (r.events, sym r.next, subst (Holds cfg r.events) (sym r.next) (always cfg range r.events r.octets (subst (IsUpOnce cfg) r.next once)))
 
 pub of_all_scripts : (Holds : Cfg → World → Type 0) → Throughout Holds → ScriptsAreRuns → OfAllScripts Holds
 of_all_scripts Holds throughout runs = λ cfg range down shown script. let r = runs cfg down shown script in

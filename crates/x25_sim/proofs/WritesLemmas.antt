@@ -1,5 +1,5 @@
 -- What was written, by the text of a script and the laws of all scripts.
-use Rattle.std.proofs.Common.{◌≡◌, ℕ, Bool, List, Option, Some, None}
+use Rattle.std.proofs.Common.{◌≡◌, ℕ, Bool, true, false, List, Option, Some, None}
 use Rattle.std.specs.Io.KnownBytes.{Appends}
 use Rattle.x25_station.specs.declared.config.Cfg.{Cfg}
 use Rattle.x25_station.specs.Config.{config_refusal}
@@ -10,8 +10,8 @@ use Rattle.x25_world.specs.laws.SessionClaims.{MeetInStep, AreLawfulWhereMet, Ar
 use Rattle.x25_world.specs.laws.SessionWindow.{UpIsInWindow}
 use Rattle.x25_sim.specs.Stage.{simulated, sim_text}
 use Rattle.x25_sim.specs.declared.stage.Shown.{Shown}
-use Rattle.x25_sim.specs.laws.RunLaw.{OfScripts, OfAllScripts, ScriptsAreTold, ScriptsAreTapped}
-use Rattle.x25_sim.specs.laws.WritesRun.{Writes, WritesRun}
+use Rattle.x25_sim.specs.laws.RunLaw.{IsInWindow, OfScripts, OfScriptsSetUp, OfAllScripts, ScriptsAreTold, ScriptsAreTapped}
+use Rattle.x25_sim.specs.laws.WritesRun.{Writes, WritesRun, WritesSetUp}
 
 writes : (Holds : Cfg → World → Type 0) (cfg : Cfg) (down : Bool) (shown : Shown) (script : List ℕ) (old now : Option (List ℕ)) → ScriptsAreTold → ScriptsAreTapped → Appends old now (sim_text cfg down shown script)
     → Holds cfg (simulated cfg down shown script).next → Writes Holds cfg down shown script old now
@@ -24,14 +24,20 @@ writes Holds cfg down shown script old now told taps text holds = record {
 }
 
 module _ (cfg : Cfg) (fine : config_refusal cfg ≡ None) (shown : Shown) (old now : Option (List ℕ)) (told : ScriptsAreTold) (taps : ScriptsAreTapped) where
-  pub run_written : (down : Bool) → OfScripts IsLawful → OfScripts IsNamed → OfScripts ArrivesAll → OfAllScripts SessionsKeepOrder
+  set_up : (Holds : Cfg → World → Type 0) → OfScriptsSetUp Holds → (down : Bool) (script : List ℕ) → Appends old now (sim_text cfg down shown script) → WritesSetUp Holds cfg down shown script old now
+  set_up Holds law true script text up first = absurd (cc)
+  set_up Holds law false script text up first = writes Holds cfg false shown script old now told taps text (law cfg fine shown script first)
+
+  pub run_written : (down : Bool) → OfScripts IsLawful → OfScripts IsNamed → OfScripts ArrivesAll → OfScriptsSetUp IsInWindow → OfAllScripts SessionsKeepOrder
       → (read : List ℕ → List ℕ) (input : Option (List ℕ)) → OfInput input (λ script. Appends old now (sim_text cfg down shown (read script)))
       → OfInput input (λ script. WritesRun cfg down shown (read script) old now)
-  run_written down lawful named arrives sessions read None text = tt
-  run_written down lawful named arrives sessions read (Some script) text = λ few. record {
+  run_written down lawful named arrives window sessions read None text = tt
+  run_written down lawful named arrives window sessions read (Some script) text = λ few. record {
     lawful = λ once. writes IsLawful cfg down shown (read script) old now told taps (text few) (lawful cfg fine down shown (read script) once);
     named = λ once. writes IsNamed cfg down shown (read script) old now told taps (text few) (named cfg fine down shown (read script) once);
     arrives = λ once. writes ArrivesAll cfg down shown (read script) old now told taps (text few) (arrives cfg fine down shown (read script) once);
+    quiet = λ once. writes HasNoProcedureError cfg down shown (read script) old now told taps (text few) (sessions cfg fine down shown (read script)).quiet;
+    window = set_up IsInWindow window down (read script) (text few);
     sessions = writes SessionsKeepOrder cfg down shown (read script) old now told taps (text few) (sessions cfg fine down shown (read script));
   }
 

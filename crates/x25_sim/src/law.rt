@@ -5,7 +5,7 @@ ghost use Rattle.x25_world.specs.laws.SessionClaims.{AllArrive, AreLawfulWhereMe
 ghost use Rattle.x25_world.specs.laws.SessionClaims.{OpenStretchesMeet, UnmetAreToldNothing};
 ghost use Rattle.x25_world.specs.laws.SessionWindow.{UpIsInWindow};
 ghost use Rattle.x25_sim.specs.laws.RunLaw.{HealBringsAll, HealRestShowsAll, HealIsTheSchedule, OfAllScripts};
-ghost use Rattle.x25_sim.specs.laws.RunLaw.{OfScripts};
+ghost use Rattle.x25_sim.specs.laws.RunLaw.{IsInWindow, OfScripts, OfScriptsSetUp};
 ghost use Rattle.x25_sim.specs.laws.RunLaw.{ScriptsAreRuns, ScriptsAreTapped, ScriptsAreTold, UpOnceUnlessAsked};
 ghost use Rattle.x25_sim.specs.rows.ScriptRows.{BothEndsGoDown, BothEndsHeal, CallsCollide, DamageIsSeen};
 ghost use Rattle.x25_sim.specs.rows.ScriptRows.{EventsAreTold};
@@ -27,9 +27,9 @@ pub fn scripts_are_runs()
 }
 
 /// For every script, with `down` or without, as long as LinkUp is reported to neither end a second time: what
-/// `two_stations_keep_order` says of two stations holds of those to which the script leads. By `up_once` to each end of
-/// a script that begins with both links up it is reported once where no line is `connect`, so that it has no other
-/// premise than those below. For every script transcript and tap are the entries and the frames
+/// `two_stations_keep_order` says of two stations holds of those to which the script leads, `window` of a script that
+/// begins with both links up. By `up_once` to each end of such a script it is reported once where no line is `connect`,
+/// so that it has no other premise than those below. For every script transcript and tap are the entries and the frames
 /// that are written.
 ///
 /// Premises: k is 1 to 7, N2 1 to 255, channels 1 to 4,095.
@@ -37,6 +37,8 @@ pub fn scripts_keep_order()
     ensures lawful { OfScripts IsLawful }
     ensures named { OfScripts IsNamed }
     ensures arrives { OfScripts ArrivesAll }
+    ensures quiet { OfScripts HasNoProcedureError }
+    ensures window { OfScriptsSetUp IsInWindow }
     ensures up_once { UpOnceUnlessAsked }
     ensures told { ScriptsAreTold }
     ensures tapped { ScriptsAreTapped }

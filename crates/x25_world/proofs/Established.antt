@@ -1,39 +1,39 @@
--- Set-up: SABM and UA are taken, by which both ends come up.
+-- Set-up: SABM and UA are taken, by which both ends come up, and both put RESTART, as two stations from a link just set up.
 use Rattle.std.proofs.Common.{◌≡◌, ℕ, List, [], ◌∷◌, ◌++◌, map, true, None, Ok, refl, sym, ap, ap₂, ◌∙◌, subst, arith}
 use Rattle.x25_bits.specs.{declared.role.Role.{Role}, declared.role.Role.TheVariants.{Dte, Dce}}
 use Rattle.x25_frame.specs.{Frame.{PlainFrame, sabm, ua}, Spelling.{spelling_of}}
 use Rattle.x25_link.specs.{declared.phase.Phase.TheVariants.{Down, Waiting}, laws.SetUp.{Is}}
-use Rattle.x25_layer.specs.Layer.{at_rest, restart_cause}
+use Rattle.x25_layer.specs.Layer.{at_rest}
 use Rattle.x25_station.specs.{declared.config.Cfg.{Cfg}, Config.{settings_from, longest_packet}, Entry.{link_up, entries_noted}, Station.{Station, new_station}}
 use Rattle.x25_station.specs.{Step.{Step, follows, receives}, laws.KeepLaw.{IsKept}}
 use Rattle.x25_world.specs.World.{World, mirrored, entered, tapped, after_step, delivered, after, Event, Receives, happens, refusal_of, AreAccepted, connected}
-use Rattle.x25_world.specs.{World.{established}, laws.Claims.{link_of}, laws.LawsBelow.{Laws}}
-use Rattle.x25_packet.specs.Packet.{restart}
+use Rattle.x25_world.specs.{World.{established}, laws.Claims.{link_of}, laws.SessionWindow.{restart_of, both_put, links_by}, laws.LawsBelow.{Laws}}
 use Rattle.x25_peer.proofs.sessions.LinkSteps.{handed_up}
 use Rattle.x25_link.specs.{Station.{with_nothing, fresh, is_up, pumped}, Hearing.{Step as LinkStep}, Link.{put_step}}
-use Rattle.x25_packet.specs.Spelling as packet
 
 -- ---- an end that comes up
 
+-- the link's step as RESTART is put
+abbrev restarted : Cfg → Role → LinkStep
+restarted cfg end = put_step (link_of cfg end) (restart_of end) fresh
+
 -- behind these frames RESTART is sent
-record ComesUpAt (sent : List PlainFrame) (step : Step) : Type 0 where
-  pub more : List PlainFrame
-  pub out : step.out ≡ sent ++ more
+record ComesUpAt (cfg : Cfg) (end : Role) (sent : List PlainFrame) (step : Step) : Type 0 where
+  pub link : step.near.link ≡ (restarted cfg end).side.near
+  pub out : step.out ≡ sent ++ (restarted cfg end).side.out
   pub entries : step.entries ≡ link_up ∷ []
   pub up : is_up step.near.link.phase ≡ true
 
 comes_up : (laws : Laws) (cfg : Cfg) (end : Role) {k : LinkStep} {sent : List PlainFrame} → Is fresh sent None true k
-    → ComesUpAt sent (follows (settings_from end cfg) at_rest k)
+    → ComesUpAt cfg end sent (follows (settings_from end cfg) at_rest k)
 comes_up laws cfg end {k} is =
     let c = link_of cfg end in
-    let restarts = packet.spelling_of (restart (restart_cause end) 0) in
-    let frames = (put_step c restarts k.side.near).side.out in
     let u = laws.up (settings_from end cfg) at_rest k is.up is.near in
     record {
-      more = frames;
-      out = u.link.out ∙ ap (λ fs. fs ++ frames) is.out;
+      link = u.link.link ∙ ap (λ s. (put_step c (restart_of end) s).side.near) is.near;
+      out = u.link.out ∙ ap₂ (λ fs s. fs ++ (put_step c (restart_of end) s).side.out) is.out is.near;
       entries = u.entries ∙ ap₂ (λ d b. entries_noted (record { down = d; up = b })) is.down is.up;
-      up = ap (λ s. is_up s.phase) u.link.link ∙ handed_up laws.put_tells c (restarts ∷ []) k.side (ap (λ s. is_up s.phase) is.near);
+      up = ap (λ s. is_up s.phase) u.link.link ∙ handed_up laws.put_tells c (restart_of end ∷ []) k.side (ap (λ s. is_up s.phase) is.near);
     }
 
 -- ---- the DTE has asked
@@ -86,25 +86,29 @@ at_dte cfg back = after_step (settings_from Dte cfg) (at_dce cfg) back (dte_step
 
 -- ---- a link just set up
 
--- both ends are Up, and have told of LinkUp alone
-pub record IsJustSetUp (w : World) : Type 0 where
+-- both ends are Up, and have told of LinkUp alone, with two stations behind them that put RESTART
+pub record IsJustSetUp (cfg : Cfg) (w : World) : Type 0 where
   pub near : is_up w.near.link.phase ≡ true
   pub far : is_up w.far.link.phase ≡ true
+  pub near_link : (links_by cfg both_put).near.station ≡ w.near.link
+  pub far_link : (links_by cfg both_put).far.station ≡ w.far.link
+  pub out : (links_by cfg both_put).out ≡ w.out
+  pub back : (links_by cfg both_put).back ≡ w.back
   pub told : w.transcript ≡ record { at = Dce; entry = link_up } ∷ record { at = Dte; entry = link_up } ∷ []
 
 module _ (laws : Laws) (cfg : Cfg) where
-  dce_up : ComesUpAt (ua true ∷ []) (dce_step cfg)
+  dce_up : ComesUpAt cfg Dce (ua true ∷ []) (dce_step cfg)
   dce_up =
       let reads = laws.reads Dte longest_packet (sabm true) sabm_octets (record { in_range = tt; carries = refl; within = tt; spelling = refl }) in
       comes_up laws cfg Dce (laws.take_sets_up (link_of cfg Dce) sabm_octets (with_nothing Down 0) tt true reads)
 
-  dte_up : ComesUpAt [] (dte_step cfg)
+  dte_up : ComesUpAt cfg Dte [] (dte_step cfg)
   dte_up =
       let reads = laws.reads Dce longest_packet (ua true) ua_octets (record { in_range = tt; carries = refl; within = tt; spelling = refl }) in
       comes_up laws cfg Dte (laws.take_waits (link_of cfg Dte) ua_octets (with_nothing Waiting 0) refl (Ok (ua true)) (sym reads))
 
   -- behind UA is what goes with the RESTART of the DCE
-  back_is : (at_dce cfg).back ≡ ua_octets ∷ map (spelling_of Dce) dce_up.more
+  back_is : (at_dce cfg).back ≡ ua_octets ∷ map (spelling_of Dce) (restarted cfg Dce).side.out
   back_is = ap (λ fs. map (spelling_of Dce) fs) dce_up.out
 
   -- so neither is refused
@@ -114,10 +118,14 @@ module _ (laws : Laws) (cfg : Cfg) where
       ap (λ l. refusal_of (delivered (settings_from Dte cfg) (at_dce cfg) l)) back_is in
       subst (λ w. AreAccepted cfg (comes_to Dce ∷ comes_to Dte ∷ []) w) (sym (connected_is cfg)) (refl, (ua_comes, tt))
 
-  pub just_set_up : IsJustSetUp (established cfg)
+  pub just_set_up : IsJustSetUp cfg (established cfg)
   just_set_up = rw (ap (λ x. after (after x (happens cfg x (comes_to Dce))) (happens cfg (after x (happens cfg x (comes_to Dce))) (comes_to Dte)))
       (connected_is cfg) ∙ ap (λ l. after (at_dce cfg) (delivered (settings_from Dte cfg) (at_dce cfg) l)) back_is) (record {
         near = dte_up.up;
         far = dce_up.up;
+        near_link = sym dte_up.link;
+        far_link = sym dce_up.link;
+        out = ap (λ fs. [] ++ map (spelling_of Dte) fs) (sym dte_up.out);
+        back = refl;
         told = ap₂ (λ a b. ([] ++ entered Dce a) ++ entered Dte b) dce_up.entries dte_up.entries;
       })

@@ -7,7 +7,7 @@ use Rattle.x25_packet.specs.{Packet.{PlainPacket}, Spelling.{longest_user}, decl
 use Rattle.x25_link.specs.Hearing.{other}
 use Rattle.x25_station.specs.{declared.config.Cfg.{Cfg}, laws.ReadLaw.{AreOctets}, Entry.{StationEntry}}
 use Rattle.x25_world.specs.{World.{OnTap, AtEnd, tapped, entered}, laws.Claims.{entry_of_end, entries_at}}
-use Rattle.x25_line.specs.{laws.Sessions.{Entry, sent_in}, laws.SessionClaims.{octets_of}}
+use Rattle.x25_line.specs.{laws.Sessions.{Entry, sent_in}, laws.SessionClaims.{Each, octets_of}}
 use Rattle.x25_line.proofs.sessions.SessionLines.{octets_append, octets_sent}
 use Rattle.x25_peer.proofs.sessions.LinkSteps.{AreReadBack}
 
@@ -54,12 +54,7 @@ rest_read r s rs ss e = cc
 -- ---- octets
 
 abbrev pub AllAreOctets : List (List ℕ) → Type 0
-AllAreOctets [] = Unit {0}
-AllAreOctets (o ∷ os) = AreOctets o × AllAreOctets os
-
-pub all_octets_append : (xs ys : List (List ℕ)) → AllAreOctets xs → AllAreOctets ys → AllAreOctets (xs ++ ys)
-all_octets_append [] ys h g = g
-all_octets_append (x ∷ xs) ys h g = (h.0, all_octets_append xs ys h.1 g)
+AllAreOctets os = Each AreOctets os
 
 pub octets_in : (os : List (List ℕ)) → AllAreOctets os → (octets : List ℕ) → Contains os octets → AreOctets octets
 octets_in [] all octets (k, low, is) = absurd (omega (arith, low))

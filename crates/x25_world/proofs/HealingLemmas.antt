@@ -18,9 +18,9 @@ use Rattle.x25_world.specs.{laws.SessionClaims.{Throughout, AllArrive}, laws.Ses
 use Rattle.x25_world.specs.Healing.{IsDrained, receipt, all_received, firing, AreLinksOf, StopsAtRest, RestShows, PutsNothing, PutsNothingAt, NonePut, Heals}
 use Rattle.x25_world.specs.Healing.{MayHeal, HealsWhereNonePut, DrainsWhereNonePut}
 use Rattle.x25_world.proofs.{Known.{true_false, IsConfigured, is_configured}, WorldLemmas.{refusal-swapped}}
-use Rattle.x25_world.proofs.sessions.SessionReaches.{joined_at, both_down, known_sessions, links_append, timely_append}
+use Rattle.x25_world.proofs.sessions.SessionReaches.{Within, joined_at, known_sessions, links_append, timely_append}
 use Rattle.x25_world.proofs.{sessions.SessionJoined.{SessionsJoined}, Growing.{octets_put}, sessions.SessionFollows.{silent}}
-use Rattle.x25_world.proofs.sessions.SessionRuns.{back_after, throughout_joined}
+use Rattle.x25_world.proofs.{sessions.SessionRuns.{back_after, IsJoined, throughout_joined}, sessions.SessionsAlong.{links_are}}
 use Rattle.x25_peer.proofs.Granted.{timer_silent}
 use Rattle.x25_link.specs.{declared.error.LinkError.{LinkError}, Station.{Settings as LinkSettings, LinkStation, is_up, awaits_ua}}
 use Rattle.x25_link.specs.{Hearing.{Step as LinkStep, other}, Link.{take_step, timer_step, timer_refusal, timer_runs, abandon_step}, laws.RestLaw.{IsAtRest}}
@@ -182,30 +182,15 @@ each_finds cfg (at ∷ ends) {w} {v} h none accepted = (
   each_finds cfg ends (receipt_alike cfg at w v h none.0) none.1 accepted.1,
 )
 
-pub joined_alike : {cfg : Cfg} {w : World} (h : SessionsJoined both_down cfg Dte w) → Alike w h.links
+pub joined_alike : {within : Within} {cfg : Cfg} {w : World} (h : SessionsJoined within cfg Dte w) → Alike w h.links
 joined_alike h = record { near = h.near.link; far = h.far.link; out = h.out; back = h.back }
-
-pub links_are : {cfg : Cfg} {w : World} (h : SessionsJoined both_down cfg Dte w) → AreLinksOf cfg w h.links
-links_are {cfg} h = (
-  standing_run (c_of cfg) (d_of cfg) h.reach.events from_nothing (standing_at (c_of cfg) (d_of cfg) from_nothing),
-  record {
-    events = h.reach.events;
-    timely = h.reach.timely;
-    run = h.reach.run;
-    standing = refl;
-    near = h.near.link;
-    far = h.far.link;
-    out = h.out;
-    back = h.back;
-  },
-)
 
 -- ---- both fire, and then the links go on
 
 abbrev pub fired_then : List line.LinkEvent → List line.LinkEvent
 fired_then more = line.Near line.T1 ∷ line.Far line.T1 ∷ more
 
-module _ (cfg : Cfg) (w : World) (h : SessionsJoined both_down cfg Dte w) (near_off : awaits_ua w.near.link.phase ≡ false)
+module _ {within : Within} (cfg : Cfg) (w : World) (h : SessionsJoined within cfg Dte w) (near_off : awaits_ua w.near.link.phase ≡ false)
     (far_off : awaits_ua w.far.link.phase ≡ false)
     (more : List line.LinkEvent) (on_time : AreTimely (c_of cfg) (d_of cfg) more (links.run (c_of cfg) (d_of cfg) (fired_then []) h.links)) where
   abbrev here_then : Sessions
@@ -247,8 +232,11 @@ module _ (laws : SessionLaws) (keeps : ConnectKeeps) where
       w : World
       w = run cfg events begin
 
-      h : SessionsJoined both_down cfg Dte w
-      h = throughout_joined laws keeps cfg fine begin is events octets
+      joined : IsJoined cfg w
+      joined = throughout_joined laws keeps cfg fine begin is events octets
+
+      h : SessionsJoined joined.0 cfg Dte w
+      h = joined.1
 
       shown : EachRestShows (c_of cfg) (d_of cfg) h.links
       shown = known_sessions EachRestShows law (is_configured cfg fine) h.reach
@@ -271,7 +259,8 @@ module _ (laws : SessionLaws) (keeps : ConnectKeeps) where
           (and_from (link.is_idle (station_at end w).link) (waits_up_to (station_at end w).layer.circuits cfg.channels.count == 0)
           (at_rest end up stopped).idle (eq-eqb (waits_up_to (station_at end w).layer.circuits cfg.channels.count) 0 none)) here there
 
-  module _ (law : SessionsHealUnlessBothBusy) (cfg : Cfg) (fine : IsConfigured cfg) (w : World) (h : SessionsJoined both_down cfg Dte w) (may : MayHeal w)
+  module _ {within : Within} (law : SessionsHealUnlessBothBusy) (cfg : Cfg) (fine : IsConfigured cfg) (w : World) (h : SessionsJoined within cfg Dte w)
+      (may : MayHeal w)
       (ends : List Role) where
     abbrev c : LinkSettings
     c = c_of cfg
@@ -322,7 +311,7 @@ module _ (laws : SessionLaws) (keeps : ConnectKeeps) where
   heals_where law cfg fine begin is events octets may ends none after_all =
       let w = run cfg events begin in
       let configured = is_configured cfg fine in
-      let h = throughout_joined laws keeps cfg fine begin is events octets in
+      let h = (throughout_joined laws keeps cfg fine begin is events octets).1 in
       heals_at law cfg configured w h may ends (last law cfg configured w h may ends none) after_all
 
   -- ---- deliveries come to an end
@@ -330,7 +319,7 @@ module _ (laws : SessionLaws) (keeps : ConnectKeeps) where
   pub drains_where : SessionsDrainEnd → Throughout DrainsWhereNonePut
   drains_where law cfg fine begin is events octets =
       let w = run cfg events begin in
-      let h = throughout_joined laws keeps cfg fine begin is events octets in
+      let h = (throughout_joined laws keeps cfg fine begin is events octets).1 in
       let bound = law (c_of cfg) (d_of cfg) (joined_at Dte (is_configured cfg fine)) from_nothing (inl refl) h.reach.events in (
         bound.0,
         λ ends none accepted.

@@ -11,15 +11,16 @@ use Rattle.x25_given.specs.Given.{PlainGiven}
 use Rattle.x25_layer.specs.Calls.{LayerRequest}
 use Rattle.x25_station.specs.{declared.config.Cfg.{Cfg}, Config.{Settings, settings_from}, Step.{Step, Outcome, Did, Refused, follows, requests, gives}}
 use Rattle.x25_station.specs.{laws.GivenLaw.{GivesOctets}, laws.KeepLaw.{ConnectKeeps}, laws.ReadLaw.{RequestsOctets}}
-use Rattle.x25_world.specs.World.{World, mirrored, Act, Commands, Receives, Fires, Event, acts, delivered, of_station, happens, after, after_step, run}
+use Rattle.x25_world.specs.World.{World, mirrored, Act, Commands, Receives, Event, acts, delivered, of_station, happens, after, after_step, run}
 use Rattle.x25_world.specs.{laws.Claims.{ActsInOctets, AreInOctets, link_of}, laws.LawsBelow.{SessionLaws}, laws.SessionClaims.{Throughout}}
 use Rattle.x25_world.specs.laws.SessionWindow.{all_at}
 use Rattle.x25_world.specs.Healing.{firing, IsReceiptOrRequest, AreReceiptsAndRequests, ComeFreely, ActsFreely, FreeAt, FreeThroughout, HealsWithPuts}
-use Rattle.x25_world.proofs.{Known.{IsConfigured, is_configured, true_false}, sessions.SessionReaches.{both_down, twice, known_sessions, links_append}}
-use Rattle.x25_world.proofs.{sessions.SessionJoined.{SessionsJoined, sessions_swapped}, Growing.{octets_put, front_entry}}
-use Rattle.x25_world.proofs.sessions.SessionRuns.{back_after, event_joined, throughout_joined, down_at_none, not_set_up}
+use Rattle.x25_world.proofs.{Known.{IsConfigured, is_configured, true_false}, sessions.SessionReaches.{Within, twice, known_sessions, links_append}}
+use Rattle.x25_world.proofs.{sessions.SessionJoined.{SessionsJoined, at_event, sessions_swapped}, Growing.{octets_put, front_entry}}
+use Rattle.x25_world.proofs.sessions.SessionRuns.{back_after, next, IsJoined, throughout_joined}
+use Rattle.x25_world.proofs.sessions.SessionsAlong.{links_are}
 use Rattle.x25_world.proofs.{sessions.acts.SessionRequests.{request_puts, given_puts, said_octets}, sessions.acts.SessionReceives.{taken_puts}}
-use Rattle.x25_world.proofs.HealingLemmas.{Alike, turned, c_of, d_of, both_alike, none_of, joined_alike, links_are, fired_then, gone_are}
+use Rattle.x25_world.proofs.HealingLemmas.{Alike, turned, c_of, d_of, both_alike, none_of, joined_alike, fired_then, gone_are}
 use Rattle.x25_peer.proofs.sessions.LinkSteps.{SessionGoes, StepGoes, stays_goes, deliver_goes, puts_of, all_act, puts_go, HasPut}
 use Rattle.x25_link.specs.{Station.{Settings as LinkSettings, Side, is_up, is_busy, awaits_ua}, Link.{alone, take_step, abandon_step}}
 use Rattle.x25_line.specs.laws.Stations as line
@@ -40,7 +41,8 @@ record Asked (cfg : Cfg) (end : Role) (w u : World) (v : Sessions) : Type 0 wher
   pub free : comes ≡ true → AreFree w.near.link w.far.link
   pub alike : Alike u (all_act (link_of cfg end) (asked_of comes handed) v)
 
-module _ (laws : SessionLaws) (cfg : Cfg) (fine : IsConfigured cfg) (end : Role) (w : World) (h : SessionsJoined both_down cfg end w) (v : Sessions)
+module _ {within : Within} (laws : SessionLaws) (cfg : Cfg) (fine : IsConfigured cfg) (end : Role) (w : World) (h : SessionsJoined within cfg end w)
+    (v : Sessions)
     (like : Alike w v) where
   abbrev c : Settings
   c = settings_from end cfg
@@ -73,7 +75,7 @@ module _ (laws : SessionLaws) (cfg : Cfg) (fine : IsConfigured cfg) (end : Role)
           let goes : StepGoes (link_of cfg end) v v₁ k f.others v₁.met =
           subst (λ os. StepGoes (link_of cfg end) v v₁ (take_step (link_of cfg end) os w.near.link) f.others v₁.met) f.octets
           (deliver_goes (link_of cfg end) v w.near.link f.entry f.others like.near f.is) in
-          let p = taken_puts laws cfg fine end w h (λ before e same. absurd (down_at_none before e same)) octets back is free.0 in
+          let p = taken_puts laws cfg fine end w (at_event h (record { at = end; act = Receives })) refl octets back is free.0 in
           subst (λ b. Asked cfg end w (after_step c w back (follows c w.near.layer (if b then abandon_step (link_of cfg end) w.near.link else k))) v)
           (sym free.0)
           (record {
@@ -133,7 +135,8 @@ record EventAsked (cfg : Cfg) (at : Role) (w u : World) (v : Sessions) : Type 0 
   pub free : comes ≡ true → AreFree w.near.link w.far.link
   pub alike : Alike u (links.run (c_of cfg) (d_of cfg) (all_at at (asked_of comes handed)) v)
 
-event_asked : (laws : SessionLaws) (cfg : Cfg) → IsConfigured cfg → (at : Role) (act : Act) (w : World) → SessionsJoined both_down cfg Dte w → (v : Sessions)
+event_asked : {within : Within} (laws : SessionLaws) (cfg : Cfg) → IsConfigured cfg → (at : Role) (act : Act) (w : World) → SessionsJoined within cfg Dte w
+    → (v : Sessions)
     → Alike w v → IsReceiptOrRequest act → ActsInOctets act → FreeAt cfg at act w
     → EventAsked cfg at w (after w (happens cfg w (record { at = at; act = act }))) v
 event_asked laws cfg fine Dte act w h v like are octets free =
@@ -198,23 +201,22 @@ record AllAsked (cfg : Cfg) (u : World) (v : Sessions) : Type 0 where
   pub free : SessionsFreeThroughout (c_of cfg) (d_of cfg) asked v
   pub alike : Alike u (links.run (c_of cfg) (d_of cfg) asked v)
 
-all_asked : (laws : SessionLaws) {cfg : Cfg} → IsConfigured cfg → (events : List Event) {w : World} → SessionsJoined both_down cfg Dte w → {v : Sessions}
+all_asked : (laws : SessionLaws) {cfg : Cfg} → IsConfigured cfg → (events : List Event) {within : Within} {w : World} → SessionsJoined within cfg Dte w
+    → {v : Sessions}
     → Alike w v → AreReceiptsAndRequests events → AreInOctets events → FreeThroughout cfg events w
     → AllAsked cfg (run cfg events w) v
 all_asked laws fine [] {w} h {v} like are octets free = record { asked = []; are = tt; free = free_alike like free; alike = like }
 all_asked laws {cfg} fine (e ∷ events) {w} h {v} like are octets free =
     let c = c_of cfg in
     let d = d_of cfg in
-    let next = after w (happens cfg w e) in
     let a = event_asked laws cfg fine e.at e.act w h v like are.0 octets.0 free.0 in
     let first = all_at e.at (asked_of a.comes a.handed) in
-    let joined = (event_joined laws cfg fine e.at e.act w (λ before x is. absurd (down_at_none before x is)) octets.0 (λ off. not_set_up off) h).joined in
-    let r = all_asked laws fine events joined a.alike are.1 octets.1 free.1 in
+    let r = all_asked laws fine events (next laws cfg fine h e octets.0).joined a.alike are.1 octets.1 free.1 in
     record {
       asked = first ++ r.asked;
       are = asked_are e.at a.comes a.handed r.asked r.are;
       free = asked_free c d e.at a.comes a.handed r.asked v (λ comes. free_alike like (a.free comes)) r.free;
-      alike = subst (Alike (run cfg events next)) (sym (links_append c d first r.asked v)) r.alike;
+      alike = subst (Alike (run cfg events (after w (happens cfg w e)))) (sym (links_append c d first r.asked v)) r.alike;
     }
 
 -- ---- the law
@@ -262,19 +264,17 @@ module _ (laws : SessionLaws) (keeps : ConnectKeeps) where
       configured : IsConfigured cfg
       configured = is_configured cfg fine
 
-      h : SessionsJoined both_down cfg Dte w
-      h = throughout_joined laws keeps cfg fine begin is events octets
+      joined : IsJoined cfg w
+      joined = throughout_joined laws keeps cfg fine begin is events octets
+
+      h : SessionsJoined joined.0 cfg Dte w
+      h = joined.1
 
       near_off : awaits_ua w.near.link.phase ≡ false
       near_off = up_off w.near.link.phase may.near.up
 
       far_off : awaits_ua w.far.link.phase ≡ false
       far_off = up_off w.far.link.phase may.far.up
-
-      -- both fire
-      fire : (at : Role) (x : World) → SessionsJoined both_down cfg Dte x → SessionsJoined both_down cfg Dte (after x (happens cfg x (firing at)))
-      fire at x joined = (event_joined laws cfg configured at Fires x (λ before e same. absurd (down_at_none before e same)) tt (λ off. not_set_up off)
-          joined).joined
 
       both : World
       both = run cfg (firing Dte ∷ firing Dce ∷ []) w
@@ -283,7 +283,8 @@ module _ (laws : SessionLaws) (keeps : ConnectKeeps) where
       fired = links.run (c_of cfg) (d_of cfg) (fired_then []) h.links
 
       all : AllAsked cfg (run cfg more both) fired
-      all = all_asked laws configured more (fire Dce (after w (happens cfg w (firing Dte))) (fire Dte w h)) (both_alike cfg (joined_alike h) near_off far_off)
+      all = all_asked laws configured more (next laws cfg configured (next laws cfg configured h (firing Dte) tt).joined (firing Dce) tt).joined
+          (both_alike cfg (joined_alike h) near_off far_off)
           are more_octets free
 
       u : World

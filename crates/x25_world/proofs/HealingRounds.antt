@@ -15,6 +15,7 @@ use Rattle.x25_world.specs.Healing.{unless_empty, pull_rounds, fire_and_pull, he
 use Rattle.x25_world.specs.Healing.{FreeThroughout, BothMayHeal, HaveArrived, HealsWithPuts, RestShows, ArrivesByHealing, AllArrives, RestShowsAll}
 use Rattle.x25_world.specs.{code.ShownWorld.{ShownWorld}, code.FitsWorld.{FitsRun, Leaves}, code.FitsHealing.{most_times, TellingWorld, GoesBy}}
 use Rattle.x25_world.proofs.{WorldLemmas.{run_append, accepted_append, octets_append}, HealingSchedule.{count_append, tried_is, Begun, goes_on, rest_is}}
+use Rattle.x25_line.proofs.Lists.{each_append}
 
 -- ---- rounds
 
@@ -208,11 +209,6 @@ holds_healed Holds new {cfg} most {from} {past} before h goes law =
 
 -- ---- all arrives
 
--- a round is deliveries and requests
-requests_append : (xs ys : List Event) → AreReceiptsAndRequests xs → AreReceiptsAndRequests ys → AreReceiptsAndRequests (xs ++ ys)
-requests_append [] ys f g = g
-requests_append (x ∷ xs) ys f g = (f.0, requests_append xs ys f.1 g)
-
 -- both pulls, accepted or not
 abbrev pulled_both : Cfg → World → World
 pulled_both cfg w =
@@ -331,7 +327,7 @@ module _ (left : PullsLeaveNone) (unpulled : Throughout UnpulledWaitForUsers) (c
       subst (HealsWithPuts cfg) (run_append cfg past (deliveries cfg most w) from)
       (law cfg fine from begins (past ++ deliveries cfg most w) (octets_append past (deliveries cfg most w) octets (received_octets (arrivals cfg most w)))) in
       here may (pull_rounds cfg most most fired)
-      ((rounds_are_so AreReceiptsAndRequests tt requests_append (λ at. (tt, tt)) (λ at. (tt, tt))) cfg most most fired) (rounds_octets cfg most most fired)
+      ((rounds_are_so AreReceiptsAndRequests tt (each_append _) (λ at. (tt, tt)) (λ at. (tt, tt))) cfg most most fired) (rounds_octets cfg most most fired)
       free drained
 
   wait_alone : IsAtRest u.near.link → IsAtRest u.far.link → AllWaitForUsers cfg u

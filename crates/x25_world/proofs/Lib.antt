@@ -10,6 +10,7 @@ pub mod HealingSchedule
 pub mod HealingRounds
 pub mod FrameOctets
 pub mod SetUpOnce
+pub mod WindowRuns
 pub mod rows
 pub mod SetUpLemmas
 pub mod LineLemmas

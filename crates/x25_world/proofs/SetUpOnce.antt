@@ -1,17 +1,26 @@
 -- Where the link is set up once, each end has one session, these are in order, and all that the ends told of their layers is in them.
-use Rattle.std.proofs.Common.{◌≡◌, ℕ, zero, suc, ◌+◌, ◌≤◌, ◌⊎◌, inl, inr, List, [], ◌∷◌, true, refl, sym, ap, ◌∙◌, subst, arith}
+use Rattle.std.proofs.Common.{◌≡◌, ℕ, zero, suc, ◌+◌, ◌≤◌, ◌⊎◌, inl, inr, List, [], ◌∷◌, ◌++◌, true, Option, Some, None, refl, sym, ap, ◌∙◌, subst, arith}
 use Rattle.x25_bits.specs.{declared.role.Role.{Role}, declared.role.Role.TheVariants.{Dte, Dce}}
-use Rattle.x25_link.specs.{Hearing.{other}, Station.{is_up}}
-use Rattle.x25_line.specs.{laws.Sessions.{SessionEnd}, laws.SessionClaims.{OnlyBegunHaveLists}}
+use Rattle.x25_link.specs.{Hearing.{other}, Station.{is_up, LinkStation, Settings as LinkSettings}}
+use Rattle.x25_line.specs.{laws.Sessions.{SessionEnd, Sessions, from_nothing, AreTimely}, laws.SessionClaims.{Each, OnlyBegunHaveLists}}
+use Rattle.x25_line.specs.{laws.StationClaims.{AcceptsNoConnectAt}, laws.SessionEvents.{IsUnasked, NoneBeginUnasked}}
 use Rattle.x25_layer.specs.{Layer.{goes_up}, laws.Law.{HandsUpLawfully, HasAllOf}, laws.NameLaw.{first_name, counted}, laws.Apart.{own_run}}
 use Rattle.x25_layer.specs.laws.TwoLayers.{started}
 use Rattle.x25_station.specs.{declared.config.Cfg.{Cfg}, Entry.{StationEntry, link_up, link_down, layer_entries}, Station.{Station}}
-use Rattle.x25_world.specs.{World.{World}, laws.Claims.{station_at, entries_at, ups_in, IsUpOnce, IsUpAtMostOnce, handed_at, IsLawful, IsNamed, ArrivesAll}}
-use Rattle.x25_world.specs.{laws.Sessions.{Progress, none_begun, after_entry, after_entries, session_at, last_session}, laws.LawsBelow.{SessionLaws}}
-use Rattle.x25_world.proofs.{Known.{IsConfigured}, sessions.SessionTrace.{Done, layer_of, own}, sessions.SessionReaches.{Beginning, set_up, known_sessions}}
+use Rattle.x25_station.specs.Command.{Connects, Relinks}
+use Rattle.x25_world.specs.declared.error.WorldError.{WorldError}
+use Rattle.x25_world.specs.World.{World, Act, Commands, Event, WorldOutcome, Happened, Declined, refusal_of, happens, after, run, established}
+use Rattle.x25_world.specs.laws.Claims.{station_at, entries_at, ups_in, IsUpAtMostOnce, handed_at, IsLawful, IsNamed, ArrivesAll, AreInOctets}
+use Rattle.x25_world.specs.{laws.Claims.{IsNoConnect, NoneConnects, link_of}, laws.SessionWindow.{Asks, at_end, all_at}, laws.LawsBelow.{SessionLaws}}
+use Rattle.x25_world.specs.laws.Sessions.{Progress, none_begun, after_entry, after_entries, progress_at, session_at, last_session}
+use Rattle.x25_world.proofs.{Established.{just_set_up}, sessions.SessionRuns.{next}}
+use Rattle.x25_world.proofs.{Known.{IsConfigured}, sessions.SessionTrace.{Done, layer_of, own}}
+use Rattle.x25_world.proofs.sessions.SessionReaches.{Within, known_sessions, joined_at, links_append, timely_append}
 use Rattle.x25_world.proofs.sessions.SessionJoined.{HaveAll, IsEnd, HasMet, PairIsInOrder, SessionsJoined}
 use Rattle.x25_world.proofs.{sessions.SessionKnown.{met_in_order, nothing_in_order}, sessions.claims.SessionMeets.{begun_both, meet_in_step}}
 use Rattle.x25_world.proofs.{sessions.claims.SessionLawful.{own_lawful, are_named}, sessions.claims.SessionArrives.{all_arrive, open_stretches_meet}}
+use Rattle.x25_line.specs.laws.Stations as line
+use Rattle.x25_line.specs.laws.Sessions as links
 
 -- ---- how many sessions an end began
 
@@ -21,16 +30,82 @@ begun_more p (link_up ∷ es) = omega (arith, begun_more (after_entry p link_up)
 begun_more p (link_down reason ∷ es) = begun_more (after_entry p (link_down reason)) es
 begun_more p (other ∷ es) = begun_more p es
 
-ups_are_begun : {cfg : Cfg} {end : Role} {s : Station} {k : SessionEnd} {trace : List Done} {es : List StationEntry} → IsEnd cfg end s k trace es → ups_in es
+pub ups_are_begun : {cfg : Cfg} {end : Role} {s : Station} {k : SessionEnd} {trace : List Done} {es : List StationEntry} → IsEnd cfg end s k trace es
+    → ups_in es
     ≡ k.begun
 ups_are_begun {es} h =
     omega (arith, begun_more none_begun es, ap (λ p. p.begun) h.progress)
 
 -- ---- where none asks for set-up
 
-pub is_up_once : {cfg : Cfg} {w : World} → SessionsJoined set_up cfg Dte w → IsUpOnce cfg w
-is_up_once h Dte = ups_are_begun h.near ∙ (h.reach.first refl).near
-is_up_once h Dce = ups_are_begun h.far ∙ (h.reach.first refl).far
+-- each end is in its first session, and none asks for another
+pub record AreInFirst (cfg : Cfg) (v : Sessions) : Type 0 where
+  pub unasked : IsUnasked (link_of cfg Dte) v
+  pub near : v.near.begun ≡ 1
+  pub far : v.far.begun ≡ 1
+
+-- such an act is refused, or asks no link for Connect
+no_connect : (act : Act) (o : Option WorldError) → IsNoConnect act o → ((e : WorldError) × (o ≡ Some e)) ⊎ (Asks act line.Connect → ⊥)
+no_connect (Commands Connects) None none = absurd none
+no_connect (Commands Relinks) None none = absurd none
+no_connect (Commands Connects) (Some e) none = inl (e, refl)
+no_connect (Commands Relinks) (Some e) none = inl (e, refl)
+no_connect act o none = inr (λ asks. asks)
+
+refused_stays : (w : World) (o : WorldOutcome) (e : WorldError) → refusal_of o ≡ Some e → after w o ≡ w
+refused_stays w (Happened next) e is = absurd (cc)
+refused_stays w (Declined d) e is = refl
+
+accepts_none : (act : Act) (end : Role) (asked : line.Act) (near far : LinkStation) → (Asks act line.Connect → ⊥) → Asks act asked
+    → AcceptsNoConnectAt (at_end end asked) near far
+accepts_none act Dte line.Connect near far never asks = absurd (never asks)
+accepts_none act Dce line.Connect near far never asks = absurd (never asks)
+accepts_none act Dte asked near far never asks = tt
+accepts_none act Dce asked near far never asks = tt
+
+module _ (laws : SessionLaws) {cfg : Cfg} (fine : IsConfigured cfg) where
+  abbrev c : LinkSettings
+  c = link_of cfg Dte
+
+  abbrev d : LinkSettings
+  d = link_of cfg Dce
+
+  pub are_first : {within : Within} (h : SessionsJoined within cfg Dte (established cfg)) → AreInFirst cfg h.links
+  are_first h =
+      let up = just_set_up laws.stations cfg in
+      record {
+        unasked = (known_sessions NoneBeginUnasked laws.unasked fine h.reach).up (ap (λ s. is_up s.phase) h.near.link ∙ up.near)
+            (ap (λ s. is_up s.phase) h.far.link ∙ up.far);
+        near = sym (ap (λ p. p.begun) h.near.progress) ∙ ap (λ t. (progress_at Dte t).begun) up.told;
+        far = sym (ap (λ p. p.begun) h.far.progress) ∙ ap (λ t. (progress_at Dce t).begun) up.told;
+      }
+
+  -- after what these links did
+  all_stay : (act : Act) (end : Role) (asked : List line.Act) (past : List line.LinkEvent) {v : Sessions} → (Asks act line.Connect → ⊥) → Each (Asks act) asked
+      → AreTimely c d past from_nothing → links.run c d past from_nothing ≡ v → AreTimely c d (all_at end asked) v → AreInFirst cfg v
+      → AreInFirst cfg (links.run c d (all_at end asked) v)
+  all_stay act end [] past never may on_time is timely h = h
+  all_stay act end (a ∷ asked) past {v} never may on_time is timely h =
+      let e = at_end end a in
+      let law = subst (NoneBeginUnasked c d) is (laws.unasked c d (joined_at Dte fine) from_nothing (inl refl) past on_time) in
+      let b = law.stays h.unasked e (accepts_none act end a _ _ never may.0) in
+      all_stay act end asked (past ++ e ∷ []) never may.1 (timely_append c d past (e ∷ []) from_nothing on_time (rw is (timely.0, tt)))
+      (links_append c d past (e ∷ []) from_nothing ∙ ap (links.happens c d e) is) timely.1
+      (record { unasked = b.unasked; near = b.near ∙ h.near; far = b.far ∙ h.far })
+
+  pub is_up_once : (events : List Event) {within : Within} {w : World} (h : SessionsJoined within cfg Dte w) → AreInFirst cfg h.links → AreInOctets events
+      → NoneConnects cfg events w → (end : Role) → ups_in (entries_at end (run cfg events w).transcript) ≡ 1
+  is_up_once [] h first octets none Dte = ups_are_begun h.near ∙ first.near
+  is_up_once [] h first octets none Dce = ups_are_begun h.far ∙ first.far
+  is_up_once (e ∷ events) {w} h first octets none end = elim (no_connect e.act (refusal_of (happens cfg w e)) none.0) [
+    | inl refused ↦ (let is = refused_stays w (happens cfg w e) refused.0 refused.1 in
+        subst (λ x. ups_in (entries_at end (run cfg events x).transcript) ≡ 1) (sym is)
+        (is_up_once events h first octets.1 (subst (NoneConnects cfg events) is none.1) end))
+    | inr never ↦ (let j = (next laws cfg fine h e octets.0).joined in
+        let g = j.reach.grown in
+        is_up_once events j (subst (AreInFirst cfg) g.run (all_stay e.act e.at g.asked h.reach.events never g.may h.reach.timely h.reach.run g.timely first))
+        octets.1 none.1 end)
+  ]
 
 -- ---- where neither end goes up a second time
 
@@ -40,7 +115,7 @@ few_begun zero few = inl refl
 few_begun (suc zero) few = inr refl
 few_begun (suc (suc n)) few = absurd (omega (arith, few))
 
-module _ {since : Beginning} (laws : SessionLaws) (cfg : Cfg) (fine : IsConfigured cfg) (w : World) (h : SessionsJoined since cfg Dte w)
+module _ {within : Within} (laws : SessionLaws) (cfg : Cfg) (fine : IsConfigured cfg) (w : World) (h : SessionsJoined within cfg Dte w)
     (once : IsUpAtMostOnce cfg w) where
   near_few : h.links.near.begun ≤ 1
   near_few = omega (arith, once Dte, ups_are_begun h.near)

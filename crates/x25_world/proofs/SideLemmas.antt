@@ -39,20 +39,13 @@ shared_of Dce room side = record { out = side.out; back = side.back }
 
 -- ---- places for frames on the line
 
-module _ (count : ℕ) (old mid : ShownLine) (at : Role) where
-  pub few_changed : (frames : List (List ℕ)) → TakesFew count old mid → TakesFew count old (with_line_to mid at frames)
-  few_changed frames few = by at
-    where
-      by : (end : Role) → TakesFew count old (with_line_to mid end frames)
-      by Dte = record { to_dce = few.to_dce; to_dte = few.to_dte }
-      by Dce = record { to_dce = few.to_dce; to_dte = few.to_dte }
+pub few_changed : (count : ℕ) (old mid : ShownLine) (at : Role) (frames : List (List ℕ)) → TakesFew count old mid
+    → TakesFew count old (with_line_to mid at frames)
+few_changed count old mid Dte frames few = record { to_dce = few.to_dce; to_dte = few.to_dte }
+few_changed count old mid Dce frames few = record { to_dce = few.to_dce; to_dte = few.to_dte }
 
-  pub few_put : (frames : List (List ℕ)) → TakesFew count old mid → TakesFew count old (put_by mid at frames)
-  few_put frames few = by at
-    where
-      by : (end : Role) → TakesFew count old (put_by mid end frames)
-      by Dte = record { to_dce = few.to_dce; to_dte = few.to_dte }
-      by Dce = record { to_dce = few.to_dce; to_dte = few.to_dte }
+pub few_put : (count : ℕ) (old mid : ShownLine) (at : Role) (frames : List (List ℕ)) → TakesFew count old mid → TakesFew count old (put_by mid at frames)
+few_put count old mid at frames few = (let f = few_changed count old mid (other at) _ few in record { to_dce = f.to_dce; to_dte = f.to_dte })
 
 -- where no frame is on the line none arrives
 pub none_arrives : (c : Settings) (w : World) (back : List (List ℕ)) → None ≡ slice_get back 0 → refusal_of (delivered c w back) ≡ Some error.Empty

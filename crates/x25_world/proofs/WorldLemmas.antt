@@ -1,27 +1,47 @@
 -- An end that acts, in its world: the other end is as it was. And lists of events, one more at a time.
-use Rattle.std.proofs.Common.{◌≡◌, IfOk, ℕ, nat_lt, ◌&&◌, Bool, true, false, if◌then◌else◌, List, [], ◌∷◌, ◌++◌, length, map, drop, Option, Some, None, Result}
+use Rattle.std.proofs.Common.{◌≡◌, IfOk, ℕ, nat_lt, ◌&&◌, List, [], ◌∷◌, ◌++◌, length, map, drop, Option, Some, None, Result}
 use Rattle.std.proofs.{Common.{Ok, Err, OnOk, OnErr, IfErr, ◌⊎◌, inl, inr, refl, ap, sym, ◌∙◌, subst, append_assoc, arith}, Math.Seq.{drop-append_seam}}
-use Rattle.std.proofs.lemmas.List.{append-nil, drop_all}
-use Rattle.std.specs.List.{remove}
+use Rattle.std.proofs.lemmas.{List.{append-nil, drop_all}, Bool.{cond_both}}
 use Rattle.x25_bits.specs.{declared.role.Role.{Role}, declared.role.Role.TheVariants.{Dte, Dce}}
 use Rattle.x25_frame.specs.Spelling.{spelling_of}
 use Rattle.x25_link.specs.Station.{awaits_ua}
-use Rattle.x25_line.specs.laws.Stations.{is_visible, replaced}
+use Rattle.x25_line.specs.laws.Stations.{is_visible}
 use Rattle.x25_station.specs.{declared.config.Cfg.{Cfg}, declared.error.StationError.{StationError}, Entry.{StationEntry}, code.FitsStation.{FitsStation}}
-use Rattle.x25_station.specs.{Config.{Settings, settings_from, config_refusal}, Step.{Step, Outcome, Did, Refused, commands, fires, receives}}
+use Rattle.x25_station.specs.{Config.{Settings, settings_from, config_refusal}, Step.{Step, Outcome, Did, Refused, commands, fires}}
 use Rattle.x25_world.specs.declared.error.WorldError.{WorldError}
 use Rattle.x25_world.specs.World.{World, mirrored, Event, Act, Commands, Receives, Fires, Loses, Damages, WorldOutcome, Happened, Declined, after_step}
 use Rattle.x25_world.specs.World.{of_station, delivered, on_line, is_on_line, acts, acts_at, tapped, entered, swapped_back, AtEnd, happens, after, refusal_of}
-use Rattle.x25_world.specs.World.{run, AreAccepted, connected, established, start}
-use Rattle.x25_world.specs.laws.Claims.{ActsInOctets, AreInOctets, IsUpOnce, IsUpAtMostOnce, IsBeginning, NoneConnects, UpOnceUnlessConnected, UntilSecondUp}
-use Rattle.x25_world.specs.laws.Claims.{IsLawful, IsNamed, ArrivesAll, HasNoProcedureError}
-use Rattle.x25_world.specs.laws.SessionClaims.{Throughout, ThroughoutAlong, MeetInStep, AreLawfulWhereMet, AreNamedInSessions, AllArrive, UnmetAreToldNothing}
-use Rattle.x25_world.specs.{laws.SessionClaims.{OpenStretchesMeet, SessionsKeepOrder}, laws.BesideClaims.{BesideIsGiven}}
-use Rattle.x25_world.specs.{laws.SessionWindow.{SessionsStayInWindow}, code.ShownLine.{ShownLine}, code.ShownWorld.{ShownWorld, shown_with, line_from}}
-use Rattle.x25_world.specs.code.FitsWorld.{FitsWorld, FitsRun, RunHolds, Claims, ClaimsOfNew, and_then, HasHappened, HasActed, HasActedAt, RefusesConfig}
+use Rattle.x25_world.specs.World.{run, AreAccepted, connected, start}
+use Rattle.x25_world.specs.laws.Claims.{ActsInOctets, AreInOctets, IsUpOnce, IsUpAtMostOnce}
+use Rattle.x25_world.specs.{code.ShownLine.{ShownLine}, code.ShownWorld.{ShownWorld, shown_with, line_from}}
+use Rattle.x25_world.specs.code.FitsWorld.{FitsWorld, FitsRun, EachRunHolds, Claims, and_then, HasHappened, HasActed, HasActedAt, RefusesConfig}
 use Rattle.x25_world.proofs.Established.{connected_tells}
 use Rattle.x25_station.specs.declared.station.Station as code
 use Rattle.x25_world.specs.declared.error.WorldError.TheVariants as error
+
+-- ---- an act
+
+-- what holds of what is refused, of a step of the station, and where octets are left on the line, holds of each act
+acts_all : (P : WorldOutcome → Type 0) (c : Settings) (w : World) (a : Act) → ((e : WorldError) → P (Declined e))
+    → ((back : List (List ℕ)) (step : Step) → P (Happened (after_step c w back step))) → ((left : List (List ℕ)) → P (Happened (on_line w left)))
+    → P (acts c w a)
+acts_all P c w a refused steps leaves = by a
+  where
+    did : (o : Outcome) → P (of_station c w o)
+    did (Did step) = steps w.back step
+    did (Refused e) = refused _
+
+    came : (back : List (List ℕ)) → P (delivered c w back)
+    came [] = refused _
+    came (octets ∷ back) = steps back _
+
+    by : (a : Act) → P (acts c w a)
+    by (Commands command) = did (commands c w.near command)
+    by Receives = came w.back
+    by Fires = cond_both (awaits_ua w.near.link.phase && is_on_line c w) _ _ P (λ _. refused _) (λ _. did (fires c w.near))
+    by (Loses place) = cond_both (nat_lt place (length w.back)) _ _ P (λ _. leaves _) (λ _. refused _)
+    by (Damages place octets) =
+        cond_both (nat_lt place (length w.back)) _ _ P (λ _. cond_both (is_visible octets) _ _ P (λ _. leaves _) (λ _. refused _)) (λ _. refused _)
 
 -- ---- the far end is as it was
 
@@ -33,20 +53,8 @@ pub station_keeps_far : (c : Settings) (w : World) (o : Outcome) → KeepsFar w 
 station_keeps_far c w (Did step) = refl
 station_keeps_far c w (Refused e) = tt
 
-delivered_keeps_far : (c : Settings) (w : World) (back : List (List ℕ)) → KeepsFar w (delivered c w back)
-delivered_keeps_far c w [] = tt
-delivered_keeps_far c w (octets ∷ back) = refl
-
-keeps_if : (w : World) (b : Bool) (u v : WorldOutcome) → KeepsFar w u → KeepsFar w v → KeepsFar w (if b then u else v)
-keeps_if w true u v f g = f
-keeps_if w false u v f g = g
-
 acts_keep_far : (c : Settings) (w : World) (a : Act) → KeepsFar w (acts c w a)
-acts_keep_far c w (Commands command) = station_keeps_far c w (commands c w.near command)
-acts_keep_far c w Receives = delivered_keeps_far c w w.back
-acts_keep_far c w Fires = keeps_if w (awaits_ua w.near.link.phase && is_on_line c w) _ _ tt (station_keeps_far c w (fires c w.near))
-acts_keep_far c w (Loses place) = keeps_if w (nat_lt place (length w.back)) _ _ refl tt
-acts_keep_far c w (Damages place octets) = keeps_if w (nat_lt place (length w.back)) _ _ (keeps_if w (is_visible octets) _ _ refl tt) tt
+acts_keep_far c w a = acts_all (KeepsFar w) c w a (λ e. tt) (λ back step. refl) (λ left. refl)
 
 -- ---- what an end put on the line is the last there
 
@@ -58,32 +66,10 @@ puts_none : (at : Role) (w next : World) → next.tap ≡ w.tap → next.out ≡
 puts_none at w next tap out = tap ∙ sym (append-nil w.tap)
     ∙ ap (λ frames. w.tap ++ tapped at frames) (sym (ap (drop (length w.out)) out ∙ drop_all (length w.out) w.out (omega arith)))
 
-step_puts : (c : Settings) (w : World) (back : List (List ℕ)) (step : Step) → PutsLast c.role w (after_step c w back step)
-step_puts c w back step = ap (λ frames. w.tap ++ tapped c.role frames) (sym (drop-append_seam w.out (map (spelling_of c.role) step.out)))
-
-station_puts : (c : Settings) (w : World) (o : Outcome) → PutsLast c.role w (after w (of_station c w o))
-station_puts c w (Did step) = step_puts c w w.back step
-station_puts c w (Refused e) = puts_none c.role w w refl refl
-
-delivered_puts : (c : Settings) (w : World) (back : List (List ℕ)) → PutsLast c.role w (after w (delivered c w back))
-delivered_puts c w [] = puts_none c.role w w refl refl
-delivered_puts c w (octets ∷ back) = step_puts c w back (receives c w.near octets)
-
-puts_if : (at : Role) (w : World) (b : Bool) (u v : WorldOutcome) → PutsLast at w (after w u) → PutsLast at w (after w v)
-    → PutsLast at w (after w (if b then u else v))
-puts_if at w true u v f g = f
-puts_if at w false u v f g = g
-
 acts_put : (c : Settings) (w : World) (a : Act) → PutsLast c.role w (after w (acts c w a))
-acts_put c w (Commands command) = station_puts c w (commands c w.near command)
-acts_put c w Receives = delivered_puts c w w.back
-acts_put c w Fires = puts_if c.role w (awaits_ua w.near.link.phase && is_on_line c w) _ _ (puts_none c.role w w refl refl) (station_puts c w (fires c w.near))
-acts_put c w (Loses place) = puts_if c.role w (nat_lt place (length w.back)) _ _ (puts_none c.role w (on_line w (remove w.back place)) refl refl)
-    (puts_none c.role w w refl refl)
-acts_put c w (Damages place octets) =
-    puts_if c.role w (nat_lt place (length w.back))
-    _ _ (puts_if c.role w (is_visible octets) _ _ (puts_none c.role w (on_line w (replaced w.back place octets)) refl refl)
-    (puts_none c.role w w refl refl)) (puts_none c.role w w refl refl)
+acts_put c w a = acts_all (λ o. PutsLast c.role w (after w o)) c w a (λ e. puts_none c.role w w refl refl)
+    (λ back step. ap (λ frames. w.tap ++ tapped c.role frames) (sym (drop-append_seam w.out (map (spelling_of c.role) step.out))))
+    (λ left. puts_none c.role w (on_line w left) refl refl)
 
 -- what either end put
 abbrev out_from : World → Role → List (List ℕ)
@@ -261,52 +247,13 @@ pub connected_up : (cfg : Cfg) → IsUpAtMostOnce cfg (connected cfg)
 connected_up cfg = none_up cfg (connected cfg) (connected_tells cfg)
 
 -- an end that went up once went up once at most
-once_at_most : (cfg : Cfg) (w : World) → IsUpOnce cfg w → IsUpAtMostOnce cfg w
+pub once_at_most : (cfg : Cfg) (w : World) → IsUpOnce cfg w → IsUpAtMostOnce cfg w
 once_at_most cfg w once = λ end. omega (arith, once end)
 
--- the claims on sessions together
-pub all_of_sessions : Throughout MeetInStep → Throughout AreLawfulWhereMet → Throughout AreNamedInSessions → Throughout AllArrive
-    → Throughout UnmetAreToldNothing → Throughout OpenStretchesMeet → Throughout HasNoProcedureError → ThroughoutAlong SessionsStayInWindow
-    → Throughout SessionsKeepOrder
-all_of_sessions step lawful named arrives unmet stand quiet window cfg fine from begins events octets = record {
-  step = step cfg fine from begins events octets;
-  lawful = lawful cfg fine from begins events octets;
-  named = named cfg fine from begins events octets;
-  arrives = arrives cfg fine from begins events octets;
-  unmet = unmet cfg fine from begins events octets;
-  stand = stand cfg fine from begins events octets;
-  quiet = quiet cfg fine from begins events octets;
-  window = (from, begins, events, refl, window cfg fine from begins events octets);
-}
-
--- by the laws on two stations the claims hold of each run
-module _ (lawful : UntilSecondUp IsLawful) (named : UntilSecondUp IsNamed) (arrives : UntilSecondUp ArrivesAll) (up_once : UpOnceUnlessConnected)
-    (sessions : Throughout SessionsKeepOrder) (links : ThroughoutAlong SessionsStayInWindow)
-    (beside : ThroughoutAlong BesideIsGiven) where
-  run_holds : {cfg : Cfg} {from : World} {v : ShownWorld} {events : List Event} → IsBeginning cfg from → FitsRun cfg from v events → RunHolds cfg from v events
-  run_holds {cfg} {from} {events} begins h = record {
-    fits = h;
-    lawful = lawful cfg h.settings from begins events h.octets;
-    named = named cfg h.settings from begins events h.octets;
-    arrives = arrives cfg h.settings from begins events h.octets;
-    up_once = λ is none. rw is (up_once cfg h.settings events h.octets (subst (NoneConnects cfg events) is none));
-    sessions = sessions cfg h.settings from begins events h.octets;
-    links = links cfg h.settings from begins events h.octets;
-    beside = beside cfg h.settings from begins events h.octets;
-  }
-
-  -- the claims on a world that fits more of each run than the one before
-  pub claims_hold : (old new : ShownWorld) (more : List Event → List Event)
-      → ((cfg : Cfg) (from : World) (past : List Event) → FitsRun cfg from old past → FitsRun cfg from new (more past)) → Claims old new more
-  claims_hold old new more runs = record { run = runs; holds = λ cfg from past begins h. run_holds begins (runs cfg from past h) }
-
-  -- they hold of a world that was just made
-  pub claims_of_new : (cfg : Cfg) (from : World) (v : ShownWorld) → IsBeginning cfg from → IsUpAtMostOnce cfg from → FitsRun cfg from v []
-      → ClaimsOfNew cfg from v
-  claims_of_new cfg from v begins once h = record { once = once; holds = run_holds begins h }
-
-  pub established_up : (cfg : Cfg) → config_refusal cfg ≡ None → IsUpAtMostOnce cfg (established cfg)
-  established_up cfg fine = once_at_most cfg (established cfg) (up_once cfg fine [] tt tt)
+-- by what holds of each run, the claims on a world that fits more of each than the one before
+pub claims_hold : EachRunHolds → (old new : ShownWorld) (more : List Event → List Event)
+    → ((cfg : Cfg) (from : World) (past : List Event) → FitsRun cfg from old past → FitsRun cfg from new (more past)) → Claims old new more
+claims_hold holds old new more runs = record { run = runs; holds = λ cfg from past begins h. holds cfg from new (more past) begins (runs cfg from past h) }
 
 -- a world that was just made
 new_run : {cfg : Cfg} {from : World} {v : ShownWorld} → config_refusal cfg ≡ None → FitsWorld cfg v from → FitsRun cfg from v []

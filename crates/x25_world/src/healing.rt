@@ -16,7 +16,7 @@ ghost use Rattle.x25_world.specs.Healing.{pull_round, pull_rounds, healing, rece
 
 use crate::error::WorldError;
 use crate::event::Event;
-use crate::law::{laws_below, messages_wait_for_users, stations_meet_in_sessions};
+use crate::law::{laws_below, messages_wait_for_users, runs_hold, stations_meet_in_sessions};
 use crate::told::Entered;
 use crate::world::World;
 use x25_bits::{Direction, Role};
@@ -118,7 +118,7 @@ impl World {
         ensures shows { HoldsHealed (λ c w u. RestShowsAll c u) self.old self.new result }
         ensures arrives { HoldsHealed (λ c w u. ArrivesByHealing c most_times w u) self.old self.new result }
     {
-        stations_meet_in_sessions();
+        runs_hold();
         stations_heal();
         healing_brings_all();
         told.clear();

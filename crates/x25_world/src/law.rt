@@ -7,23 +7,24 @@ ghost use Rattle.x25_world.specs.rows.WorldRows.{GivenArrives, ConfirmedArrives}
 ghost use Rattle.x25_world.specs.rows.WorldRows.{ConnectGoesAgain, SecondMeetsFirst, SecondMeet};
 ghost use Rattle.x25_world.specs.laws.SessionClaims.{Throughout, ThroughoutAlong, MeetInStep, AreLawfulWhereMet};
 ghost use Rattle.x25_world.specs.laws.SessionClaims.{AreNamedInSessions, AllArrive, UnmetAreToldNothing};
-ghost use Rattle.x25_world.specs.laws.SessionClaims.{OpenStretchesMeet};
+ghost use Rattle.x25_world.specs.laws.SessionClaims.{OpenStretchesMeet, SessionsKeepOrder};
 ghost use Rattle.x25_world.specs.laws.WaitClaims.{PullsLeaveNone, UnpulledWaitForUsers, ClosedKeepNone};
 ghost use Rattle.x25_world.specs.laws.WaitClaims.{MessagesWaitForUsers};
 ghost use Rattle.x25_world.specs.laws.LawsBelow.{SessionLaws};
 ghost use Rattle.x25_world.specs.laws.OctetLaw.{FewOctets};
-ghost use Rattle.x25_world.specs.laws.Claims.{ActsInOctets, CommandsOctets, UntilSecondUp, IsSetUp};
+ghost use Rattle.x25_world.specs.laws.Claims.{ActsInOctets, CommandsOctets, Always, UntilSecondUp, IsSetUp};
 ghost use Rattle.x25_world.specs.laws.Claims.{IsLawful, IsNamed};
 ghost use Rattle.x25_world.specs.laws.Claims.{ArrivesAll, HasNoProcedureError, UpOnceUnlessConnected};
-ghost use Rattle.x25_world.specs.laws.SessionWindow.{SessionsStayInWindow};
+ghost use Rattle.x25_world.specs.laws.SessionWindow.{StaysInWindow, SessionsStayInWindow};
 ghost use Rattle.x25_world.specs.laws.TapOctets.{IsTapOfOctets};
 ghost use Rattle.x25_world.specs.laws.BesideClaims.{BesideIsGiven};
 ghost use Rattle.x25_world.specs.laws.ConfirmedClaims.{ConfirmedAreHandedUp};
+ghost use Rattle.x25_world.specs.code.FitsWorld.{EachRunHolds};
 
 use crate::Event;
 use x25_frame::reads_what_is_spelled;
 use x25_layer::{acknowledged_are_handed_up, apart_layers_keep_order, each_end_is_by_itself};
-use x25_line::{each_session_event_hands_one, sessions_keep_order};
+use x25_line::{each_session_event_hands_one, links_keep_order, sessions_keep_order};
 use x25_link::{notes_what_changes, sets_up_by_rows};
 use x25_packet::{reading_is_the_grammar, taking_keeps_octets};
 use x25_station::{
@@ -54,9 +55,9 @@ pub(crate) fn laws_below()
 /// Two stations joined by a line of octets that keeps order and may lose or visibly damage any frame, from both links
 /// down and nothing on the line, from the DTE's SABM on the line, or from a link just set up: what holds after each
 /// list of commands, deliveries, losses, damage and firings of timer T1, wherever an event is refused, up to the moment
-/// at which an end tells of LinkUp a second time. By `up_once` no end goes up again from a link just set
-/// up where no `connect` of the list is accepted, so that a list without `connect` has no other premise than those
-/// below.
+/// at which an end tells of LinkUp a second time. `window` is said from a link just set up alone. By `up_once` no end
+/// goes up again from there where no `connect` of the list is accepted, so that a list without `connect` has no other
+/// premise than those below.
 ///
 /// - `set_up`: SABM is there to be delivered, and then UA.
 /// - `lawful`: on each channel and under each name of a stretch, the messages, interrupts and calls that an end hands
@@ -67,6 +68,12 @@ pub(crate) fn laws_below()
 /// - `arrives`: what is handed up is all of the messages and interrupts of a stretch, where the end that gives is idle
 /// and both ends have that stretch
 ///   open.
+/// - `quiet`: no FRMR, no CLEAR, RESET or RESTART with a cause of an error was ever put on the line, and no fault was
+/// reported to a user.
+/// - `window`: from a link just set up there are two links and one window machine behind them, which go on from event
+/// to event as the end of the event
+/// asks, and are behind each world of the run: an I frame and an N(R) on the line keep the unbounded numbers that they
+/// were given as they were put, and these are in the window.
 /// - `up_once`: from a link just set up, where no `connect` is accepted, each end tells of LinkUp once, in set-up.
 ///
 /// Premises: k is 1 to 7, N2 1 to 255, channels 1 to 4,095, and the users hand down octets.
@@ -75,9 +82,12 @@ pub fn two_stations_keep_order()
     ensures lawful { UntilSecondUp IsLawful }
     ensures named { UntilSecondUp IsNamed }
     ensures arrives { UntilSecondUp ArrivesAll }
+    ensures quiet { UntilSecondUp HasNoProcedureError }
+    ensures window { Always StaysInWindow }
     ensures up_once { UpOnceUnlessConnected }
 {
     laws_below();
+    links_keep_order();
 }
 
 /// Two stations joined by such a line, over set-up and re-set-up at any moment: what holds after each list of commands,
@@ -133,6 +143,15 @@ pub fn stations_meet_in_sessions()
     ensures confirmed { Throughout ConfirmedAreHandedUp }
 {
     laws_below();
+}
+
+/// All of this together, and of a run that leads to a world of the code.
+pub(crate) fn runs_hold()
+    ensures sessions { Throughout SessionsKeepOrder }
+    ensures runs { EachRunHolds }
+{
+    two_stations_keep_order();
+    stations_meet_in_sessions();
 }
 
 /// Two stations joined by such a line, over set-up and re-set-up at any moment, after each list of events as above:

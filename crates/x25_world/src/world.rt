@@ -24,7 +24,7 @@ use crate::acting::{act_at_end, command, enter, reserve_entries};
 use crate::bit_damage::octets_of_damage;
 use crate::error::WorldError;
 use crate::event::{Event, SABM_ARRIVES, UA_ARRIVES};
-use crate::law::{hands_down_octets, stations_meet_in_sessions, two_stations_keep_order};
+use crate::law::{hands_down_octets, runs_hold, two_stations_keep_order};
 use crate::line::Line;
 use crate::told::Entered;
 use std::alloc::Global;
@@ -62,8 +62,7 @@ impl World {
         ensures refused { RefusesConfig result (config_refusal cfg) }
         ensures claims { IfOk result (ClaimsOfNew cfg start) }
     {
-        two_stations_keep_order();
-        stations_meet_in_sessions();
+        runs_hold();
         World::down(alloc, cfg)
     }
 
@@ -104,8 +103,7 @@ impl World {
         ensures refused { RefusesConfig result (config_refusal cfg) }
         ensures claims { IfOk result (ClaimsOfNew cfg (connected cfg)) }
     {
-        two_stations_keep_order();
-        stations_meet_in_sessions();
+        runs_hold();
         World::asking(alloc, cfg)
     }
 
@@ -149,8 +147,7 @@ impl World {
         ensures claims { IfOk result (ClaimsOfNew cfg (established cfg)) }
         ensures up_once { IfOk result (λ v. IsUpOnce cfg (established cfg)) }
     {
-        two_stations_keep_order();
-        stations_meet_in_sessions();
+        runs_hold();
         World::up(alloc, cfg)
     }
 
@@ -212,8 +209,7 @@ impl World {
         ensures places { TakesFewPlaces self.old self.new }
         ensures claims { Claims self.old self.new (λ past. and_then past (event_of event.entry) result) }
     {
-        two_stations_keep_order();
-        stations_meet_in_sessions();
+        runs_hold();
         hands_down_octets(event);
         self.happen(event, out)
     }
@@ -275,8 +271,7 @@ impl World {
         ensures claims { Claims self.old self.new (λ past. and_then past
             (bit_damage direction place bits.now) result) }
     {
-        two_stations_keep_order();
-        stations_meet_in_sessions();
+        runs_hold();
         self.damage_by(direction, place, bits)
     }
 

@@ -52,12 +52,12 @@ begin_near is tags told asked one = record {
   asks_once = λ asks. absurd (cc);
 }
 
--- ---- the line from x is another
+-- ---- the line from x is another, or y stands otherwise
 
-module _ {sx sy : Stand} {bx p b q : ℕ} {out back : List Letter} where
-  from_near : (fs : List Letter) → AllAsked (sy ≡ In → ⊥) (IsOlder bx p fs sy) b q back
+module _ {sx sy ty : Stand} {bx p b q : ℕ} {out back : List Letter} where
+  from_near : (fs : List Letter) → AllAsked (ty ≡ In → ⊥) (IsOlder bx p fs ty) b q back
       → (sx ≡ Asking → (how_many sabm_of fs + how_many ua_of back ≤ 1) × (how_many disc_of fs ≡ 0))
-      → Side sx bx p sy b q out back → Side sx bx p sy b q fs back
+      → Side sx bx p sy b q out back → Side sx bx p ty b q fs back
   from_near fs asked once h =
       record { view = h.view; tags = h.tags; is_in = h.is_in; live = h.live; soon = h.soon; left = h.left; asked = asked; one = h.one; asks_once = once }
 
@@ -145,17 +145,8 @@ module _ {sx sy : Stand} {bx p b q : ℕ} {out back : List Letter} where
   }
 
   pub leave_far : Side sy b q sx bx p back out → Side sy b q Out bx p back out
-  leave_far h = record {
-    view = h.view;
-    tags = h.tags;
-    is_in = h.is_in;
-    live = h.live;
-    soon = h.soon;
-    left = h.left;
-    asked = asked_map _ _ bx p (λ n k. absurd (cc)) (λ o. (o.0, o.1, λ k. absurd (cc))) out h.asked;
-    one = h.one;
-    asks_once = h.asks_once;
-  }
+  leave_far h =
+      from_near back (asked_map _ _ bx p (λ n k. absurd (cc)) (λ o. (o.0, o.1, λ k. absurd (cc))) out h.asked) h.asks_once h
 
   -- x sends DISC as it leaves
   pub close_near : Side sx bx p sy b q out back → Side Out bx p sy b q (out ++ letter bx Disc ∷ []) back

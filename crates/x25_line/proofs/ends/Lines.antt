@@ -1,6 +1,6 @@
 -- The lines between two ends over sessions, and what is said of them.
 use Rattle.std.proofs.Common.{◌≡◌, ◌≤◌, ◌<◌, ◌+◌, ◌⊎◌, inl, inr, ℕ, zero, suc, List, [], ◌∷◌, ◌++◌, remove, refl, sym, subst, arith}
-use Rattle.x25_line.proofs.Lists.{each_append}
+use Rattle.x25_line.proofs.Lists.{each_append, each_map}
 use Rattle.x25_line.specs.{laws.Said.{sabm_of, ua_of, Said, Tells, Sabm, Else}, laws.Ends.{Letter, letter, spoilt, how_many, OfSabm, OfTells, AreOf}}
 use Rattle.x25_line.specs.laws.StationClaims.{Each}
 
@@ -60,8 +60,7 @@ pub tags_push : {b : ℕ} (es : List Letter) (e : Letter) → AllTags b es → e
 tags_push {b} es e h k = each_append (λ x. x.session ≤ b) es (e ∷ []) h (k, tt)
 
 pub tags_more : (b c : ℕ) (es : List Letter) → b ≤ c → AllTags b es → AllTags c es
-tags_more b c [] le h = tt
-tags_more b c (x ∷ es) le h = (omega (arith, le, h.0), tags_more b c es le h.1)
+tags_more b c es le = each_map (λ x. x.session ≤ b) (λ x. x.session ≤ c) (λ x h. omega (arith, le, h)) es
 
 pub tags_less : (b : ℕ) {es fs : List Letter} → Less es fs → AllTags b es → AllTags b fs
 tags_less b {es} {fs} l h = less_each (λ e. e.session ≤ b) (λ e k. k) l h
@@ -173,12 +172,15 @@ pub asked_none : (N O : Type 0) (b q : ℕ) (es : List Letter) → how_many sabm
 asked_none N O b q [] h = tt
 asked_none N O b q (e ∷ es) h = (sabm_free e.said (IsAsked N O b q e es) (omega (arith, h)), asked_none N O b q es (omega (arith, h)))
 
+-- each, as each of them is
+asked_by : (N O M P : Type 0) (b c q r : ℕ) → ((e : Letter) (es : List Letter) → IsAsked N O b q e es → IsAsked M P c r e es) → (es : List Letter)
+    → AllAsked N O b q es → AllAsked M P c r es
+asked_by N O M P b c q r f [] h = tt
+asked_by N O M P b c q r f (e ∷ es) h = (of_sabm e.said (IsAsked M P c r e es) (f e es) h.0, asked_by N O M P b c q r f es h.1)
+
 pub asked_map : {N O : Type 0} (M P : Type 0) (b q : ℕ) → (N → M) → (O → P) → (es : List Letter) → AllAsked N O b q es → AllAsked M P b q es
-asked_map M P b q f g [] h = tt
-asked_map {N} {O} M P b q f g (e ∷ es) h = (
-  of_sabm e.said (IsAsked M P b q e es) (λ k. elim k [ inl now ↦ inl (f now.0, now.1, now.2) | inr old ↦ inr (g old.0, old.1, old.2) ]) h.0,
-  asked_map M P b q f g es h.1,
-)
+asked_map {N} {O} M P b q f g =
+    asked_by N O M P b b q q (λ e es k. elim k [ inl now ↦ inl (f now.0, now.1, now.2) | inr old ↦ inr (g old.0, old.1, old.2) ])
 
 -- none is older
 pub asked_now : (N O P : Type 0) (b q r : ℕ) → (es : List Letter) → AreOf b es → AllAsked N O b q es → AllAsked N P b r es
@@ -191,20 +193,14 @@ asked_now N O P b q r (e ∷ es) a h = (here e.said a.0 h.0, asked_now N O P b q
 
 -- none can be older: of any other pair
 pub asked_never : (N O P : Type 0) (b q r : ℕ) → (O → ⊥) → (es : List Letter) → AllAsked N O b q es → AllAsked N P b r es
-asked_never N O P b q r never [] h = tt
-asked_never N O P b q r never (e ∷ es) h = (
-  of_sabm e.said (IsAsked N P b r e es) (λ k. elim k [ inl now ↦ inl now | inr old ↦ absurd (never old.0) ]) h.0,
-  asked_never N O P b q r never es h.1,
-)
+asked_never N O P b q r never = asked_by N O N P b b q r (λ e es k. elim k [ inl now ↦ inl now | inr old ↦ absurd (never old.0) ])
 
 -- the end begins a session: all are older
 pub asked_begins : (N O M P : Type 0) (b q r : ℕ) → P → (O → ⊥) → (es : List Letter) → AllAsked N O b q es → AllAsked M P (suc b) r es
-asked_begins N O M P b q r p never [] h = tt
-asked_begins N O M P b q r p never (e ∷ es) h = (
-  of_sabm e.said (IsAsked M P (suc b) r e es)
-      (λ k. elim k [ inl now ↦ (inr (p, omega (arith, now.1), told_map Never (Of r) (λ n none. absurd none) es now.2)) | inr old ↦ absurd (never old.0) ]) h.0,
-  asked_begins N O M P b q r p never es h.1,
-)
+asked_begins N O M P b q r p never = asked_by N O M P b (suc b) q r (λ e es k. elim k [
+  | inl now ↦ inr (p, omega (arith, now.1), told_map Never (Of r) (λ n none. absurd none) es now.2)
+  | inr old ↦ absurd (never old.0)
+])
 
 pub asked_push : (N O : Type 0) (b q : ℕ) (es : List Letter) (e : Letter) → AllAsked N O b q es → OfTells e.said ((N → ⊥) × (e.session ≡ q))
     → OfSabm e.said (N × (e.session ≡ b)) → AllAsked N O b q (es ++ e ∷ [])

@@ -1,12 +1,12 @@
 -- Which sessions meet: one to one, and in order at both ends; and the same as the other end has it.
 use Rattle.std.proofs.Common.{◌≡◌, ◌≤◌, ◌<◌, ℕ, List, [], ◌∷◌, ◌⊎◌, inl, inr, map, refl, ap, ◌∙◌, arith}
 use Rattle.x25_line.specs.{laws.Sessions.{Meeting, turned}, laws.SessionClaims.{Each, SomeMet, IsNoEarlier, IsAbove, InStep}}
+use Rattle.x25_line.proofs.Lists.{each_map, each_over}
 
 -- ---- of all that met, and of some
 
 pub all_map : (P Q : Meeting → Type 0) → ((m : Meeting) → P m → Q m) → (ms : List Meeting) → Each P ms → Each Q ms
-all_map P Q f [] h = tt
-all_map P Q f (m ∷ ms) h = (f m h.0, all_map P Q f ms h.1)
+all_map = each_map
 
 -- two sessions that met and are so, by what holds of all that met
 pub all_some : (P Q : Meeting → Type 0) (R : Type 0) → ((m : Meeting) → P m → Q m → R) → (ms : List Meeting) → Each P ms → SomeMet Q ms → R
@@ -34,12 +34,10 @@ abbrev pub IsBegun : ℕ → ℕ → Meeting → Type 0
 IsBegun p q m = (m.near ≤ p) × (m.far ≤ q)
 
 pub begun_later : (near far p q : ℕ) (met : List Meeting) → near ≤ p → far ≤ q → Each (IsBegun near far) met → Each (IsBegun p q) met
-begun_later near far p q [] f g h = tt
-begun_later near far p q (m ∷ ms) f g h = ((omega (arith, h.0.0, f), omega (arith, h.0.1, g)), begun_later near far p q ms f g h.1)
+begun_later near far p q met f g = all_map (IsBegun near far) (IsBegun p q) (λ m h. (omega (arith, h.0, f), omega (arith, h.1, g))) met
 
 pub paired_anew : (near far p q : ℕ) (met : List Meeting) → near < p → far < q → Each (IsBegun near far) met → Each (IsPaired p q) met
-paired_anew near far p q [] f g h = tt
-paired_anew near far p q (m ∷ ms) f g h = (inr (omega (arith, h.0.0, f), omega (arith, h.0.1, g)), paired_anew near far p q ms f g h.1)
+paired_anew near far p q met f g = all_map (IsBegun near far) (IsPaired p q) (λ m h. inr (omega (arith, h.0, f), omega (arith, h.1, g))) met
 
 pub above_paired : (p q : ℕ) (met : List Meeting) → Each (IsPaired p q) met → IsAbove (record { near = p; far = q }) met
 above_paired p q [] h = tt
@@ -52,12 +50,10 @@ twice_turned [] = refl
 twice_turned (m ∷ ms) = ap (λ xs. m ∷ xs) (twice_turned ms)
 
 pub begun_turned : (p q : ℕ) (met : List Meeting) → Each (IsBegun p q) met → Each (IsBegun q p) (map turned met)
-begun_turned p q [] h = tt
-begun_turned p q (m ∷ ms) h = ((h.0.1, h.0.0), begun_turned p q ms h.1)
+begun_turned p q = each_over (IsBegun p q) (IsBegun q p) turned (λ m h. (h.1, h.0))
 
 pub paired_turned : (p q : ℕ) (met : List Meeting) → Each (IsPaired p q) met → Each (IsPaired q p) (map turned met)
-paired_turned p q [] h = tt
-paired_turned p q (m ∷ ms) h = (elim h.0 [ inl same ↦ inl (same.1, same.0) | inr less ↦ inr (less.1, less.0) ], paired_turned p q ms h.1)
+paired_turned p q = each_over (IsPaired p q) (IsPaired q p) turned (λ m h. elim h [ inl same ↦ inl (same.1, same.0) | inr less ↦ inr (less.1, less.0) ])
 
 above_turned : (m : Meeting) (met : List Meeting) → IsAbove m met → IsAbove (turned m) (map turned met)
 above_turned m [] h = tt

@@ -12,7 +12,7 @@ use Rattle.x25_line.proofs.Order.{Told, told, only, IsApart, only_append, only_q
 use Rattle.x25_line.proofs.{Order.{left, makes, in_order, valid_front}, ends.Meetings.{IsPaired, near_turned, far_turned, all_meet, some_meets}}
 use Rattle.x25_line.proofs.{ends.Lines.{Less, whole, gone, hurt, deeper, less_removes, less_spoils, AllTags, tags_less}, ends.Held.{Side, near_at, near_stands}}
 use Rattle.x25_line.proofs.ends.Moves.{Held, held_turned, first_held, moves_held, told_held, come_held, popped}
-use Rattle.x25_line.proofs.ends.Puts.{same_or_other, put_same, put_other, put_apart, put_alike}
+use Rattle.x25_line.proofs.{ends.Puts.{same_or_other, put_same, put_other, put_apart, put_alike}, Lists.{each_map, each_over}}
 
 -- ---- the line of one session
 
@@ -125,8 +125,7 @@ both_orders {p} {q} h = (ordered (in_order p q h.there h.here h.ways.from_near),
     ordered h = record { begins = h.0; acked = h.1; all = h.2 }
 
 order_turned : (near_of far_of : ℕ → Peer) (ms : List Meeting) → Each (MetInOrder near_of far_of) ms → Each (MetInOrder far_of near_of) (map turned ms)
-order_turned near_of far_of [] h = tt
-order_turned near_of far_of (m ∷ ms) h = ((h.0.1, h.0.0), order_turned near_of far_of ms h.1)
+order_turned near_of far_of = each_over (MetInOrder near_of far_of) (MetInOrder far_of near_of) turned (λ m h. (h.1, h.0))
 
 -- all that holds, as the far end has it
 pub all_turned : {w : Ends} → All w → All (ends_swapped w)
@@ -199,8 +198,7 @@ moves_all w v m h =
 -- the same, but for functions of the same values
 order_alike : (near_of far_of f : ℕ → Peer) → ((n : ℕ) → f n ≡ near_of n) → (ms : List Meeting) → Each (MetInOrder near_of far_of) ms
     → Each (MetInOrder f far_of) ms
-order_alike near_of far_of f same [] h = tt
-order_alike near_of far_of f same (m ∷ ms) h = (rw (same m.near) h.0, order_alike near_of far_of f same ms h.1)
+order_alike near_of far_of f same = each_map (MetInOrder near_of far_of) (MetInOrder f far_of) (λ m h. rw (same m.near) h)
 
 alike_all : {w : Ends} (f : ℕ → Peer) → ((n : ℕ) → f n ≡ w.near_of n) → All w → All (record w { near_of = f })
 alike_all {w} f same h =

@@ -7,12 +7,9 @@ use Rattle.x25_line.specs.{laws.Stations.{Put, Deliver, acts}, rows.StationRows.
 use Rattle.x25_line.specs.laws.PeerJoined.{JoinedOnce, start, our_end, with_peer, Ours, HandsDown, Sends, Hears, ReachedOnce, at_start, goes_on}
 use Rattle.x25_line.specs.laws.Tape.{judges, notes, IsSilent, Begins, Acts, Shows, Comes}
 use Rattle.x25_line.specs.rows.PeerRows.{polling_frame, OddPeerMoves, SilentTapeMoves, TapeTells}
-use Rattle.x25_line.proofs.rows.StationRowLemmas.{taken_as, comes, packet_frame, packet_reads}
+use Rattle.x25_line.proofs.rows.StationRowLemmas.{taken_as, comes, packet_frame, info_reads, ready_reads}
 
 module _ (reads : ReadsSpelled) where
-  polling_reads : frame_of Dce 128 (spelling_of Dce polling_frame) ≡ Ok polling_frame
-  polling_reads = reads Dce 128 polling_frame _ (record { in_range = (omega arith, omega arith); carries = tt; within = omega arith; spelling = refl })
-
   pub odd_peer_moves : OddPeerMoves
   unfolding pumped
   odd_peer_moves =
@@ -23,13 +20,13 @@ module _ (reads : ReadsSpelled) where
       let p3 : Peer = record w2.peer { taken = (5 ∷ []) ∷ [] } in
       let w3 : JoinedOnce = record w2 { peer = p3; out = [] } in
       let r3 : ReachedOnce ⊥ dte w3 = goes_on w2 w3 r2
-      (Hears (spelling_of Dte packet_frame) [] p3 refl (rw (packet_reads reads Dte) (false, true, refl, refl)))
+      (Hears (spelling_of Dte packet_frame) [] p3 refl (rw (info_reads reads Dte false 5) (false, true, refl, refl)))
       in
       let q : Peer = told_to 0 (numbered_to 0 p3) in
       let w4 : JoinedOnce = record w3 { peer = q; back = spelling_of Dce polling_frame ∷ [] } in
       let r4 : ReachedOnce ⊥ dte w4 = goes_on w3 w4 r3
       (Sends (spelling_of Dce polling_frame) q
-      (rw polling_reads (
+      (rw (info_reads reads Dce true 7) (
         0,
         0,
         record { number = refl; same = refl; window = omega arith; again = omega arith },
@@ -40,7 +37,7 @@ module _ (reads : ReadsSpelled) where
       let w5 : JoinedOnce = with_peer q (acts dte Deliver (our_end w4)) in
       let r5 : ReachedOnce ⊥ dte w5 = goes_on w4 w5 r4 (Ours Deliver) in
       let same : acts dte Deliver (our_end w4) ≡ taken_as dte (Ok polling_frame) (spelling_of Dce polling_frame) [] (our_end w4) =
-      comes dte (Ok polling_frame) (spelling_of Dce polling_frame) [] (our_end w4) polling_reads refl
+      comes dte (Ok polling_frame) (spelling_of Dce polling_frame) [] (our_end w4) (info_reads reads Dce true 7) refl
       in
       (w5, r5, ap (λ v. v.near.up) same, refl, ap (λ v. v.near.came_up) same)
 
@@ -48,25 +45,22 @@ module _ (reads : ReadsSpelled) where
   abbrev answer : PlainFrame
   answer = rr false 1 true
 
-  answer_reads : frame_of Dte 128 (spelling_of Dte answer) ≡ Ok answer
-  answer_reads = reads Dte 128 answer _ (record { in_range = omega arith; carries = refl; within = tt; spelling = refl })
-
   pub silent_tape_moves : SilentTapeMoves
   unfolding pumped
   silent_tape_moves =
       let q : Peer = told_to 0 (numbered_to 0 (record { given = (7 ∷ []) ∷ []; acked = 0; sent = 0; told = 0; taken = [] })) in
       let w1 : JoinedOnce = record { near = start.near; peer = q; out = []; back = spelling_of Dce polling_frame ∷ [] } in
-      let s1 : IsSilent dte w1 = Comes start (spelling_of Dce polling_frame) q (ap (λ r. judges r fresh_peer) polling_reads) Begins in
+      let s1 : IsSilent dte w1 = Comes start (spelling_of Dce polling_frame) q (ap (λ r. judges r fresh_peer) (info_reads reads Dce true 7)) Begins in
       let w2 : JoinedOnce = with_peer q (acts dte Deliver (our_end w1)) in
       let s2 : IsSilent dte w2 = Acts w1 Deliver s1 in
       let same : acts dte Deliver (our_end w1) ≡ taken_as dte (Ok polling_frame) (spelling_of Dce polling_frame) [] (our_end w1) =
-      comes dte (Ok polling_frame) (spelling_of Dce polling_frame) [] (our_end w1) polling_reads refl
+      comes dte (Ok polling_frame) (spelling_of Dce polling_frame) [] (our_end w1) (info_reads reads Dce true 7) refl
       in
       let out : w2.out ≡ spelling_of Dte answer ∷ [] = ap (λ v. v.out) same in
       let p3 : Peer = notes (frame_of Dte 128 (spelling_of Dte answer)) q in
       let w3 : JoinedOnce = record w2 { peer = p3; out = [] } in
       let s3 : IsSilent dte w3 = Shows w2 (spelling_of Dte answer) [] out s2 in
-      (w3, s3, ap (λ v. v.near.up) same, ap (λ r. (notes r q).acked) answer_reads, ap (λ v. v.near.came_up) same)
+      (w3, s3, ap (λ v. v.near.up) same, ap (λ r. (notes r q).acked) (ready_reads reads Dte false 1 true (omega arith)), ap (λ v. v.near.came_up) same)
 
 pub tape_tells : TapeTells
 tape_tells = record { other_packet = refl; eighth = refl; never_sent = refl; falls = refl }

@@ -8,14 +8,11 @@ use Rattle.x25_line.specs.laws.Peer.{Peer, numbered_to, told_to}
 use Rattle.x25_line.specs.laws.PeerSessions.{PeerSessions, untouched, without, begins, now, with_now, both_ends, with_peer, begin_with, ReachedInSessions}
 use Rattle.x25_line.specs.{laws.Ends.{Out, Asking, letter, moves, asks, takes_sabm}, laws.Said.{said}, rows.PeerSessionRows.{CrossingPeerMoves}}
 use Rattle.x25_line.specs.rows.PeerRows.{polling_frame}
-use Rattle.x25_line.proofs.{rows.SessionRowLemmas.{taken_as, comes}, rows.StationRowLemmas.{bare_reads}, sessions.Letters.{puts_frame}}
+use Rattle.x25_line.proofs.{rows.SessionRowLemmas.{taken_as, comes}, rows.StationRowLemmas.{info_reads, bare_reads}, sessions.Letters.{puts_frame}}
 use Rattle.x25_line.proofs.sessions.SessionWith.{tells_does}
 use Rattle.x25_line.specs.laws.PeerSessions as sessions
 
 module _ (reads : ReadsSpelled) where
-  polling_reads : frame_of Dce 128 (spelling_of Dce polling_frame) ≡ Ok polling_frame
-  polling_reads = reads Dce 128 polling_frame _ (record { in_range = (omega arith, omega arith); carries = tt; within = omega arith; spelling = refl })
-
   -- the station takes the front
   takes : (f : PlainFrame) (session : ℕ) (back : List Entry) {w : PeerSessions} → frame_of Dce 128 (spelling_of Dce f) ≡ Ok f → w.back
       ≡ record { session = session; octets = spelling_of Dce f } ∷ back → ReachedInSessions ⊥ dte w
@@ -55,7 +52,7 @@ module _ (reads : ReadsSpelled) where
       let w5 : PeerSessions = record w4 { peer = with_now p5 w4.peer; back = entry 0 (sabm true) ∷ entry 1 (ua true) ∷ entry 1 polling_frame ∷ [] } in
       let r5 : ReachedInSessions ⊥ dte w5 = sessions.goes_on w4 w5 r4
       (sessions.Theirs w5 (record {
-        does = λ crossing. rw polling_reads (tells_does _ polling_frame p5 refl refl (
+        does = λ crossing. rw (info_reads reads Dce true 7) (tells_does _ polling_frame p5 refl refl (
           0,
           0,
           record { number = refl; same = refl; window = omega arith; again = omega arith },
@@ -63,7 +60,7 @@ module _ (reads : ReadsSpelled) where
           refl,
         ));
         left = untouched;
-        puts = puts_frame 1 _ polling_frame polling_reads;
+        puts = puts_frame 1 _ polling_frame (info_reads reads Dce true 7);
       })) in
       let w6 : PeerSessions = with_peer w5.peer
       (taken_as dte (Ok (sabm true)) (entry 0 (sabm true)) (entry 1 (ua true) ∷ entry 1 polling_frame ∷ []) (both_ends w5)) in
@@ -72,5 +69,5 @@ module _ (reads : ReadsSpelled) where
       let w7 : PeerSessions = with_peer w6.peer (taken_as dte (Ok (ua true)) (entry 1 (ua true)) (entry 1 polling_frame ∷ []) (both_ends w6)) in
       let r7 : ReachedInSessions ⊥ dte w7 = takes (ua true) 1 (entry 1 polling_frame ∷ []) (bare_reads reads Dce (ua true) tt) refl r6 in
       let w8 : PeerSessions = with_peer w7.peer (taken_as dte (Ok polling_frame) (entry 1 polling_frame) [] (both_ends w7)) in
-      let r8 : ReachedInSessions ⊥ dte w8 = takes polling_frame 1 [] polling_reads refl r7 in
+      let r8 : ReachedInSessions ⊥ dte w8 = takes polling_frame 1 [] (info_reads reads Dce true 7) refl r7 in
       (w8, r8, refl, refl, refl, refl)

@@ -7,7 +7,7 @@ use Rattle.x25_link.specs.{Station.{Settings, is_up, pumped}, Hearing.{other}, L
 use Rattle.x25_line.specs.{laws.Stations.{Put, Deliver, T1, Connect, Abandon, Lose, Near, Far}, rows.StationRows.{dte, dce}, laws.StationClaims.{number_in}}
 use Rattle.x25_line.specs.laws.Sessions.{Entry, Sessions, after_step, heard, delivered, swapped, acts, happens, run, from_nothing, from_set_up}
 use Rattle.x25_line.specs.rows.SessionRows.{IsFirst, SetsUpFromNothing, IsSecond, SetsUpAgain}
-use Rattle.x25_line.proofs.rows.StationRowLemmas.{packet_frame, crossing_frame, packet_reads, crossing_reads, bare_reads}
+use Rattle.x25_line.proofs.rows.StationRowLemmas.{packet_frame, crossing_frame, info_reads, bare_reads, ready_reads}
 
 -- the two stations once octets that read as this have come to the near end
 abbrev pub taken_as : Settings → Result PlainFrame FrameError → Entry → List Entry → Sessions → Sessions
@@ -34,9 +34,6 @@ far_takes : (f : PlainFrame) (session : ℕ) (out : List Entry) (w : Sessions) �
 far_takes f session out w reads is = ap swapped (comes dce (Ok f) (sent session Dte f) out (swapped w) reads is)
 
 module _ (reads : ReadsSpelled) where
-  ready_reads : frame_of Dce 128 (spelling_of Dce (rr false 1 false)) ≡ Ok (rr false 1 false)
-  ready_reads = reads Dce 128 (rr false 1 false) _ (record { in_range = omega arith; carries = refl; within = tt; spelling = refl })
-
   pub sets_up_from_nothing : SetsUpFromNothing
   unfolding pumped
   sets_up_from_nothing =
@@ -48,7 +45,7 @@ module _ (reads : ReadsSpelled) where
       let second = near_takes (ua true) 1 [] v (bare_reads reads Dce (ua true) tt) refl in (
         (tt, (tt, ((λ waiting. refl), (tt, (tt, (tt, (tt, tt))))))),
         subst IsFirst (sym (ap (run dte dce (Near Deliver ∷ Near (Put (5 ∷ [])) ∷ Far Deliver ∷ [])) first
-            ∙ ap (run dte dce (Near (Put (5 ∷ [])) ∷ Far Deliver ∷ [])) second ∙ (far_takes packet_frame 1 [] t (packet_reads reads Dte) refl)))
+            ∙ ap (run dte dce (Near (Put (5 ∷ [])) ∷ Far Deliver ∷ [])) second ∙ (far_takes packet_frame 1 [] t (info_reads reads Dte false 5) refl)))
             (refl, refl, refl, refl),
       )
 
@@ -60,11 +57,11 @@ module _ (reads : ReadsSpelled) where
       let u = swapped (taken_as dce (Ok (sabm true)) (sent 1 Dte (sabm true)) [] (swapped v)) in
       let t = taken_as dte (Ok (rr false 1 false)) (sent 1 Dce (rr false 1 false)) (sent 2 Dce (ua true) ∷ []) u in
       let r = happens dte dce (Near (Put (7 ∷ []))) (taken_as dte (Ok (ua true)) (sent 2 Dce (ua true)) [] t) in
-      let first = far_takes packet_frame 1 (sent 1 Dte (sabm true) ∷ []) w (packet_reads reads Dte) refl in
+      let first = far_takes packet_frame 1 (sent 1 Dte (sabm true) ∷ []) w (info_reads reads Dte false 5) refl in
       let second = far_takes (sabm true) 1 [] v (bare_reads reads Dte (sabm true) tt) refl in
-      let third = near_takes (rr false 1 false) 1 (sent 2 Dce (ua true) ∷ []) u ready_reads refl in
+      let third = near_takes (rr false 1 false) 1 (sent 2 Dce (ua true) ∷ []) u (ready_reads reads Dce false 1 false (omega arith)) refl in
       let fourth = near_takes (ua true) 2 [] t (bare_reads reads Dce (ua true) tt) refl in
-      let fifth = far_takes crossing_frame 2 [] r (crossing_reads reads Dte) refl in (
+      let fifth = far_takes crossing_frame 2 [] r (info_reads reads Dte false 7) refl in (
         (tt, (tt, (tt, (tt, (tt, (tt, (tt, (tt, (tt, tt))))))))),
         subst IsSecond
             (sym (ap (run dte dce (Far Deliver ∷ Near Deliver ∷ Near Deliver ∷ Near (Put (7 ∷ [])) ∷ Far Deliver ∷ [])) first

@@ -12,7 +12,7 @@ use Rattle.x25_line.proofs.{StationClaimLemmas.{idle_all}, StationAway.{is_up_ph
 use Rattle.x25_line.proofs.{sessions.SessionMay.{MayAsk, Kind}, sessions.SessionSeenSteps.{IsTimely, station_acts}}
 use Rattle.x25_line.proofs.{sessions.SessionWith.{outs, backs, at, IsWith, station_may}, sessions.PeerMoves.{peer_held}}
 use Rattle.x25_line.proofs.{ends.Sessions.{All, all_turned, reached_all, keep_sessions, latest, some_stands, all_taken}, sessions.SessionHeld.{Owes}}
-use Rattle.x25_line.proofs.sessions.Letters.{asked_letters, sabms, uas, discs}
+use Rattle.x25_line.proofs.{sessions.Letters.{asked_letters, sabms, uas, discs}, Lists.{each_map}}
 use Rattle.x25_line.specs.laws.PeerSessions as sessions
 use Rattle.x25_line.specs.laws.Ends as ends
 
@@ -103,8 +103,7 @@ module _ (reads : ReadsSpelled) (rests : SessionLaws) where
     }
 
     all_in_order : (ms : List Meeting) → Each (MetInOrder h.all w.peer.of_session) ms → Each (IsInOrder w.near (as_end w.peer)) ms
-    all_in_order [] k = tt
-    all_in_order (m ∷ ms) k = (in_order m k.0, all_in_order ms k.1)
+    all_in_order = each_map (MetInOrder h.all w.peer.of_session) (IsInOrder w.near (as_end w.peer)) in_order
 
     pub up_in : is_up w.near.station.phase ≡ true → stand_of w.near.station.phase ≡ In
     up_in up = ap stand_of (is_up_phase w.near.station.phase up)

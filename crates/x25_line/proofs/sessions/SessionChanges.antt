@@ -4,53 +4,46 @@ use Rattle.x25_bits.specs.declared.role.Role.{Role}
 use Rattle.x25_frame.specs.laws.ReadingLaw.{ReadsSpelled}
 use Rattle.x25_link.specs.{declared.phase.Phase.{Phase}, declared.phase.Phase.TheVariants.{Waiting, Up}, Station.{Settings, is_up, LinkStation}}
 use Rattle.x25_link.specs.Hearing.{other}
-use Rattle.x25_line.specs.{laws.StationClaims.{AreJoined, numbered_on}, laws.WholeNumbers.{given, place_of, taken_out, counted}}
-use Rattle.x25_line.specs.{laws.Sessions.{Entry, Sessions, ua_in, how_many}, laws.SessionClaims.{octets_of}}
-use Rattle.x25_line.specs.{laws.SessionNumbers.{Standing, place_behind_ua, place_to_hear, standing_after}, laws.LawsBelow.{Laws}}
-use Rattle.x25_line.proofs.{StationSteps.{Leads, counted_fits, nothing_put, stands_still}, StationRuns.{taken_off}}
-use Rattle.x25_line.proofs.sessions.EntryLines.{LessAt, less_at, many_less}
+use Rattle.x25_line.specs.{laws.StationClaims.{AreJoined}, laws.WholeNumbers.{given, place_of, taken_out}, laws.Sessions.{Entry, Sessions, ua_in, how_many}}
+use Rattle.x25_line.specs.{laws.SessionClaims.{octets_of}, laws.SessionNumbers.{Standing, place_behind_ua, place_to_hear, standing_after}}
+use Rattle.x25_line.specs.laws.LawsBelow.{Laws}
+use Rattle.x25_line.proofs.{StationSteps.{Joint, Leads, counted_fits, left_joint, stands_still}, sessions.EntryLines.{LessAt, less_at, many_less}}
 use Rattle.x25_line.proofs.sessions.SessionLines.{carried, carried_numbers, carried_orderly, Come, come_less, behind_ua, behind_less, behind_none}
-use Rattle.x25_line.proofs.sessions.SessionHeld.{is_there, is_soon, is_out, IsOf, EndIsThere, OnLine, Held, counted_there, with_machine, standing_after_is}
+use Rattle.x25_line.proofs.sessions.SessionHeld.{is_there, is_soon, is_out, IsOf, EndIsThere, OnLine, Held, counted_there}
 use Rattle.x25_line.proofs.sessions.SessionActs.{waiting_owes}
 
 module _ {c d : Settings} (joined : AreJoined c d) (reads : ReadsSpelled) (laws : Laws) {stand : Standing} {w : Sessions} (h : Held stand c d w)
     (line : OnLine c d w) {es : List Entry} {i : ℕ} (less : LessAt i w.back es) where
   -- what is kept where the session alone has these octets on its line
-  kept_by : {os : List (List ℕ)} (missing : Option ℕ) → Leads c d h.alone stand.machine (taken_out missing stand.machine.back) (record h.alone { back = os })
+  kept_by : {os : List (List ℕ)} (missing : Option ℕ) → Leads c d stand.machine missing [] (record h.alone { back = os })
       → EndIsThere c w.near es h.alone.near.station os stand.near stand.far
       → Held (standing_after c w.near.station [] missing stand) c d (record w { back = es })
-  kept_by {os} missing left near =
-      subst (λ z. Held z c d (record w { back = es })) is_on (record {
-        alone = record h.alone { back = os };
-        holds = left.1;
-        near = near;
-        far = h.far;
-        near_lists = h.near_lists;
-        far_lists = h.far_lists;
-        no_frmr = h.no_frmr;
-        whole = h.whole;
-      })
-    where
-      same : left.0.near ≡ counted c.window w.near.station stand.machine.near
-      same = left.2.near ∙ counted_fits h.holds.near ∙ sym (counted_there w.near near h.holds.near)
-
-      is_on : with_machine stand left.0 ≡ standing_after c w.near.station [] missing stand
-      is_on =
-          standing_after_is c w.near.station [] missing stand left.0 same left.2.far
-          (left.2.out ∙ ap (λ put. stand.machine.out
-          ++ given left.0.near.acked (length left.0.near.taken) stand.machine.near.sent (numbered_on c.role c.longest put)) (nothing_put h.alone.out))
-          left.2.back
+  kept_by {os} missing left near = record {
+    alone = record h.alone { back = os };
+    holds = subst (λ e. Joint c d (record h.alone { back = os }) (record {
+      near = e;
+      far = stand.machine.far;
+      out = stand.machine.out ++ given e.acked (length e.taken) stand.machine.near.sent [];
+      back = taken_out missing stand.machine.back;
+    })) (counted_fits h.holds.near ∙ sym (counted_there w.near near h.holds.near)) left;
+    near = near;
+    far = h.far;
+    near_lists = h.near_lists;
+    far_lists = h.far_lists;
+    no_frmr = h.no_frmr;
+    whole = h.whole;
+  }
 
   -- of an end that these are to come to, and then those, as this place of the session alone is gone
   come_by : (missing : Option ℕ) {s : LinkStation} {begun : ℕ} {xs : List Entry} (ys : List Entry)
       → (Come (other c.role) c.longest stand.machine.back stand.far xs → Come (other c.role) c.longest (taken_out missing stand.machine.back) stand.far ys)
       → IsOf (other c.role) c.longest s begun xs h.alone.near.station h.alone.back stand.near stand.far
-      → Leads c d h.alone stand.machine (taken_out missing stand.machine.back) (record h.alone { back = carried (other c.role) c.longest ys })
+      → Leads c d stand.machine missing [] (record h.alone { back = carried (other c.role) c.longest ys })
       × IsOf (other c.role) c.longest s begun ys h.alone.near.station (carried (other c.role) c.longest ys) stand.near stand.far
   come_by missing ys goes k =
       let left = goes (rw k.comes h.holds.back, k.of) in
       let same = carried_numbers (other c.role) c.longest ys in (
-        taken_off joined reads laws missing h.holds
+        left_joint h.holds missing
             (rw same left.0) (carried_orderly (other c.role) c.longest ys),
         record { station = k.station; session = k.session; comes = sym same; of = left.1 },
       )

@@ -1,5 +1,5 @@
 -- What holds of two stations over set-up and re-set-up at any moment.
-use Rattle.std.proofs.Common.{◌≡◌, ◌≤◌, ◌==◌, ℕ, suc, ◌+◌, List, [], ◌∷◌, ◌++◌, ◌⊎◌, inl, inr, Bool, true, false, if◌then◌else◌, length, Option, None, refl}
+use Rattle.std.proofs.Common.{◌≡◌, ◌≤◌, ◌==◌, ℕ, suc, ◌+◌, List, [], ◌∷◌, ◌++◌, ◌⊎◌, inl, inr, Bool, true, false, if◌then◌else◌, length, None, refl}
 use Rattle.std.proofs.{Common.{sym, ap, ◌∙◌, subst, arith, append-nil}, lemmas.Bool.{eq-eqb, eqb-true}}
 use Rattle.std.proofs.lemmas.List.Elements.{Contains-append_left, Contains-append_right, Contains-append_cases}
 use Rattle.std.specs.List.{Contains}
@@ -9,12 +9,11 @@ use Rattle.x25_window.specs.laws.Window.{End}
 use Rattle.x25_link.specs.{declared.phase.Phase.{Phase}, declared.phase.Phase.TheVariants.{Waiting, Closed}, Station.{Settings, LinkStation, is_up, fresh}}
 use Rattle.x25_link.specs.Hearing.{other}
 use Rattle.x25_line.specs.{laws.Stations.{StationEnd, Stations}, laws.StationClaims.{NoFrmr, IsWhole, AreWhole, numbered_on}}
-use Rattle.x25_line.specs.{laws.Sessions.{Entry, SessionEnd, Sessions, sabm_in, ua_in, disc_in, how_many, extended}, laws.Line.{Line}}
-use Rattle.x25_line.specs.{laws.WholeNumbers.{given, taken_out, counted}, laws.SessionNumbers.{Standing, standing_after}}
-use Rattle.x25_line.specs.laws.SessionClaims.{AllOf, AreWholeIn}
+use Rattle.x25_line.specs.{laws.Sessions.{Entry, SessionEnd, Sessions, sabm_in, ua_in, disc_in, how_many, extended}, laws.WholeNumbers.{counted}}
+use Rattle.x25_line.specs.{laws.SessionNumbers.{Standing, standing_after}, laws.SessionClaims.{AllOf, AreWholeIn}}
 use Rattle.x25_line.proofs.{Lists.{each_append}, StationLines.{numbered_append, AreParting, parts_of, whole_more, parting_whole, IsOrderly}}
 use Rattle.x25_line.proofs.StationSteps.{Joint, FitsEnd, machine_is, counted_off, counted_fits, none_put, not_both}
-use Rattle.x25_line.proofs.sessions.SessionLines.{numbers, numbers_append, of_append, many_append, by_first, behind_ua, behind_append}
+use Rattle.x25_line.proofs.sessions.SessionLines.{numbers, numbers_append, many_append, by_first, behind_ua, behind_append}
 
 -- ---- the session that stands, and how an end is in it
 
@@ -87,25 +86,14 @@ pub record Held (stand : Standing) (c d : Settings) (w : Sessions) : Type 0 wher
   pub no_frmr : NoFrmr w.sent
   pub whole : AreWholeIn d.longest w.near w.far w.sent
 
--- the same two sessions, with this machine
-abbrev pub with_machine : Standing → Line (List ℕ) → Standing
-with_machine stand m = record { near = stand.near; far = stand.far; machine = m }
-
--- the machine behind these two sessions is the one that the definition says
-pub standing_after_is : (c : Settings) (station : LinkStation) (put : List (List ℕ)) (place : Option ℕ) (stand : Standing) (m : Line (List ℕ)) → m.near
-    ≡ counted c.window station stand.machine.near → m.far ≡ stand.machine.far
-    → m.out ≡ stand.machine.out ++ given m.near.acked (length m.near.taken) stand.machine.near.sent (numbered_on c.role c.longest put) → m.back
-    ≡ taken_out place stand.machine.back
-    → with_machine stand m ≡ standing_after c station put place stand
-standing_after_is c station put place stand m near far out back = ap (with_machine stand) (machine_is c station put place stand.machine m near far out back)
-
 -- an end that is no part of it goes on, and puts no frame with a number
 pub stays_on : (c : Settings) (station : LinkStation) (put : List (List ℕ)) (stand : Standing) → counted c.window station stand.machine.near
     ≡ stand.machine.near → numbered_on c.role c.longest put ≡ []
     → stand ≡ standing_after c station put None stand
 stays_on c station put stand still none =
-    standing_after_is c station put None stand stand.machine (sym still) refl
-    (none_put stand.machine stand.machine.near.acked (length stand.machine.near.taken) (numbered_on c.role c.longest put) none) refl
+    ap (λ m. let z : Standing = record { near = stand.near; far = stand.far; machine = m } in z)
+    (machine_is c station put None stand.machine (sym still) refl
+    (none_put stand.machine stand.machine.near.acked (length stand.machine.near.taken) (numbered_on c.role c.longest put) none) refl)
 
 -- ---- lists by sessions
 
@@ -188,7 +176,7 @@ of_more {from} {n1} {s} {begun} {es} {a} {os} {p} {q} more xs same of h = record
   session = h.session;
   comes = numbers_append from n1 es more ∙ ap (λ fs. fs ++ numbers from n1 more) h.comes ∙ ap (λ fs. numbered_on from n1 os ++ fs) same
       ∙ sym (numbered_append from n1 os xs);
-  of = of_append from n1 q es more h.of of;
+  of = each_append _ es more h.of of;
 }
 
 module _ {phase : Phase} {from : Role} {n1 : ℕ} {s : LinkStation} {begun : ℕ} {es : List Entry} {a : LinkStation} {os : List (List ℕ)} {p q : ℕ} where

@@ -10,7 +10,7 @@ use Rattle.x25_link.specs.laws.WindowMachine.{ShowAll}
 use Rattle.x25_line.specs.{laws.Stations.{is_visible}, laws.StationClaims.{Each, number_in, numbered_on, AreWhole}}
 use Rattle.x25_line.specs.{laws.Sessions.{Entry, sabm_in, ua_in, disc_in, how_many, sent_in}, laws.SessionClaims.{octets_of, AllOf}}
 use Rattle.x25_line.specs.{laws.WholeNumbers.{place_of, taken_out}, laws.SessionNumbers.{by_answers, place_behind_ua}}
-use Rattle.x25_line.proofs.sessions.EntryLines.{LessAt, nothing, gone_at, hurt_at, deeper_at}
+use Rattle.x25_line.proofs.sessions.EntryLines.{each_less, less_at, LessAt, nothing, gone_at, hurt_at, deeper_at}
 use Rattle.x25_line.proofs.StationLines.{IsOrderly, AreOrderly, consed, numbered_append, shows_first, shows_behind, visible_is}
 
 abbrev pub Read : Type 0
@@ -75,10 +75,6 @@ module _ (from : Role) (n1 : ℕ) where
   quiet_of s [] h = tt
   quiet_of s (e ∷ es) h = (inl (quiet_rest (number_in (frame_of from n1 e.octets)) (numbers es) h).0, quiet_of s es (quiet_tail e es h))
 
-  pub of_append : (s : ℕ) (xs ys : List Entry) → AllOf from n1 s xs → AllOf from n1 s ys → AllOf from n1 s (xs ++ ys)
-  of_append s [] ys f g = g
-  of_append s (e ∷ xs) ys f g = (f.0, of_append s xs ys f.1 g)
-
   pub of_sent : (role : Role) (s : ℕ) (fs : List PlainFrame) → AllOf from n1 s (sent_in s role fs)
   of_sent role s [] = tt
   of_sent role s (f ∷ fs) = (inr refl, of_sent role s fs)
@@ -140,10 +136,7 @@ module _ (from : Role) (n1 : ℕ) where
       shows_behind (number_in (frame_of from n1 e.octets)) (numbers xs) (numbers ys) (place_of from n1 (octets_of xs) j) gs (λ hs k. shows_less l hs k) h
 
   of_less : (s : ℕ) {i : ℕ} {es fs : List Entry} → LessAt i es fs → AllOf from n1 s es → AllOf from n1 s fs
-  of_less s (nothing j) h = h
-  of_less s (gone_at e xs) h = h.1
-  of_less s (hurt_at e xs octets visible) h = (inl (damaged_number octets visible), h.1)
-  of_less s (deeper_at j e xs ys l) h = (h.0, of_less s l h.1)
+  of_less s l h = each_less _ (λ e octets visible. inl (damaged_number octets visible)) (less_at l) h
 
   pub come_less : (s : ℕ) {i : ℕ} {es fs : List Entry} → LessAt i es fs → (gs : List (Frame (List ℕ))) → Come gs s es
       → Come (taken_out (place_of from n1 (octets_of es) i) gs) s fs

@@ -13,8 +13,8 @@ use Rattle.x25_line.specs.laws.PeerSessions.{PeerEnd, PeerSessions, both_ends, w
 use Rattle.x25_line.specs.laws.PeerSessions.{Puts, nothing, HandsDown, Theirs, ReachedInSessions, goes_on}
 use Rattle.x25_line.specs.laws.Ends.{Letter, letter, AreOf, Ends, Does, listens, moves, free, asks, closes, leaves, hears, takes_ua, takes_sabm, waits_on}
 use Rattle.x25_line.specs.{laws.Ends.{takes_disc, loses, damages}, laws.SessionPeers.{IsPeer, AreBothPeers}}
-use Rattle.x25_line.proofs.{Choices.{unless_both, if_both, own_both}, StationRuns.{joined_swapped}, sessions.SessionLines.{Read}, sessions.SessionHeld.{Owes}}
-use Rattle.x25_line.proofs.{sessions.EntryLines.{asked_fewer}, sessions.Acts.{Stays, Anything, acts_still}}
+use Rattle.x25_line.proofs.{Choices.{unless_both, if_both, own_both}, StationRuns.{joined_swapped, there, here}, sessions.SessionLines.{Read}}
+use Rattle.x25_line.proofs.{sessions.SessionHeld.{Owes}, sessions.EntryLines.{asked_fewer}, sessions.Acts.{Stays, Anything, acts_still}}
 use Rattle.x25_line.proofs.{sessions.SessionMay.{sends_read, hears_read, entry, heard_in, MayAsk, MayDo, Kind}, ends.Meetings.{twice_turned}}
 use Rattle.x25_line.proofs.{sessions.SessionSeen.{Seen, start_seen}, sessions.PeerSessionRuns.{owes_is}, sessions.SessionWith.{tells_does}}
 use Rattle.x25_line.proofs.sessions.Letters.{heard_said, letters_push, letters_removed, letters_replaced, many_said, puts_frame}
@@ -35,12 +35,6 @@ module _ {c d : Settings} (joined : AreJoined c d) (far : SessionEnd) where
   abbrev pub IsPeerOf : List Entry → List Meeting → Phase → ℕ → (ℕ → Peer) → List Entry → Type 0
   IsPeerOf es met p b all out = ReachedInSessions ⊥ c (at es met (end p b all) out)
 
-  there : (octets : List ℕ) → sends_read d octets ≡ frame_of (other c.role) c.longest octets
-  there octets = ap (λ from. frame_of from d.longest octets) (sym joined.far_role) ∙ ap (λ n1. frame_of (other c.role) n1 octets) (sym joined.longest)
-
-  here : (octets : List ℕ) → hears_read d octets ≡ frame_of c.role c.longest octets
-  here octets = ap (λ from. frame_of from d.longest octets) joined.near_role ∙ ap (λ n1. frame_of c.role n1 octets) (sym joined.longest)
-
   sent_many : (kind : Read → ℕ) (es : List Entry) → how_many kind d.role d.longest es ≡ how_many kind (other c.role) c.longest es
   sent_many kind es = ap (λ r. how_many kind r d.longest es) (sym joined.far_role) ∙ ap (λ n1. how_many kind (other c.role) n1 es) (sym joined.longest)
 
@@ -57,10 +51,10 @@ module _ {c d : Settings} (joined : AreJoined c d) (far : SessionEnd) where
   same_met : (p : Phase) (b : ℕ) (e : Entry) (met : List Meeting) → heard_in d p b e met
       ≡ ends.heard (stand_of p) b (letter e.session (said (frame_of c.role c.longest e.octets))) met
   same_met p b e met = heard_said p b e.session (hears_read d e.octets) met
-      ∙ ap (λ r. ends.heard (stand_of p) b (letter e.session (said r)) met) (here e.octets)
+      ∙ ap (λ r. ends.heard (stand_of p) b (letter e.session (said r)) met) (here joined e.octets)
 
   front : (e : Entry) (es : List Entry) (r : Read) → hears_read d e.octets ≡ r → ins (e ∷ es) ≡ letter e.session (said r) ∷ ins es
-  front e es r read = ap (λ x. letter e.session (said x) ∷ ins es) (sym (here e.octets) ∙ read)
+  front e es r read = ap (λ x. letter e.session (said x) ∷ ins es) (sym (here joined e.octets) ∙ read)
 
   abbrev view : List Letter → List Meeting → Phase → ℕ → (ℕ → Peer) → List Letter → Ends
   view back met p b all out = record {
@@ -90,7 +84,7 @@ module _ {c d : Settings} (joined : AreJoined c d) (far : SessionEnd) where
         → (AreOf far.begun (ins es) → Does (view (ins es) met p b all (outs out)) (view (ins fs) now q m those (outs out ++ letter n (said (Ok f)) ∷ [])))
         → IsPeerOf es met p b all out → IsPeerOf fs now q m those (out ++ entry n octets ∷ [])
     sent n octets f read less does h =
-        let is = sym (there octets) ∙ read in
+        let is = sym (there joined octets) ∙ read in
         goes (ins fs) (outs out ++ letter n (said (Ok f)) ∷ []) less (puts_frame n octets f is) refl
         (letters_push (other c.role) c.longest out n octets (Ok f) is) does h
 
@@ -125,7 +119,7 @@ module _ {c d : Settings} (joined : AreJoined c d) (far : SessionEnd) where
     gives_up = λ es met b all out due clear h. leaves_now met Waiting h;
     passes = passes;
     hears = λ e es met b all out q may h.
-        stays (e ∷ es) es Up Up out (without 0) (λ crossing. rw (same_met Up b e met) (listens _ (ins es) q refl refl (rw (sym (here e.octets)) may))) h;
+        stays (e ∷ es) es Up Up out (without 0) (λ crossing. rw (same_met Up b e met) (listens _ (ins es) q refl refl (rw (sym (here joined e.octets)) may))) h;
     takes_ua = λ e es met b all out read h. stays (e ∷ es) es Waiting Up out (without 0)
         (λ crossing. moves _ (takes_ua e.session (ins es) (front e es (Ok (ua true)) read) refl)) h;
     takes_sabm = λ e es met p b all out octets pf f read answer part h.

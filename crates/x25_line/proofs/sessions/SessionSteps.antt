@@ -1,18 +1,18 @@
 -- Steps of the near end keep what holds of two stations over sessions: of an end that is in the session, of one that is out of it,
 -- and where sessions begin.
-use Rattle.std.proofs.Common.{◌≡◌, ◌≤◌, ℕ, List, [], ◌∷◌, ◌++◌, ◌⊎◌, inl, inr, map, length, false, Option, None, refl, sym, ap, ◌∙◌, subst, arith, append-nil}
+use Rattle.std.proofs.Common.{◌≡◌, ◌≤◌, ℕ, List, [], ◌∷◌, ◌++◌, ◌⊎◌, inl, inr, map, false, Option, None, refl, sym, ap, ◌∙◌, subst, arith, append-nil}
 use Rattle.std.proofs.lemmas.List.Elements.{Contains-append_cases}
 use Rattle.std.specs.{Prelude.{option_to_list}, List.{Contains}}
 use Rattle.x25_frame.specs.{Frame.{PlainFrame, frmr}, Spelling.{spelling_of}, laws.ReadingLaw.{ReadsSpelled}}
 use Rattle.x25_link.specs.{declared.phase.Phase.{Phase}, declared.phase.Phase.TheVariants.{Waiting, Closed}, Station.{Settings, awaits_ua}}
 use Rattle.x25_link.specs.Hearing.{Step, other}
 use Rattle.x25_line.specs.{laws.Stations.{Stations}, laws.StationClaims.{AreJoined, NoFrmr, AreWhole, numbered_on}}
-use Rattle.x25_line.specs.{laws.Sessions.{Entry, SessionEnd, Meeting, Sessions, ua_in, how_many, sent_in, extended}, laws.WholeNumbers.{given, taken_out}}
+use Rattle.x25_line.specs.{laws.Sessions.{Entry, SessionEnd, Meeting, Sessions, ua_in, how_many, sent_in, extended}, laws.WholeNumbers.{machine_after}}
 use Rattle.x25_line.specs.{laws.SessionNumbers.{Standing, standing_after}, laws.SessionClaims.{AllOf}}
 use Rattle.x25_line.proofs.StationLines.{AreParting, parts_of, no_frmr_append, parting_no_frmr, parting_numbered, parting_whole}
-use Rattle.x25_line.proofs.StationSteps.{Leads, put_behind, FitsEnd, not_both}
+use Rattle.x25_line.proofs.StationSteps.{StepLeads, FitsEnd, not_both}
 use Rattle.x25_line.proofs.sessions.SessionLines.{Read, octets_sent, count, numbers, quiet_of, of_sent, many_sent}
-use Rattle.x25_line.proofs.sessions.SessionHeld.{IsThere, Owes, HasLists, SameLists, lists_same, Held, with_machine, standing_after_is, stays_on, extended_nil}
+use Rattle.x25_line.proofs.sessions.SessionHeld.{IsThere, Owes, HasLists, SameLists, lists_same, Held, stays_on, extended_nil}
 use Rattle.x25_line.proofs.sessions.SessionHeld.{extended_same, extended_more, whole_on, whole_apart, is_there, is_out, there_more, counted_there}
 use Rattle.x25_line.specs.laws.Stations as one
 
@@ -81,11 +81,11 @@ module _ {c d : Settings} (joined : AreJoined c d) (reads : ReadsSpelled) where
 
   pub live_held : {stand : Standing} (w : Sessions) (h : Held stand c d w) → w.near.begun ≡ stand.near
       → (es : List Entry) (os : List (List ℕ)) (met : List Meeting) (down : List (List ℕ)) (step : Step) (gone : Option ℕ)
-      → Leads c d h.alone stand.machine (taken_out gone stand.machine.back) (one.after_step c h.alone os down step) → numbers (other c.role) c.longest es
+      → StepLeads c d h.alone stand.machine gone os down step → numbers (other c.role) c.longest es
       ≡ numbered_on (other c.role) c.longest os → AllOf (other c.role) c.longest stand.far es
       → Answers w step → Held (went_by c step gone stand) c d (stepped c w es met down w.near.begun step)
   live_held {stand} w h near es os met down step gone holds comes from answers =
-      subst (λ z. Held z c d (stepped c w es met down w.near.begun step)) is_on (go holds.1.near)
+      go holds.near
     where
       fs : List PlainFrame
       fs = step.side.out
@@ -101,7 +101,7 @@ module _ {c d : Settings} (joined : AreJoined c d) (reads : ReadsSpelled) where
           elim answers.0 [
             | inl closed ↦ waiting_is_closed w.far.station.phase waiting closed
             | inr none ↦ many_out ua_in w.near.begun (now.near.down ++ now.far.down) fs
-                (whole_behind d.longest (now.near.down ++ now.far.down) h.alone.sent fs holds.1.whole) ∙ none
+                (whole_behind d.longest (now.near.down ++ now.far.down) h.alone.sent fs holds.whole) ∙ none
           ]
 
       same : numbers (other d.role) d.longest more ≡ numbered_on (other d.role) d.longest (map (spelling_of c.role) fs)
@@ -121,30 +121,23 @@ module _ {c d : Settings} (joined : AreJoined c d) (reads : ReadsSpelled) where
           ]
 
       by : IsThere step.side.near.phase (other c.role) c.longest step.side.near w.near.begun es step.side.near os stand.near stand.far
-          → Held (with_machine stand holds.0) c d (stepped c w es met down w.near.begun step)
+          → Held (went_by c step gone stand) c d (stepped c w es met down w.near.begun step)
       by there =
           record {
             alone = now;
-            holds = holds.1;
+            holds = holds;
             near = there;
             far = there_more more (map (spelling_of c.role) fs) same of none_to h.far;
             near_lists = live_lists c h.alone os down step near h.near_lists;
             far_lists = h.far_lists;
-            no_frmr = no_frmr_append w.sent fs h.no_frmr (no_frmr_behind h.alone.sent fs holds.1.no_frmr);
+            no_frmr = no_frmr_append w.sent fs h.no_frmr (no_frmr_behind h.alone.sent fs holds.no_frmr);
             whole = whole_on d.longest w.near (end_after w.near w.near.begun down step) w.far (now.near.down ++ now.far.down) w.sent fs
                 (λ n x old. extended_more w.near.down w.near.begun n down x old)
-                handed (whole_behind d.longest (now.near.down ++ now.far.down) h.alone.sent fs holds.1.whole) h.whole;
+                handed (whole_behind d.longest (now.near.down ++ now.far.down) h.alone.sent fs holds.whole) h.whole;
           }
 
-      is_on : with_machine stand holds.0 ≡ went_by c step gone stand
-      is_on =
-          standing_after_is c step.side.near (map (spelling_of c.role) fs) gone stand holds.0 holds.2.near holds.2.far
-          (holds.2.out ∙ ap (λ put. stand.machine.out
-          ++ given holds.0.near.acked (length holds.0.near.taken) stand.machine.near.sent (numbered_on c.role c.longest put))
-          (put_behind h.alone.out (map (spelling_of c.role) fs)))
-          holds.2.back
-
-      go : FitsEnd c step.side.near holds.0.near → Held (with_machine stand holds.0) c d (stepped c w es met down w.near.begun step)
+      go : FitsEnd c step.side.near (machine_after c step.side.near (map (spelling_of c.role) fs) gone stand.machine).near
+          → Held (went_by c step gone stand) c d (stepped c w es met down w.near.begun step)
       go (inl u) = by (is_there step.side.near.phase u.up (record { station = refl; session = near; comes = comes; of = from }))
       go (inr away) = by (is_out step.side.near.phase away.away (λ waiting. not_both (awaits_ua step.side.near.phase) (ap awaits_ua waiting) answers.1))
 

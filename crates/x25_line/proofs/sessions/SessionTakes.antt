@@ -5,17 +5,16 @@ use Rattle.x25_frame.specs.{Frame.{PlainFrame, sabm, disc, ua, dm}, Reading.{fra
 use Rattle.x25_link.specs.{declared.phase.Phase.{Phase}, declared.phase.Phase.TheVariants.{Down, Waiting, Up, Closed}}
 use Rattle.x25_link.specs.{laws.SetUp.{Is, TakesPart, waiting_sends, waiting_up}, Station.{Settings, LinkStation, is_up, fresh}, Hearing.{Step, other}}
 use Rattle.x25_link.specs.{Link.{take_step}, laws.WindowMachine.{ShowAll}, laws.WindowLaw.{window_of, brought_by, ending_of, IsOut, AreDeclining, StaysOut}}
-use Rattle.x25_line.specs.{laws.StationClaims.{AreJoined, number_in, numbered_on}, laws.WholeNumbers.{first_of, taken_out}, laws.SessionClaims.{octets_of}}
+use Rattle.x25_line.specs.{laws.StationClaims.{AreJoined, number_in, numbered_on}, laws.WholeNumbers.{first_of}, laws.SessionClaims.{octets_of}}
 use Rattle.x25_line.specs.laws.SessionNumbers.{Standing, is_sabm, is_set_up, anew, place_to_hear}
 use Rattle.x25_line.specs.{laws.Sessions.{Entry, Meeting, Sessions, sabm_in, ua_in, disc_in, how_many, begun_by, after_step, heard}, laws.LawsBelow.{Laws}}
-use Rattle.x25_line.proofs.{StationLines.{consed, AreParting}, StationSteps.{Leads, read_joint, declining_parting, out_not_up}}
+use Rattle.x25_line.proofs.{StationLines.{consed, AreParting}, StationSteps.{StepLeads, read_joint, declining_parting, out_not_up}}
 use Rattle.x25_line.proofs.StationAway.{closed_takes, waits_on, waiting_parting}
 use Rattle.x25_line.proofs.sessions.SessionLines.{Read, count, numbers, quiet_of, carried, carried_numbers, carried_orderly, by_first, behind_ua, behind_quiet}
 use Rattle.x25_line.proofs.sessions.SessionHeld.{IsOf, EndIsThere, Owes, OnLine, Held, is_soon, is_there, is_out, there_passes}
 use Rattle.x25_line.proofs.{sessions.SessionSteps.{stepped, went_by, Answers, apart_held}, sessions.SessionBegins.{begins_held}}
 use Rattle.x25_line.proofs.{sessions.SessionUp.{follows_answers, live_goes_on}, StationHears.{left_by, sabm_or_not, sets_none_up}}
 use Rattle.x25_line.proofs.{sessions.SessionSeenSteps.{is_answer}, sessions.SessionActs.{InSession, quiet_held, up_in_session, waiting_owes}}
-use Rattle.x25_line.specs.laws.Stations as one
 
 -- ---- what comes
 
@@ -177,8 +176,7 @@ module _ {c d : Settings} (joined : AreJoined c d) (reads : ReadsSpelled) (laws 
         gone : Option ℕ
         gone = first_of (number_in (read_of c e))
 
-        leads : Leads c d h.alone stand.machine (taken_out gone stand.machine.back)
-            (one.after_step c h.alone (carried (other c.role) c.longest es) [] (step_of c w e))
+        leads : StepLeads c d h.alone stand.machine gone (carried (other c.role) c.longest es) [] (step_of c w e)
         leads =
             rw (sym i.is.station) (read_joint joined reads h.holds i.machine (read_of c e)
             (line.fine e es is) no_sabm (carried_orderly (other c.role) c.longest es) shows (laws.take_tells c e.octets h.alone.near.station)

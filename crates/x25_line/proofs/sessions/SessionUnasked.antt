@@ -1,16 +1,23 @@
--- Where none asks for set-up, no session begins, until a Connect is accepted.
-use Rattle.std.proofs.Common.{◌≡◌, ◌≤◌, ℕ, ◌+◌, List, [], ◌∷◌, ◌++◌, Ok, refl, sym, ap, subst, arith}
+-- Where none asks for set-up, no session begins, until a Connect is accepted; so the link isn't set up anew.
+use Rattle.std.proofs.Common.{◌≡◌, ◌≤◌, ℕ, ◌+◌, List, [], ◌∷◌, ◌++◌, length, inr, Bool, true, false, Ok, refl, sym, ap, ◌∙◌, subst, arith}
+use Rattle.std.specs.Prelude.{◌||◌}
 use Rattle.x25_frame.specs.{Frame.{disc, ua, dm, frmr}, laws.ReadingLaw.{ReadsSpelled}}
 use Rattle.x25_link.specs.{declared.phase.Phase.{Phase}, declared.phase.Phase.TheVariants.{Down, Waiting, Up, Closed}, Station.{Settings, is_up}}
 use Rattle.x25_link.specs.{Hearing.{other}, Link.{connect_refusal}}
-use Rattle.x25_line.specs.{laws.Stations.{Act, T1, Connect, LinkEvent, Near, Far}, laws.StationClaims.{AreJoined, AcceptsNoConnect, AcceptsNoConnectAt}}
-use Rattle.x25_line.specs.{laws.Sessions.{Entry, Sessions, sabm_in, how_many, acts, swapped, happens}, laws.SessionClaims.{Throughout}}
-use Rattle.x25_line.specs.{laws.SessionEvents.{IsUnasked, BeginNone, NoneBeginUnasked}, laws.LawsBelow.{SessionLaws}}
-use Rattle.x25_line.proofs.{StationSteps.{not_both}, StationAway.{is_up_phase}, sessions.SessionHeld.{Owes}}
+use Rattle.x25_line.specs.{laws.Stations.{StationEnd, Stations, Act, T1, Connect, LinkEvent, Near, Far, stations_swapped, start}, laws.Line.{line_swapped}}
+use Rattle.x25_line.specs.laws.StationClaims.{AreJoined, AcceptsNoConnect, AcceptsNoConnectAt, NoneConnects, OneLinkUnlessConnected}
+use Rattle.x25_line.specs.laws.Sessions.{Entry, SessionEnd, Sessions, sabm_in, how_many, begun_by, acts, swapped, happens, from_set_up}
+use Rattle.x25_line.specs.{laws.WholeNumbers.{machine_at_start}, laws.SessionClaims.{Throughout}, laws.SessionEvents.{IsUnasked, BeginNone, NoneBeginUnasked}}
+use Rattle.x25_line.specs.laws.LawsBelow.{SessionLaws}
+use Rattle.x25_line.proofs.{StationSteps.{Holds, not_both}, StationAway.{is_up_phase}, sessions.SessionHeld.{Owes}}
 use Rattle.x25_line.proofs.{sessions.SessionLines.{Read, number_kinds, many_append}, sessions.EntryLines.{Less, many_less, less_removes, less_replaces}}
 use Rattle.x25_line.proofs.{sessions.SessionMay.{sends_read, entry, Known, MayDo, Kind}, sessions.Acts.{acts_still}, sessions.SessionSeen.{Seen}}
-use Rattle.x25_line.proofs.{sessions.SessionSeenSteps.{IsTimely, station_acts}, sessions.SessionSeenRuns.{other_owes, Both, both_swapped}}
-use Rattle.x25_line.proofs.sessions.TwoSessions.{throughout_of}
+use Rattle.x25_line.proofs.sessions.SessionSeenSteps.{IsTimely, station_acts}
+use Rattle.x25_line.proofs.sessions.SessionSeenRuns.{other_owes, Both, both_swapped, event_both, begin_both}
+use Rattle.x25_line.proofs.{StationRuns.{act_joint, few_acts, joint_swapped, start_machine}, StationEvents.{each_hands_one}}
+use Rattle.x25_line.proofs.{sessions.SessionsForgotten.{Lasts, Alike, happens_alike, turned_alike}, sessions.TwoSessions.{throughout_of}}
+use Rattle.x25_line.specs.laws.Stations as one
+use Rattle.x25_line.specs.laws.Sessions as session
 
 -- ---- an end that doesn't await UA, with no SABM on its lines, after n sessions
 
@@ -134,3 +141,91 @@ module _ (reads : ReadsSpelled) (rests : SessionLaws) where
       by c d w both h (Far act) none =
           let begins = act_begins_none (both_swapped both) (unasked_turned both.joined h) act none in
           record { unasked = unasked_turned both.turn begins.unasked; near = begins.far; far = begins.near }
+
+-- ---- two stations by themselves, where no Connect is accepted
+
+-- an end began a session, and where that is the first, its station by itself didn't note LinkUp
+record IsFirst (e : SessionEnd) (v : StationEnd) : Type 0 where
+  pub station : v.station ≡ e.station
+  pub low : 1 ≤ e.begun
+  pub once : e.begun ≡ 1 → v.came_up ≡ false
+
+first_lasts : Lasts IsFirst
+first_lasts = record {
+  station = λ e v h. h.station;
+  steps = λ e v h down step. (let k = goes_on e.begun v.came_up step.notes.up h.low h.once in record { station = refl; low = k.0; once = k.1 });
+}
+  where
+    goes_on : (n : ℕ) (u b : Bool) → 1 ≤ n → (n ≡ 1 → u ≡ false) → (1 ≤ begun_by b n) × (begun_by b n ≡ 1 → (u || b) ≡ false)
+    goes_on n u true low once = (omega arith, λ is. absurd (omega (arith, is, low)))
+    goes_on n u false low once = (low, λ is. ap (λ x. x || false) (once is))
+
+-- such stations, of which each noted one LinkDown at most, and they over sessions
+record OneLink (c d : Settings) (v : Stations) : Type 0 where
+  pub w : Sessions
+  pub both : Both c d w
+  pub unasked : IsUnasked c w
+  pub alike : Alike IsFirst ⊥ w v
+  pub near : w.near.begun ≡ 1
+  pub far : w.far.begun ≡ 1
+  pub holds : Holds c d v
+  pub near_few : length v.near.reasons ≤ 1
+  pub far_few : length v.far.reasons ≤ 1
+
+one_turned : {c d : Settings} {v : Stations} → OneLink c d v → OneLink d c (stations_swapped v)
+one_turned h = record {
+  w = swapped h.w;
+  both = both_swapped h.both;
+  unasked = unasked_turned h.both.joined h.unasked;
+  alike = turned_alike h.alike;
+  near = h.far;
+  far = h.near;
+  holds = (line_swapped h.holds.0, joint_swapped h.both.joined.longest h.holds.1);
+  near_few = h.far_few;
+  far_few = h.near_few;
+}
+
+timely_unasked : (c d : Settings) (a : Act) {w : Sessions} → IsUnasked c w → session.IsTimely c d a w
+timely_unasked c d T1 h = λ waiting. absurd (h.near waiting)
+timely_unasked c d a h = tt
+
+module _ (reads : ReadsSpelled) (rests : SessionLaws) where
+  one_act : {c d : Settings} (a : Act) {v : Stations} → OneLink c d v → AcceptsNoConnect a v.near.station → OneLink c d (one.acts c a v)
+  one_act {c} {d} a {v} h none =
+      let begins = act_begins_none reads rests h.both h.unasked a (subst (AcceptsNoConnect a) h.alike.near.station none) in
+      let alike = happens_alike first_lasts c d (Near a) h.alike in
+      let near = begins.near ∙ h.near in
+      let once = alike.near.once near in
+      record {
+        w = acts c a h.w;
+        both = event_both reads rests (Near a) (timely_unasked c d a h.unasked) h.both;
+        unasked = begins.unasked;
+        alike = alike;
+        near = near;
+        far = begins.far ∙ h.far;
+        holds = (_, act_joint h.both.joined reads rests.laws a once h.holds.1);
+        near_few = few_acts h.both.joined reads rests.laws a once h.holds.1 (λ is. h.unasked.near (sym (ap (λ s. s.phase) h.alike.near.station) ∙ is))
+            h.near_few;
+        far_few = rw (each_hands_one c d (Near a) v).far h.far_few;
+      }
+
+  one_run : {c d : Settings} (es : List LinkEvent) {v : Stations} → OneLink c d v → NoneConnects c d es v → OneLink c d (one.run c d es v)
+  one_run [] h none = h
+  one_run (Near a ∷ es) h none = one_run es (one_act a h none.0) none.1
+  one_run (Far a ∷ es) h none = one_run es (one_turned (one_act a (one_turned h) none.0)) none.1
+
+  pub stays_one_link : OneLinkUnlessConnected
+  stays_one_link c d joined events none =
+      let fresh : IsFirst from_set_up.near start.near = record { station = refl; low = omega arith; once = λ is. refl } in
+      let h = one_run events (record {
+        w = from_set_up;
+        both = begin_both reads rests joined (inr refl);
+        unasked = record { near = not_up c 1; far = not_up c 1; out = refl; back = refl };
+        alike = record { near = fresh; far = fresh; out = refl; back = refl; sent = λ never. refl };
+        near = refl;
+        far = refl;
+        holds = (machine_at_start c d, start_machine joined);
+        near_few = omega arith;
+        far_few = omega arith;
+      }) none in
+      record { once = record { near = h.alike.near.once h.near; far = h.alike.far.once h.far }; near = h.near_few; far = h.far_few }

@@ -1,17 +1,16 @@
 -- What an end does that is Up, over sessions, and what it sends.
-use Rattle.std.proofs.Common.{◌≡◌, ℕ, List, [], ◌∷◌, inl, inr, false, Option, Some, None, Ok, refl, sym, ap, arith}
+use Rattle.std.proofs.Common.{◌≡◌, ℕ, List, [], ◌∷◌, inl, inr, Option, Some, None, Ok, refl, sym, ap, arith}
 use Rattle.x25_frame.specs.{Frame.{PlainFrame, info, rr, rnr, rej}, laws.ReadingLaw.{ReadsSpelled}}
 use Rattle.x25_window.specs.laws.Window.{Frame, frames_of}
 use Rattle.x25_link.specs.{declared.phase.Phase.TheVariants.{Closed}, declared.phase.Reason.{Reason}, declared.phase.Reason.TheVariants.{Disc, FrmrSent, Reset}}
 use Rattle.x25_link.specs.{Station.{Settings, LinkStation, awaits_ua}, Hearing.{Step, other}}
 use Rattle.x25_link.specs.laws.WindowMachine.{Window, Input, Runs, rests, goes_on, Shows, ShowAll}
 use Rattle.x25_link.specs.laws.WindowLaw.{brought_by, MayHandUp, InputMayHandUp, Stays, Follows}
-use Rattle.x25_line.specs.{laws.Stations.{Stations}, laws.StationClaims.{AreJoined, number_in, numbered_on}, laws.SessionClaims.{AllOf}}
-use Rattle.x25_line.specs.{laws.Sessions.{Entry, Meeting, Sessions, ua_in, begun_by, after_step}, laws.SessionNumbers.{Standing}, laws.WholeNumbers.{taken_out}}
-use Rattle.x25_line.proofs.{StationHears.{by_disc, by_reset}, StationSteps.{Holds, Leads}, StationAway.{is_up_phase, second_false}}
+use Rattle.x25_line.specs.{laws.StationClaims.{AreJoined, number_in, numbered_on}, laws.SessionClaims.{AllOf}}
+use Rattle.x25_line.specs.{laws.Sessions.{Entry, Meeting, Sessions, ua_in, begun_by, after_step}, laws.SessionNumbers.{Standing}}
+use Rattle.x25_line.proofs.{StationHears.{by_disc, by_reset}, StationSteps.{StepLeads}, StationAway.{is_up_phase, second_false}}
 use Rattle.x25_line.proofs.{sessions.SessionLines.{Read, none_is_some, count, AllNumbered, numbered_no_ua, numbers}, sessions.SessionHeld.{Held}}
 use Rattle.x25_line.proofs.{Lists.{each_append}, sessions.SessionSteps.{went_by, Answers, live_held}}
-use Rattle.x25_line.specs.laws.Stations as one
 
 -- ---- a run that only sends, sends frames that carry a number
 
@@ -67,16 +66,12 @@ follows_no_packet None k r s step none h = stays_no_packet (λ v y up. never_up 
 follows_no_packet (Some reason) k r s step none h = h.packet
 
 module _ {c d : Settings} (joined : AreJoined c d) (reads : ReadsSpelled) where
-  -- no LinkUp is noted in the session alone
-  quiet_up : (v : Stations) (os down : List (List ℕ)) (step : Step) → Holds c d (one.after_step c v os down step) → step.notes.up ≡ false
-  quiet_up v os down step holds = second_false v.near.came_up step.notes.up holds.1.near_has.notes.once
-
   -- an end in the session that stands goes on in it, by a step that the machine follows
   pub live_goes_on : {stand : Standing} (w : Sessions) (h : Held stand c d w) → w.near.begun ≡ stand.near
       → (es : List Entry) (os : List (List ℕ)) (met : List Meeting) (down : List (List ℕ)) (step : Step) (gone : Option ℕ)
-      → Leads c d h.alone stand.machine (taken_out gone stand.machine.back) (one.after_step c h.alone os down step) → numbers (other c.role) c.longest es
+      → StepLeads c d h.alone stand.machine gone os down step → numbers (other c.role) c.longest es
       ≡ numbered_on (other c.role) c.longest os → AllOf (other c.role) c.longest stand.far es
       → Answers w step → Held (went_by c step gone stand) c d (after_step c w es met down step)
   live_goes_on {stand} w h near es os met down step gone leads comes from answers =
-      rw (ap (λ b. begun_by b w.near.begun) (quiet_up h.alone os down step (leads.0, leads.1)))
+      rw (ap (λ b. begun_by b w.near.begun) (second_false h.alone.near.came_up step.notes.up leads.near_has.notes.once))
       (live_held joined reads w h near es os met down step gone leads comes from answers)

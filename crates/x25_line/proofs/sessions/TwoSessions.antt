@@ -14,7 +14,7 @@ use Rattle.x25_line.proofs.{sessions.SessionWith.{NoneOdd}, StationAway.{is_up_p
 use Rattle.x25_line.proofs.sessions.SessionHeld.{Owes, OnLine}
 use Rattle.x25_line.proofs.sessions.PeerSessionRuns.{two, all_of, lines, owes_is, up_in, step_is, order_is, unmet_is, idle_is, latest_is}
 use Rattle.x25_line.proofs.{sessions.SessionSeenRuns.{end, tags_there, Both, both_swapped, throughout_both}, ends.Meetings.{twice_turned, far_turned}}
-use Rattle.x25_line.proofs.{ends.Lines.{AllTold, Never, Of, AllTags, IsAsked, AllAsked}, ends.Sessions.{far_high}}
+use Rattle.x25_line.proofs.{ends.Lines.{AllTold, Never, Of, AllTags, IsAsked, AllAsked}, ends.Sessions.{far_high}, Lists.{each_map}}
 
 -- what is of the session that stands is of the latest, where that is begun
 hears : (from : Role) (n1 q : ℕ) {begun : ℕ} → begun ≤ q → (es : List Entry) → AllTold (Of q) (letters from n1 es) → AllTags begun (letters from n1 es)
@@ -79,11 +79,8 @@ module _ (reads : ReadsSpelled) (rests : SessionLaws) where
     reached = rw (sym (twice_turned w.met)) h.far.reached
 
     in_order : (ms : List Meeting) → Each (IsInOrder w.near (as_end peer)) ms → Each (IsInOrder w.near w.far) ms
-    in_order [] k = tt
-    in_order (m ∷ ms) k = (
-      record { there = rw (sym (h.far.taken m.far)) k.0.there; back = subst (IsPrefix (w.near.up m.near)) (h.far.given m.far) k.0.back },
-      in_order ms k.1,
-    )
+    in_order = each_map (IsInOrder w.near (as_end peer)) (IsInOrder w.near w.far)
+        (λ m k. record { there = rw (sym (h.far.taken m.far)) k.there; back = subst (IsPrefix (w.near.up m.near)) (h.far.given m.far) k.back })
 
     pub unmet : UnmetHandNothingUp c d w
     unmet =

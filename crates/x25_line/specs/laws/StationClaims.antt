@@ -1,6 +1,6 @@
 -- What holds of two link stations and the line between them after each list of events, as long as the link isn't set up
 -- anew.
-use Rattle.std.specs.Prelude.{◌≡◌, ℕ, ◌≤◌, Bool, true, false, ◌||◌, if◌then◌else◌, List, [], ◌∷◌, ◌++◌, take}
+use Rattle.std.specs.Prelude.{◌≡◌, ℕ, ◌≤◌, Bool, true, false, ◌||◌, if◌then◌else◌, List, [], ◌∷◌, ◌++◌, length, take}
 use Rattle.std.specs.{Prelude.{replicate, Option, Some, None, option_to_list, Result, Ok, Err}, List.{Contains}}
 use Rattle.x25_bits.specs.declared.role.Role.{Role}
 use Rattle.x25_frame.specs.Frame.{PlainFrame, info, rr, rnr, rej, frmr}
@@ -80,6 +80,22 @@ AcceptsNoConnect act s = Unit {0}
 abbrev pub AcceptsNoConnectAt : LinkEvent → LinkStation → LinkStation → Type 0
 AcceptsNoConnectAt (Near act) near far = AcceptsNoConnect act near
 AcceptsNoConnectAt (Far act) near far = AcceptsNoConnect act far
+
+-- each Connect of a list is refused where it comes
+abbrev pub NoneConnects : Settings → Settings → List LinkEvent → Stations → Type 0
+NoneConnects c d [] w = Unit {0}
+NoneConnects c d (e ∷ es) w = AcceptsNoConnectAt e w.near.station w.far.station × NoneConnects c d es (happens c d e w)
+
+-- the link isn't set up anew, and each end leaves Up once at most and notes no LinkDown after that
+pub record IsOneLink (w : Stations) : Type 0 where
+  pub once : IsSetUpOnce w
+  pub near : length w.near.reasons ≤ 1
+  pub far : length w.far.reasons ≤ 1
+
+-- what holds after each list of events of which none is an accepted Connect
+abbrev pub OneLinkUnlessConnected : Type 0
+OneLinkUnlessConnected = (c d : Settings) → AreJoined c d → (events : List LinkEvent) → NoneConnects c d events start
+    → IsOneLink (run c d events start)
 
 -- ---- the window
 

@@ -1,16 +1,17 @@
 -- The window machine behind two link stations and their line, as it goes on from event to event. An end that is Up
 -- counts in whole numbers. A frame is given its whole numbers as it is put on the line, and keeps them as long as it is
 -- there. ITU-T X.25 (10/96), sections 2.3.2 and 2.4.5.
-use Rattle.std.specs.Prelude.{ℕ, zero, suc, ◌+◌, max, if◌then◌else◌, List, [], ◌∷◌, ◌++◌, length, remove, Option}
+use Rattle.std.specs.Prelude.{ℕ, zero, suc, ◌+◌, max, if◌then◌else◌, List, [], ◌∷◌, ◌++◌, length, drop, remove, Option}
 use Rattle.std.specs.Prelude.{Some, None}
 use Rattle.x25_bits.specs.declared.role.Role.{Role}
 use Rattle.x25_frame.specs.{Frame.{PlainFrame, info}, Reading.{frame_of}}
 use Rattle.x25_window.specs.{code.Modulo.{resolved}, laws.Window.{Frame, fresh_end}}
-use Rattle.x25_link.specs.{Station.{Settings, LinkStation, is_up}, laws.WindowMachine.{Window}}
+use Rattle.x25_link.specs.{Station.{Settings, LinkStation, is_up}, Hearing.{other}, laws.WindowMachine.{Window}}
 use Rattle.x25_link.specs.laws.WindowLaw.{window_of}
-use Rattle.x25_line.specs.laws.Line.{Line}
-use Rattle.x25_line.specs.laws.Stations.{Act, Deliver, Lose, Damage, is_visible}
-use Rattle.x25_line.specs.laws.StationClaims.{number_in, numbered_on}
+use Rattle.x25_line.specs.laws.Line.{Line, line_swapped}
+use Rattle.x25_line.specs.laws.Stations.{Stations, Act, Deliver, Lose, Damage, LinkEvent, Near, Far, is_visible, acts}
+use Rattle.x25_line.specs.laws.Stations.{stations_swapped, happens, run, start}
+use Rattle.x25_line.specs.laws.StationClaims.{AreJoined, IsSetUpOnce, number_in, numbered_on, IsBehind}
 
 -- ---- what is put on the line
 
@@ -49,6 +50,11 @@ abbrev pub taken_out : Option ℕ → List (Frame (List ℕ)) → List (Frame (L
 taken_out None frames = frames
 taken_out (Some n) frames = remove frames n
 
+-- which of these is gone where octets are taken off the line at a place, or at none
+abbrev pub gone_from : Role → ℕ → List (List ℕ) → Option ℕ → Option ℕ
+gone_from from n1 line None = None
+gone_from from n1 line (Some i) = place_of from n1 line i
+
 -- where an act takes octets off the line to its end: the front comes, or one is lost, or damaged, by which it is no
 -- frame any more
 abbrev pub place_taken : Act → Option ℕ
@@ -76,6 +82,33 @@ machine_after c station put gone l =
       back = taken_out gone l.back;
     }
 
+-- the machine once its near end has done this act, in this world
+abbrev pub machine_acts : Settings → Act → Stations → Line (List ℕ) → Line (List ℕ)
+machine_acts c act w l = machine_after c (acts c act w).near.station (drop (length w.out) (acts c act w).out)
+    (gone_from (other c.role) c.longest w.back (place_taken act)) l
+
+abbrev pub machine_happens : Settings → Settings → LinkEvent → Stations → Line (List ℕ) → Line (List ℕ)
+machine_happens c d (Near act) w l = machine_acts c act w l
+machine_happens c d (Far act) w l = line_swapped (machine_acts d act (stations_swapped w) (line_swapped l))
+
+abbrev pub machine_run : Settings → Settings → List LinkEvent → Stations → Line (List ℕ) → Line (List ℕ)
+machine_run c d [] w l = l
+machine_run c d (e ∷ es) w l = machine_run c d es (happens c d e w) (machine_happens c d e w l)
+
 -- the link was just set up
 abbrev pub machine_at_start : Settings → Settings → Line (List ℕ)
 machine_at_start c d = record { near = fresh_end c.window; far = fresh_end d.window; out = []; back = [] }
+
+-- ---- the claim
+
+-- As long as the link isn't set up anew, the one machine that goes on from event to event is behind the stations and
+-- the line. So what stands behind a frame on the line is what it was given as it was put.
+abbrev pub MachineGoesAlong : Type 0
+MachineGoesAlong =
+    (c d : Settings) → AreJoined c d → (events : List LinkEvent) → IsSetUpOnce (run c d events start)
+    → IsBehind c d (run c d events start) (machine_run c d events start (machine_at_start c d))
+
+-- where the link isn't set up anew after a list of events, it wasn't before
+abbrev pub OnceStaysOnce : Type 0
+OnceStaysOnce = (c d : Settings) (events : List LinkEvent) (w : Stations) → IsSetUpOnce (run c d events w)
+    → IsSetUpOnce w

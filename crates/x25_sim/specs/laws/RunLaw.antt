@@ -7,6 +7,7 @@ use Rattle.x25_io.specs.Lines.{lines_of}
 use Rattle.x25_world.specs.World.{World, OnTap, AtEnd, Event, AreAccepted, run, start, established}
 use Rattle.x25_world.specs.Healing.{healing, ArrivesByHealing, RestShowsAll}
 use Rattle.x25_world.specs.laws.Claims.{AreInOctets, IsUpOnce, IsUpAtMostOnce, NoneConnects}
+use Rattle.x25_world.specs.laws.SessionWindow.{StaysInWindow}
 use Rattle.x25_sim.specs.Telling.{Saying, enters, taps, reads_nothing, refuses, marks}
 use Rattle.x25_sim.specs.Stage.{most_times, asked_in, line_turn, simulated}
 use Rattle.x25_sim.specs.declared.stage.Shown.{Shown}
@@ -65,6 +66,16 @@ abbrev pub OfScripts : (Cfg → World → Type 0) → Type 0
 OfScripts Holds = (cfg : Cfg) → config_refusal cfg ≡ None → (down : Bool) (shown : Shown) (script : List ℕ)
     → IsUpAtMostOnce cfg (simulated cfg down shown script).next
     → Holds cfg (simulated cfg down shown script).next
+
+-- the same from a link just set up, which isn't set up anew
+abbrev pub OfScriptsSetUp : (Cfg → World → Type 0) → Type 0
+OfScriptsSetUp Holds = (cfg : Cfg) → config_refusal cfg ≡ None → (shown : Shown) (script : List ℕ)
+    → IsUpOnce cfg (simulated cfg false shown script).next
+    → Holds cfg (simulated cfg false shown script).next
+
+-- some events from there lead to this world, along which the links stay in their window
+abbrev pub IsInWindow : Cfg → World → Type 0
+IsInWindow cfg w = (events : List Event) × (run cfg events (established cfg) ≡ w) × StaysInWindow cfg events w
 
 -- by a script in which no line asks for it the link isn't set up anew
 abbrev pub UpOnceUnlessAsked : Type 0

@@ -1,14 +1,14 @@
 -- What was written is the transcript of a run of two stations, and what holds of it.
-use Rattle.std.specs.Prelude.{◌≡◌, ℕ, Bool, true, List, Option}
+use Rattle.std.specs.Prelude.{◌≡◌, ℕ, Bool, true, false, List, Option}
 use Rattle.std.specs.Io.KnownBytes.{Appends}
 use Rattle.x25_station.specs.declared.config.Cfg.{Cfg}
 use Rattle.x25_world.specs.World.{World}
-use Rattle.x25_world.specs.laws.Claims.{ArrivesAll, IsLawful, IsNamed, IsUpAtMostOnce}
+use Rattle.x25_world.specs.laws.Claims.{ArrivesAll, HasNoProcedureError, IsLawful, IsNamed, IsUpOnce, IsUpAtMostOnce}
 use Rattle.x25_world.specs.laws.SessionClaims.{SessionsKeepOrder}
 use Rattle.x25_sim.specs.Telling.{Saying, sayings_text}
 use Rattle.x25_sim.specs.Stage.{simulated}
 use Rattle.x25_sim.specs.declared.stage.Shown.{Shown}
-use Rattle.x25_sim.specs.laws.RunLaw.{entries_in, frames_in}
+use Rattle.x25_sim.specs.laws.RunLaw.{entries_in, frames_in, IsInWindow}
 
 -- What was written behind `old` is the text of sayings. The entries among these are the transcript of the two stations
 -- to which the script leads, and the frames, where they are asked for, their tap. Of these stations this holds.
@@ -26,6 +26,12 @@ abbrev pub WritesOnce : (Cfg → World → Type 0) → Cfg → Bool → Shown �
 WritesOnce Holds cfg down shown script old now = IsUpAtMostOnce cfg (simulated cfg down shown script).next
     → Writes Holds cfg down shown script old now
 
+-- the same of a script that begins with the link set up, which isn't set up anew
+abbrev pub WritesSetUp : (Cfg → World → Type 0) → Cfg → Bool → Shown → List ℕ → Option (List ℕ) → Option (List ℕ)
+    → Type 0
+WritesSetUp Holds cfg down shown script old now = down ≡ false → IsUpOnce cfg (simulated cfg down shown script).next
+    → Writes Holds cfg down shown script old now
+
 -- What was written is the transcript of a run of two stations of which all claims hold.
 pub record WritesRun (cfg : Cfg) (down : Bool) (shown : Shown) (script : List ℕ)
     (old now : Option (List ℕ)) : Type 0 where
@@ -33,5 +39,8 @@ pub record WritesRun (cfg : Cfg) (down : Bool) (shown : Shown) (script : List �
   pub lawful : WritesOnce IsLawful cfg down shown script old now
   pub named : WritesOnce IsNamed cfg down shown script old now
   pub arrives : WritesOnce ArrivesAll cfg down shown script old now
+  pub quiet : WritesOnce HasNoProcedureError cfg down shown script old now
+  -- of a script that begins with the link set up
+  pub window : WritesSetUp IsInWindow cfg down shown script old now
   -- of every script
   pub sessions : Writes SessionsKeepOrder cfg down shown script old now

@@ -7,7 +7,7 @@ use Rattle.x25_link.specs.Hearing.{other}
 use Rattle.x25_packet.specs.Packet.{PlainPacket}
 use Rattle.x25_circuit.specs.{declared.message.Message.{Message}, Message.{Piece, More, Last, Partial, no_part, joined, carried_from, carried, asked_in}}
 use Rattle.x25_circuit.specs.Circuit.{Talk, silent, Circuit, is_open, unconfirmed}
-use Rattle.x25_handshakes.specs.laws.Names.{Name, both, same_name}
+use Rattle.x25_handshakes.specs.{laws.Names.{Name, both, same_name}, laws.Histories.{Lists}}
 use Rattle.x25_layer.specs.{declared.ranges.Ranges.{Ranges}, Ranges.{is_channel}, Layer.{LayerSettings, Layer}, code.FitsLayer.{is_open_at}}
 use Rattle.x25_layer.specs.laws.Acknowledged.{AcknowledgedAreUp, AcknowledgedAreHandedUp}
 use Rattle.x25_layer.specs.{laws.Transcript.{Handed, nothing_handed, Entry, says, under, messages_in, name_of}, laws.TwoLayers.{settings_of}}
@@ -73,21 +73,17 @@ more_acknowledged x y n h low few =
 
 -- ---- transcripts that grow
 
-under_append : (k : ℕ) (name : Name) (xs ys : List Entry) → (rest : List Message)
-    × ((messages_in (under k name (xs ++ ys))).down ≡ (messages_in (under k name xs)).down ++ rest)
-under_append k name [] ys = ((messages_in (under k name ys)).down, refl)
+under_append : (k : ℕ) (name : Name) (xs ys : List Entry) → (let all = messages_in (under k name (xs ++ ys)) in let before = messages_in (under k name xs) in
+    (rest : Lists Message) × (all.down ≡ before.down ++ rest.down) × (all.up ≡ before.up ++ rest.up))
+under_append k name [] ys = (messages_in (under k name ys), refl, refl)
 under_append k name (x ∷ xs) ys =
     let more = under_append k name xs ys in
-    let one : Handed = if both (k == x.channel) (same_name name x.name) then says x.said else nothing_handed in
-    (more.0, ap (λ l. one.down ++ l) more.1 ∙ sym (append_assoc one.down (messages_in (under k name xs)).down more.0))
-
-up_append : (k : ℕ) (name : Name) (xs ys : List Entry) → (rest : List Message)
-    × ((messages_in (under k name (xs ++ ys))).up ≡ (messages_in (under k name xs)).up ++ rest)
-up_append k name [] ys = ((messages_in (under k name ys)).up, refl)
-up_append k name (x ∷ xs) ys =
-    let more = up_append k name xs ys in
-    let one : Handed = if both (k == x.channel) (same_name name x.name) then says x.said else nothing_handed in
-    (more.0, ap (λ l. one.up ++ l) more.1 ∙ sym (append_assoc one.up (messages_in (under k name xs)).up more.0))
+    let before = messages_in (under k name xs) in
+    let one : Handed = if both (k == x.channel) (same_name name x.name) then says x.said else nothing_handed in (
+      more.0,
+      ap (λ l. one.down ++ l) more.1 ∙ sym (append_assoc one.down before.down more.0.down),
+      ap (λ l. one.up ++ l) more.2 ∙ sym (append_assoc one.up before.up more.0.up),
+    )
 
 abbrev pub down_of : ℕ → Name → layer.End → ℕ
 down_of k name e = asked_among (messages_in (under k name e.entries)).down
@@ -95,22 +91,16 @@ down_of k name e = asked_among (messages_in (under k name e.entries)).down
 abbrev pub up_of : ℕ → Name → layer.End → ℕ
 up_of k name e = asked_among (messages_in (under k name e.entries)).up
 
-down_grows : (c : LayerSettings) (k : ℕ) (name : Name) (e : layer.End) (what : OwnMove) → down_of k name e ≤ down_of k name (own_moves c e what)
-down_grows c k name e what =
+grow_both : (c : LayerSettings) (k : ℕ) (name : Name) (e : layer.End) (what : OwnMove)
+    → (let f = own_moves c e what in (down_of k name e ≤ down_of k name f) × (up_of k name e ≤ up_of k name f))
+grow_both c k name e what =
     let more = end_enters c e what in
+    let before = messages_in (under k name e.entries) in
     let here = under_append k name e.entries more.0 in
-    let is : down_of k name (own_moves c e what) ≡ down_of k name e + asked_among here.0 =
-    ap (λ es. asked_among (messages_in (under k name es)).down) more.1 ∙ ap asked_among here.1
-    ∙ among_append (messages_in (under k name e.entries)).down here.0 in
-    omega (arith, is)
-
-up_grows : (c : LayerSettings) (k : ℕ) (name : Name) (e : layer.End) (what : OwnMove) → up_of k name e ≤ up_of k name (own_moves c e what)
-up_grows c k name e what =
-    let more = end_enters c e what in
-    let here = up_append k name e.entries more.0 in
-    let is : up_of k name (own_moves c e what) ≡ up_of k name e + asked_among here.0 =
-    ap (λ es. asked_among (messages_in (under k name es)).up) more.1 ∙ ap asked_among here.1 ∙ among_append (messages_in (under k name e.entries)).up here.0 in
-    omega (arith, is)
+    let all = ap (λ es. messages_in (under k name es)) more.1 in
+    let down = ap (λ h. asked_among h.down) all ∙ ap asked_among here.1 ∙ among_append before.down here.0.down in
+    let up = ap (λ h. asked_among h.up) all ∙ ap asked_among here.2 ∙ among_append before.up here.0.up in
+    (omega (arith, down), omega (arith, up))
 
 -- ---- names
 
@@ -203,7 +193,7 @@ module _ (c : LayerSettings) (k : ℕ) (name : Name) (n : ℕ) (e f : layer.End)
 
     module _ (known : KnownAt k heard_end f) where
       grows : down_of k name e ≤ down_of k name heard_end
-      grows = down_grows c k name e (Takes p)
+      grows = (grow_both c k name e (Takes p)).0
 
       -- in a stretch that begins none was told of
       begins_none : Begins x y → is_open y ≡ true → name_of heard_end.layer k ≡ name → n ≤ 0
@@ -275,7 +265,7 @@ module _ (c : LayerSettings) (k : ℕ) (name : Name) (n : ℕ) (e f : layer.End)
     called_acked is named = elim ((end_called c e what k none).circuit is) [
       | inl begins ↦ (
           let zero : down_of k name next ≡ 0 = subst (λ m. down_of k m next ≡ 0) named (none_down (known is) begins.silent) in
-          omega (arith, h.down, zero, down_grows c k name e what))
+          omega (arith, h.down, zero, (grow_both c k name e what).0))
       | inr goes ↦ (
           let before = h.opened goes.same.opened (same_stretch e.layer next.layer k ((end_called c e what k none).restarts is) goes.same ∙ named) in
           let now : acknowledged (next.layer.circuits k) ≡ asked_in (take (e.layer.circuits k).talk.acked ((e.layer.circuits k).talk.sent ++ goes.more)) =
@@ -284,7 +274,7 @@ module _ (c : LayerSettings) (k : ℕ) (name : Name) (n : ℕ) (e f : layer.End)
     ]
 
     called : Bounded k name n next f
-    called = record { opened = called_acked; down = (omega (arith, h.down, down_grows c k name e what)); up = h.up }
+    called = record { opened = called_acked; down = (omega (arith, h.down, (grow_both c k name e what).0)); up = h.up }
 
   -- its own move
   own_bounded : (what : OwnMove) → KnownAt k (own_moves c e what) f → Bounded k name (n + counted_by c k name e what) (own_moves c e what) f
@@ -293,7 +283,7 @@ module _ (c : LayerSettings) (k : ℕ) (name : Name) (n : ℕ) (e f : layer.End)
 
   -- a move of the other
   other_bounded : (d : LayerSettings) (what : OwnMove) → Bounded k name n e (own_moves d f what)
-  other_bounded d what = record { opened = h.opened; down = h.down; up = (omega (arith, h.up, up_grows d k name f what)) }
+  other_bounded d what = record { opened = h.opened; down = h.down; up = (omega (arith, h.up, (grow_both d k name f what).1)) }
 
 -- ---- runs
 

@@ -16,6 +16,7 @@ use Rattle.x25_station.specs.Entry.{restart_confirmed, at_fault, came_beside, wa
 use Rattle.x25_station.specs.Entry.{of_channels, station_told, entries_noted, notice_of, layer_entries, layer_notices}
 use Rattle.x25_station.specs.Step.{entries_of_outcome, layer_answer, confirmed_by, entries_of_packet, entries_heard, follows}
 use Rattle.x25_world.specs.{World.{AtEnd, entered}, laws.BesideClaims.{Came, came_in}, laws.ConfirmedClaims.{confirmed_in}}
+use Rattle.x25_line.specs.laws.SessionClaims.{Each}
 use Rattle.x25_world.specs.laws.Claims.{entry_of_end, entries_at}
 use Rattle.x25_world.specs.laws.Sessions.{Progress, none_begun, after_entry, after_entries, is_in, entry_if, session_from, first_of, met_at, met_by, meets_from}
 use Rattle.x25_world.specs.laws.Sessions.{meets}
@@ -124,8 +125,7 @@ IsPlain (link_down reason) = ⊥
 IsPlain entry = Unit {0}
 
 abbrev pub ArePlain : List StationEntry → Type 0
-ArePlain [] = Unit {0}
-ArePlain (e ∷ entries) = IsPlain e × ArePlain entries
+ArePlain entries = Each IsPlain entries
 
 plain_after : (p : Progress) (e : StationEntry) → IsPlain e → after_entry p e ≡ p
 plain_after p link_up h = absurd h
@@ -198,8 +198,7 @@ IsMute (link_down reason) = Unit {0}
 IsMute entry = ⊥
 
 abbrev pub AreMute : List StationEntry → Type 0
-AreMute [] = Unit {0}
-AreMute (e ∷ entries) = IsMute e × AreMute entries
+AreMute entries = Each IsMute entries
 
 -- nothing of the layer is told
 pub record TellNothing (entries : List StationEntry) : Type 0 where
@@ -275,11 +274,15 @@ told_plain l (on_channel h notice ∷ notices) es plain = (tt, told_plain l noti
 told_plain l (other ∷ notices) es plain = (tt, told_plain l notices es plain)
 
 -- the entries of a packet that is handed up
+heard_entries : (c : Settings) (l : Layer) (k : LinkStep) (octets : List ℕ) → k.packet ≡ Some octets → IsQuiet k → (follows c l k).entries
+    ≡ entries_of_packet (layer_settings c) c.wide l octets
+heard_entries c l k octets some quiet =
+    ap (λ o. entries_noted k.notes ++ entries_heard (layer_settings c) c.wide l o k.notes.down k.notes.up) some
+    ∙ ap (λ n. entries_noted n ++ entries_heard (layer_settings c) c.wide l (Some octets) n.down n.up) quiet
+
 pub heard_plain : (c : Settings) (l : Layer) (k : LinkStep) (octets : List ℕ) → k.packet ≡ Some octets → IsQuiet k → ArePlain (follows c l k).entries
 heard_plain c l k octets some quiet =
-    subst ArePlain
-    (sym (ap (λ o. entries_noted k.notes ++ entries_heard (layer_settings c) c.wide l o k.notes.down k.notes.up) some
-    ∙ ap (λ n. entries_noted n ++ entries_heard (layer_settings c) c.wide l (Some octets) n.down n.up) quiet))
+    subst ArePlain (sym (heard_entries c l k octets some quiet))
     (let a = layer_answer (layer_settings c) c.wide l octets in
     told_plain a.next a.notices _ (behind_plain a.next (named_by octets) (confirmed_by (layer_settings c) c.wide l a.next (named_by octets))
     _ (beside_plain (beside_in c.wide octets) (bringing a.notices))))
@@ -328,9 +331,7 @@ heard_confirms cfg end l k octets p some quiet reads h name =
     let a = layer_answer (layer_settings c) c.wide l octets in
     let es = entries_beside (beside_in c.wide octets) (bringing a.notices) in
     let behind = entries_behind a.next (named_by octets) (confirmed_by (layer_settings c) c.wide l a.next (named_by octets)) es in
-    let entries : (follows c l k).entries ≡ entries_of_packet (layer_settings c) c.wide l octets =
-    ap (λ o. entries_noted k.notes ++ entries_heard (layer_settings c) c.wide l o k.notes.down k.notes.up) some
-    ∙ ap (λ n. entries_noted n ++ entries_heard (layer_settings c) c.wide l (Some octets) n.down n.up) quiet in
+    let entries = heard_entries c l k octets some quiet in
     let answered : a ≡ layer_answers (layer_settings c) l p = ap (λ r. answer_to (layer_settings c) l octets r) reads in
     let is : confirmed_in h name (follows c l k).entries ≡ confirmed_in h name behind =
     ap (confirmed_in h name) entries ∙ told_counts a.next a.notices behind h name in
@@ -389,9 +390,7 @@ pub heard_beside : (cfg : Cfg) (end : Role) (l : Layer) (k : LinkStep) (octets :
 heard_beside cfg end l k octets p some quiet reads =
     let c = settings_from end cfg in
     let a = layer_answer (layer_settings c) c.wide l octets in
-    let entries : (follows c l k).entries ≡ entries_of_packet (layer_settings c) c.wide l octets =
-    ap (λ o. entries_noted k.notes ++ entries_heard (layer_settings c) c.wide l o k.notes.down k.notes.up) some
-    ∙ ap (λ n. entries_noted n ++ entries_heard (layer_settings c) c.wide l (Some octets) n.down n.up) quiet in
+    let entries = heard_entries c l k octets some quiet in
     let answered : a ≡ layer_answers (layer_settings c) l p = ap (λ r. answer_to (layer_settings c) l octets r) reads in
     let all : brought cfg (octets ∷ []) ≡ brought_as (Ok p) (beside_in c.wide octets) =
     append-nil (brought_by cfg octets) ∙ ap (λ r. brought_as r (beside_in c.wide octets)) reads in

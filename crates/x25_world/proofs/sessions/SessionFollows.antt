@@ -13,7 +13,7 @@ use Rattle.x25_station.specs.laws.ReadLaw.{AreReadable}
 use Rattle.x25_world.specs.{World.{World, after_step}, laws.Claims.{link_of}, laws.Sessions.{Progress, after_entries, session_from, is_in, entry_if}}
 use Rattle.x25_world.specs.laws.LawsBelow.{SessionLaws}
 use Rattle.x25_world.proofs.{Known.{IsConfigured, true_false}, sessions.SessionTrace.{layer_of, own, TakeNothing}}
-use Rattle.x25_world.proofs.{sessions.SessionReaches.{Beginning, MayAsk, SessionsReach, puts_reach, known_sessions}, sessions.SessionBeside.{spelled_bring}}
+use Rattle.x25_world.proofs.{sessions.SessionReaches.{Within, MayAsk, SessionsReach, puts_reach, known_sessions}, sessions.SessionBeside.{spelled_bring}}
 use Rattle.x25_world.proofs.sessions.SessionJoined.{HasMet, PairsAreInOrder, SessionsJoined, Goes, gave_none}
 use Rattle.x25_world.proofs.{sessions.SessionKnown.{nothing_in_order, own_readable}, Growing.{back_read, back_octets}}
 use Rattle.x25_world.proofs.{sessions.SessionGoes.{IsSilent, not_in, rests, begins_session}, sessions.SessionEntries.{AreMute}}
@@ -100,7 +100,7 @@ silent_puts cfg end l k none not_up =
 
 -- RESTART where a session begins
 
-module _ {since : Beginning} (laws : SessionLaws) (cfg : Cfg) (fine : IsConfigured cfg) (end : Role) (w : World) (h : SessionsJoined since cfg end w) where
+module _ {within : Within} (laws : SessionLaws) (cfg : Cfg) (fine : IsConfigured cfg) (end : Role) (w : World) (h : SessionsJoined within cfg end w) where
   -- the layer's end in a session that isn't begun
   not_begun : own cfg end (suc h.links.near.begun) h.trace ≡ started (goes_up (layer_of cfg end))
   not_begun = ap (λ l. own_run (layer_of cfg end) l (started (goes_up (layer_of cfg end)))) (h.near.later (suc h.links.near.begun) (omega arith)).moves
@@ -126,16 +126,16 @@ module _ {since : Beginning} (laws : SessionLaws) (cfg : Cfg) (fine : IsConfigur
 
 -- ---- the link's step, at `v`, and the layer's
 
-module _ {since : Beginning} (laws : SessionLaws) (cfg : Cfg) (fine : IsConfigured cfg) (end : Role) (w : World) (h : SessionsJoined since cfg end w)
+module _ {within : Within} (laws : SessionLaws) (cfg : Cfg) (fine : IsConfigured cfg) (end : Role) (w : World) (h : SessionsJoined within cfg end w)
     (lead : Lead) (left : List links.Entry) (k : LinkStep) (v : Sessions) (met : List Meeting)
-    (reach : SessionsReach since cfg end v) (pairs : PairsAreInOrder cfg end h.trace met) (more : (n m : ℕ) → HasMet n m h.links.met → HasMet n m met)
+    (reach : SessionsReach within cfg end v) (pairs : PairsAreInOrder cfg end h.trace met) (more : (n m : ℕ) → HasMet n m h.links.met → HasMet n m met)
     (tells : Tells w.near.link k) (g : StepGoes (link_of cfg end) h.links v k left met) where
   abbrev ours : Settings
   ours = settings_from end cfg
 
   -- by a step of the end, with nothing that its user gave
   abbrev To : World → Type 0
-  To u = Goes since cfg end h.links gave_none u
+  To u = Goes within cfg end h.links gave_none u
 
   abbrev whole_step : Step
   whole_step = led_by (lead_of lead) (follows ours w.near.layer k)
@@ -177,7 +177,8 @@ module _ {since : Beginning} (laws : SessionLaws) (cfg : Cfg) (fine : IsConfigur
       by None is = quiet_step none kept (ap₂ (λ d u. record { down = d; up = u }) is not_up)
       by (Some reason) is = down_step none kept reason (ap₂ (λ d u. record { down = d; up = u }) is not_up)
 
-  pub follows_up : ((octets : List ℕ) → MayAsk since end (line.Put octets)) → k.notes.up ≡ true → k.packet ≡ None → IsKept (follows ours w.near.layer k).near
+  pub follows_up : ((octets : List ℕ) → MayAsk within.event end (line.Put octets)) → k.notes.up ≡ true → k.packet ≡ None
+      → IsKept (follows ours w.near.layer k).near
       → To (after_step ours w (octets_of left) (follows ours w.near.layer k))
   follows_up asks up none kept =
       let c = settings_from end cfg in
@@ -195,4 +196,4 @@ module _ {since : Beginning} (laws : SessionLaws) (cfg : Cfg) (fine : IsConfigur
       begins_session cfg end w h step left (all_act (link_of cfg end) (puts_of handed) v) met handed (back_read cfg handed packets p.readable)
       (back_octets cfg handed packets p.readable)
       (spelled_bring laws.stations cfg packets (restart_readable laws cfg fine end w h)) r begins known.near still u.layer kept
-      (puts_reach laws.unasked cfg fine end handed v asks reach) pairs more
+      (puts_reach cfg end handed v asks reach) pairs more

@@ -14,16 +14,17 @@ use Rattle.x25_station.specs.{Step.{Step}, laws.KeepLaw.{IsKept}}
 use Rattle.x25_world.specs.{World.{World, entered, after_step}, laws.Claims.{entries_at, link_of}}
 use Rattle.x25_world.specs.laws.Sessions.{Progress, none_begun, after_entries, is_in, session_from, first_of, met_by, meets}
 use Rattle.x25_world.specs.{laws.BesideClaims.{came_in, Gave, IsGiven, AreSomeOf}, laws.ConfirmedClaims.{confirmed_in}}
-use Rattle.x25_world.proofs.Growing.{all_read, as_read, none_read, nothing_read, grown, AllAreOctets, all_octets_append, entries_more, entries_other, on_tap}
+use Rattle.x25_world.proofs.Growing.{all_read, as_read, none_read, nothing_read, grown, AllAreOctets, entries_more, entries_other, on_tap}
 use Rattle.x25_world.proofs.Growing.{octets_put}
 use Rattle.x25_world.proofs.sessions.SessionTrace.{layer_of, Done, moved, own_in, own, own_more, own_same, own_other, own_goes, same_number, TakeNothing}
-use Rattle.x25_world.proofs.sessions.SessionTrace.{nothing_append, BringOctets, octets_append}
+use Rattle.x25_world.proofs.sessions.SessionTrace.{TakesNone, BringOctets}
 use Rattle.x25_world.proofs.sessions.SessionCounts.{counted_in, IsCounted, counted_same, counted_rests, counted_goes}
-use Rattle.x25_world.proofs.{sessions.SessionReaches.{Beginning, SessionsReach}, sessions.SessionBeside.{brought, AreTold, told_more, MoreIs, none_more}}
+use Rattle.x25_world.proofs.{sessions.SessionReaches.{Within, SessionsReach}, sessions.SessionBeside.{brought, AreTold, told_more, MoreIs, none_more}}
 use Rattle.x25_world.proofs.sessions.SessionJoined.{HaveAll, IsSession, IsLayer, IsEnd, HasMet, Meets, Hears, PairsAreInOrder, SessionsJoined, Goes, gave_none}
 use Rattle.x25_world.proofs.sessions.SessionEntries.{after_append, session_append, meets_more, meets_other, none_met, AreMute, TellNothing, mute_tell, mute_in}
 use Rattle.x25_world.proofs.sessions.SessionEntries.{ArePlain, plain_progress, plain_here, plain_elsewhere, restart_met, elsewhere_met}
 use Rattle.x25_peer.proofs.{ReadLemmas.{layer_append, notices_append}, sessions.LinkSteps.{SessionGoes, extended_none}}
+use Rattle.x25_line.proofs.Lists.{each_append}
 use Rattle.x25_line.specs.laws.Sessions as links
 use Rattle.x25_layer.specs.laws.TwoLayers as layer
 
@@ -147,7 +148,7 @@ pub record IsNews (n m : ℕ) (met : List Meeting) (notices : List LayerNotice) 
   pub restarts : BeginsRestarted notices
   pub begun : 1 ≤ m
 
-module _ {since : Beginning} (cfg : Cfg) (end : Role) (w : World) (h : SessionsJoined since cfg end w) (step : Step) (left : List links.Entry) (v : Sessions)
+module _ {within : Within} (cfg : Cfg) (end : Role) (w : World) (h : SessionsJoined within cfg end w) (step : Step) (left : List links.Entry) (v : Sessions)
     (met : List Meeting) where
   abbrev session : ℕ
   session = h.links.near.begun
@@ -206,13 +207,13 @@ module _ {since : Beginning} (cfg : Cfg) (end : Role) (w : World) (h : SessionsJ
       ∙ ap (λ p. first_of (meets end n w.transcript) (met_by n p (after_entries none_begun told_there) step.entries)) h.near.progress
 
   -- the sessions of both ends, where the near end's part is known
-  joined_of : (moves : List OwnMove) (at : ℕ) → SessionsReach since cfg end v → v.far ≡ h.links.far → v.out ≡ h.links.out ++ sent_in at end step.out → v.back
+  joined_of : (moves : List OwnMove) (at : ℕ) → SessionsReach within cfg end v → v.far ≡ h.links.far → v.out ≡ h.links.out ++ sent_in at end step.out → v.back
       ≡ left
       → v.sent ≡ h.links.sent ++ step.out → v.met ≡ met → IsEnd cfg end step.near v.near (h.trace ++ moved end at moves) (told_before ++ step.entries)
       → BringOctets cfg.wide (moved end at moves)
       → PairsAreInOrder cfg end (h.trace ++ moved end at moves) met → ((n m : ℕ) → HasMet n m h.links.met → HasMet n m met)
       → ((n : ℕ) → Hears (λ n m. HasMet n m met) n (v.near.up n) (meets end n (w.transcript ++ entered end step.entries)))
-      → SessionsJoined since cfg end (after_step (settings_from end cfg) w (octets_of left) step)
+      → SessionsJoined within cfg end (after_step (settings_from end cfg) w (octets_of left) step)
   joined_of moves at reach far out same_left sent same_met near octets pairs more hears = record {
     links = v;
     trace = h.trace ++ moved end at moves;
@@ -223,7 +224,7 @@ module _ {since : Beginning} (cfg : Cfg) (end : Role) (w : World) (h : SessionsJ
     out = ap octets_of out ∙ octets_put h.links.out at end step.out ∙ ap (λ os. os ++ map (spelling_of end) step.out) h.out;
     back = ap octets_of same_left;
     tap = rw sent (on_tap end w.tap h.links.sent step.out h.tap);
-    octets = octets_append cfg.wide h.trace (moved end at moves) h.octets octets;
+    octets = each_append _ h.trace (moved end at moves) h.octets octets;
     pairs = subst (PairsAreInOrder cfg end (h.trace ++ moved end at moves)) (sym same_met) pairs;
     near_hears = λ n. rw same_met (hears n);
     far_hears = λ n. rw same_met (hears_more (λ n m. HasMet m n h.links.met) (λ n m. HasMet m n met) (v.far.up n) None
@@ -246,7 +247,7 @@ module _ {since : Beginning} (cfg : Cfg) (end : Role) (w : World) (h : SessionsJ
 
     octets_then : AllAreOctets handed → (n : ℕ) → AllAreOctets (v.near.down n)
     octets_then in_octets n = same_or_not n b
-        (λ is. rw is (subst AllAreOctets (sym down_here) (all_octets_append (h.links.near.down b) handed (h.near.octets b) in_octets)))
+        (λ is. rw is (subst AllAreOctets (sym down_here) (each_append _ (h.links.near.down b) handed (h.near.octets b) in_octets)))
         (λ differs. subst AllAreOctets (sym (down_apart n differs)) (h.near.octets n))
 
     more_then : (gave : ℕ → List Gave) → AreSomeOf IsGiven (brought cfg handed) (gave b) → (n : ℕ) → MoreIs cfg (h.links.near.down n) (v.near.down n) (gave n)
@@ -328,7 +329,7 @@ module _ {since : Beginning} (cfg : Cfg) (end : Role) (w : World) (h : SessionsJ
         at_session none =
             let both = sym up_here ∙ none in
             subst TakeNothing (sym (own_more end session h.trace moves))
-            (nothing_append (own_in end session h.trace) moves (h.near.alone session (nothing_of (h.links.near.up session) came both))
+            (each_append TakesNone (own_in end session h.trace) moves (h.near.alone session (nothing_of (h.links.near.up session) came both))
             (alone (none_read lifted (sym took ∙ ap (all_read cfg) (none_behind (h.links.near.up session) came both)))))
 
         here : n ≡ session → TakeNothing (own_in end n trace_on)
@@ -375,12 +376,12 @@ module _ {since : Beginning} (cfg : Cfg) (end : Role) (w : World) (h : SessionsJ
     abbrev all_of : ℕ → Option ℕ
     all_of n = meets end n (w.transcript ++ entered end step.entries)
 
-    pub goes_on : SessionsReach since cfg end v → (lifted ≡ [] → TakeNothing moves) → AreNoFaults (layer_notices step.entries)
+    pub goes_on : SessionsReach within cfg end v → (lifted ≡ [] → TakeNothing moves) → AreNoFaults (layer_notices step.entries)
         → BringOctets cfg.wide (moved end session moves)
         → PairsAreInOrder cfg end trace_on met → ((n m : ℕ) → HasMet n m h.links.met → HasMet n m met)
         → ((own cfg end session h.trace).taken ≡ [] → ((lifted ≡ []) × (layer_notices step.entries ≡ []))
         ⊎ IsNews session h.links.far.begun met (layer_notices step.entries))
-        → Goes since cfg end h.links gave (after_step (settings_from end cfg) w (octets_of left) step)
+        → Goes within cfg end h.links gave (after_step (settings_from end cfg) w (octets_of left) step)
     unfolding joined_of
     goes_on reach alone no_fault octets pairs more news = record {
       joined = joined_of moves session reach g.far g.out g.back g.sent g.met (near_goes_on alone no_fault) octets pairs more hears;
@@ -468,9 +469,9 @@ module _ {since : Beginning} (cfg : Cfg) (end : Role) (w : World) (h : SessionsJ
             all_more (h.near.first_has_all (omega (arith, most, latest))) (silent_all silent.mute));
       }
 
-      quietly : SessionsReach since cfg end v → PairsAreInOrder cfg end h.trace met → ((n m : ℕ) → HasMet n m h.links.met → HasMet n m met)
+      quietly : SessionsReach within cfg end v → PairsAreInOrder cfg end h.trace met → ((n m : ℕ) → HasMet n m h.links.met → HasMet n m met)
           → brought cfg handed ≡ []
-          → Goes since cfg end h.links gave_none (after_step (settings_from end cfg) w (octets_of left) step)
+          → Goes within cfg end h.links gave_none (after_step (settings_from end cfg) w (octets_of left) step)
       unfolding joined_of
       quietly reach pairs more bring_none = record {
         joined = joined_of [] b reach g.far g.out g.back g.sent g.met (rw (append-nil h.trace) near_quietly) tt
@@ -487,9 +488,9 @@ module _ {since : Beginning} (cfg : Cfg) (end : Role) (w : World) (h : SessionsJ
   pub rests : SessionGoes (link_of cfg end) h.links v session step.near.link step.out [] [] left met
       → IsSilent standing (record { begun = session; stands = is_up step.near.link.phase }) step.entries
       → (is_up step.near.link.phase ≡ true → (is_up w.near.link.phase ≡ true) × (step.near.layer ≡ w.near.layer)) → IsKept step.near
-      → SessionsReach since cfg end v → PairsAreInOrder cfg end h.trace met
+      → SessionsReach within cfg end v → PairsAreInOrder cfg end h.trace met
       → ((n m : ℕ) → HasMet n m h.links.met → HasMet n m met)
-      → Goes since cfg end h.links gave_none (after_step (settings_from end cfg) w (octets_of left) step)
+      → Goes within cfg end h.links gave_none (after_step (settings_from end cfg) w (octets_of left) step)
   rests g silent layer_stays kept reach pairs more =
       let same : (n : ℕ) → v.near.down n ≡ h.links.near.down n = λ n. g.down n ∙ extended_none h.links.near.down session n in
       quietly session [] g silent tt (omega arith) (omega arith) (same 0) (λ low. session_stays session [] g silent session low (omega arith) (same session))
@@ -529,8 +530,8 @@ module _ {since : Beginning} (cfg : Cfg) (end : Role) (w : World) (h : SessionsJ
         by_role Dte = refl
         by_role Dce = refl
 
-    pub begins_session : SessionsReach since cfg end v → PairsAreInOrder cfg end h.trace met → ((n m : ℕ) → HasMet n m h.links.met → HasMet n m met)
-        → Goes since cfg end h.links gave_none (after_step (settings_from end cfg) w (octets_of left) step)
+    pub begins_session : SessionsReach within cfg end v → PairsAreInOrder cfg end h.trace met → ((n m : ℕ) → HasMet n m h.links.met → HasMet n m met)
+        → Goes within cfg end h.links gave_none (after_step (settings_from end cfg) w (octets_of left) step)
     begins_session reach pairs more =
         quietly the_next handed g (rw still begins) in_octets (omega arith) (omega arith)
         (down_apart the_next handed g.down 0 (λ is. omega (arith, is))) (λ low. next_session)

@@ -1,16 +1,17 @@
 -- A world of two stations over set-up and re-set-up, as one of the ends sees it: a run of two links with their sessions, and moves of the
 -- layers in each session. The sessions that meet are two layers whose packets come in order.
 use Rattle.std.proofs.Common.{◌≡◌, ℕ, ◌≤◌, ◌<◌, ◌⊎◌, inl, inr, List, [], ◌∷◌, map, true, false, Option, Some, None, refl, sym, subst}
-use Rattle.x25_bits.specs.{declared.role.Role.{Role}, declared.role.Role.TheVariants.{Dte, Dce}}
+use Rattle.x25_bits.specs.declared.role.Role.{Role}
 use Rattle.x25_link.specs.{Station.{is_up}, Hearing.{other}}
 use Rattle.x25_line.specs.{laws.Sessions.{SessionEnd, Meeting, Sessions, turned}, laws.SessionClaims.{Each, SomeMet, octets_of}}
 use Rattle.x25_layer.specs.{laws.Quiet.{AreNoFaults}, laws.Apart.{apart_start, AreInOrder}}
 use Rattle.x25_station.specs.{declared.config.Cfg.{Cfg}, Entry.{StationEntry, layer_entries, layer_notices}, Station.{Station}, laws.KeepLaw.{IsKept}}
-use Rattle.x25_world.specs.{World.{World, mirrored}, laws.Claims.{entries_at}, laws.Sessions.{none_begun, after_entries, session_from, meets}}
+use Rattle.x25_world.specs.{World.{World, Event, mirrored}, laws.Claims.{entries_at}, laws.Sessions.{none_begun, after_entries, session_from, meets}}
 use Rattle.x25_world.specs.laws.BesideClaims.{Gave, came_in}
 use Rattle.x25_world.proofs.Growing.{all_read, as_read, AllAreOctets, AreOnTap}
 use Rattle.x25_world.proofs.{sessions.SessionTrace.{Done, own_in, own, pair_at, pair_turned, TakeNothing, BringOctets}, sessions.SessionCounts.{IsCounted}}
-use Rattle.x25_world.proofs.{sessions.SessionReaches.{Beginning, SessionsReach, reach_swapped}, sessions.SessionBeside.{brought, AreTold, MoreIs, none_more}}
+use Rattle.x25_world.proofs.sessions.SessionReaches.{Within, SessionsReach, seen_from, twice_other, reach_swapped}
+use Rattle.x25_world.proofs.sessions.SessionBeside.{brought, AreTold, MoreIs, none_more}
 use Rattle.x25_line.specs.laws.Sessions as links
 use Rattle.x25_layer.specs.laws.TwoLayers as layer
 
@@ -83,10 +84,10 @@ PairIsInOrder cfg end trace n m = AreInOrder cfg.long_data cfg.channels (pair_at
 abbrev pub PairsAreInOrder : Cfg → Role → List Done → List Meeting → Type 0
 PairsAreInOrder cfg end trace met = Each (λ p. PairIsInOrder cfg end trace p.near p.far) met
 
-pub record SessionsJoined (since : Beginning) (cfg : Cfg) (end : Role) (w : World) : Type 0 where
+pub record SessionsJoined (within : Within) (cfg : Cfg) (end : Role) (w : World) : Type 0 where
   pub links : Sessions
   pub trace : List Done
-  pub reach : SessionsReach since cfg end links
+  pub reach : SessionsReach within cfg end links
   pub near : IsEnd cfg end w.near links.near trace (entries_at end w.transcript)
   pub far : IsEnd cfg (other end) w.far links.far trace (entries_at (other end) w.transcript)
   pub out : octets_of links.out ≡ w.out
@@ -97,10 +98,10 @@ pub record SessionsJoined (since : Beginning) (cfg : Cfg) (end : Role) (w : Worl
   pub near_hears : (n : ℕ) → Hears (λ (n m : ℕ). HasMet n m links.met) n (links.near.up n) (meets end n w.transcript)
   pub far_hears : (n : ℕ) → Hears (λ (n m : ℕ). HasMet m n links.met) n (links.far.up n) (meets (other end) n w.transcript)
 
--- the same, with this left on the line to the near end, and its run told otherwise
-abbrev pub relined : {since told : Beginning} (cfg : Cfg) (end : Role) (w : World) (h : SessionsJoined since cfg end w) (es : List links.Entry)
+-- the same, with this left on the line to the near end, by this run
+abbrev pub relined : {within now : Within} (cfg : Cfg) (end : Role) (w : World) (h : SessionsJoined within cfg end w) (es : List links.Entry)
     (left : List (List ℕ)) → octets_of es ≡ left
-    → SessionsReach told cfg end (record h.links { back = es }) → SessionsJoined told cfg end (record w { back = left })
+    → SessionsReach now cfg end (record h.links { back = es }) → SessionsJoined now cfg end (record w { back = left })
 relined cfg end w h es left same reach = record {
   links = record h.links { back = es };
   trace = h.trace;
@@ -116,15 +117,21 @@ relined cfg end w h es left same reach = record {
   far_hears = h.far_hears;
 }
 
-abbrev pub retold : {since told : Beginning} (cfg : Cfg) (end : Role) (w : World) (h : SessionsJoined since cfg end w) → SessionsReach told cfg end h.links
-    → SessionsJoined told cfg end w
-retold cfg end w h reach = relined cfg end w h h.links.back w.back h.back reach
+-- as an event begins
+abbrev pub at_event : {within : Within} {cfg : Cfg} {end : Role} {w : World} (h : SessionsJoined within cfg end w) (e : Event)
+    → SessionsJoined (record { before = seen_from end h.links; event = e }) cfg end w
+at_event {cfg} {end} {w} h e = relined cfg end w h h.links.back w.back h.back (record {
+  events = h.reach.events;
+  timely = h.reach.timely;
+  run = h.reach.run;
+  grown = record { asked = []; may = tt; timely = tt; run = refl };
+})
 
 -- ---- a step of the near end
 
 -- It leads here from these links, and the near end is handed down more in its sessions, with what its user gave.
-pub record Goes (since : Beginning) (cfg : Cfg) (end : Role) (v : Sessions) (gave : ℕ → List Gave) (w : World) : Type 0 where
-  pub joined : SessionsJoined since cfg end w
+pub record Goes (within : Within) (cfg : Cfg) (end : Role) (v : Sessions) (gave : ℕ → List Gave) (w : World) : Type 0 where
+  pub joined : SessionsJoined within cfg end w
   pub down : (n : ℕ) → MoreIs cfg (v.near.down n) (joined.links.near.down n) (gave n)
   pub far : joined.links.far ≡ v.far
 
@@ -132,8 +139,8 @@ abbrev pub gave_none : ℕ → List Gave
 gave_none n = []
 
 -- nothing happened
-pub stays : {since : Beginning} {cfg : Cfg} {end : Role} {w : World} (h : SessionsJoined since cfg end w) (gave : ℕ → List Gave)
-    → Goes since cfg end h.links gave w
+pub stays : {within : Within} {cfg : Cfg} {end : Role} {w : World} (h : SessionsJoined within cfg end w) (gave : ℕ → List Gave)
+    → Goes within cfg end h.links gave w
 stays {cfg} h gave = record { joined = h; down = λ n. none_more cfg (h.links.near.down n) (h.links.near.down n) (gave n) refl; far = refl }
 
 -- ---- as the other end sees it
@@ -158,29 +165,25 @@ hears_as Met Met₂ turn h = elim h [
       (record { session = some.session; told = some.told; has_met = turn some.session some.has_met; begun = some.begun })
 ]
 
-pub twice : (end : Role) (P : Role → Type 0) → P end → P (other (other end))
-twice Dte P h = h
-twice Dce P h = h
-
-unfoldable pub sessions_swapped : {since : Beginning} {cfg : Cfg} {end : Role} {w : World} → SessionsJoined since cfg end w
-    → SessionsJoined since cfg (other end) (mirrored w)
+unfoldable pub sessions_swapped : {within : Within} {cfg : Cfg} {end : Role} {w : World} → SessionsJoined within cfg end w
+    → SessionsJoined within cfg (other end) (mirrored w)
 sessions_swapped {cfg} {end} {w} h = record {
   links = links.swapped h.links;
   trace = h.trace;
   reach = reach_swapped cfg end h.links h.reach;
   near = h.far;
-  far = twice end (λ e. IsEnd cfg e w.near h.links.near h.trace (entries_at e w.transcript)) h.near;
+  far = twice_other end (λ e. IsEnd cfg e w.near h.links.near h.trace (entries_at e w.transcript)) h.near;
   out = h.back;
   back = h.out;
   tap = h.tap;
   octets = h.octets;
   pairs = pairs_turned cfg end h.trace h.links.met h.pairs;
   near_hears = λ n. hears_as _ _ (λ m. met_turned m n h.links.met) (h.far_hears n);
-  far_hears = λ n. twice end (λ e. Hears (λ n m. HasMet m n (map turned h.links.met)) n (h.links.near.up n) (meets e n w.transcript))
+  far_hears = λ n. twice_other end (λ e. Hears (λ n m. HasMet m n (map turned h.links.met)) n (h.links.near.up n) (meets e n w.transcript))
       (hears_as _ _ (λ m. met_turned n m h.links.met) (h.near_hears n));
 }
 
-pub links_swapped : {since : Beginning} {cfg : Cfg} {end : Role} {w : World} (h : SessionsJoined since cfg end w) → (sessions_swapped h).links
+pub links_swapped : {within : Within} {cfg : Cfg} {end : Role} {w : World} (h : SessionsJoined within cfg end w) → (sessions_swapped h).links
     ≡ links.swapped h.links
 unfolding sessions_swapped
 links_swapped h = refl

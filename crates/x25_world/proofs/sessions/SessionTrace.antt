@@ -4,6 +4,7 @@ use Rattle.std.proofs.Common.{◌≡◌, ℕ, ◌==◌, List, [], ◌∷◌, ◌
 use Rattle.std.proofs.lemmas.Bool.{eq-eqb, ne_eqb}
 use Rattle.x25_bits.specs.{declared.role.Role.{Role}, declared.role.Role.TheVariants.{Dte, Dce}}
 use Rattle.x25_link.specs.Hearing.{other}
+use Rattle.x25_line.specs.laws.SessionClaims.{Each}
 use Rattle.x25_layer.specs.{declared.ranges.Ranges.{Ranges}, Layer.{LayerSettings, goes_up, is_channel}, laws.TwoLayers.{started, pulled_in, moves_in}}
 use Rattle.x25_layer.specs.laws.Apart.{OwnMove, Takes, as_move, own_moves, own_run, Ends, ApartEvent, apart_happens, near_moves, far_moves, IsNext, IsInOrder}
 use Rattle.x25_layer.specs.{laws.Apart.{AreInOrder, Pulls, alone}, Calls.{layer_pulled}, laws.RoundLaw.{moves_all, pulls_of}}
@@ -207,12 +208,7 @@ TakesNone (Takes packet) = ⊥
 TakesNone what = Unit {0}
 
 abbrev pub TakeNothing : List OwnMove → Type 0
-TakeNothing [] = Unit {0}
-TakeNothing (what ∷ moves) = TakesNone what × TakeNothing moves
-
-pub nothing_append : (xs ys : List OwnMove) → TakeNothing xs → TakeNothing ys → TakeNothing (xs ++ ys)
-nothing_append [] ys f g = g
-nothing_append (x ∷ xs) ys f g = (f.0, nothing_append xs ys f.1 g)
+TakeNothing moves = Each TakesNone moves
 
 next_of_none : (taker giver : layer.End) (what : OwnMove) → TakesNone what → IsNext taker giver what
 next_of_none taker giver (Takes packet) h = absurd h
@@ -242,12 +238,7 @@ nothing_goes long_data channels Dce (what ∷ moves) ends h =
 -- ---- what users hand down is octets, and confirmation is asked where packets are read in all their forms
 
 abbrev pub BringOctets : Bool → List Done → Type 0
-BringOctets wide [] = Unit {0}
-BringOctets wide (t ∷ trace) = MovesOctets wide (as_move t.what) × BringOctets wide trace
-
-pub octets_append : (wide : Bool) (xs ys : List Done) → BringOctets wide xs → BringOctets wide ys → BringOctets wide (xs ++ ys)
-octets_append wide [] ys f g = g
-octets_append wide (x ∷ xs) ys f g = (f.0, octets_append wide xs ys f.1 g)
+BringOctets wide trace = Each (λ (t : Done). MovesOctets wide (as_move t.what)) trace
 
 abbrev pub own_pulls : List ℕ → List OwnMove
 own_pulls [] = []

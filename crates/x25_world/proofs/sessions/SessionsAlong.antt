@@ -1,72 +1,49 @@
 -- The window over set-up and re-set-up, along a run: two links with the links and the lines of a world go on as the end of each event asks,
 -- with the machine behind the sessions that stand.
-use Rattle.std.proofs.Common.{◌≡◌, ℕ, ◌+◌, inl, List, [], ◌∷◌, ◌++◌, false, None, Result, refl, sym, ap, ap₂, ◌∙◌, subst}
+use Rattle.std.proofs.Common.{◌≡◌, ℕ, ◌+◌, inl, List, [], ◌∷◌, ◌++◌, false, Result, refl, sym, ap, ap₂, ◌∙◌, subst}
 use Rattle.x25_bits.specs.{declared.role.Role.{Role}, declared.role.Role.TheVariants.{Dte, Dce}}
 use Rattle.x25_frame.specs.{Frame.{PlainFrame}, Reading.{frame_of}, declared.error.FrameError.{FrameError}}
 use Rattle.x25_line.specs.laws.Stations.{StationEnd}
 use Rattle.x25_line.specs.laws.Sessions.{SessionEnd, Sessions, from_nothing, sabm_in, ua_in, how_many, asked, IsTimely, IsTimelyAt, AreTimely}
-use Rattle.x25_line.specs.laws.SessionClaims.{Each, octets_of}
+use Rattle.x25_line.specs.laws.SessionClaims.{octets_of}
 use Rattle.x25_line.specs.laws.SessionNumbers.{Standing, standing_happens, standing_run, standing_at, EachUpStandsWith, StandingGoesAlong}
-use Rattle.x25_station.specs.{declared.config.Cfg.{Cfg}, Config.{config_refusal}, laws.KeepLaw.{ConnectKeeps}}
-use Rattle.x25_world.specs.{World.{World, Event, happens, after, run}, laws.Claims.{ActsInOctets, AreInOctets, IsBeginning, link_of}}
-use Rattle.x25_world.specs.{laws.SessionWindow.{Asks, all_at, StandsInWindow, SessionsGoAlong, SessionsStayInWindow}, laws.SessionClaims.{ThroughoutAlong}}
-use Rattle.x25_world.specs.laws.LawsBelow.{SessionLaws}
+use Rattle.x25_station.specs.{declared.config.Cfg.{Cfg}, laws.KeepLaw.{ConnectKeeps}}
+use Rattle.x25_world.specs.{World.{World, Event, happens, after, run}, laws.Claims.{AreInOctets, link_of}}
+use Rattle.x25_world.specs.{laws.SessionWindow.{all_at, GoesOn, StandsInWindow, SessionsStayInWindow}, laws.SessionClaims.{ThroughoutAlong}}
+use Rattle.x25_world.specs.{Healing.{AreLinksOf}, laws.LawsBelow.{SessionLaws}}
 use Rattle.x25_world.proofs.{Known.{IsConfigured, is_configured}, WorldLemmas.{run_append}}
-use Rattle.x25_world.proofs.sessions.SessionReaches.{Beginning, both_down, set_up, at_event, links_append, timely_append, joined_at}
-use Rattle.x25_world.proofs.sessions.SessionJoined.{SessionsJoined, retold}
-use Rattle.x25_world.proofs.sessions.SessionRuns.{event_joined, down_at_none, not_set_up, begin_joined, throughout_joined}
+use Rattle.x25_world.proofs.sessions.SessionReaches.{Within, links_append, timely_append, joined_at}
+use Rattle.x25_world.proofs.{sessions.SessionJoined.{SessionsJoined}, sessions.SessionRuns.{next, begin_joined, throughout_joined}}
 use Rattle.x25_line.proofs.sessions.SessionsForgotten.{Lasts, Alike, happens_alike, runs_alike, turned_alike}
 use Rattle.x25_link.specs.{Hearing.{other}, Station.{Settings as LinkSettings, LinkStation}}
 use Rattle.x25_line.specs.laws.Stations as line
 use Rattle.x25_line.specs.laws.Sessions as links
 
--- ---- one event
+-- ---- along a run
 
-abbrev links_in : Beginning → Sessions → Sessions
-links_in (at_event before e) v = before
-links_in since v = v
+-- after an event
+abbrev pub After : {within : Within} {cfg : Cfg} {w : World} → SessionsJoined within cfg Dte w → Event → Type 0
+After {cfg} {w} h e = SessionsJoined (record { before = h.links; event = e }) cfg Dte (after w (happens cfg w e))
 
-abbrev event_in : Beginning → Event → Event
-event_in (at_event before e) x = e
-event_in since x = x
+-- what was asked in it
+abbrev pub asked_in : {within : Within} {cfg : Cfg} {w : World} → SessionsJoined within cfg Dte w → List line.LinkEvent
+asked_in {within} j = all_at within.event.at j.reach.grown.asked
 
-event_is_none : {A : Type 0} (v : Sessions) (e : Event) → at_event v e ≡ set_up → A
-event_is_none v e is = absurd (cc)
-
--- the links go on by what the end of the event asks
-record Next (cfg : Cfg) (w : World) (v : Sessions) (e : Event) : Type 0 where
-  joined : SessionsJoined both_down cfg Dte (after w (happens cfg w e))
-  asked : List line.Act
-  may : Each (Asks e.act) asked
-  timely : AreTimely (link_of cfg Dte) (link_of cfg Dce) (all_at e.at asked) v
-  run : links.run (link_of cfg Dte) (link_of cfg Dce) (all_at e.at asked) v ≡ joined.links
-
-module _ (laws : SessionLaws) {cfg : Cfg} (fine : IsConfigured cfg) where
-  next : (w : World) (h : SessionsJoined both_down cfg Dte w) (e : Event) → ActsInOctets e.act → Next cfg w h.links e
-  next w h e octets =
-      let within = retold cfg Dte w h (record {
-        events = h.reach.events;
-        timely = h.reach.timely;
-        run = h.reach.run;
-        first = λ is. event_is_none h.links e is;
-        grown = λ before x is. record { asked = []; may = tt; timely = tt; run = sym (ap (λ b. links_in b h.links) is) };
-      }) in
-      let j = (event_joined laws cfg fine e.at e.act w (λ before x is. sym (ap (λ b. event_in b e) is)) octets (λ free. event_is_none h.links e free)
-      within).joined in
-      let g = j.reach.grown h.links e refl in
-      record {
-        joined = retold cfg Dte (after w (happens cfg w e)) j (record {
-          events = j.reach.events;
-          timely = j.reach.timely;
-          run = j.reach.run;
-          first = λ is. not_set_up is;
-          grown = λ before x is. absurd (down_at_none before x is);
-        });
-        asked = g.asked;
-        may = g.may;
-        timely = g.timely;
-        run = g.run;
-      }
+-- What is kept of two links and their numbers, with the sessions of a world, goes on with each event. Where they are then behind the world, they go on
+-- along a run.
+module _ (laws : SessionLaws) {cfg : Cfg} (fine : IsConfigured cfg) {V S : Type 0} (Behind : World → V → S → Type 0)
+    (runs : List line.LinkEvent → V → V) (counts : List line.LinkEvent → V → S → S) (here : World) (Holds : World → Sessions → V → S → Type 0)
+    (stands : (events : List Event) (within : Within) (w : World) (h : SessionsJoined within cfg Dte w) → AreInOctets events → run cfg events w ≡ here
+    → (v : V) (s : S) → Holds w h.links v s → Behind w v s)
+    (goes : (within : Within) (w : World) (h : SessionsJoined within cfg Dte w) (e : Event) (j : After h e) (v : V) (s : S) → Holds w h.links v s
+    → Holds (after w (happens cfg w e)) j.links (runs (asked_in j) v) (counts (asked_in j) v s)) where
+  pub along : (events : List Event) {within : Within} {w : World} (h : SessionsJoined within cfg Dte w) → AreInOctets events → run cfg events w ≡ here
+      → (v : V) (s : S) → Holds w h.links v s → GoesOn Behind runs counts cfg here events w v s
+  along [] h octets is v s st = rw (sym is) (stands [] _ _ h octets is v s st)
+  along (e ∷ events) h octets is v s st =
+      let j = (next laws cfg fine h e octets.0).joined in
+      let g = j.reach.grown in
+      (stands (e ∷ events) _ _ h octets is v s st, g.asked, g.may, along events j octets.1 is (runs (asked_in j) v) _ (goes _ _ h e j v s st))
 
 -- ---- links that have the stations of these and the octets on their lines do alike
 
@@ -140,9 +117,24 @@ octets_behind : (xs ys : List Event) → AreInOctets (xs ++ ys) → AreInOctets 
 octets_behind [] ys h = h
 octets_behind (x ∷ xs) ys h = octets_behind xs ys h.1
 
--- ---- along a run
+-- ---- over set-up and re-set-up
 
-module _ (laws : SessionLaws) (law : StandingGoesAlong) (cfg : Cfg) (fine : IsConfigured cfg) where
+pub links_are : {within : Within} {cfg : Cfg} {w : World} (h : SessionsJoined within cfg Dte w) → AreLinksOf cfg w h.links
+links_are {cfg} h = (
+  standing_run (link_of cfg Dte) (link_of cfg Dce) h.reach.events from_nothing (standing_at (link_of cfg Dte) (link_of cfg Dce) from_nothing),
+  record {
+    events = h.reach.events;
+    timely = h.reach.timely;
+    run = h.reach.run;
+    standing = refl;
+    near = h.near.link;
+    far = h.far.link;
+    out = h.out;
+    back = h.back;
+  },
+)
+
+module _ (law : StandingGoesAlong) (cfg : Cfg) (fine : IsConfigured cfg) where
   abbrev c : LinkSettings
   c = link_of cfg Dte
 
@@ -159,28 +151,16 @@ module _ (laws : SessionLaws) (law : StandingGoesAlong) (cfg : Cfg) (fine : IsCo
       (law c d (joined_at Dte fine) from_nothing (inl refl) events timely))
 
   -- some two links are behind each world of a run
-  pub some_stand : {w : World} (h : SessionsJoined both_down cfg Dte w) → StandsInWindow cfg w h.links (standing_run c d h.reach.events from_nothing first)
-  some_stand h = (
-    record {
-      events = h.reach.events;
-      timely = h.reach.timely;
-      run = h.reach.run;
-      standing = refl;
-      near = h.near.link;
-      far = h.far.link;
-      out = h.out;
-      back = h.back;
-    },
-    stood h.reach.events h.links (standing_run c d h.reach.events from_nothing first) h.reach.timely h.reach.run refl,
-  )
+  pub some_stand : {within : Within} {w : World} (h : SessionsJoined within cfg Dte w) → StandsInWindow cfg w h.links (links_are h).0
+  some_stand h = (let r = (links_are h).1 in (r, stood r.events h.links (links_are h).0 r.timely r.run r.standing))
 
   -- any that are go on by an event
-  stand_next : (w : World) (h : SessionsJoined both_down cfg Dte w) (e : Event) (n : Next cfg w h.links e) (v : Sessions) (s : Standing)
+  stand_next : (within : Within) (w : World) (h : SessionsJoined within cfg Dte w) (e : Event) (j : After h e) (v : Sessions) (s : Standing)
       → StandsInWindow cfg w v s
-      → StandsInWindow cfg (after w (happens cfg w e)) (links.run c d (all_at e.at n.asked) v) (standing_run c d (all_at e.at n.asked) v s)
-  stand_next w h e n v s st =
+      → StandsInWindow cfg (after w (happens cfg w e)) (links.run c d (asked_in j) v) (standing_run c d (asked_in j) v s)
+  stand_next within w h e j v s st =
       let r = st.0 in
-      let es = all_at e.at n.asked in
+      let es = asked_in j in
       let seen = seen_in w in
       let before : AreOf h.links seen = record {
         near = sym h.near.link;
@@ -190,11 +170,11 @@ module _ (laws : SessionLaws) (law : StandingGoesAlong) (cfg : Cfg) (fine : IsCo
         sent = λ never. absurd never;
       } in
       let also : AreOf v seen = record { near = sym r.near; far = sym r.far; out = sym r.out; back = sym r.back; sent = λ never. absurd never } in
-      let behind : AreOf n.joined.links (line.run c d es seen) =
-      subst (λ x. AreOf x (line.run c d es seen)) n.run (runs_alike of_lasts c d es before) in
+      let behind : AreOf j.links (line.run c d es seen) =
+      subst (λ x. AreOf x (line.run c d es seen)) j.reach.grown.run (runs_alike of_lasts c d es before) in
       let now = runs_alike of_lasts c d es also in
       let timely : AreTimely c d (r.events ++ es) from_nothing =
-      timely_append c d r.events es from_nothing r.timely (rw r.run (all_timely_same c d es before also n.timely)) in
+      timely_append c d r.events es from_nothing r.timely (rw r.run (all_timely_same c d es before also j.reach.grown.timely)) in
       let runs = links_append c d r.events es from_nothing ∙ ap (links.run c d es) r.run in
       let stands : standing_run c d (r.events ++ es) from_nothing first ≡ standing_run c d es v s =
       standing_append (λ z. z ≡ standing_run c d es v s) c d r.events es from_nothing first
@@ -204,47 +184,26 @@ module _ (laws : SessionLaws) (law : StandingGoesAlong) (cfg : Cfg) (fine : IsCo
           timely = timely;
           run = runs;
           standing = stands;
-          near = sym now.near ∙ behind.near ∙ n.joined.near.link;
-          far = sym now.far ∙ behind.far ∙ n.joined.far.link;
-          out = sym now.out ∙ behind.out ∙ n.joined.out;
-          back = sym now.back ∙ behind.back ∙ n.joined.back;
+          near = sym now.near ∙ behind.near ∙ j.near.link;
+          far = sym now.far ∙ behind.far ∙ j.far.link;
+          out = sym now.out ∙ behind.out ∙ j.out;
+          back = sym now.back ∙ behind.back ∙ j.back;
         },
         stood (r.events ++ es) (links.run c d es v) (standing_run c d es v s) timely runs stands,
       )
 
-  pub along : (here : World) (events : List Event) (w : World) → SessionsJoined both_down cfg Dte w → AreInOctets events → run cfg events w ≡ here
-      → (v : Sessions) (s : Standing) → StandsInWindow cfg w v s
-      → SessionsGoAlong cfg here events w v s
-  along here [] w h octets is v s st = rw (sym is) st
-  along here (e ∷ events) w h octets is v s st =
-      let n = next laws fine w h e octets.0 in (
-        st,
-        n.asked,
-        n.may,
-        along here events (after w (happens cfg w e)) n.joined octets.1 is (links.run c d (all_at e.at n.asked) v) (standing_run c d (all_at e.at n.asked) v s)
-            (stand_next w h e n v s st),
-      )
-
-any_goes_on : (laws : SessionLaws) → ConnectKeeps → StandingGoesAlong → {cfg : Cfg} → config_refusal cfg ≡ None → {begin : World} → IsBeginning cfg begin
-    → (past more : List Event) → AreInOctets (past ++ more)
-    → {v : Sessions} {s : Standing} → StandsInWindow cfg (run cfg past begin) v s
-    → SessionsGoAlong cfg (run cfg (past ++ more) begin) more (run cfg past begin) v s
-any_goes_on laws keeps law {cfg} fine {begin} is past more octets {v} {s} st =
-    along laws law cfg (is_configured cfg fine) (run cfg (past ++ more) begin) more (run cfg past begin)
-    (throughout_joined laws keeps cfg fine begin is past (octets_before past more octets))
-    (octets_behind past more octets) (sym (run_append cfg past more begin)) v s st
-
 pub sessions_stay : (laws : SessionLaws) → ConnectKeeps → StandingGoesAlong → ThroughoutAlong SessionsStayInWindow
 sessions_stay laws keeps law cfg fine begin is events octets =
-    let h = begin_joined laws keeps (is_configured cfg fine) is in
-    let first = standing_at (link_of cfg Dte) (link_of cfg Dce) from_nothing in
+    let at = is_configured cfg fine in
+    let h = (begin_joined laws keeps at is).1 in
+    let c = link_of cfg Dte in
+    let d = link_of cfg Dce in
     record {
-      begins = (
-        h.links,
-        standing_run (link_of cfg Dte) (link_of cfg Dce) h.reach.events from_nothing first,
-        some_stand laws law cfg (is_configured cfg fine) h,
-      );
+      begins = (h.links, (links_are h).0, some_stand law cfg at h);
       goes_on = λ past more all v s st.
-          subst (λ es. SessionsGoAlong cfg (run cfg es begin) more (run cfg past begin) v s) all
-          (any_goes_on laws keeps law fine is past more (subst AreInOctets (sym all) octets) st);
+          (let split = subst AreInOctets (sym all) octets in
+          along laws at (StandsInWindow cfg) (links.run c d) (standing_run c d) (run cfg events begin) (λ w u x z. StandsInWindow cfg w x z)
+          (λ after within w j in_octets to x z so. so) (stand_next law cfg at) more
+          (throughout_joined laws keeps cfg fine begin is past (octets_before past more split)).1 (octets_behind past more split)
+          (sym (run_append cfg past more begin) ∙ ap (λ es. run cfg es begin) all) v s st);
     }

@@ -73,6 +73,12 @@ AreInOctets events = Each (λ (e : Event). ActsInOctets e.act) events
 abbrev pub SetsUpOnce : Cfg → List Event → Type 0
 SetsUpOnce cfg events = IsUpOnce cfg (run cfg events (established cfg))
 
+-- what holds of each list of events, of commands, deliveries, losses, damage and timer T1, from a link just set up,
+-- which isn't set up anew, and of the world that they lead to
+abbrev pub Always : (Cfg → List Event → World → Type 0) → Type 0
+Always Holds = (cfg : Cfg) → config_refusal cfg ≡ None → (events : List Event) → AreInOctets events
+    → SetsUpOnce cfg events → Holds cfg events (run cfg events (established cfg))
+
 -- from where a run begins: both links are down, the DTE has asked that the link be set up, or it was just set up
 abbrev pub IsBeginning : Cfg → World → Type 0
 IsBeginning cfg begin = (begin ≡ start) ⊎ ((begin ≡ connected cfg) ⊎ (begin ≡ established cfg))

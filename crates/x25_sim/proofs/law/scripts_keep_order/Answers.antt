@@ -1,5 +1,6 @@
-use Rattle.x25_world.specs.laws.Claims.{ArrivesAll, IsLawful, IsNamed}
-use Rattle.x25_sim.proofs.RunLemmas.{are_tapped, are_told, of_script, up_once}
+use Rattle.x25_world.specs.laws.Claims.{ArrivesAll, HasNoProcedureError, IsLawful, IsNamed}
+use Rattle.x25_world.specs.laws.SessionWindow.{StaysInWindow}
+use Rattle.x25_sim.proofs.RunLemmas.{are_tapped, are_told, of_script, of_script_set_up, up_once}
 use Rattle.x25_sim.proofs.law.scripts_keep_order.Goals as goal
 
 pub returns-clause-lawful : goal.returns-clause-lawful
@@ -10,6 +11,12 @@ returns-clause-named c = of_script IsNamed c.two_stations_keep_order.ensures.nam
 
 pub returns-clause-arrives : goal.returns-clause-arrives
 returns-clause-arrives c = of_script ArrivesAll c.two_stations_keep_order.ensures.arrives c.scripts_are_runs.ensures
+
+pub returns-clause-quiet : goal.returns-clause-quiet
+returns-clause-quiet c = of_script HasNoProcedureError c.two_stations_keep_order.ensures.quiet c.scripts_are_runs.ensures
+
+pub returns-clause-window : goal.returns-clause-window
+returns-clause-window c = of_script_set_up StaysInWindow c.two_stations_keep_order.ensures.window c.scripts_are_runs.ensures
 
 pub returns-clause-up_once : goal.returns-clause-up_once
 returns-clause-up_once c = up_once c.two_stations_keep_order.ensures.up_once c.scripts_are_runs.ensures

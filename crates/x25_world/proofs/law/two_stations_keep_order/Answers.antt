@@ -1,6 +1,8 @@
-use Rattle.x25_world.specs.laws.Claims.{IsLawful, IsNamed, ArrivesAll}
-use Rattle.x25_world.proofs.{Established.{set_up_accepted}, SetUpOnce.{lawful_once, named_once, arrives_once, is_up_once}}
-use Rattle.x25_world.proofs.sessions.SessionRuns.{until_second, set_up_throughout}
+use Rattle.std.proofs.Common.{inr, refl}
+use Rattle.x25_world.specs.laws.Claims.{IsLawful, IsNamed, ArrivesAll, HasNoProcedureError}
+use Rattle.x25_world.proofs.{Established.{set_up_accepted}, SetUpOnce.{lawful_once, named_once, arrives_once}, WindowRuns.{stays_in_window}}
+use Rattle.x25_world.proofs.{Known.{is_configured}, SetUpOnce.{are_first, is_up_once}}
+use Rattle.x25_world.proofs.{sessions.SessionRuns.{until_second, begin_joined}, sessions.claims.SessionQuiet.{has_no_error}}
 use Rattle.x25_world.proofs.law.two_stations_keep_order.Goals as goal
 
 pub returns : goal.returns
@@ -9,8 +11,11 @@ returns c =
     let keeps = laws.stations.connect_keeps in
     record {
       set_up = λ cfg. set_up_accepted laws.stations cfg;
-      lawful = until_second laws keeps IsLawful (λ cfg fine w h once. lawful_once laws cfg fine w h once);
-      named = until_second laws keeps IsNamed (λ cfg fine w h once. named_once laws cfg fine w h once);
-      arrives = until_second laws keeps ArrivesAll (λ cfg fine w h once. arrives_once laws cfg fine w h once);
-      up_once = λ cfg fine events octets none. is_up_once (set_up_throughout laws keeps cfg fine events octets none);
+      lawful = until_second laws keeps IsLawful (λ cfg fine within w h once. lawful_once laws cfg fine w h once);
+      named = until_second laws keeps IsNamed (λ cfg fine within w h once. named_once laws cfg fine w h once);
+      arrives = until_second laws keeps ArrivesAll (λ cfg fine within w h once. arrives_once laws cfg fine w h once);
+      quiet = until_second laws keeps HasNoProcedureError (λ cfg fine within w h once. has_no_error laws fine w h);
+      window = stays_in_window laws keeps c.links_keep_order.ensures.window c.links_keep_order.ensures.before;
+      up_once = λ cfg fine events octets none. (let at = is_configured cfg fine in let h = (begin_joined laws keeps at (inr (inr refl))).1 in
+          is_up_once laws at events h (are_first laws at h) octets none);
     }

@@ -20,7 +20,7 @@ use Rattle.x25_world.specs.laws.LawsBelow.{SessionLaws}
 use Rattle.x25_world.proofs.{Known.{IsConfigured, true_false}, Growing.{read_by, all_read, is_read, as_read, first_read, FrontEntry, front_entry}}
 use Rattle.x25_world.proofs.sessions.SessionTrace.{layer_of, Done, moved, own, own_goes, events_of, nothing_goes, own_pulls, pulls_take_nothing}
 use Rattle.x25_world.proofs.{sessions.SessionTrace.{pulls_bring_octets, near_pulls, take_takes}, sessions.SessionCounts.{counted_at, counted_by, counted_in}}
-use Rattle.x25_world.proofs.sessions.SessionReaches.{Beginning, SessionsReach, IsAt, may_ask, known_sessions, sessions_act}
+use Rattle.x25_world.proofs.sessions.SessionReaches.{Within, SessionsReach, IsAt, may_ask, known_sessions, sessions_act}
 use Rattle.x25_world.proofs.sessions.SessionJoined.{HasMet, PairIsInOrder, PairsAreInOrder, SessionsJoined, Goes, gave_none, stays}
 use Rattle.x25_world.proofs.sessions.SessionBeside.{spelled_bring}
 use Rattle.x25_world.proofs.sessions.SessionKnown.{met_in_order, pair_ends, here_in, here_is, there_is, own_order, own_first, nothing_in_order}
@@ -74,8 +74,8 @@ next_at : (cfg : Cfg) (end : Role) (ends : Ends) (packet : PlainPacket) (channel
 next_at cfg Dte ends packet channels begins = (λ out. begins, nothing_goes cfg.long_data cfg.channels Dte (own_pulls channels) _ (pulls_take_nothing channels))
 next_at cfg Dce ends packet channels begins = (λ out. begins, nothing_goes cfg.long_data cfg.channels Dce (own_pulls channels) _ (pulls_take_nothing channels))
 
-module _ {since : Beginning} (laws : SessionLaws) (cfg : Cfg) (fine : IsConfigured cfg) (end : Role) (w : World) (h : SessionsJoined since cfg end w)
-    (is_at : IsAt since end Receives) where
+module _ {within : Within} (laws : SessionLaws) (cfg : Cfg) (fine : IsConfigured cfg) (end : Role) (w : World) (h : SessionsJoined within cfg end w)
+    (is_at : IsAt within end Receives) where
   abbrev ours : Settings
   ours = settings_from end cfg
 
@@ -84,7 +84,7 @@ module _ {since : Beginning} (laws : SessionLaws) (cfg : Cfg) (fine : IsConfigur
 
   -- by a step of the end, with nothing that its user gave
   abbrev To : World → Type 0
-  To u = Goes since cfg end h.links gave_none u
+  To u = Goes within cfg end h.links gave_none u
 
   abbrev here : ℕ
   here = h.links.near.begun
@@ -112,7 +112,7 @@ module _ {since : Beginning} (laws : SessionLaws) (cfg : Cfg) (fine : IsConfigur
     pub pairs : PairsAreInOrder cfg end h.trace v.met
     pub more : (n m : ℕ) → HasMet n m h.links.met → HasMet n m v.met
 
-  have_met : {v : Sessions} {e f : SessionEnd} → SessionsReach since cfg end v → MeetsOne line.Deliver now_met e f h.links.met v.met → HaveMet v
+  have_met : {v : Sessions} {e f : SessionEnd} → SessionsReach within cfg end v → MeetsOne line.Deliver now_met e f h.links.met v.met → HaveMet v
   have_met {v} reach one = elim one [
     | inl now ↦ (let step = subst InStep now.met (known_sessions met.MeetInStep laws.step fine reach) in
         record {
@@ -143,8 +143,8 @@ module _ {since : Beginning} (laws : SessionLaws) (cfg : Cfg) (fine : IsConfigur
         let k = abandon_step c w.near.link in
         subst (λ os. To (after_step ours w os (follows ours w.near.layer k))) (ap (λ es. octets_of (remove es 0)) came.is ∙ came.left)
         (follows_silent laws cfg fine end w h no_command (remove h.links.back 0) k gone h.links.met
-        (sessions_act laws.unasked fine tt (λ off. tt) (may_ask (line.Lose 0) is_at refl)
-        (sessions_act laws.unasked fine tt (λ off. tt) (may_ask line.Abandon is_at tt) h.reach))
+        (sessions_act tt (may_ask (line.Lose 0) is_at refl)
+        (sessions_act tt (may_ask line.Abandon is_at tt) h.reach))
         h.pairs (λ n m has. has) (laws.stations.abandon_tells c w.near.link) (abandon_goes c h.links w.near.link h.near.link up) refl refl kept)
 
     -- ---- where the link takes the octets
@@ -155,8 +155,8 @@ module _ {since : Beginning} (laws : SessionLaws) (cfg : Cfg) (fine : IsConfigur
     abbrev after_taken : Sessions
     after_taken = links.acts lc line.Deliver h.links
 
-    reach_taken : SessionsReach since cfg end after_taken
-    reach_taken = sessions_act laws.unasked fine tt (λ off. tt) (may_ask line.Deliver is_at tt) h.reach
+    reach_taken : SessionsReach within cfg end after_taken
+    reach_taken = sessions_act tt (may_ask line.Deliver is_at tt) h.reach
 
     goes_taken : StepGoes lc h.links after_taken taken came.others after_taken.met
     goes_taken = subst (λ os. StepGoes lc h.links after_taken (take_step lc os w.near.link) came.others after_taken.met) came.octets

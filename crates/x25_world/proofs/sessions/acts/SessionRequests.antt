@@ -16,15 +16,15 @@ use Rattle.x25_world.specs.{laws.BesideClaims.{came_in, Gave, channel_for, gave_
 use Rattle.x25_world.specs.{laws.Claims.{link_of}, laws.LawsBelow.{SessionLaws}}
 use Rattle.x25_world.proofs.{Known.{IsConfigured}, Growing.{all_read, as_read, back_read, back_octets}}
 use Rattle.x25_world.proofs.sessions.SessionTrace.{layer_of, Done, moved, own, own_goes, same_number, pair_at, events_of, pair_more, pair_same, TakeNothing}
-use Rattle.x25_world.proofs.sessions.SessionTrace.{nothing_goes, BringOctets, octets_append, own_pulls, pulls_take_nothing, pulls_bring_octets, near_pulls}
+use Rattle.x25_world.proofs.sessions.SessionTrace.{nothing_goes, BringOctets, own_pulls, pulls_take_nothing, pulls_bring_octets, near_pulls}
 use Rattle.x25_world.proofs.sessions.SessionCounts.{counted_in, CountNone}
-use Rattle.x25_world.proofs.sessions.SessionReaches.{Beginning, MayAsk, IsAt, may_ask, SessionsReach, puts_reach}
+use Rattle.x25_world.proofs.sessions.SessionReaches.{Within, MayAsk, IsAt, may_ask, SessionsReach, puts_reach}
 use Rattle.x25_world.proofs.sessions.SessionJoined.{HasMet, PairIsInOrder, PairsAreInOrder, SessionsJoined, Goes, gave_none, stays}
 use Rattle.x25_world.proofs.sessions.SessionBeside.{brought, AreTold, spelled_bring, FirstMayGo, spelled_with_bring, own_goes_first}
 use Rattle.x25_world.proofs.sessions.SessionKnown.{met_in_order, pair_ends, own_quiet, own_readable, nothing_in_order}
 use Rattle.x25_world.proofs.sessions.SessionEntries.{ArePlain, outcome_plain, outcome_beside, outcome_counts}
 use Rattle.x25_world.proofs.sessions.SessionGoes.{same_or_not, IsNews, goes_on}
-use Rattle.x25_line.proofs.ends.Meetings.{all_map}
+use Rattle.x25_line.proofs.{Lists.{each_append}, ends.Meetings.{all_map}}
 use Rattle.x25_peer.proofs.{Granted.{did_granted, gave_granted, suits_asks}, ReadLemmas.{readable_behind}}
 use Rattle.x25_peer.proofs.sessions.LinkSteps.{SessionGoes, spelled, spelled_with, PutsRead, HasPut, puts_spelled, puts_spelled_with, puts_up, puts_of, all_act}
 use Rattle.x25_peer.proofs.{sessions.LinkSteps.{puts_go, stays_goes}, sessions.SessionLayers.{pulls_asked, asked_leaves}}
@@ -76,7 +76,7 @@ module _ (laws : SessionLaws) (cfg : Cfg) (end : Role) (trace : List Done) (sess
       all_map (λ p. PairIsInOrder cfg end trace p.near p.far) (λ p. PairIsInOrder cfg end trace_on p.near p.far)
       (λ (p : Meeting) order. pair_goes_quietly nothing p.near p.far order) met pairs
 
-module _ {since : Beginning} (laws : SessionLaws) (cfg : Cfg) (fine : IsConfigured cfg) (end : Role) (w : World) (h : SessionsJoined since cfg end w) where
+module _ {within : Within} (laws : SessionLaws) (cfg : Cfg) (fine : IsConfigured cfg) (end : Role) (w : World) (h : SessionsJoined within cfg end w) where
   abbrev ours : Settings
   ours = settings_from end cfg
 
@@ -102,7 +102,7 @@ module _ {since : Beginning} (laws : SessionLaws) (cfg : Cfg) (fine : IsConfigur
       readable_behind cfg.wide cfg.long_data own_now.given packets
       (subst (AreReadable cfg.wide cfg.long_data) (ap (λ e. e.given) (own_goes cfg end session h.trace moves) ∙ given)
       (own_readable laws cfg fine end session paired.0 (h.trace ++ moved end session moves) paired.1
-      (octets_append cfg.wide h.trace (moved end session moves) h.octets octets)))
+      (each_append _ h.trace (moved end session moves) h.octets octets)))
 
   -- the link's own step is at `v`, with the side `t`; behind it go the octets of the packets that the layer puts
   module _ (step : Step) (v : Sessions) (t : Side) (u : layer.TwoLayers) (moves : List OwnMove) (packets lifted coming : List PlainPacket)
@@ -121,10 +121,10 @@ module _ {since : Beginning} (laws : SessionLaws) (cfg : Cfg) (fine : IsConfigur
     told_then : own_then.told ≡ own_now.told ++ layer_notices step.entries
     told_then = ap (λ e. e.told) (sym near) ∙ m.told
 
-    pub joins : ((octets : List ℕ) → MayAsk since end (line.Put octets)) → SessionsReach since cfg end v → (lifted ≡ [] → TakeNothing moves)
+    pub joins : ((octets : List ℕ) → MayAsk within.event end (line.Put octets)) → SessionsReach within cfg end v → (lifted ≡ [] → TakeNothing moves)
         → PairsAreInOrder cfg end (h.trace ++ moved end session moves) v.met → ((n m : ℕ) → HasMet n m h.links.met → HasMet n m v.met)
         → (own_now.taken ≡ [] → ((lifted ≡ []) × (layer_notices step.entries ≡ [])) ⊎ IsNews session h.links.far.begun v.met (layer_notices step.entries))
-        → Goes since cfg end h.links gave (after_step ours w (octets_of left) step)
+        → Goes within cfg end h.links gave (after_step ours w (octets_of left) step)
     joins asks reach alone pairs more news =
         let r = puts_go ours h.links v session packets handed t step came left v.met g p in
         goes_on cfg end w h step left (all_act (link_of cfg end) (puts_of handed) v) v.met moves packets lifted handed came
@@ -137,7 +137,7 @@ module _ {since : Beginning} (laws : SessionLaws) (cfg : Cfg) (fine : IsConfigur
           entries = ap (λ e. e.entries) (sym near) ∙ m.entries;
           told = told_then;
         })
-        up (puts_up laws.stations.put_tells p up_after) plain kept tells gave gives counts (puts_reach laws.unasked cfg fine end handed v asks reach) alone
+        up (puts_up laws.stations.put_tells p up_after) plain kept tells gave gives counts (puts_reach cfg end handed v asks reach) alone
         (no_faults_behind own_now.told (layer_notices step.entries)
         (subst AreNoFaults (ap (λ e. e.told) (own_goes cfg end session h.trace moves) ∙ told_then)
         (own_quiet laws cfg end session paired.0 (h.trace ++ moved end session moves) paired.1).told))
@@ -188,13 +188,13 @@ module _ {since : Beginning} (laws : SessionLaws) (cfg : Cfg) (fine : IsConfigur
     asked_puts : HasPut ours (alone w.near.link) step
     asked_puts = record { handed = a.handed; packets = a.packets; put = a.puts asked_readable }
 
-    asked_joined : ((o : List ℕ) → MayAsk since end (line.Put o)) → Goes since cfg end h.links gave (after_step ours w w.back step)
+    asked_joined : ((o : List ℕ) → MayAsk within.event end (line.Put o)) → Goes within cfg end h.links gave (after_step ours w w.back step)
     asked_joined may =
         let nothing : TakeNothing moves = (tt, pulls_take_nothing a.channels) in
         let leaves = asked_leaves (layer_of cfg end) begin (Requested full request ∷ pulls_of a.channels) (tt, pulls_asked a.channels) in
         let untold : layer_notices step.entries ≡ [] =
         append_cancel_left own_now.told (layer_notices step.entries) [] (sym a.layer.told ∙ leaves.told ∙ sym (append-nil own_now.told)) in
-        subst (λ os. Goes since cfg end h.links gave (after_step ours w os step)) h.back
+        subst (λ os. Goes within cfg end h.links gave (after_step ours w os step)) h.back
         (joins step h.links (alone w.near.link) world_on moves a.packets [] [] a.handed [] refl h.links.back
         (stays_goes (link_of cfg end) h.links w.near.link h.near.link) a.up a.up (a.puts asked_readable) a.layer near_on
         (ap (λ e. e.taken) (sym near_on) ∙ leaves.taken ∙ sym (append-nil own_now.taken))
@@ -232,11 +232,11 @@ module _ {since : Beginning} (laws : SessionLaws) (cfg : Cfg) (fine : IsConfigur
   request_puts request octets step is = asked_puts request octets gave_none step (request_asked request step is)
 
   -- what is asked for may be said in full
-  pub requests_joined : (asked request : LayerRequest) → IsAt since end (Commands (command.Requests asked)) → RequestsOctets request
-      → Goes since cfg end h.links gave_none (after w (of_station ours w (requests ours w.near request)))
+  pub requests_joined : (asked request : LayerRequest) → IsAt within end (Commands (command.Requests asked)) → RequestsOctets request
+      → Goes within cfg end h.links gave_none (after w (of_station ours w (requests ours w.near request)))
   requests_joined asked request is_at octets = by (requests ours w.near request) refl
     where
-      by : (o : Outcome) → requests ours w.near request ≡ o → Goes since cfg end h.links gave_none (after w (of_station ours w o))
+      by : (o : Outcome) → requests ours w.near request ≡ o → Goes within cfg end h.links gave_none (after w (of_station ours w o))
       by (Did step) is = asked_joined request octets gave_none step (request_asked request step is) (λ o. may_ask (line.Put o) is_at tt)
       by (Refused e) is = stays h gave_none
 
@@ -282,13 +282,13 @@ module _ {since : Beginning} (laws : SessionLaws) (cfg : Cfg) (fine : IsConfigur
       → HasPut ours (alone w.near.link) step
   given_puts g request of_given octets step is = asked_puts request octets (gave_by_request g request None) step (given_asked g request of_given step is)
 
-  pub gives_joined : (g : PlainGiven) (asked request : LayerRequest) → IsAt since end (Commands (command.RequestsWith g asked)) → GivesOctets g
+  pub gives_joined : (g : PlainGiven) (asked request : LayerRequest) → IsAt within end (Commands (command.RequestsWith g asked)) → GivesOctets g
       → RequestsOctets request
-      → (let o = of_station ours w (gives ours w.near g request) in Goes since cfg end h.links (gave_by_request g request (refusal_of o)) (after w o))
+      → (let o = of_station ours w (gives ours w.near g request) in Goes within cfg end h.links (gave_by_request g request (refusal_of o)) (after w o))
   gives_joined g asked request is_at of_given octets = by (gives ours w.near g request) refl
     where
       by : (o : Outcome) → gives ours w.near g request ≡ o
-          → Goes since cfg end h.links (gave_by_request g request (refusal_of (of_station ours w o))) (after w (of_station ours w o))
+          → Goes within cfg end h.links (gave_by_request g request (refusal_of (of_station ours w o))) (after w (of_station ours w o))
       by (Did step) is =
           asked_joined request octets (gave_by_request g request None) step (given_asked g request of_given step is) (λ o. may_ask (line.Put o) is_at tt)
       by (Refused e) is = stays h (gave_by_request g request (refusal_of (of_station ours w (Refused e))))

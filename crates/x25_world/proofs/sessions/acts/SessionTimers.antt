@@ -11,14 +11,14 @@ use Rattle.x25_link.specs.Link.{timer_refusal, timer_step, connect_refusal, conn
 use Rattle.x25_link.specs.Link.{relink_step}
 use Rattle.x25_line.specs.{laws.Sessions.{begun_by, sabm_in, ua_in, how_many, IsTimely}, laws.SessionClaims.{octets_of}, laws.Stations.{is_visible}}
 use Rattle.x25_station.specs.{declared.config.Cfg.{Cfg}, Config.{Settings, settings_from, longest_packet}, Command.{Connects, Disconnects, Probes, Relinks}}
-use Rattle.x25_station.specs.Entry.{connect_asked, relink_asked}
+use Rattle.x25_station.specs.Entry.{relink_asked}
 use Rattle.x25_station.specs.Step.{Step, follows, led_by, fires, connects, connects_asked, disconnects, probes, relinks, unless}
-use Rattle.x25_station.specs.laws.KeepLaw.{IsKept, KeptBy, ConnectKeeps}
+use Rattle.x25_station.specs.laws.KeepLaw.{KeptBy, ConnectKeeps}
 use Rattle.x25_world.specs.{SetUp.{is_a, reads_as, carries}, declared.set_up.SetUpFrame.{SetUpFrame}, declared.set_up.SetUpFrame.TheVariants.{Sabm, Ua}}
-use Rattle.x25_world.specs.World.{World, Declined, Commands, Fires, of_station, refusal_of, is_on_line, fired, after, after_step, Happened, Loses, Damages}
-use Rattle.x25_world.specs.{World.{on_line, lost, damaged}, laws.Claims.{link_of, IsNoConnect}, laws.LawsBelow.{SessionLaws}}
+use Rattle.x25_world.specs.World.{World, Declined, Commands, Fires, of_station, is_on_line, fired, after, after_step, Happened, Loses, Damages}
+use Rattle.x25_world.specs.{World.{on_line, lost, damaged}, laws.Claims.{link_of}, laws.LawsBelow.{SessionLaws}}
 use Rattle.x25_world.proofs.Known.{IsConfigured, true_false}
-use Rattle.x25_world.proofs.sessions.SessionReaches.{Beginning, set_up, MayAct, MayAsk, IsAt, may_ask, sessions_act, SessionsReach}
+use Rattle.x25_world.proofs.sessions.SessionReaches.{Within, MayAsk, IsAt, may_ask, sessions_act, SessionsReach}
 use Rattle.x25_world.proofs.sessions.SessionJoined.{SessionsJoined, Goes, gave_none, stays, relined}
 use Rattle.x25_world.proofs.sessions.SessionFollows.{Lead, no_command, connect, disconnect, relink, lead_of, follows_silent}
 use Rattle.x25_world.proofs.sessions.SessionBeside.{none_more}
@@ -31,33 +31,33 @@ use Rattle.x25_line.specs.laws.Sessions as links
 use Rattle.x25_world.specs.declared.error.WorldError.TheVariants as error
 
 -- other octets are left on the line
-left_joined : {since : Beginning} {cfg : Cfg} {end : Role} {w : World} (h : SessionsJoined since cfg end w) (es : List links.Entry) (left : List (List ℕ))
-    → octets_of es ≡ left → SessionsReach since cfg end (record h.links { back = es })
-    → Goes since cfg end h.links gave_none (on_line w left)
+left_joined : {within : Within} {cfg : Cfg} {end : Role} {w : World} (h : SessionsJoined within cfg end w) (es : List links.Entry) (left : List (List ℕ))
+    → octets_of es ≡ left → SessionsReach within cfg end (record h.links { back = es })
+    → Goes within cfg end h.links gave_none (on_line w left)
 left_joined {cfg} {end} {w} h es left same reach = record {
   joined = relined cfg end w h es left same reach;
   down = λ n. none_more cfg (h.links.near.down n) (h.links.near.down n) [] refl;
   far = refl;
 }
 
-pub lost_joined : {since : Beginning} (laws : SessionLaws) (cfg : Cfg) → IsConfigured cfg
-    → (end : Role) (w : World) (h : SessionsJoined since cfg end w) (place : ℕ) → IsAt since end (Loses place)
-    → Goes since cfg end h.links gave_none (after w (lost w place))
-lost_joined {since} laws cfg fine end w h place is_at = cond_both (nat_lt place (length w.back)) (Happened (on_line w (remove w.back place)))
-    (Declined error.NoSuchFrame) (λ o. Goes since cfg end h.links gave_none (after w o))
+pub lost_joined : {within : Within} (laws : SessionLaws) (cfg : Cfg) → IsConfigured cfg
+    → (end : Role) (w : World) (h : SessionsJoined within cfg end w) (place : ℕ) → IsAt within end (Loses place)
+    → Goes within cfg end h.links gave_none (after w (lost w place))
+lost_joined {within} laws cfg fine end w h place is_at = cond_both (nat_lt place (length w.back)) (Happened (on_line w (remove w.back place)))
+    (Declined error.NoSuchFrame) (λ o. Goes within cfg end h.links gave_none (after w o))
     (λ _. left_joined h (remove h.links.back place) (remove w.back place) (sym (octets_removed h.links.back place) ∙ ap (λ l. remove l place) h.back)
-    (sessions_act laws.unasked fine tt (λ off. tt) (may_ask (line.Lose place) is_at refl) h.reach))
+    (sessions_act tt (may_ask (line.Lose place) is_at refl) h.reach))
     (λ _. stays h gave_none)
 
-pub damaged_joined : {since : Beginning} (laws : SessionLaws) (cfg : Cfg) → IsConfigured cfg
-    → (end : Role) (w : World) (h : SessionsJoined since cfg end w) (place : ℕ) (octets : List ℕ) → IsAt since end (Damages place octets)
-    → Goes since cfg end h.links gave_none (after w (damaged w place octets))
-damaged_joined {since} laws cfg fine end w h place octets is_at =
+pub damaged_joined : {within : Within} (laws : SessionLaws) (cfg : Cfg) → IsConfigured cfg
+    → (end : Role) (w : World) (h : SessionsJoined within cfg end w) (place : ℕ) (octets : List ℕ) → IsAt within end (Damages place octets)
+    → Goes within cfg end h.links gave_none (after w (damaged w place octets))
+damaged_joined {within} laws cfg fine end w h place octets is_at =
     by (nat_lt place (length w.back)) (is_visible octets)
-    (sessions_act laws.unasked fine tt (λ off. tt) (may_ask (line.Damage place octets) is_at (refl, refl)) h.reach)
+    (sessions_act tt (may_ask (line.Damage place octets) is_at (refl, refl)) h.reach)
   where
-    by : (b seen : Bool) → SessionsReach since cfg end (if seen then record h.links { back = links.replaced h.links.back place octets } else h.links)
-        → Goes since cfg end h.links gave_none
+    by : (b seen : Bool) → SessionsReach within cfg end (if seen then record h.links { back = links.replaced h.links.back place octets } else h.links)
+        → Goes within cfg end h.links gave_none
         (after w (if b then (if seen then Happened (on_line w (line.replaced w.back place octets)) else Declined error.Unseen)
         else Declined error.NoSuchFrame))
     by true true reach = left_joined h (links.replaced h.links.back place octets) (line.replaced w.back place octets)
@@ -95,7 +95,7 @@ pub not_begun_by : (b : Bool) (n : ℕ) → begun_by b n ≡ n → b ≡ false
 not_begun_by true n e = absurd (omega (arith, e))
 not_begun_by false n e = refl
 
-module _ {since : Beginning} (laws : SessionLaws) {cfg : Cfg} (fine : IsConfigured cfg) {end : Role} {w : World} (h : SessionsJoined since cfg end w) where
+module _ {within : Within} (laws : SessionLaws) {cfg : Cfg} (fine : IsConfigured cfg) {end : Role} {w : World} (h : SessionsJoined within cfg end w) where
   abbrev ours : Settings
   ours = settings_from end cfg
 
@@ -104,43 +104,30 @@ module _ {since : Beginning} (laws : SessionLaws) {cfg : Cfg} (fine : IsConfigur
 
   -- by a step of the end, with nothing that its user gave
   abbrev To : World → Type 0
-  To u = Goes since cfg end h.links gave_none u
+  To u = Goes within cfg end h.links gave_none u
 
-  -- an act of the link that isn't refused, and hands nothing up
-  act_follows : (lead : Lead) (act : line.Act) (refusal : LinkStation → Option LinkError) (step : LinkStation → LinkStep)
-      → links.acts lc act h.links
-      ≡ links.unless (refusal h.links.near.station) h.links (links.after_step lc h.links h.links.back h.links.met [] (step h.links.near.station))
-      → (links.acts lc act h.links).near.begun ≡ h.links.near.begun → IsTimely lc (link_of cfg (other end)) act h.links → MayAct since act h.links
-      → MayAsk since end act → refusal w.near.link ≡ None
-      → (step w.near.link).packet ≡ None → Tells w.near.link (step w.near.link)
-      → IsKept (led_by (lead_of lead) (follows ours w.near.layer (step w.near.link))).near
-      → To (after_step ours w w.back (led_by (lead_of lead) (follows ours w.near.layer (step w.near.link))))
-  act_follows lead act refusal step is same timely may asks accepted none tells kept =
-      let c = link_of cfg end in
-      let k = step w.near.link in
-      let g = act_goes c h.links w.near.link act refusal step is h.near.link accepted in
-      subst (λ os. To (after_step ours w os (led_by (lead_of lead) (follows ours w.near.layer k)))) h.back
-      (follows_silent laws cfg fine end w h lead h.links.back k (links.acts c act h.links) h.links.met (sessions_act laws.unasked fine timely may asks h.reach)
-      h.pairs (λ n m has. has) tells g
-      (not_begun_by k.notes.up h.links.near.begun (sym g.begun ∙ same)) none kept)
-
-  -- or that is refused
+  -- an act of the link that hands nothing up, or is refused
   act_joined : (lead : Lead) {act : line.Act} (refusal : LinkStation → Option LinkError) (step : LinkStation → LinkStep)
       → links.acts lc act h.links
       ≡ links.unless (refusal h.links.near.station) h.links (links.after_step lc h.links h.links.back h.links.met [] (step h.links.near.station))
       → (links.acts lc act h.links).near.begun ≡ h.links.near.begun → IsTimely lc (link_of cfg (other end)) act h.links
-      → (refusal w.near.link ≡ None → MayAct since act h.links) → MayAsk since end act → (step w.near.link).packet ≡ None
+      → MayAsk within.event end act → (step w.near.link).packet ≡ None
       → (refusal w.near.link ≡ None → Tells w.near.link (step w.near.link))
       → KeptBy (unless (refusal w.near.link) (led_by (lead_of lead) (follows ours w.near.layer (step w.near.link))))
       → To (after w (of_station ours w (unless (refusal w.near.link) (led_by (lead_of lead) (follows ours w.near.layer (step w.near.link))))))
-  act_joined lead {act} refusal step is same timely may asks none tells = by (refusal w.near.link) refl
+  act_joined lead {act} refusal step is same timely asks none tells = by (refusal w.near.link) refl
     where
       done : Step
       done = led_by (lead_of lead) (follows ours w.near.layer (step w.near.link))
 
       by : (o : Option LinkError) → refusal w.near.link ≡ o → KeptBy (unless o done) → To (after w (of_station ours w (unless o done)))
       by (Some e) refused kept = stays h gave_none
-      by None accepted kept = act_follows lead act refusal step is same timely (may accepted) asks accepted none (tells accepted) kept
+      by None accepted kept =
+          let k = step w.near.link in
+          let g = act_goes lc h.links w.near.link act refusal step is h.near.link accepted in
+          subst (λ os. To (after_step ours w os done)) h.back
+          (follows_silent laws cfg fine end w h lead h.links.back k (links.acts lc act h.links) h.links.met (sessions_act timely asks h.reach) h.pairs
+          (λ n m has. has) (tells accepted) g (not_begun_by k.notes.up h.links.near.begun (sym g.begun ∙ same)) none kept)
 
   -- while UA is awaited T1 doesn't run out
   is_timely : (awaits_ua w.near.link.phase && is_on_line ours w) ≡ false → IsTimely lc (link_of cfg (other end)) line.T1 h.links
@@ -156,59 +143,48 @@ module _ {since : Beginning} (laws : SessionLaws) {cfg : Cfg} (fine : IsConfigur
       by Dte none = none
       by Dce none = none
 
-  fires_joined : IsAt since end Fires → (awaits_ua w.near.link.phase && is_on_line ours w) ≡ false → To (after w (of_station ours w (fires ours w.near)))
-  fires_joined is_at off =
-      act_joined no_command timer_refusal (timer_step lc) refl (laws.hands lc lc (line.Near line.T1) h.links).0.begun (is_timely off) (λ accepted off. tt)
-      (may_ask line.T1 is_at tt) (timer_silent lc w.near.link).0 (λ accepted. laws.stations.timer_tells lc w.near.link)
-      (laws.stations.timer_keeps ours w.near h.near.kept)
-
-  pub fired_joined : IsAt since end Fires → To (after w (fired ours w))
+  pub fired_joined : IsAt within end Fires → To (after w (fired ours w))
   fired_joined is_at = by (awaits_ua w.near.link.phase && is_on_line ours w) refl
     where
       by : (b : Bool) → (awaits_ua w.near.link.phase && is_on_line ours w) ≡ b
           → To (after w (if b then Declined error.OnLine else of_station ours w (fires ours w.near)))
       by true is = stays h gave_none
-      by false is = fires_joined is_at is
+      by false is =
+          act_joined no_command timer_refusal (timer_step lc) refl (laws.hands lc lc (line.Near line.T1) h.links).0.begun (is_timely is)
+          (may_ask line.T1 is_at tt) (timer_silent lc w.near.link).0 (λ accepted. laws.stations.timer_tells lc w.near.link)
+          (laws.stations.timer_keeps ours w.near h.near.kept)
 
   -- set-up is asked for, by a command or not
-  connecting : (lead : Lead) → MayAsk since end line.Connect → (since ≡ set_up → connect_refusal w.near.link.phase ≡ None → ⊥)
+  connecting : (lead : Lead) → MayAsk within.event end line.Connect
       → KeptBy (unless (connect_refusal w.near.link.phase) (led_by (lead_of lead) (follows ours w.near.layer (connect_step lc w.near.link))))
       → To
       (after w (of_station ours w (unless (connect_refusal w.near.link.phase)
       (led_by (lead_of lead) (follows ours w.near.layer (connect_step lc w.near.link))))))
-  connecting lead asks may =
-      act_joined lead (λ s. connect_refusal s.phase) (connect_step lc) refl (laws.hands lc lc (line.Near line.Connect) h.links).0.begun tt
-      (λ accepted free is. may free (sym (ap (λ s. connect_refusal s.phase) h.near.link) ∙ is)) asks refl
+  connecting lead asks =
+      act_joined lead (λ s. connect_refusal s.phase) (connect_step lc) refl (laws.hands lc lc (line.Near line.Connect) h.links).0.begun tt asks refl
       (λ accepted. laws.stations.connect_tells lc w.near.link (connects_in_down w.near.link.phase accepted))
 
-  pub connects_joined : IsAt since end (Commands Connects)
-      → (since ≡ set_up → IsNoConnect (Commands Connects) (refusal_of (of_station ours w (connects_asked ours w.near))))
-      → To (after w (of_station ours w (connects_asked ours w.near)))
-  connects_joined is_at none = connecting connect (may_ask line.Connect is_at tt)
-      (λ free accepted. subst (λ o. IsNoConnect (Commands Connects) (refusal_of (of_station ours w (unless o
-      (led_by (connect_asked ∷ []) (follows ours w.near.layer (connect_step lc w.near.link))))))) accepted (none free))
-      (laws.stations.command_keeps ours w.near Connects h.near.kept)
+  pub connects_joined : IsAt within end (Commands Connects) → To (after w (of_station ours w (connects_asked ours w.near)))
+  connects_joined is_at = connecting connect (may_ask line.Connect is_at tt) (laws.stations.command_keeps ours w.near Connects h.near.kept)
 
-  pub connects_alone_joined : MayAsk since end line.Connect → (since ≡ set_up → ⊥) → ConnectKeeps → To (after w (of_station ours w (connects ours w.near)))
-  connects_alone_joined asks unasked keeps = connecting no_command asks (λ free accepted. unasked free) (keeps ours w.near h.near.kept)
+  pub connects_alone_joined : IsAt within end (Commands Connects) → ConnectKeeps → To (after w (of_station ours w (connects ours w.near)))
+  connects_alone_joined is_at keeps = connecting no_command (may_ask line.Connect is_at tt) (keeps ours w.near h.near.kept)
 
-  pub disconnects_joined : IsAt since end (Commands Disconnects) → To (after w (of_station ours w (disconnects ours w.near)))
+  pub disconnects_joined : IsAt within end (Commands Disconnects) → To (after w (of_station ours w (disconnects ours w.near)))
   disconnects_joined is_at =
       act_joined disconnect (λ s. disconnect_refusal s.phase) (disconnect_step lc) refl (laws.hands lc lc (line.Near line.Disconnect) h.links).0.begun tt
-      (λ accepted off. tt) (may_ask line.Disconnect is_at tt) refl (λ accepted. laws.stations.disconnect_tells lc w.near.link)
+      (may_ask line.Disconnect is_at tt) refl (λ accepted. laws.stations.disconnect_tells lc w.near.link)
       (laws.stations.command_keeps ours w.near Disconnects h.near.kept)
 
-  pub probes_joined : IsAt since end (Commands Probes) → To (after w (of_station ours w (probes ours w.near)))
+  pub probes_joined : IsAt within end (Commands Probes) → To (after w (of_station ours w (probes ours w.near)))
   probes_joined is_at =
       act_joined no_command (λ s. probe_refusal s.phase) (timer_step lc) (probe_acts lc h.links) (laws.hands lc lc (line.Near line.Probe) h.links).0.begun tt
-      (λ accepted off. tt) (may_ask line.Probe is_at tt) (timer_silent lc w.near.link).0 (λ accepted. laws.stations.timer_tells lc w.near.link)
+      (may_ask line.Probe is_at tt) (timer_silent lc w.near.link).0 (λ accepted. laws.stations.timer_tells lc w.near.link)
       (laws.stations.command_keeps ours w.near Probes h.near.kept)
 
   -- the link is abandoned, and then connected
-  pub relinks_joined : IsAt since end (Commands Relinks)
-      → (since ≡ set_up → IsNoConnect (Commands Relinks) (refusal_of (of_station ours w (relinks ours w.near))))
-      → To (after w (of_station ours w (relinks ours w.near)))
-  relinks_joined is_at none = by (relink_refusal w.near.link.phase) refl none
+  pub relinks_joined : IsAt within end (Commands Relinks) → To (after w (of_station ours w (relinks ours w.near)))
+  relinks_joined is_at = by (relink_refusal w.near.link.phase) refl
     where
       c : LinkSettings
       c = link_of cfg end
@@ -219,15 +195,12 @@ module _ {since : Beginning} (laws : SessionLaws) {cfg : Cfg} (fine : IsConfigur
       step : Step
       step = led_by (relink_asked ∷ []) (follows ours w.near.layer k)
 
-      by : (o : Option LinkError) → relink_refusal w.near.link.phase ≡ o
-          → (since ≡ set_up → IsNoConnect (Commands Relinks) (refusal_of (of_station ours w (unless o step))))
-          → To (after w (of_station ours w (unless o step)))
-      by (Some e) is none = stays h gave_none
-      by None is none =
+      by : (o : Option LinkError) → relink_refusal w.near.link.phase ≡ o → To (after w (of_station ours w (unless o step)))
+      by (Some e) is = stays h gave_none
+      by None is =
           rw (sym h.back) (follows_silent laws cfg fine end w h relink h.links.back k (links.acts c line.Connect (links.acts c line.Abandon h.links))
           h.links.met
-          (sessions_act laws.unasked fine tt (λ free. absurd (none free)) (may_ask line.Connect is_at tt)
-          (sessions_act laws.unasked fine tt (λ off. tt) (may_ask line.Abandon is_at tt) h.reach))
+          (sessions_act tt (may_ask line.Connect is_at tt) (sessions_act tt (may_ask line.Abandon is_at tt) h.reach))
           h.pairs (λ n m has. has) (laws.stations.relink_tells c w.near.link)
           (relink_goes laws.stations.relinks c h.links w.near.link h.near.link (relinks_in_up w.near.link.phase is)) refl refl
           (subst (λ o. KeptBy (unless o step)) is (laws.stations.command_keeps ours w.near Relinks h.near.kept)))

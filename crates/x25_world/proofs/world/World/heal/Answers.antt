@@ -1,7 +1,7 @@
 use Rattle.std.proofs.Common.{sym, subst, arith}
 use Rattle.x25_world.specs.{World.{run}, Healing.{healing, RestShows, ArrivesByHealing, RestShowsAll}, laws.SessionClaims.{SessionsKeepOrder}}
 use Rattle.x25_world.specs.code.FitsHealing.{most_times, telling}
-use Rattle.x25_world.proofs.{WorldLemmas.{run_append, all_of_sessions}, HealingSchedule.{tells_nothing}, HealingRounds.{holds_healed}}
+use Rattle.x25_world.proofs.{WorldLemmas.{run_append}, HealingSchedule.{tells_nothing}, HealingRounds.{holds_healed}}
 use Rattle.x25_world.proofs.world.World.heal.Goals as goal
 
 pub returns-in-Ok-clause-goes : goal.returns-in-Ok-clause-goes
@@ -15,8 +15,7 @@ returns-in-Ok-clause-sessions c = λ cfg from past begins h.
     let w = run cfg past from in
     holds_healed (λ c' w u. SessionsKeepOrder c' u) (telling c.go_on.new.self c.go_on.new.told.items) most_times w.transcript h
     (c.in-Ok.ensures.goes cfg w w.transcript (tells_nothing _ c.clear.ensures.items h.fits))
-    (let law = c.stations_meet_in_sessions.ensures in
-    λ octets. all_of_sessions law.step law.lawful law.named law.arrives law.unmet law.stand law.quiet law.window cfg h.settings from begins _ octets)
+    (λ octets. c.runs_hold.ensures.sessions cfg h.settings from begins _ octets)
 
 pub returns-in-Ok-clause-rest : goal.returns-in-Ok-clause-rest
 returns-in-Ok-clause-rest c = λ cfg from past begins h.

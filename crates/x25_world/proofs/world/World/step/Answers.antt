@@ -1,4 +1,4 @@
-use Rattle.x25_world.proofs.WorldLemmas.{put_last, run_and_then, claims_hold, all_of_sessions}
+use Rattle.x25_world.proofs.WorldLemmas.{put_last, run_and_then, claims_hold}
 use Rattle.x25_world.proofs.world.World.step.Goals as goal
 
 pub returns-clause-put : goal.returns-clause-put
@@ -6,11 +6,7 @@ returns-clause-put c = λ cfg w fits. put_last c.happen.new.self _ c.happen.resu
 
 pub returns-clause-claims : goal.returns-clause-claims
 returns-clause-claims c =
-    let two = c.two_stations_keep_order.ensures in
-    let of = c.stations_meet_in_sessions.ensures in
     let called = c.happen.ensures in
-    claims_hold two.lawful two.named two.arrives two.up_once (all_of_sessions of.step of.lawful of.named of.arrives of.unmet of.stand of.quiet of.window)
-    of.window of.beside
-    c.args.self.now c.happen.new.self _
+    claims_hold c.runs_hold.ensures.runs c.args.self.now c.happen.new.self _
     (λ cfg from past h. run_and_then _ _ c.happen.result h c.hands_down_octets.ensures
     (λ w fits. (called.acted cfg w fits).happened) (λ w fits. (called.acted cfg w fits).accepted) (λ w fits. (called.acted cfg w fits).stays))
