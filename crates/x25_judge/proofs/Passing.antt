@@ -1,13 +1,13 @@
 -- A frame between two ends in a session, with nothing on the way.
-use Rattle.std.proofs.Common.{Bool, true, false, ◌≡◌, nat_lt, ℕ, refl, ap, ◌∙◌}
+use Rattle.std.proofs.Common.{Bool, true, false, ◌≡◌, ◌&&◌, nat_lt, ℕ, refl, ap, ◌∙◌}
 use Rattle.x25_frame.specs.Frame.{PlainFrame, info}
 use Rattle.x25_judge.specs.Held.{differs, is_same, keeps}
 use Rattle.x25_judge.specs.Links.{end_sent, end_shown, held_by, is_blind, judges, mind, minds, quiet}
-use Rattle.x25_judge.specs.Links.{quietly, sees, sees_as, sees_by, sent_by, shown, steady}
+use Rattle.x25_judge.specs.Links.{is_up, quietly, sees, sees_as, sees_by, sent_by, shown, steady}
 use Rattle.x25_judge.specs.declared.links.End.{End}
 use Rattle.x25_judge.specs.declared.links.Sent.{Sent}
 use Rattle.x25_judge.specs.declared.manners.Manners.{Manners}
-use Rattle.x25_possible_links.specs.code.Steps.{IsStep, IsTaken, Stepped, facts, in_session, marked, numbers, unread}
+use Rattle.x25_possible_links.specs.code.Steps.{IsStep, IsTaken, Stepped, in_session, marked, numbers, sends_to, session_facts, telling, unread}
 use Rattle.x25_possible_links.specs.declared.frame.Frame.{Frame}
 use Rattle.x25_possible_links.specs.declared.set.Facts.{Facts}
 use Rattle.x25_possible_links.specs.declared.set.LinkSet.{LinkSet}
@@ -23,19 +23,17 @@ shown_so frame d = refl
 sent_so : (frame : PlainFrame) (e : End) (k next : Numbers) (x : Frame) (d : Bool) → IsStep x k next e.set
     → sent_by frame (marked d x) e ≡ steady (is_same e.held frame) k
 sent_so frame e k next x d step =
-    ap (λ (r : Stepped). record {
-      facts = facts e.set;
+    ap (λ (a : Facts). of a (sends_to (marked d x) e.set) e.set) (step.known d)
+    ∙ ap (λ (r : Stepped). of (session_facts k) r e.set) (step.step d)
+    ∙ ap (of (session_facts k) (telling Nothing (in_session next e.set))) step.stands
+  where
+    of : Facts → Stepped → LinkSet → Sent
+    of a r s = record {
+      facts = a;
       told = r.told;
       is_same = is_same e.held frame;
-      takes_unread = nat_lt (unread r.set.way.items) (unread e.set.way.items);
-    }) (step.step d)
-    ∙ ap (λ (s : LinkSet). record {
-      facts = facts e.set;
-      told = Nothing;
-      is_same = is_same e.held frame;
-      takes_unread = nat_lt 0 (unread s.way.items);
-    }) step.stands
-    ∙ ap (λ (a : Facts). record (steady (is_same e.held frame) k) { facts = a }) step.known
+      takes_unread = is_up a.stand && nat_lt (unread r.set.way.items) (unread s.way.items);
+    }
 
 pub passing : (window : ℕ) (frame : PlainFrame) (own other : End) (k next taken : Numbers) (m n : Manners)
     → IsStep (shown frame false) k next own.set → IsTaken (shown frame false) taken other.set → ((polls : ℕ) (is_same : Bool) → judges polls frame (steady is_same k).facts ≡ true)

@@ -218,6 +218,23 @@ quiet = record { rule = None; note = None; is_again = false; is_judged = true }
 abbrev pub quietly : Manners → Manners → Minding
 quietly own other = record { own = own; other = other; seen = quiet }
 
+abbrev pub polls_quietly : Bool → Bool → Manners → Manners → Bool
+polls_quietly command pf own other = not pf || (if command then not own.is_polling else not (other.polls == 0))
+
+unfoldable pub goes_quietly : ℕ → Numbers → PlainFrame → Manners → Manners → Bool
+goes_quietly window k (info ns nr p octets) own other = not p && manners.goes_straight window (place_of k) ns own
+goes_quietly window k (rr command nr pf) own other = polls_quietly command pf own other
+goes_quietly window k (rnr command nr pf) own other = polls_quietly command pf own other
+goes_quietly window k frame own other = false
+
+abbrev pub passes_so : Option (Numbers × Numbers) → Option Numbers → ℕ → PlainFrame → Manners → Manners → Bool
+passes_so (Some both) (Some taken) window frame own other = goes_quietly window both.0 frame own other
+passes_so step taken window frame own other = false
+
+abbrev pub passes : ℕ → PlainFrame → End → End → Bool
+passes window frame own other = passes_so (steps.steps (shown frame false) own.set)
+    (steps.takes (shown frame false) other.set) window frame own.manners other.manners
+
 -- in a session, with nothing on the way
 abbrev pub steady : Bool → Numbers → Sent
 steady is_same k = record { facts = session_facts k; told = Nothing; is_same = is_same; takes_unread = false }
@@ -246,12 +263,17 @@ end_sent frame x e = record e {
 abbrev pub end_shown : Frame → End → End
 end_shown x e = record e { set = shows_to x e.set }
 
+abbrev pub is_up : Stand → Bool
+is_up (Up k) = true
+is_up s = false
+
 abbrev pub sent_by : PlainFrame → Frame → End → Sent
 sent_by frame x e = record {
-  facts = facts e.set;
+  facts = facts x e.set;
   told = (sends_to x e.set).told;
   is_same = is_same e.held frame;
-  takes_unread = nat_lt (steps.unread (sends_to x e.set).set.way.items) (steps.unread e.set.way.items);
+  takes_unread = is_up (numbers e.set)
+      && nat_lt (steps.unread (sends_to x e.set).set.way.items) (steps.unread e.set.way.items);
 }
 
 -- but for manners

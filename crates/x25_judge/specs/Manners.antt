@@ -98,6 +98,11 @@ unheard pending m = record (sent_back pending m) { is_astray = true; is_rejectin
 
 -- ---- N(S) (2.4.5.1, 2.4.5.9)
 
+-- the next new number goes, with P=0, and nothing is said of it
+abbrev pub goes_straight : ℕ → Place → ℕ → Manners → Bool
+goes_straight window at number m =
+    m.behind == 0 && (apart at.next number == 0 && (nat_le 7 window || nat_lt at.pending window))
+
 abbrev pub grown : ℕ → Manners → Manners
 grown count m = record m {
   behind = 0;

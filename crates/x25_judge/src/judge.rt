@@ -11,12 +11,13 @@ ghost use Rattle.x25_text.specs.WideFrameText.{wide_frame_text, wide_reading_tex
 ghost use Rattle.x25_frame.specs.Frame.{plain};
 ghost use Rattle.x25_packet_judge.specs.Book.{IsRead};
 ghost use Rattle.x25_judge.specs.Doubt.{explains_told};
-ghost use Rattle.x25_judge.specs.Links.{quiet};
+ghost use Rattle.x25_judge.specs.Links.{passes as passes_by, quiet};
 ghost use Rattle.x25_judge.specs.Judge.{answer_to, begins_at, behind, broken_text};
 ghost use Rattle.x25_judge.specs.Judge.{counts_carried, doubt_text, is_nothing, is_settled, lack_of, last_line};
 ghost use Rattle.x25_judge.specs.Judge.{counts_frame, end_of, forgotten, gap_of};
 ghost use Rattle.x25_judge.specs.Judge.{book_of, counts_by, counts_text, covers, missed_by};
 ghost use Rattle.x25_judge.specs.Judge.{next_by, next_missed, no_frame, read_of, remark_by, remark_missed, remark_of};
+ghost use Rattle.x25_judge.specs.Judge.{other_of, own_of};
 ghost use Rattle.x25_judge.specs.Judge.{noted_text, remark_text, seen_by, sign_of, tallies};
 
 use crate::counts::{Count, Counts, Line, Tally, tell_end, tell_line};
@@ -335,6 +336,8 @@ impl Judge {
     /// nothing has changed.
     #[inline(always)]
     fn passes(&mut self, from: Role, frame: &Frame) -> bool
+        ensures same { result
+            ≡ passes_by self.old.window (plain frame.now) (own_of from self.old) (other_of from self.old) }
         ensures next { result ≡ true → self.new ≡ behind from (seen_by self.old from (plain frame.now)).own
             (seen_by self.old from (plain frame.now)).other self.old.book self.old }
         ensures seen { result ≡ true → (seen_by self.old from (plain frame.now)).seen ≡ quiet }

@@ -234,8 +234,9 @@ impl End {
         ensures own { self.new ≡ definition.end_sent (plain frame.now) shown self.old }
         ensures sent { result ≡ definition.sent_by (plain frame.now) shown self.old }
     {
-        let facts = self.set.facts();
-        let unread = self.set.unread();
+        let facts = self.set.facts(shown);
+        let is_up = matches!(facts.stand, Stand::Up(_));
+        let unread = if is_up { self.set.unread() } else { 0 };
         let told = self.set.sends(shown);
         if matches!(told, Told::Skips(_)) {
             self.held.forget_all();
@@ -245,7 +246,7 @@ impl End {
             facts,
             told,
             is_same,
-            takes_unread: self.set.unread() < unread,
+            takes_unread: is_up && self.set.unread() < unread,
         }
     }
 }
@@ -451,7 +452,7 @@ fn is_blind(own: &End, other: &End) -> bool
 
 /// Manners behind a frame of a session, to an end with such numbers, where it is judged and nothing is said of it.
 /// False: something may be, and nothing has changed.
-#[tactic(auto, unfolding(crate::specs::Links::minds, crate::specs::Links::judges))]
+#[tactic(auto, unfolding(crate::specs::Links::minds, crate::specs::Links::judges, crate::specs::Links::goes_quietly))]
 #[inline(always)]
 fn minds_quietly(
     window: u8,
@@ -461,6 +462,7 @@ fn minds_quietly(
     own: &mut Manners,
     other: &mut Manners,
 ) -> bool
+    ensures same { result ≡ definition.goes_quietly window k (plain frame.now) own.old other.old }
     ensures judged { result ≡ true → (polls : ℕ) (is_same : Bool)
         → definition.judges polls (plain frame.now) (definition.steady is_same k).facts ≡ true }
     ensures minded { result ≡ true → (is_same : Bool) (there : LinkSet) → numbers there ≡ Up to
@@ -506,17 +508,12 @@ fn minds_quietly(
 /// first time, and nothing is said of it. False: it may be another one, and nothing has changed.
 #[inline(always)]
 pub(crate) fn passes(own: &mut End, other: &mut End, window: u8, frame: &Frame) -> bool
+    ensures same { result ≡ definition.passes window (plain frame.now) own.old other.old }
     ensures both { result ≡ true → definition.sees window (plain frame.now) own.old other.old
         ≡ record { own = own.new; other = other.new; seen = definition.quiet } }
     ensures own { result ≡ false → own.new ≡ own.old }
     ensures other { result ≡ false → other.new ≡ other.old }
 {
-    if !matches!(
-        frame,
-        Frame::I { .. } | Frame::Rr { .. } | Frame::Rnr { .. }
-    ) {
-        return false;
-    }
     let shown = shown(frame, false);
     let Some((k, next)) = own.set.steps(shown) else {
         return false;

@@ -296,7 +296,8 @@ impl Manners {
     /// Whether it is the next new number, with P=0, and nothing is said of it. False: something may be.
     #[inline(always)]
     pub(crate) fn goes_straight(self, window: u8, at: Place, number: u8) -> bool
-        ensures { result ≡ true
+        ensures same { result ≡ definition.goes_straight window at number self }
+        ensures quiet { result ≡ true
             → definition.sends window at number false false self ≡ definition.quiet (definition.grown 1 self) }
     {
         self.behind == 0 && apart(at.next, number) == 0 && (7 <= window || at.pending < window)

@@ -1,9 +1,13 @@
 -- A channel of all that were seen, and of the others.
-use Rattle.x25_packet_judge.proofs.Names.{◌≡◌, ◌∙◌, ◌<◌, ℕ, zero, suc, List, [], ◌∷◌, ◌++◌, Option, Some, None, length, replicate, refl, ap, arith, get_or-set_same, get_or-set_other, length-append, length-replicate, ◌-◌, ◌%◌, unwrap_or, happens, Channels, all_happens, channel_of, padded, put, Channel}
+use Rattle.x25_packet_judge.proofs.Names.{◌≡◌, ◌∙◌, false, map, ◌<◌, ℕ, zero, suc, List, [], ◌∷◌, ◌++◌, Option, Some, None, length, replicate, refl, ap, arith, get_or-set_same, get_or-set_other, length-append, length-replicate, ◌-◌, ◌%◌, unwrap_or, happens, Channels, all_happens, channel_of, padded, put, Channel, Set}
 use Rattle.std.specs.Prelude.{slice_index_or}
 use Rattle.std.proofs.Math.ListN.{get_or-map}
 use Rattle.std.specs.Option.{option_map}
 use Rattle.x25_packet_judge.specs.declared.channel.Event.{Event}
+use Rattle.x25_packet_judge.specs.declared.channel.Event.TheVariants.{Loss}
+use Rattle.x25_possible.specs.code.Steps.{hidden_by, lost}
+use Rattle.x25_possible.specs.declared.set.Knowledge.{Knowledge}
+use Rattle.x25_possible.specs.declared.set.Knowledge.TheVariants.{Blind, Lost}
 
 -- a place without a channel is none
 abbrev none : Option Channel
@@ -51,3 +55,22 @@ any_default (c ∷ seen) (suc i) d e low = any_default seen i d e (omega (arith,
 -- what stands at a place that was made
 pub place_is : (n : ℕ) (seen : List (Option Channel)) (d : Option Channel) → slice_index_or (padded n seen) n d ≡ slice_index_or seen n None
 place_is n seen d = any_default (padded n seen) n d None (has_place n seen) ∙ in_padded seen _ n
+
+-- ---- where packets of all were missed, it changes nothing that more are
+
+lost_again : (k : Knowledge) (s : Set) → s.knowledge ≡ k → lost (hidden_by k Lost s) ≡ hidden_by k Lost s
+lost_again Blind s is = ap (λ was. hidden_by was Lost s) is
+lost_again k s is = refl
+
+pub channel_again : (c : Channel) → happens Loss (happens Loss c) ≡ happens Loss c
+channel_again c =
+    ap (λ (s : Set). record { dte = s; dce = lost (lost c.dce); is_noted = false }) (lost_again c.dte.knowledge c.dte refl)
+    ∙ ap (λ (s : Set). record { dte = lost c.dte; dce = s; is_noted = false }) (lost_again c.dce.knowledge c.dce refl)
+
+abbrev all_lost : List (Option Channel) → List (Option Channel)
+all_lost seen = map (option_map (happens Loss)) seen
+
+pub seen_again : (seen : List (Option Channel)) → all_lost (all_lost seen) ≡ all_lost seen
+seen_again [] = refl
+seen_again (None ∷ seen) = ap (λ l. None ∷ l) (seen_again seen)
+seen_again (Some c ∷ seen) = ap (λ d. Some d ∷ all_lost (all_lost seen)) (channel_again c) ∙ ap (λ l. Some (happens Loss c) ∷ l) (seen_again seen)

@@ -1,10 +1,11 @@
 -- The logical channels: those that were seen since all began anew, and what each of the others is as.
 use Rattle.std.specs.Prelude.{ℕ, suc, ◌-◌, ◌%◌, List, [], ◌++◌, length, map, replicate, Option, Some, None, unwrap_or}
-use Rattle.std.specs.Prelude.{slice_index_or, slice_set}
+use Rattle.std.specs.Prelude.{◌≡◌, slice_index_or, slice_set}
 use Rattle.std.specs.Option.{option_map}
 use Rattle.x25_packet_judge.specs.Channel.{happens}
 use Rattle.x25_packet_judge.specs.declared.channel.Channel.{Channel}
 use Rattle.x25_packet_judge.specs.declared.channel.Event.{Event}
+use Rattle.x25_packet_judge.specs.declared.channel.Event.TheVariants.{Loss}
 
 pub record Channels : Type 0 where
   pub seen : List (Option Channel)
@@ -27,3 +28,7 @@ put n c cs = record { seen = slice_set (padded (n % 4096) cs.seen) (n % 4096) (S
 -- to all of them
 abbrev pub all_happens : Event → Channels → Channels
 all_happens e cs = record { seen = map (option_map (happens e)) cs.seen; usual = happens e cs.usual }
+
+-- where packets of all are missed, nothing changes
+abbrev pub AreLost : Channels → Type 0
+AreLost cs = all_happens Loss cs ≡ cs

@@ -5,7 +5,7 @@ ghost use Rattle.x25_packet.specs.Packet.{plain};
 ghost use Rattle.x25_packet_judge.specs.Book as definition;
 ghost use Rattle.x25_packet.specs.Grammar.{form_in};
 
-use crate::channel::{Channel, Event};
+use crate::channel::Channel;
 use crate::channels::Channels;
 use crate::item::item_of;
 use crate::layers::{Layer, Layers, advance, hear};
@@ -124,9 +124,9 @@ impl Book {
     }
 
     /// A packet of a channel, before which RESTART may have to be answered.
-    fn judges(&mut self, from: Role, channel: u16, item: Item) -> Verdict
-        ensures book { self.new ≡ (definition.judges from channel item self.old).book }
-        ensures verdict { result ≡ (definition.judges from channel item self.old).verdict }
+    fn judges(&mut self, from: Role, channel: u16, item: &Item) -> Verdict
+        ensures book { self.new ≡ (definition.judges from channel item.now self.old).book }
+        ensures verdict { result ≡ (definition.judges from channel item.now self.old).verdict }
     {
         let is_early = self.restarts.passes_over(from);
         let verdict = self.channels.judges(channel, from, item);
@@ -142,8 +142,8 @@ impl Book {
         ensures book { self.new ≡ (definition.restarts from item is_judged self.old).book }
         ensures verdict { result ≡ (definition.restarts from item is_judged self.old).verdict }
     {
-        let verdict = self.restarts.takes(from, item);
-        self.channels.happens(Event::Sends(from, item));
+        let verdict = self.restarts.sends(from, &item);
+        self.channels.sends(from, item);
         Verdict {
             rule: verdict.rule,
             unjudged: None,
@@ -166,7 +166,7 @@ impl Book {
                 if is_first {
                     self.restarts = Channel::any();
                 }
-                self.judges(from, channel, item_of(packet))
+                self.judges(from, channel, &item_of(packet))
             }
         }
     }
@@ -176,7 +176,7 @@ impl Book {
         ensures { self.new ≡ definition.forgets self.old }
     {
         self.restarts.lose();
-        self.channels.happens(Event::Loss);
+        self.channels.lose();
     }
 
     /// Frames of either end weren't seen, any number of them.

@@ -119,20 +119,28 @@ impl Channel {
 
     /// An end sends a packet, which may come to the other one at any moment.
     #[inline(always)]
-    pub(crate) fn takes(&mut self, from: Role, packet: Packet) -> Verdict
-        ensures channel { self.new ≡ (definition.takes from packet self.old).channel }
-        ensures verdict { result ≡ (definition.takes from packet self.old).verdict }
+    pub(crate) fn takes(&mut self, from: Role, packet: &Packet) -> Verdict
+        ensures channel { self.new ≡ (definition.takes from packet.now self.old).channel }
+        ensures verdict { result ≡ (definition.takes from packet.now self.old).verdict }
     {
         match from {
             Role::Dte => {
-                self.dce.shows(&packet);
-                sent(&mut self.dte, &packet)
+                self.dce.shows(packet);
+                sent(&mut self.dte, packet)
             }
             Role::Dce => {
-                self.dte.shows(&packet);
-                sent(&mut self.dce, &packet)
+                self.dte.shows(packet);
+                sent(&mut self.dce, packet)
             }
         }
+    }
+
+    /// The same as `takes`.
+    pub(crate) fn sends(&mut self, from: Role, packet: &Packet) -> Verdict
+        ensures channel { self.new ≡ (definition.takes from packet.now self.old).channel }
+        ensures verdict { result ≡ (definition.takes from packet.now self.old).verdict }
+    {
+        self.takes(from, packet)
     }
 
     pub(crate) fn happens(&mut self, event: Event)
@@ -140,7 +148,7 @@ impl Channel {
     {
         match event {
             Event::Sends(from, packet) => {
-                self.takes(from, packet);
+                self.sends(from, &packet);
             }
             Event::Loss => self.lose(),
         }
@@ -156,7 +164,7 @@ impl Channel {
         if is_begun(&self.dte) && is_begun(&self.dce) {
             return false;
         }
-        let verdict = self.takes(from, Packet::Elsewhere);
+        let verdict = self.takes(from, &Packet::Elsewhere);
         is_order(verdict.rule)
     }
 
@@ -190,9 +198,9 @@ impl Channel {
 
     /// The same as `takes`, and where it isn't judged that is noted.
     #[tactic(auto, unfolding(crate::specs::Channel::judges))]
-    pub(crate) fn judges(&mut self, number: u16, from: Role, packet: Packet) -> Verdict
-        ensures channel { self.new ≡ (definition.judges number from packet self.old).channel }
-        ensures verdict { result ≡ (definition.judges number from packet self.old).verdict }
+    pub(crate) fn judges(&mut self, number: u16, from: Role, packet: &Packet) -> Verdict
+        ensures channel { self.new ≡ (definition.judges number from packet.now self.old).channel }
+        ensures verdict { result ≡ (definition.judges number from packet.now self.old).verdict }
     {
         let verdict = self.takes(from, packet);
         self.marks(number, verdict)

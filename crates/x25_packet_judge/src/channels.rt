@@ -1,8 +1,9 @@
 //! The logical channels, and what is known of both ends of each.
-ghost use Rattle.std.specs.Prelude.{◌≡◌, ◌≤◌, ◌<◌, ◌%◌, IfOk, Option, Some, length, map, unwrap_or, vec_capacity};
+ghost use Rattle.std.specs.Prelude.{◌≡◌, ◌≤◌, ◌<◌, ◌%◌, IfOk, Option, Some, length, map, true, unwrap_or, vec_capacity};
 ghost use Rattle.std.specs.Option.{option_map};
 ghost use Rattle.x25_packet_judge.specs.Channel as definition;
-ghost use Rattle.x25_packet_judge.specs.Channels.{Channels, all_alike, all_happens, channel_of, padded, put};
+ghost use Rattle.x25_packet_judge.specs.declared.channel.Event.TheVariants.{Loss, Sends};
+ghost use Rattle.x25_packet_judge.specs.Channels.{AreLost, Channels, all_alike, all_happens, channel_of, padded, put};
 
 use crate::book::Verdict;
 use crate::channel::{Channel, Event};
@@ -21,6 +22,8 @@ pub(crate) struct Channels {
     seen: Vec<Option<Channel>>,
     /// What each is that wasn't seen since then.
     usual: Channel,
+    /// Packets of all were missed, and none was sent since then: where more are missed, nothing changes.
+    are_lost: bool,
 }
 
 impl Model for Channels {
@@ -28,7 +31,8 @@ impl Model for Channels {
 
     ghost view = { λ c. record { seen = c.seen.items; usual = c.usual } };
 
-    ghost invariant = { λ c. (length c.seen.items ≤ 4096) × (vec_capacity c.seen ≡ 4096) };
+    ghost invariant = { λ c. (length c.seen.items ≤ 4096) × (vec_capacity c.seen ≡ 4096)
+        × (c.are_lost ≡ true → AreLost (record { seen = c.seen.items; usual = c.usual })) };
 }
 
 /// Makes places up to one.
@@ -51,10 +55,10 @@ fn begins(
     usual: &Channel,
     number: u16,
     from: Role,
-    packet: Packet,
+    packet: &Packet,
 ) -> Verdict
-    ensures place { place.new ≡ Some (definition.judges number from packet usual.now).channel }
-    ensures verdict { result ≡ (definition.judges number from packet usual.now).verdict }
+    ensures place { place.new ≡ Some (definition.judges number from packet.now usual.now).channel }
+    ensures verdict { result ≡ (definition.judges number from packet.now usual.now).verdict }
 {
     let mut channel = usual.copy();
     let verdict = channel.judges(number, from, packet);
@@ -68,10 +72,11 @@ fn judges(
     usual: &Channel,
     number: u16,
     from: Role,
-    packet: Packet,
+    packet: &Packet,
 ) -> Verdict
-    ensures place { place.new ≡ Some (definition.judges number from packet (unwrap_or place.old usual.now)).channel }
-    ensures verdict { result ≡ (definition.judges number from packet (unwrap_or place.old usual.now)).verdict }
+    ensures place { place.new
+        ≡ Some (definition.judges number from packet.now (unwrap_or place.old usual.now)).channel }
+    ensures verdict { result ≡ (definition.judges number from packet.now (unwrap_or place.old usual.now)).verdict }
 {
     match place {
         Some(channel) => channel.judges(number, from, packet),
@@ -120,43 +125,63 @@ impl Channels {
         Ok(Channels {
             seen: Vec::with_capacity(alloc, CHANNELS)?,
             usual: Channel::any(),
+            are_lost: false,
         })
     }
 
     /// A packet of a channel.
-    pub(crate) fn judges(&mut self, number: u16, from: Role, packet: Packet) -> Verdict
+    #[tactic(auto, using(crate::proofs::ChannelsLemmas::place_is))]
+    pub(crate) fn judges(&mut self, number: u16, from: Role, packet: &Packet) -> Verdict
         ensures channels { self.new
-            ≡ put number (definition.judges number from packet (channel_of number self.old)).channel self.old }
-        ensures verdict { result ≡ (definition.judges number from packet (channel_of number self.old)).verdict }
+            ≡ put number (definition.judges number from packet.now (channel_of number self.old)).channel self.old }
+        ensures verdict { result ≡ (definition.judges number from packet.now (channel_of number self.old)).verdict }
     {
         let index = usize::from(number) % CHANNELS;
+        self.are_lost = false;
         pad(&mut self.seen, index);
         judges(&mut self.seen[index], &self.usual, number, from, packet)
     }
 
     /// A packet of a channel that isn't read.
+    #[tactic(auto, using(crate::proofs::ChannelsLemmas::place_is))]
     pub(crate) fn misses(&mut self, number: u16) -> Verdict
         ensures channels { self.new
             ≡ put number (definition.misses number (channel_of number self.old)).channel self.old }
         ensures verdict { result ≡ (definition.misses number (channel_of number self.old)).verdict }
     {
         let index = usize::from(number) % CHANNELS;
+        self.are_lost = false;
         pad(&mut self.seen, index);
         misses(&mut self.seen[index], &self.usual, number)
     }
 
-    /// To all channels.
-    pub(crate) fn happens(&mut self, event: Event)
-        ensures { self.new ≡ all_happens event self.old }
+    /// An end sends a packet on all channels.
+    pub(crate) fn sends(&mut self, from: Role, packet: Packet)
+        ensures { self.new ≡ all_happens (Sends from packet) self.old }
     {
-        each_happens(&mut self.seen, event);
-        self.usual.happens(event);
+        self.are_lost = false;
+        each_happens(&mut self.seen, Event::Sends(from, packet));
+        self.usual.happens(Event::Sends(from, packet));
+    }
+
+    /// Packets of both ends weren't seen, on any channel.
+    #[tactic(auto, using(crate::proofs::ChannelsLemmas::seen_again, crate::proofs::ChannelsLemmas::channel_again))]
+    pub(crate) fn lose(&mut self)
+        ensures { self.new ≡ all_happens Loss self.old }
+    {
+        if self.are_lost {
+            return;
+        }
+        each_happens(&mut self.seen, Event::Loss);
+        self.usual.lose();
+        self.are_lost = true;
     }
 
     /// All are as this one.
     pub(crate) fn begin(&mut self, usual: Channel)
         ensures { self.new ≡ all_alike usual }
     {
+        self.are_lost = false;
         self.seen.clear();
         self.usual = usual;
     }

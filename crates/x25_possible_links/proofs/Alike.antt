@@ -3,7 +3,7 @@ use Rattle.std.proofs.Common.{◌≡◌, ◌⊎◌, inl, inr, ℕ, ◌≤◌, �
 use Rattle.std.proofs.Common.{not, take, Some, None, Option, refl, sym, ap, map, ◌∙◌, subst, if◌then◌else◌}
 use Rattle.std.proofs.lemmas.Bool.{and_parts, both_ways, cond_both, eqb-true, not-true}
 use Rattle.x25_possible.specs.laws.Possible.{IsIn, Place, at}
-use Rattle.x25_possible_links.specs.code.Steps.{are_known, extended, hastened, hurried, is_free, is_large, pressed, rushed}
+use Rattle.x25_possible_links.specs.code.Steps.{are_known, extended, hastened, hurried, is_free, is_lost, pressed, rushed}
 use Rattle.x25_possible_links.specs.code.Steps.{came, grow_all, latest, least, sends_to, sent_to, set_as, shifted, shown_to}
 use Rattle.x25_possible_links.specs.code.Steps.{broken, shows_to, skipped_by, standing, Stepped, telling, trimmed}
 use Rattle.x25_possible_links.specs.code.Steps.{unexplained, unexplained_as, walk_all}
@@ -107,9 +107,9 @@ module _ (P : Place Stand Frame → Type 0) (passes : IsPassed P) where
   small_on false u w v h e = h e
 
   rushed_on : (rest front : List Frame) (u : Stand) → P (at u (front ++ rest)) → Known (rushed front u) rest
-  rushed_on rest [] u h = small_on (is_large u) u u rest (λ e. h)
+  rushed_on rest [] u h = small_on (is_lost u) u u rest (λ e. h)
   rushed_on rest (x ∷ front) u h =
-      small_on (is_large u) u (rushed front (pressed u x)) rest (λ e. elim (pressed_is u x) [
+      small_on (is_lost u) u (rushed front (pressed u x)) rest (λ e. elim (pressed_is u x) [
         | inl free ↦ absurd (both_ways (is_free (rushed front (pressed u x))) e (ap (λ w. is_free (rushed front w)) free ∙ ap is_free (rushed_free front)))
         | inr same ↦ rushed_on rest front (pressed u x)
             (subst (λ w. P (at w (front ++ rest))) same.0 (passes u x (front ++ rest) same.1 h)) e

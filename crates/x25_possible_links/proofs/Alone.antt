@@ -6,7 +6,7 @@ use Rattle.std.specs.List.{refill}
 use Rattle.std.proofs.lemmas.Bool.{and_from, and_parts, eq-eqb, eqb-true, le-ltb, lt-ltb, ltb-true, not-true}
 use Rattle.std.proofs.lemmas.Option.{none-some, same_Some}
 use Rattle.x25_possible.specs.Channel.{nth}
-use Rattle.x25_possible_links.specs.laws.Link.{counts, heard, may_acknowledge, may_number, sent_to as numbered, told_to}
+use Rattle.x25_possible_links.specs.laws.Link.{counts, heard, is_ua, may_acknowledge, may_number, sent_to as numbered, told_to}
 use Rattle.x25_possible_links.specs.laws.Places.{sends}
 use Rattle.x25_possible_links.specs.code.Steps.{IsInSession, IsStep, IsTaken, all_of, and_then, first_of, grow_all, in_session}
 use Rattle.x25_possible_links.specs.code.Steps.{are_near, are_sure, is_large, far, marked, near, near_numbers, session, session_of, sent_to, sends_to, settles, shown_to, shows_to}
@@ -15,6 +15,7 @@ use Rattle.x25_possible_links.specs.code.Steps.{kept_by, spot_at, up_hears, up_s
 use Rattle.x25_possible_links.specs.declared.frame.Frame.{Frame}
 use Rattle.x25_possible_links.specs.declared.frame.Frame.TheVariants.{Info, Ready, Sabm, Disc, Ua, Dm, Frmr, Unread, Before}
 use Rattle.x25_possible_links.specs.declared.link.Mode.TheVariants.{Right}
+use Rattle.x25_possible_links.specs.declared.set.Facts.{Facts}
 use Rattle.x25_possible_links.specs.declared.set.LinkSet.{LinkSet}
 use Rattle.x25_possible_links.specs.declared.spots.Spot.{Spot}
 use Rattle.x25_possible_links.specs.declared.stand.Numbers.{Numbers}
@@ -60,17 +61,21 @@ not_large k c = not-true (is_large (Up k)) (and_parts (not (is_large (Up k))) (n
 numbers_are : (s : LinkSet) (k : Numbers) → are_sure k ≡ true → numbers (in_session k s) ≡ Up k
 numbers_are s k h = ap (λ b. let u = if b then Free else Up k in numbers_by u u) (not_large k h)
 
-facts_are : (s : LinkSet) (k : Numbers) → are_sure k ≡ true → facts (in_session k s) ≡ session_facts k
-facts_are s k h =
-    ap (λ b. let u = if b then Free else Up k in record (session_facts k) {
+facts_as : (s : LinkSet) (k : Numbers) (x : Frame) → are_sure k ≡ true
+    → facts x (in_session k s) ≡ record (session_facts k) { is_answering = is_ua x && true }
+facts_as s k x h =
+    ap (λ b. let u = if b then Free else Up k in record a {
       stand = numbers_by u u;
       is_sure = is_sure u;
       is_counted = is_counted (numbers_by u u) (in_session k s);
     }) (not_large k h)
-    ∙ ap (λ b. record (session_facts k) { is_sure = nat_lt k.taken far; is_counted = has_sent k.sent (if b then Free else Up k) && true }) (not_large k h)
-    ∙ ap (λ b. record (session_facts k) { is_sure = b; is_counted = (k.sent == k.sent) && true })
+    ∙ ap (λ b. record a { is_sure = nat_lt k.taken far; is_counted = has_sent k.sent (if b then Free else Up k) && true }) (not_large k h)
+    ∙ ap (λ b. record a { is_sure = b; is_counted = (k.sent == k.sent) && true })
     (and_parts (not (is_large (Up k))) (nat_lt k.taken far) h).1
-    ∙ ap (λ b. record (session_facts k) { is_counted = b && true }) (eq-eqb k.sent k.sent refl)
+    ∙ ap (λ b. record a { is_counted = b && true }) (eq-eqb k.sent k.sent refl)
+  where
+    a : Facts
+    a = record (session_facts k) { is_answering = is_ua x && true }
 
 near_sure : (k : Numbers) → are_near k ≡ true → are_sure k ≡ true
 near_sure k h =
@@ -214,11 +219,17 @@ walked k next x small e goes differs = go x e (goes.step differs)
     go Unread e step = absurd (none-some next e)
     go Before e step = absurd (none-some next e)
 
+is_no_ua : (k next : Numbers) (x : Frame) → up_sends k x ≡ Some next → (differs : Bool)
+    → record (session_facts k) { is_answering = is_ua (marked differs x) && true } ≡ session_facts k
+is_no_ua k next (Info ns nr was) e differs = refl
+is_no_ua k next (Ready nr) e differs = refl
+is_no_ua k next x e differs = absurd (none-some next e)
+
 pub step_is : (s : LinkSet) (k next : Numbers) (x : Frame) → session s ≡ Some k → up_sends k x ≡ Some next → IsStep x k next s
 step_is s k next x is e =
     let at = session_is s k is in
     let sure = near_sure k at.1 in record {
-      known = ap facts at.0 ∙ facts_are s k sure;
+      known = λ differs. ap (facts (marked differs x)) at.0 ∙ facts_as s k (marked differs x) sure ∙ is_no_ua k next x e differs;
       stands = at.0;
       step = λ differs. ap (sends_to (marked differs x)) at.0
           ∙ ap (λ o. sent_to (marked differs x) o (in_session k s))

@@ -26,7 +26,7 @@ use Rattle.x25_possible_links.proofs.Leads.{onward_may, stays_at, front_of}
 
 module _ (u : Stand) (v : List Frame) where
   abbrev Any : List (Place Stand Frame)
-  Any = walks Unread (at u v)
+  Any = at u v ∷ (place.answers u v ++ (goes Sabm u v ++ goes Unread u v))
 
   abbrev IsAny : State → List Frame → Type 0
   IsAny s way = IsCovered Any s way
@@ -114,7 +114,7 @@ module _ (u : Stand) (v : List Frame) where
   sent_any s r way x n t k e = absurd (none-some r e)
 
 any_covers : (u : Stand) (v : List Frame) (s r : State) (way : List Frame) (x : Frame) → Covers u v s way → MaySend s way x r
-    → IsCovered (walks Unread (at u v)) r way
+    → IsCovered (Any u v) r way
 any_covers u v _ _ way x k (sends s r _ _ n t e) = sent_any u v s r way x n t k e
 any_covers u v _ _ way _ k (answers r _) = answers_any u v (At r) way (answers_covers v u r way k)
 any_covers u v _ _ _ _ k (answers_before s r rest is) =
@@ -122,13 +122,26 @@ any_covers u v _ _ _ _ k (answers_before s r rest is) =
 any_covers u v _ _ way _ k (was_any s r _ y may) = any_covers u v s r way y k may
 any_covers u v _ _ way _ k (was_none s _) = self_any u v s s way k (below_self s)
 
+-- one that may be anywhere may be so behind any frame
+free_sends : (v : List Frame) (s r : State) (way : List Frame) (x : Frame) → Covers Free v s way → MaySend s way x r → Covers Free v r way
+free_sends v _ _ way x k (sends s r _ _ n t e) = covers_over Free Free v (At s) way r k (below_free r)
+free_sends v _ _ way _ k (answers r _) = covers_over Free Free v (Owes r) way r k (below_free r)
+free_sends v _ _ _ _ k (answers_before s r rest is) = covers_over Free Free v (At s) (Before ∷ rest) r k (below_free r)
+free_sends v _ _ way _ k (was_any s r _ y may) = free_sends v s r way y k may
+free_sends v _ _ way _ k (was_none s _) = k
+
+unread_covers : (u : Stand) (v : List Frame) (s r : State) (way : List Frame) (x : Frame) → Covers u v s way → MaySend s way x r
+    → IsCovered (walks Unread (at u v)) r way
+unread_covers Free v s r way x k may = (at Free v, inl refl, free_sends v s r way x k may)
+unread_covers u v s r way x k may = any_covers u v s r way x k may
+
 sent_covers : (u : Stand) (v : List Frame) (s r : State) (way : List Frame) (x : Frame) → Covers u v s way → MaySend s way x r
     → IsCovered (walks x (at u v)) r way
 sent_covers u v _ _ way x k (sends s r _ _ n t e) = go x e
   where
     go : (x : Frame) → sends_as n t s way x ≡ Some r → IsCovered (walks x (at u v)) (At r) way
     go Ua e = absurd (none-some r e)
-    go Unread e = sent_any u v s r way Unread n t k e
+    go Unread e = unread_covers u v (At s) (At r) way Unread k (sends s r way Unread n t e)
     go (Info ns nr d) e = goes_covers v u s way n t (Info ns nr d) r e k
     go (Ready nr) e = goes_covers v u s way n t (Ready nr) r e k
     go Sabm e = goes_covers v u s way n t Sabm r e k
@@ -138,8 +151,8 @@ sent_covers u v _ _ way x k (sends s r _ _ n t e) = go x e
     go Before e = absurd (none-some r e)
 sent_covers u v _ _ way _ k (answers r _) = answers_covers v u r way k
 sent_covers u v _ _ _ _ k (answers_before s r rest is) = before_covers v u s r rest k is
-sent_covers u v _ _ way _ k (was_any s r _ y may) = any_covers u v s r way y k may
-sent_covers u v _ _ way _ k (was_none s _) = self_any u v s s way k (below_self s)
+sent_covers u v _ _ way _ k (was_any s r _ y may) = unread_covers u v s r way y k may
+sent_covers u v _ _ way _ k (was_none s _) = unread_covers u v (At s) (At s) way Unread k (was_none s way)
 
 -- ---- each run is covered
 
@@ -194,15 +207,7 @@ pub sends_held : (u : Stand) (v : List Frame) (s r : State) (way : List Frame) (
 unfolding Covering
 sends_held u v s r way x h may =
     holds_sends u v s r way x (walks x (at u v)) (λ p q w k m. sent_covers u v p q w x k m)
-    (λ y e p q w k m. subst (λ z. IsCovered (walks z (at u v)) q w) (sym e) (any_covers u v p q w y k m)) h may
-
--- one that may be anywhere may be so behind any frame
-free_sends : (v : List Frame) (s r : State) (way : List Frame) (x : Frame) → Covers Free v s way → MaySend s way x r → Covers Free v r way
-free_sends v _ _ way x k (sends s r _ _ n t e) = covers_over Free Free v (At s) way r k (below_free r)
-free_sends v _ _ way _ k (answers r _) = covers_over Free Free v (Owes r) way r k (below_free r)
-free_sends v _ _ _ _ k (answers_before s r rest is) = covers_over Free Free v (At s) (Before ∷ rest) r k (below_free r)
-free_sends v _ _ way _ k (was_any s r _ y may) = free_sends v s r way y k may
-free_sends v _ _ way _ k (was_none s _) = k
+    (λ y e p q w k m. subst (λ z. IsCovered (walks z (at u v)) q w) (sym e) (unread_covers u v p q w y k m)) h may
 
 pub strays_held : (v : List Frame) (s r : State) (way : List Frame) (x : Frame) → HoldsAt Free v s way → MaySend s way x r
     → HoldsAt Free v r way
@@ -342,6 +347,20 @@ same_frame begun tape x s r way may = may
 as_any : (begun : List Stand) (tape : List (Item Frame)) (x : Frame) → May begun tape Unread x
 as_any begun tape x s r way may = was_any s r way x may
 
+any_stands : (begun : List Stand) (tape : List (Item Frame)) (v : List Frame) (u : Stand) (q : Place Stand Frame)
+    → Stands (link_rules begun) tape (At u) v → IsIn q (place.any u v) → Stands (link_rules begun) (Own Unread ∷ tape) (At q.state) q.way
+any_stands begun tape v Free q h is = absurd is
+any_stands begun tape v u q h is = go (in_either (place.answers u v) (goes Sabm u v ++ goes Unread u v) q is)
+  where
+    last : IsIn q (goes Sabm u v) ⊎ IsIn q (goes Unread u v) → Stands (link_rules begun) (Own Unread ∷ tape) (At q.state) q.way
+    last (inl g) = goes_stand begun tape Unread Sabm (as_any begun tape Sabm) v u q h g
+    last (inr g) = goes_stand begun tape Unread Unread (same_frame begun tape Unread) v u q h g
+
+    go : IsIn q (place.answers u v) ⊎ IsIn q (goes Sabm u v ++ goes Unread u v)
+        → Stands (link_rules begun) (Own Unread ∷ tape) (At q.state) q.way
+    go (inl g) = answers_stand begun tape Unread (as_any begun tape Ua) v u q h g
+    go (inr g) = last (in_either (goes Sabm u v) (goes Unread u v) q g)
+
 pub walks_stand : (begun : List Stand) (tape : List (Item Frame)) (x : Frame) (p q : Place Stand Frame)
     → Stands (link_rules begun) tape (At p.state) p.way → IsIn q (walks x p)
     → Stands (link_rules begun) (Own x ∷ tape) (At q.state) q.way
@@ -349,17 +368,7 @@ walks_stand begun tape Ua p q h is = answers_stand begun tape Ua (same_frame beg
 walks_stand begun tape Unread p q h (inl e) =
     subst (λ w. Stands (link_rules begun) (Own Unread ∷ tape) (At w.state) w.way) (sym e)
     (Sends tape (At p.state) (At p.state) p.way Unread (was_none p.state p.way) h)
-walks_stand begun tape Unread p q h (inr is) = go (in_either (place.answers p.state p.way) (goes Sabm p.state p.way ++ goes Unread p.state p.way) q is)
-  where
-    last : IsIn q (goes Sabm p.state p.way) ⊎ IsIn q (goes Unread p.state p.way)
-        → Stands (link_rules begun) (Own Unread ∷ tape) (At q.state) q.way
-    last (inl g) = goes_stand begun tape Unread Sabm (as_any begun tape Sabm) p.way p.state q h g
-    last (inr g) = goes_stand begun tape Unread Unread (same_frame begun tape Unread) p.way p.state q h g
-
-    go : IsIn q (place.answers p.state p.way) ⊎ IsIn q (goes Sabm p.state p.way ++ goes Unread p.state p.way)
-        → Stands (link_rules begun) (Own Unread ∷ tape) (At q.state) q.way
-    go (inl g) = answers_stand begun tape Unread (as_any begun tape Ua) p.way p.state q h g
-    go (inr g) = last (in_either (goes Sabm p.state p.way) (goes Unread p.state p.way) q g)
+walks_stand begun tape Unread p q h (inr is) = any_stands begun tape p.way p.state q h is
 walks_stand begun tape (Info ns nr d) p q h is =
     goes_stand begun tape (Info ns nr d) (Info ns nr d) (same_frame begun tape (Info ns nr d)) p.way p.state q h is
 walks_stand begun tape (Ready nr) p q h is = goes_stand begun tape (Ready nr) (Ready nr) (same_frame begun tape (Ready nr)) p.way p.state q h is

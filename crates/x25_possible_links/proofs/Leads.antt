@@ -7,7 +7,7 @@ use Rattle.x25_possible.specs.laws.Possible.{IsIn, at}
 use Rattle.x25_possible_links.specs.laws.Link.{State, At, Owes, MayTake, passes, hears, begins, owes, fresh, owed, is_asking, has_ua, may_answer}
 use Rattle.x25_possible_links.specs.laws.Link.{may_count, counts, declines, heard}
 use Rattle.x25_possible_links.specs.laws.Places.{number_of, least_of, sends, onward, is_plain, settled}
-use Rattle.x25_possible_links.specs.code.Steps.{is_large, pressed, rushed}
+use Rattle.x25_possible_links.specs.code.Steps.{is_lost, pressed, rushed}
 use Rattle.x25_possible_links.specs.declared.frame.Frame.{Frame}
 use Rattle.x25_possible_links.specs.declared.frame.Frame.TheVariants.{Info, Ready, Sabm, Disc, Ua, Dm, Frmr, Unread}
 use Rattle.x25_possible_links.specs.declared.stand.Numbers.{Numbers}
@@ -410,8 +410,8 @@ module _ (v : List Frame) (s : State) (end : List Frame) where
   presses_begun : (x : Frame) → may_answer x ≡ true → Covers fresh v s end → Covers (pressed Asking x) v s end
   presses_begun x a k = subst (λ b. Covers (if b then Free else Asking) v s end) (sym a) (covers_more fresh Free v s end k tt)
 
-  freed : (u : Stand) → Covers u v s end → Covers (if is_large u then Free else u) v s end
-  freed u k = cond_both (is_large u) Free u (λ w. Covers w v s end) (λ _. covers_more u Free v s end k (below_free u)) (λ _. k)
+  freed : (u : Stand) → Covers u v s end → Covers (if is_lost u then Free else u) v s end
+  freed u k = cond_both (is_lost u) Free u (λ w. Covers w v s end) (λ _. covers_more u Free v s end k (below_free u)) (λ _. k)
 
 not_shorter : (x : Frame) (v front : List Frame) → front ≡ x ∷ v → length front < length v → ⊥
 not_shorter x v front e few = absurd (no (length v) (subst (λ (w : List Frame). length w < length v) e few))
@@ -435,7 +435,7 @@ pressed_on _ _ _ end x v e few (Begins y way s _ a k) =
 
 pub rushed_free : (front : List Frame) → rushed front Free ≡ Free
 rushed_free [] = refl
-rushed_free (x ∷ front) = rushed_free front
+rushed_free (x ∷ front) = refl
 
 leads_short : (u : Stand) (way : List Frame) (t : Stand) (end : List Frame) → Leads u way t end → length end ≤ length way
 leads_short _ _ _ _ (Stays u way) = omega arith
@@ -450,7 +450,7 @@ module _ (rest : List Frame) where
       → Covers u (front ++ rest) s end → Covers (rushed front u) rest s end
   rushed_covers [] u s end few k = freed rest s end u k
   rushed_covers (x ∷ front) u s end few k =
-      cond_both (is_large u) Free (rushed front (pressed u x)) (λ w. Covers w rest s end)
+      cond_both (is_lost u) Free (rushed front (pressed u x)) (λ w. Covers w rest s end)
       (λ _. subst (λ w. Covers w rest s end) (rushed_free front)
       (rushed_covers front Free s end few
       (pressed_on Free (x ∷ front ++ rest) s end x (front ++ rest) refl (longer front (length end) few)
@@ -471,7 +471,7 @@ module _ (rest : List Frame) where
       }
   holds_rushed front u (Owes r) end few h = rushed_covers front u (Owes r) end few h
 
-  pub holds_freed : (u : Stand) (s : State) (end : List Frame) → HoldsAt u rest s end → HoldsAt (if is_large u then Free else u) rest s end
+  pub holds_freed : (u : Stand) (s : State) (end : List Frame) → HoldsAt u rest s end → HoldsAt (if is_lost u then Free else u) rest s end
   holds_freed u (At s) end h = record {
     good = h.good;
     below = h.below;

@@ -5,7 +5,7 @@ use Rattle.std.proofs.Common.{drop_of_length-le}
 use Rattle.std.proofs.Math.Seq.{drop-cons}
 use Rattle.std.proofs.lemmas.Bool.{ltb-true}
 use Rattle.x25_possible_links.specs.laws.Places.{is_plain, onward, upward}
-use Rattle.x25_possible_links.specs.code.Steps.{all_of, and_then, come, each_of, first_of, goes, gone, is_large, least, made, moves}
+use Rattle.x25_possible_links.specs.code.Steps.{all_of, and_then, come, each_of, first_of, goes, gone, is_large, is_lost, least, made, moves}
 use Rattle.x25_possible_links.specs.code.Steps.{passed, pressed, rushed, best, settles, spot_at, with_first}
 use Rattle.x25_possible_links.specs.declared.frame.Frame.{Frame}
 use Rattle.x25_possible_links.specs.declared.link.Mode.{Mode}
@@ -158,14 +158,14 @@ least_most (q ∷ qs) n = go (nat_lt q.at n) refl (λ m. least_most qs m)
     go true e rest = let h = rest q.at in let g = ltb-true q.at n e in omega (arith, h, g)
     go false e rest = rest n
 
-pub come_large : (way : List Frame) (s : Stand) → is_large s ≡ true → Free ≡ come way s
-come_large [] s large = sym (ap (λ b. if b then Free else s) large)
-come_large (x ∷ way) s large = sym (ap (λ b. if b then Free else come way (upward s x)) large)
+pub come_lost : (way : List Frame) (s : Stand) → is_lost s ≡ true → Free ≡ come way s
+come_lost [] s lost = sym (ap (λ b. if b then Free else s) lost)
+come_lost (x ∷ way) s lost = sym (ap (λ b. if b then Free else come way (upward s x)) lost)
 
-pub rushed_large : (way : List Frame) (s : Stand) → is_large s ≡ true → Free ≡ rushed way s
-rushed_large [] s large = sym (ap (λ b. if b then Free else s) large)
-rushed_large (x ∷ way) s large = sym (ap (λ b. if b then Free else rushed way (pressed s x)) large)
+pub rushed_lost : (way : List Frame) (s : Stand) → is_lost s ≡ true → Free ≡ rushed way s
+rushed_lost [] s lost = sym (ap (λ b. if b then Free else s) lost)
+rushed_lost (x ∷ way) s lost = sym (ap (λ b. if b then Free else rushed way (pressed s x)) lost)
 
-pub gone_large : (way : List Frame) (s : Stand) → is_large s ≡ true → Free ≡ gone way s
-gone_large [] s large = sym (ap (λ b. if b then Free else s) large)
-gone_large (x ∷ way) s large = sym (ap (λ b. if b then Free else gone way (passed s x)) large)
+pub gone_lost : (way : List Frame) (s : Stand) → is_lost s ≡ true → Free ≡ gone way s
+gone_lost [] s lost = sym (ap (λ b. if b then Free else s) lost)
+gone_lost (x ∷ way) s lost = sym (ap (λ b. if b then Free else gone way (passed s x)) lost)

@@ -10,7 +10,7 @@ use Rattle.x25_possible.specs.laws.Possible.{Place, at, IsIn}
 use Rattle.x25_possible_links.specs.laws.Link.{State, At, Owes, fresh, is_asking}
 use Rattle.x25_possible_links.specs.laws.Places.{is_plain, onward, upward, sends, settled, settle, first}
 use Rattle.x25_possible_links.specs.laws.Places as place
-use Rattle.x25_possible_links.specs.code.Steps.{all_of, and_then, answered, answers, best, each_of, first_of, goes, is_below}
+use Rattle.x25_possible_links.specs.code.Steps.{all_of, and_then, answered, answers, any, best, each_of, first_of, goes, is_below}
 use Rattle.x25_possible_links.specs.code.Steps.{is_covered, is_large, kept, kept_by, numbers_below, settles, spot_at, walks, with_first}
 use Rattle.x25_possible_links.specs.declared.frame.Frame.{Frame}
 use Rattle.x25_possible_links.specs.declared.frame.Frame.TheVariants.{Info, Ready, Sabm, Disc, Ua, Dm, Frmr, Unread, Before}
@@ -298,26 +298,28 @@ adds_answers way s n (Disc ∷ rest) out new e h =
     (λ mid k. adds_answers way s (n + 1) rest mid new (next_drop n way Disc rest e) k) h
 adds_answers way s n (y ∷ rest) out new e h = adds_answers way s (n + 1) rest out new (next_drop n way y rest e) h
 
+adds_any : (way : List Frame) (n : ℕ) (s : Stand) (out new : List Spot) → any way n s out ≡ Some new
+    → Adds way out new (map settle (place.any s (drop n way)))
+adds_any way n Free out new h = adds_nothing way out new h
+adds_any way n s out new h =
+    subst (λ ps. Adds way out new ps)
+    (sym (map_both (place.answers s (drop n way)) (place.goes Sabm s (drop n way) ++ place.goes Unread s (drop n way))))
+    (adds_then way (answers way s n (drop n way) out) _ out new (map settle (place.answers s (drop n way)))
+    (map settle (place.goes Sabm s (drop n way) ++ place.goes Unread s (drop n way)))
+    (λ b i. adds_answers way s n (drop n way) out b refl i)
+    (λ b i.
+    subst (λ ps. Adds way b new ps) (sym (map_both (place.goes Sabm s (drop n way)) (place.goes Unread s (drop n way))))
+    (adds_then way (goes Right Sabm way n (drop n way) s b) _ b new (map settle (place.goes Sabm s (drop n way)))
+    (map settle (place.goes Unread s (drop n way))) (λ c j. adds_goes Sabm way n (drop n way) s b c refl j)
+    (λ c j. adds_goes Unread way n (drop n way) s c new refl j) i)) h)
+
 pub adds_walks : (x : Frame) (way : List Frame) (q : Spot) (out new : List Spot) → walks Right x way q out ≡ Some new
     → Adds way out new (map settle (place.walks x (placed way q)))
 adds_walks Ua way q out new h = adds_answers way q.stand q.at (drop q.at way) out new refl h
 adds_walks Unread way q out new h =
     adds_then way (settles q.at (drop q.at way) q.stand out) _ out new (settled q.stand (drop q.at way) ∷ [])
-    (map settle (place.answers q.stand (drop q.at way) ++ (place.goes Sabm q.stand (drop q.at way) ++ place.goes Unread q.stand (drop q.at way))))
-    (λ a k. adds_settled way q.at (drop q.at way) q.stand out a refl k)
-    (λ a k.
-    subst (λ ps. Adds way a new ps)
-    (sym (map_both (place.answers q.stand (drop q.at way)) (place.goes Sabm q.stand (drop q.at way) ++ place.goes Unread q.stand (drop q.at way))))
-    (adds_then way (answers way q.stand q.at (drop q.at way) a) _ a new (map settle (place.answers q.stand (drop q.at way)))
-    (map settle (place.goes Sabm q.stand (drop q.at way) ++ place.goes Unread q.stand (drop q.at way)))
-    (λ b i. adds_answers way q.stand q.at (drop q.at way) a b refl i)
-    (λ b i.
-    subst (λ ps. Adds way b new ps)
-    (sym (map_both (place.goes Sabm q.stand (drop q.at way)) (place.goes Unread q.stand (drop q.at way))))
-    (adds_then way (goes Right Sabm way q.at (drop q.at way) q.stand b) _ b new (map settle (place.goes Sabm q.stand (drop q.at way)))
-    (map settle (place.goes Unread q.stand (drop q.at way)))
-    (λ c j. adds_goes Sabm way q.at (drop q.at way) q.stand b c refl j)
-    (λ c j. adds_goes Unread way q.at (drop q.at way) q.stand c new refl j) i)) k)) h
+    (map settle (place.any q.stand (drop q.at way))) (λ a k. adds_settled way q.at (drop q.at way) q.stand out a refl k)
+    (λ a k. adds_any way q.at q.stand a new k) h
 adds_walks (Info ns nr d) way q out new h = adds_goes (Info ns nr d) way q.at (drop q.at way) q.stand out new refl h
 adds_walks (Ready nr) way q out new h = adds_goes (Ready nr) way q.at (drop q.at way) q.stand out new refl h
 adds_walks Sabm way q out new h = adds_goes Sabm way q.at (drop q.at way) q.stand out new refl h

@@ -4,7 +4,7 @@ ghost use Rattle.x25_possible.specs.Channel.{nth as nth_of};
 ghost use Rattle.x25_possible_links.specs.laws.Link as definition;
 ghost use Rattle.x25_possible_links.specs.laws.Places as places;
 ghost use Rattle.x25_possible_links.specs.code.Steps as steps;
-ghost use Rattle.x25_possible_links.specs.code.Steps.{IsSmall, is_large as large};
+ghost use Rattle.x25_possible_links.specs.code.Steps.{IsSmall, is_large as large, is_lost as lost};
 ghost use Rattle.x25_possible_links.specs.declared.stand.Stand.TheVariants.{Up};
 
 use crate::frame::Frame;
@@ -38,6 +38,14 @@ pub(crate) fn is_large(stand: Stand) -> bool
         }
         _ => false,
     }
+}
+
+/// Whether it may be anywhere, or a number is so large that it isn't counted on.
+pub(crate) fn is_lost(stand: Stand) -> bool
+    ensures same { result ≡ lost stand }
+    ensures small { result ≡ false → IsSmall stand }
+{
+    matches!(stand, Stand::Free) || is_large(stand)
 }
 
 /// The first whole number from `low` on that is this one modulo 8.
@@ -115,7 +123,7 @@ fn counts(stand: Stand, frame: Frame) -> Option<Stand>
     }
 }
 
-fn is_ua(frame: Frame) -> bool
+pub(crate) fn is_ua(frame: Frame) -> bool
     ensures { result ≡ definition.is_ua frame }
 {
     matches!(frame, Frame::Ua)

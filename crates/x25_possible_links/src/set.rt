@@ -5,7 +5,7 @@ ghost use Rattle.x25_possible_links.specs.code.Steps.{IsInSession, IsSmall, IsSt
 ghost use Rattle.x25_possible_links.specs.declared.stand.Stand.TheVariants.{Up};
 
 use crate::frame::Frame;
-use crate::link::{Mode, is_sure, near_numbers, up_hears, up_sends};
+use crate::link::{Mode, is_plain, is_sure, is_ua, near_numbers, up_hears, up_sends};
 use crate::spots::{
     Spot, Spots, agree, grow_all, hurry_all, latest, least, plainest, shift_all, walk_all,
 };
@@ -61,7 +61,7 @@ pub struct Facts {
     pub is_known: bool,
     /// All is shown that its next response may answer.
     pub is_shown: bool,
-    /// It is known whether its next UA answers something: SABM or DISC may wait for it, or all that waits is shown.
+    /// It is UA, and known whether it answers something: SABM or DISC may wait for it, or all that waits is shown.
     pub is_answering: bool,
 }
 
@@ -152,6 +152,9 @@ impl LinkSet {
     pub fn numbers(&self) -> Stand
         ensures { result ≡ definition.numbers self.now }
     {
+        if self.is_loose() {
+            return Stand::Free;
+        }
         let stand = plainest(self.spots.as_slice(), self.way.as_slice());
         match stand {
             Stand::Up(_) => stand,
@@ -159,9 +162,9 @@ impl LinkSet {
         }
     }
 
-    /// What is known of it before a frame.
-    pub fn facts(&self) -> Facts
-        ensures { result ≡ definition.facts self.now }
+    /// What is known of it before a frame that it sends.
+    pub fn facts(&self, frame: Frame) -> Facts
+        ensures { result ≡ definition.facts frame self.now }
     {
         let stand = self.numbers();
         let is_known = self.is_known();
@@ -175,7 +178,7 @@ impl LinkSet {
             },
             is_known,
             is_shown: is_known && is_followed,
-            is_answering: self.has_request() || is_followed,
+            is_answering: is_ua(frame) && (self.has_request() || is_followed),
         }
     }
 
@@ -364,11 +367,25 @@ impl LinkSet {
         self.spots[0].stand = Stand::Up(k);
     }
 
+    /// Whether nothing is known of it, and something waits for it that may end this.
+    fn is_loose(&self) -> bool
+        ensures { result ≡ definition.is_loose self.now }
+    {
+        match (self.way.as_slice(), self.spots.as_slice()) {
+            ([first, ..], [spot]) => matches!(spot.stand, Stand::Free)
+                && (spot.at == 0 && !is_plain(Stand::Free, *first)),
+            _ => false,
+        }
+    }
+
     /// The end sends a frame. Something is told where no run of an end that keeps the rules explains it.
     pub fn sends(&mut self, frame: Frame) -> Told
         ensures set { self.new ≡ (definition.sends_to frame self.old).set }
         ensures told { result ≡ (definition.sends_to frame self.old).told }
     {
+        if matches!(frame, Frame::Info { .. } | Frame::Ready(_)) && self.is_loose() {
+            return Told::Nothing;
+        }
         self.spare.list.clear();
         if !walk_all(
             Mode::Right,
@@ -394,6 +411,10 @@ impl LinkSet {
         requires { length self.old.way.items < 128 }
         ensures { self.new ≡ definition.extended frame self.old }
     {
+        if self.is_loose() {
+            self.way.push(frame);
+            return;
+        }
         let at = self.came();
         let last = self.way.len();
         self.way.push(frame);

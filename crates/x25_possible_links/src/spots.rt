@@ -4,7 +4,8 @@ ghost use Rattle.x25_possible_links.specs.code.Steps as definition;
 
 use crate::frame::Frame;
 use crate::link::{
-    FRESH, Mode, is_asking, is_below, is_large, is_plain, moves, onward, passed, pressed, upward,
+    FRESH, Mode, is_asking, is_below, is_large, is_lost, is_plain, moves, onward, passed, pressed,
+    upward,
 };
 use crate::stand::Stand;
 use arrayvec::ArrayVec;
@@ -125,12 +126,15 @@ fn answers(stand: Stand, at: usize, way: &[Frame], out: &mut Spots) -> bool
     }
 }
 
-/// Adds where one is behind octets that spell no frame. False: no room.
+/// Adds where one is behind octets that spell no frame: these lead nowhere where nothing is known. False: no room.
 fn any_frame(spot: Spot, way: &[Frame], out: &mut Spots) -> bool
     ensures { definition.made result out.new.items ≡ definition.any_frame way.now spot out.old.items }
 {
     if !settle(spot.stand, spot.at, way, out) {
         return false;
+    }
+    if matches!(spot.stand, Stand::Free) {
+        return true;
     }
     if !answers(spot.stand, spot.at, way, out) {
         return false;
@@ -227,14 +231,14 @@ pub(crate) fn least(spots: &[Spot], most: usize) -> usize
 
 // ---- where they stand once all has come
 
-/// Free where a number is too large.
+/// Free where a number is too large: from there on it is Free whatever comes.
 fn come(stand: Stand, at: usize, way: &[Frame]) -> Stand
     ensures { result ≡ definition.come (drop at way.now) stand }
 {
     let mut stand = stand;
     let mut at = at;
     loop {
-        if is_large(stand) {
+        if is_lost(stand) {
             return Stand::Free;
         }
         if at >= way.len() {
@@ -252,7 +256,7 @@ fn rushed(stand: Stand, at: usize, front: &[Frame]) -> Stand
     let mut stand = stand;
     let mut at = at;
     loop {
-        if is_large(stand) {
+        if is_lost(stand) {
             return Stand::Free;
         }
         if at >= front.len() {
@@ -288,7 +292,7 @@ fn gone(stand: Stand, at: usize, way: &[Frame]) -> Stand
     let mut stand = stand;
     let mut at = at;
     loop {
-        if is_large(stand) {
+        if is_lost(stand) {
             return Stand::Free;
         }
         if at >= way.len() {

@@ -98,7 +98,7 @@ fn tells_behind_a_long_way(rt: HostRuntime) {
         set.shows(Frame::Ready(0));
         assert!(rt; matches!(set.sends(Frame::Ready(0)), Told::Nothing));
     }
-    assert!(rt; !set.is_blind && set.facts().is_sure);
+    assert!(rt; !set.is_blind && set.facts(Frame::Ready(0)).is_sure);
     assert!(rt; matches!(set.sends(Frame::Ready(3)), Told::Broken(_)));
 }
 
@@ -172,7 +172,7 @@ fn stands(tape: &[u8]) -> (u64, u64, usize) {
 /// Whether it is known, surely, with V(S), and whether UA of it is judged and what it may answer is shown.
 fn marks(tape: &[u8]) -> [u8; 5] {
     let set = behind(tape);
-    let facts = set.facts();
+    let facts = set.facts(Frame::Ua);
     [
         digit(set.is_known() && facts.is_known),
         digit(facts.is_sure),
@@ -202,6 +202,7 @@ static KNOWN: [(&[u8], (u64, u64, usize), [u8; 5]); 13] = [
 fn knows_an_end(rt: HostRuntime) {
     for &(tape, at, marked) in &KNOWN {
         assert_eq!(rt; (stands(tape), marks(tape)), (at, marked), "{tape:?}");
+        assert!(rt; !behind(tape).facts(Frame::Dm).is_answering);
     }
 }
 

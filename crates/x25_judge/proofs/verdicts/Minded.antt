@@ -67,13 +67,13 @@ module _ (window : ℕ) (frame : PlainFrame) (x : Frame) (was : Bool) (own other
     seen = links.seen_of was (links.is_blind (links.end_sent frame x own) (links.end_shown x other)) other.manners.polls frame x t;
   }
 
-  judged_is : (links.sees_as window frame x was own other).seen.is_judged ≡ links.judges other.manners.polls frame (steps.facts own.set)
+  judged_is : (links.sees_as window frame x was own other).seen.is_judged ≡ links.judges other.manners.polls frame (steps.facts x own.set)
   unfolding links.minds links.judges
   judged_is = minds_has (λ r judged. judged ≡ before.seen.is_judged) (λ r m judged fair h. h) window t (steps.shows_to x other.set) frame before refl
 
   final_is : is_final frame ≡ true → (links.sees_as window frame x was own other).seen.is_judged ≡ true → other.manners.polls ≡ 0 → IsTold (links.sees_as window frame x was own other).seen.rule
   final_is final judged none = minds_tells window t (steps.shows_to x other.set) before (λ sure. (and_parts (steps.is_known own.set) _ sure).0) none frame final
-      (subst (λ n. links.judges n frame (steps.facts own.set) ≡ true) none (sym judged_is ∙ judged))
+      (subst (λ n. links.judges n frame (steps.facts x own.set) ≡ true) none (sym judged_is ∙ judged))
 
 pub judged_finals_are_told : JudgedFinalsAreTold
 judged_finals_are_told from j frame final judged none =

@@ -4,7 +4,7 @@ use Rattle.std.specs.Prelude.{◌≡◌, ℕ, ◌+◌, ◌-◌, ◌%◌, ◌^◌
 use Rattle.std.specs.Prelude.{if◌then◌else◌, List, [], ◌∷◌, ◌++◌, length, drop, take, map, Option, Some, None}
 use Rattle.x25_possible.specs.laws.Possible.{Item, Own, Other}
 use Rattle.x25_possible.specs.Channel.{nth}
-use Rattle.x25_possible_links.specs.laws.Link.{counts, fresh, heard, is_asking, may_acknowledge, may_answer}
+use Rattle.x25_possible_links.specs.laws.Link.{counts, fresh, heard, is_asking, is_ua, may_acknowledge, may_answer}
 use Rattle.x25_possible_links.specs.laws.Places.{is_plain, least_of, number_of, onward, sends, upward}
 use Rattle.x25_possible_links.specs.declared.frame.Frame.{Frame}
 use Rattle.x25_possible_links.specs.declared.frame.Frame.TheVariants.{Info, Ready, Sabm, Disc, Ua, Unread, Before}
@@ -36,6 +36,11 @@ is_large (Up k) =
     nat_lt 4611686018427387903 k.sent || nat_lt 4611686018427387903 k.acked || nat_lt 4611686018427387903 k.taken
     || nat_lt 4611686018427387903 k.told
 is_large s = false
+
+-- or it may be anywhere
+abbrev pub is_lost : Stand → Bool
+is_lost Free = true
+is_lost s = is_large s
 
 -- ---- behind a frame that no place allows
 
@@ -150,10 +155,13 @@ answers way s n (Disc ∷ rest) out =
     and_then (settles (n + 1) (drop (n + 1) way) Out out) (answers way s (n + 1) rest)
 answers way s n (y ∷ rest) out = answers way s (n + 1) rest out
 
+abbrev pub any : List Frame → ℕ → Stand → List Spot → Option (List Spot)
+any way n Free out = Some out
+any way n s out = and_then (answers way s n (drop n way) out) (λ b.
+    and_then (goes Right Sabm way n (drop n way) s b) (goes Right Unread way n (drop n way) s))
+
 abbrev pub any_frame : List Frame → Spot → List Spot → Option (List Spot)
-any_frame way q out = and_then (settles q.at (drop q.at way) q.stand out) (λ a.
-    and_then (answers way q.stand q.at (drop q.at way) a) (λ b.
-    and_then (goes Right Sabm way q.at (drop q.at way) q.stand b) (goes Right Unread way q.at (drop q.at way) q.stand)))
+any_frame way q out = and_then (settles q.at (drop q.at way) q.stand out) (any way q.at q.stand)
 
 abbrev pub walks : Mode → Frame → List Frame → Spot → List Spot → Option (List Spot)
 walks Right Ua way q out = answers way q.stand q.at (drop q.at way) out
@@ -166,8 +174,8 @@ walk_all mode x way qs out = all_of (walks mode x way) qs out
 -- ---- where they stand once all has come
 
 abbrev pub come : List Frame → Stand → Stand
-come [] s = if is_large s then Free else s
-come (x ∷ way) s = if is_large s then Free else come way (upward s x)
+come [] s = if is_lost s then Free else s
+come (x ∷ way) s = if is_lost s then Free else come way (upward s x)
 
 -- whatever it makes of what comes: UA may be passed over
 abbrev pub pressed : Stand → Frame → Stand
@@ -175,8 +183,8 @@ pressed Asking x = if may_answer x then Free else Asking
 pressed s x = onward s x
 
 abbrev pub rushed : List Frame → Stand → Stand
-rushed [] s = if is_large s then Free else s
-rushed (x ∷ way) s = if is_large s then Free else rushed way (pressed s x)
+rushed [] s = if is_lost s then Free else s
+rushed (x ∷ way) s = if is_lost s then Free else rushed way (pressed s x)
 
 -- where so many have come, the front of the way
 abbrev pub hurried : ℕ → List Frame → Spot → Spot
@@ -188,8 +196,8 @@ passed s Unread = s
 passed s x = upward s x
 
 abbrev pub gone : List Frame → Stand → Stand
-gone [] s = if is_large s then Free else s
-gone (x ∷ way) s = if is_large s then Free else gone way (passed s x)
+gone [] s = if is_lost s then Free else s
+gone (x ∷ way) s = if is_lost s then Free else gone way (passed s x)
 
 -- the first of those that have come farthest
 abbrev pub farthest : List Spot → Spot → Spot
@@ -258,6 +266,14 @@ abbrev pub is_free : Stand → Bool
 is_free Free = true
 is_free s = false
 
+-- its one place, where something waits for it that may end this
+abbrev pub is_loose_in : List Frame → List Spot → Bool
+is_loose_in (x ∷ way) (q ∷ []) = is_free q.stand && (q.at == 0 && not (is_plain Free x))
+is_loose_in way qs = false
+
+abbrev pub is_loose : LinkSet → Bool
+is_loose s = is_loose_in s.way.items s.spots.items
+
 abbrev pub are_known : List Spot → Bool
 are_known [] = true
 are_known (q ∷ qs) = not (is_free q.stand) && are_known qs
@@ -320,15 +336,15 @@ abbrev pub is_counted : Stand → LinkSet → Bool
 is_counted (Up k) s = agree k.sent s.way.items s.spots.items
 is_counted t s = true
 
--- what UA of it may answer is shown, or it may answer a request that is
-abbrev pub facts : LinkSet → Facts
-facts s = record {
+-- before a frame that it sends: what UA may answer is shown, or it may answer a request that is
+abbrev pub facts : Frame → LinkSet → Facts
+facts x s = record {
   stand = numbers s;
   is_sure = is_certain s;
   is_counted = is_counted (numbers s) s;
   is_known = is_known s;
   is_shown = is_known s && is_followed s;
-  is_answering = has_request s.way.items || is_followed s;
+  is_answering = is_ua x && (has_request s.way.items || is_followed s);
 }
 
 -- a set, and what is told
@@ -449,7 +465,7 @@ session s = session_of s.way.items s.spots.items
 abbrev pub in_session : Numbers → LinkSet → LinkSet
 in_session k s = set_as s [] (spot_at 0 (Up k) ∷ [])
 
--- all is known of it
+-- all is known of it before a frame with a number
 abbrev pub session_facts : Numbers → Facts
 session_facts k = record {
   stand = Up k;
@@ -457,7 +473,7 @@ session_facts k = record {
   is_counted = true;
   is_known = true;
   is_shown = true;
-  is_answering = true;
+  is_answering = false;
 }
 
 pub record IsInSession (s : LinkSet) : Type 0 where
@@ -485,7 +501,7 @@ takes x s = takes_by (session s) x
 
 -- then the set becomes so
 pub record IsStep (x : Frame) (k next : Numbers) (s : LinkSet) : Type 0 where
-  pub known : facts s ≡ session_facts k
+  pub known : (differs : Bool) → facts (marked differs x) s ≡ session_facts k
   pub stands : s ≡ in_session k s
   pub step : (differs : Bool) → sends_to (marked differs x) s ≡ telling Nothing (in_session next s)
 

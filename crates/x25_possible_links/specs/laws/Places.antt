@@ -80,10 +80,15 @@ answers s (Before ∷ way) = answered s (Before ∷ way)
 answers s (Disc ∷ way) = at Out way ∷ answers s way
 answers s (y ∷ way) = answers s way
 
--- octets that spell no frame: none, UA, SABM, or an I frame of the next number; all else leads to no more than these
+-- octets that spell no frame, but for none: UA, SABM, or an I frame of the next number; all else leads to no more than
+-- these, and where nothing is known to nothing more
+abbrev pub any : Stand → List Frame → List (Place Stand Frame)
+any Free way = []
+any s way = answers s way ++ (goes Sabm s way ++ goes Unread s way)
+
 abbrev pub walks : Frame → Place Stand Frame → List (Place Stand Frame)
 walks Ua q = answers q.state q.way
-walks Unread q = q ∷ (answers q.state q.way ++ (goes Sabm q.state q.way ++ goes Unread q.state q.way))
+walks Unread q = q ∷ any q.state q.way
 walks x q = goes x q.state q.way
 
 -- ---- over a tape, latest first

@@ -1,8 +1,8 @@
 use Rattle.std.proofs.Common.{sym, ◌∙◌, drop}
-use Rattle.x25_possible_links.proofs.LoopLemmas.{rushed_large}
+use Rattle.x25_possible_links.proofs.LoopLemmas.{rushed_lost}
 use Rattle.x25_possible_links.proofs.spots.rushed.Goals as goal
 
-pub returns-then-is_large : goal.returns-then-is_large
-returns-then-is_large c =
-    rushed_large (drop c.loop-stand.at c.args.front.now) c.loop-stand.stand (sym c.is_large.ensures.same ∙ c.if-is_large.true)
+pub returns-then-is_lost : goal.returns-then-is_lost
+returns-then-is_lost c =
+    rushed_lost (drop c.loop-stand.at c.args.front.now) c.loop-stand.stand (sym c.is_lost.ensures.same ∙ c.if-is_lost.true)
     ∙ c.loop-stand.invariant
