@@ -601,7 +601,7 @@ class Joined(ToolCase):
             with self.subTest(answer):
                 dead = "dte connect\n! 13\n. off busy\n"
                 answers = f". off busy\n= dte disconnect\ndte disconnect\n{DISC}\n. off busy\n" + (f"= {answer}\n. off busy\n= " if answer else "= ") + dead
-                self.begin(answers, "--t1", "60" if answer else "1", user=b"dte disconnect\ndte connect\n")
+                self.begin(answers, "--t1", "60" if answer else "3", user=b"dte disconnect\ndte connect\n")
                 self.assertEqual(self.gets(), DISC)
                 time.sleep(0.5)
                 self.assertEqual([event for _, event in self.asked()], ["dte disconnect"])

@@ -1,6 +1,7 @@
 """Tests of `x25dump.py --judge` on what a capture lacks: frames that are missing, cut or dropped, and links and circuits that it doesn't judge alike."""
 
 import struct
+import subprocess
 import unittest
 
 import samples
@@ -250,6 +251,13 @@ class Circuits(ToolCase):
         self.assertEqual([line[line.index(" ! ") :] for line in lines if " ! " in line], [" ! dce: CALL ACCEPTED of no call (4.1.4)"])
         self.assertEqual(lines[-3:-1], ["# dte channel 1: 1 packets, 1 judged, 0 not judged", "# dce channel 1: 2 packets, 2 judged, 0 not judged"])
         self.assertEqual([line for line in self.judged(ways, 1, lost=[0], is_opened=True) if " ! " in line], [])
+
+    def test_judge_hears_a_link_around_packets_from_x25dump_alone(self):
+        ways = [(True, self.CALL), (False, self.ACCEPTED), (True, self.DATA)]
+        self.assertIn("# dte channel 1: 2 packets, 2 judged, 0 not judged", self.judged(ways, 0, is_opened=True))
+        lines = support.run("pcap2x25.py", given=self.captured).stdout
+        done = subprocess.run([PROGRAM, "judge"], input=lines, capture_output=True, timeout=60)
+        self.assertIn("# dte channel 1: 2 packets, 0 judged, 2 not judged", done.stdout.decode().splitlines())
 
     def test_a_gap_is_shown_and_stands_in_a_trace(self):
         ways = [(True, self.CALL), (False, self.ACCEPTED), (True, self.DATA), (True, self.DATA), (False, bytes.fromhex("100141"))]

@@ -18,8 +18,9 @@ Link types that are read:
 What was sent by the host that captured is taken as the DTE's (`>`); --swap says that this host is the DCE. Of lapbether the
 first frame whose own address tells (all but RR, RNR and REJ) says which station is the DTE. A frame without its frame check
 sequence, as captures hold them, gets one. XOT and LLC carry packets without frames: each is put into an I frame that is made
-up, whose N(S) and N(R) count the packets of its connection both ways. The end that opened a connection to the port of XOT is
-the DTE, and of LLC the one that is seen first. --dte names the DTE of lapbether and LLC by its address.
+up, whose N(S) and N(R) count the packets of its connection both ways. `x25 judge` sees no set-up of a link then, and judges few of
+these packets: x25dump.py --judge has them judged. The end that opened a connection to the port of XOT is the DTE, and of LLC the one
+that is seen first. --dte names the DTE of lapbether and LLC by its address.
 
 One connection is written: the first, or the one that --connection names by its number in --list. All frames of LAPB are one
 connection, those of lapbether another; each two ends (addresses and ports) of XOT are one, each two stations of LLC.

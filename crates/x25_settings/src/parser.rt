@@ -203,7 +203,8 @@ static COMMANDS: [Row; 7] = [
     },
     Row {
         name: "judge",
-        about: "Answer lines of a trace of both ends as `decode` does, in its place, and say which end broke which rule",
+        about: "Answer lines of a trace of both ends as `decode` does, in its place, \
+            and say which end broke which rule",
         usage: "x25 judge [OPTIONS] [FILE]",
         examples: Some(
             "Examples:

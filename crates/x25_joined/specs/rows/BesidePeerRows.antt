@@ -1,5 +1,5 @@
 -- A worked row of a program that is joined to a peer: what it reads, and what it writes.
-use Rattle.std.specs.Prelude.{◌≡◌, true, [], ◌∷◌, codes}
+use Rattle.std.specs.Prelude.{◌≡◌, true, [], ◌∷◌, ◌++◌, codes}
 use Rattle.x25_bits.specs.declared.role.Role.TheVariants.{Dte}
 use Rattle.x25_line.specs.laws.Sessions.{Meeting}
 use Rattle.x25_station.specs.declared.config.Cfg.{Cfg}
@@ -22,5 +22,8 @@ pub record CallIsAccepted : Type 0 where
   pub program : Program
   pub reached : ReachedProgram (settings_from Dte of_all_forms) program
   pub text : station_text Dte of_all_forms program.read
-      ≡ codes ". off busy\ndte connect\n> 013febdf\n. start busy\ndte linkup\n> 01001000fb00007702\n. start busy\ndte restartdone\n> 0321a415\n. off idle\ndte incoming ch=1 at 1.0.0 called=- calling=- data=-\n> 0341a276\n. off idle\ndte accept ch=1\n> 014250010f00020180f4a6\n. start busy\n"
+      ≡ codes ". off busy\ndte connect\n> 013febdf\n. start busy\ndte linkup\n> 01001000fb00007702\n"
+      ++ codes ". start busy\ndte restartdone\n> 0321a415\n. off idle\n"
+      ++ codes "dte incoming ch=1 at 1.0.0 called=- calling=- data=-\n> 0341a276\n. off idle\n"
+      ++ codes "dte accept ch=1\n> 014250010f00020180f4a6\n. start busy\n"
   pub met : program.met ≡ first_sessions ∷ first_sessions ∷ first_sessions ∷ []

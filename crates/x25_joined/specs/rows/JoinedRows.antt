@@ -40,8 +40,10 @@ sets_up = dte (Reads (codes "dte connect")) ∷ dce Takes ∷ dte Takes ∷ dte 
 
 abbrev pub LinkIsSetUp : Type 0
 LinkIsSetUp = Write sets_up
-    (codes ". off busy\ndte connect\n> 013febdf\n. start busy\ndte linkup\n> 01001000fb00007702\n. start busy\ndte restarted cause=7 diag=0\n> 0321a415\n. on busy\n. off idle\n")
-    (codes ". off busy\ndce linkup\n< 01738357\n< 03001000fb0700c478\n. start busy\ndce restarted cause=0 diag=0\n< 01211426\n. on busy\n. off idle\n")
+    (codes ". off busy\ndte connect\n> 013febdf\n. start busy\ndte linkup\n> 01001000fb00007702\n"
+    ++ codes ". start busy\ndte restarted cause=7 diag=0\n> 0321a415\n. on busy\n. off idle\n")
+    (codes ". off busy\ndce linkup\n< 01738357\n< 03001000fb0700c478\n. start busy\n"
+    ++ codes "dce restarted cause=0 diag=0\n< 01211426\n. on busy\n. off idle\n")
 
 -- ---- SABM is lost, or damaged; T1 runs out, and it goes again
 
