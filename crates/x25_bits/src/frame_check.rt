@@ -88,15 +88,6 @@ fn left(place: usize, octet: u8) -> u16
     LEFT[place * 256 + octet as usize]
 }
 
-/// The register that eight octets leave of which the first six are 0, and the last two these.
-fn reduced_two(octets: u64) -> u16
-    requires { octets < 2 ^ 16 }
-    ensures { low_bits 16 result ≡ fed (low_bits 16 0) (low_bits 64 (octets * 2 ^ 48)) }
-{
-    let seven = left(6, (octets % 256) as u8);
-    left(7, (octets >> 8) as u8) ^ seven
-}
-
 /// The register that eight octets leave: what they leave each by itself, added.
 fn reduced(held: u64) -> u16
     ensures { low_bits 16 result ≡ fed (low_bits 16 0) (low_bits 64 held) }
@@ -193,31 +184,9 @@ fn through_blocks(start: u64, octets: &[u8]) -> u64
     last_word(held)
 }
 
-/// The same: of sixty-four octets or more thirty-two at a time, behind those beyond a multiple of that; else eight at a
-/// time.
-fn through(start: u64, octets: &[u8]) -> u64
-    requires { length octets.now % 8 ≡ 0 }
-    ensures { fed (low_bits 16 0) (low_bits 64 result)
-        ≡ fed (fed (low_bits 16 0) (low_bits 64 start)) (bits_of octets.now) }
-{
-    if octets.len() < 64 {
-        return through_words(start, octets);
-    }
-    let (words, blocks) = octets.split_at(octets.len() % 32);
-    let held = through_words(start, words);
-    through_blocks(held, blocks)
-}
-
-/// The register that two octets leave in one of ones.
-fn register_of_two(octets: &[u8]) -> u16
-    requires { length octets.now ≡ 2 }
-    ensures { low_bits 16 result ≡ fed (low_bits 16 65535) (bits_of octets.now) }
-{
-    let word = u64::from(LittleEndian::read_u16(octets));
-    reduced_two(word ^ 0xFFFF)
-}
-
-/// The register that the octets leave in one of ones.
+/// The register that the octets leave in one of ones: fed eight octets at a time, behind those beyond a multiple of
+/// that, and thirty-two at a time where sixty-four or more are left.
+#[inline(never)]
 fn register(octets: &[u8]) -> u16
     ensures { low_bits 16 result ≡ fed (low_bits 16 65535) (bits_of octets.now) }
 {
@@ -227,16 +196,12 @@ fn register(octets: &[u8]) -> u16
     let count = octets.len() % 8;
     let held = begun(octets, count);
     let (_, rest) = octets.split_at(count);
-    let last = through(held, rest);
-    reduced(last)
-}
-
-/// The frame check sequence of octets, however many they are.
-#[inline(never)]
-fn fcs_of_any(octets: &[u8]) -> u16
-    ensures { result ≡ fcs_of octets.now }
-{
-    !register(octets)
+    if rest.len() < 64 {
+        return reduced(through_words(held, rest));
+    }
+    let (words, blocks) = rest.split_at(rest.len() % 32);
+    let start = through_words(held, words);
+    reduced(through_blocks(start, blocks))
 }
 
 /// The frame check sequence of the octets.
@@ -245,9 +210,11 @@ pub fn fcs(octets: &[u8]) -> u16
     ensures { result ≡ fcs_of octets.now }
 {
     if octets.len() == 2 {
-        return !register_of_two(octets);
+        let word = LittleEndian::read_u16(octets) ^ 0xFFFF;
+        let first = left(6, (word % 256) as u8);
+        return !(left(7, (word >> 8) as u8) ^ first);
     }
-    fcs_of_any(octets)
+    !register(octets)
 }
 
 /// Whether the last two octets are the frame check sequence of the octets before them, the low octet first.

@@ -44,8 +44,7 @@ impl<const LONGEST: usize> Octets<LONGEST> {
     }
 }
 
-/// A vector, and these octets behind those that it has, in memory that there is. It owns it, so that they are copied as
-/// a block.
+/// A vector, and these octets behind those that it has, in memory that there is.
 pub fn with_octets(octets: Vec<u8>, more: &[u8]) -> Vec<u8>
     requires { vec_len octets + length more.now ≤ vec_capacity octets }
     ensures items { result.items ≡ octets.items ++ more.now }
@@ -53,9 +52,7 @@ pub fn with_octets(octets: Vec<u8>, more: &[u8]) -> Vec<u8>
     ensures capacity { vec_capacity result ≡ vec_capacity octets }
 {
     let mut all = octets;
-    for octet in more {
-        all.push_reserved(*octet);
-    }
+    append_octets(&mut all, more);
     all
 }
 
@@ -67,6 +64,11 @@ pub fn append_octets(octets: &mut Vec<u8>, more: &[u8])
     ensures len { vec_len octets.new ≡ vec_len octets.old + length more.now }
     ensures capacity { vec_capacity octets.new ≡ vec_capacity octets.old }
 {
+    // A vector of its own is appended to as a block.
     let none = Vec::new(*octets.allocator());
-    *octets = with_octets(mem::replace(octets, none), more);
+    let mut all = mem::replace(octets, none);
+    for octet in more {
+        all.push_reserved(*octet);
+    }
+    *octets = all;
 }

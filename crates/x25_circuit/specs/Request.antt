@@ -1,7 +1,7 @@
 -- What the user asks, as a value alone, and what the circuit answers.
 use Rattle.std.specs.Prelude.{◌≡◌, Bool, true, false, not, Option, Some, None, Result, Ok, Err, MatchResult}
 use denote.Ref.{Bor}
-use Rattle.x25_packet.specs.declared.packet.Packet.{Packet}
+use Rattle.x25_circuit.specs.declared.requested.Requested.{Requested}
 use Rattle.x25_circuit.specs.declared.circuit.Circuit as circuit_code
 use Rattle.x25_circuit.specs.declared.error.CircuitError.{CircuitError}
 use Rattle.x25_circuit.specs.declared.error.CircuitError.TheVariants as error
@@ -41,18 +41,18 @@ refusal_of (Done next packet) = None
 refusal_of (Refused e) = Some e
 
 -- a packet that is sent is one that there may be
-abbrev pub with_packet : Result Packet CircuitError → Result (Option Packet) CircuitError
+abbrev pub with_packet : Result Requested CircuitError → Result (Option Requested) CircuitError
 with_packet (Ok packet) = Ok (Some packet)
 with_packet (Err e) = Err e
 
 -- a call that may have a packet to send, or for which memory is missing
-abbrev pub AnswersRequest : Settings → circuit_code.Circuit → Result (Option Packet) CircuitError → Outcome → Type 0
+abbrev pub AnswersRequest : Settings → circuit_code.Circuit → Result (Option Requested) CircuitError → Outcome → Type 0
 AnswersRequest c v result (Done next packet) =
     MatchResult result (λ p. FitsCircuit c v next × (plain_sent p ≡ packet)) (λ e. e ≡ error.NoMemory)
 AnswersRequest c v result (Refused e) = result ≡ Err e
 
 -- a message waits, and there is no packet at once
-abbrev pub MayPut : Request → Option Packet → Type 0
+abbrev pub MayPut : Request → Option Requested → Type 0
 MayPut (Sends marks user) packet = packet ≡ None
 MayPut request packet = Unit {0}
 

@@ -10,3 +10,4 @@ pub mod Fits
 pub mod Replies
 pub mod FitsCircuit
 pub mod DataPacket
+pub mod Owed

@@ -13,13 +13,15 @@ ghost use Rattle.x25_circuit.specs.code.FitsCircuit.{FitsCircuit, SendsBy, Begin
 
 use crate::circuit::Circuit;
 use crate::error::CircuitError;
+use crate::owed::Owed;
 use crate::params::{FlowControl, Params};
 use crate::proposal::Proposal;
+use crate::requested::Requested;
 use crate::state::State;
-use x25_packet::{Digits, FacilityField, Packet, longest_user};
+use x25_packet::{Digits, FacilityField, longest_user};
 
 // The digits of an address, where the text is one.
-fn address(text: &str) -> Option<Digits>
+fn address<'a>(text: &'a str) -> Option<Digits<'a>>
     ensures some { IfSome result (λ digits. is_address_text text.now ≡ true) }
     ensures digits { IfSome result (λ digits. digits ≡ digits_of_text text.now) }
     ensures address { IfSome result IsAddress }
@@ -30,20 +32,20 @@ fn address(text: &str) -> Option<Digits>
 
 /// What a call says that may be made.
 #[derive(Drop)]
-pub(crate) struct CallFields {
-    called: Digits,
-    calling: Digits,
+pub(crate) struct CallFields<'a> {
+    called: Digits<'a>,
+    calling: Digits<'a>,
     flow: FlowControl,
 }
 
 // What a call of these says, where it may be made.
-fn fields_of(
+fn fields_of<'a>(
     long_data: bool,
-    called: &str,
-    calling: &str,
+    called: &'a str,
+    calling: &'a str,
     user: &[u8],
     params: Params,
-) -> Option<CallFields>
+) -> Option<CallFields<'a>>
     ensures may_call { IfSome result (λ fields. may_call long_data called.now calling.now user.now params ≡ true) }
     ensures called { IfSome result (λ fields. fields.called ≡ digits_of_text called.now) }
     ensures calling { IfSome result (λ fields. fields.calling ≡ digits_of_text calling.now) }
@@ -75,19 +77,18 @@ impl Circuit {
     /// these, and else 70 alone.
     pub(crate) fn call<'a>(
         &mut self,
-        called: &str,
-        calling: &str,
+        called: &'a str,
+        calling: &'a str,
         user: &'a [u8],
         proposal: &Proposal,
-    ) -> Result<Packet<'a>, CircuitError>
+    ) -> Result<Requested<'a>, CircuitError>
         ensures { BeginsBy self.old self.new result
             (λ c x. outcome c x (Calls called.now calling.now user.now proposal.now)) }
     {
         let fields = self.call_fields(called, calling, user, proposal.params())?;
         self.transfer.make()?;
         self.enter(State::Calling, fields.flow, true);
-        Ok(Packet::Call {
-            channel: 1,
+        Ok(Requested::Call {
             called: fields.called,
             calling: fields.calling,
             facilities: proposal.field_for(Params::default()),
@@ -96,13 +97,13 @@ impl Circuit {
     }
 
     // What a call says, where it may be made now.
-    pub(crate) fn call_fields(
+    pub(crate) fn call_fields<'a>(
         &self,
-        called: &str,
-        calling: &str,
+        called: &'a str,
+        calling: &'a str,
         user: &[u8],
         params: Params,
-    ) -> Result<CallFields, CircuitError>
+    ) -> Result<CallFields<'a>, CircuitError>
         ensures free { IfOk result (λ fields. self.now.state ≡ State.Free) }
         ensures may_call { IfOk result (λ fields. may_call self.now.long_data called.now calling.now user.now params
             ≡ true) }
@@ -137,7 +138,7 @@ impl Circuit {
     pub(crate) fn accept<'a>(
         &mut self,
         answer: Option<&Proposal>,
-    ) -> Result<Packet<'a>, CircuitError>
+    ) -> Result<Requested<'a>, CircuitError>
         ensures { BeginsBy self.old self.new result (λ c x. outcome c x (Accepts (plain_answer answer.entry))) }
     {
         let proposed = self.flow.params;
@@ -145,12 +146,10 @@ impl Circuit {
         self.transfer.make()?;
         self.enter(State::Open, flow, false);
         match answer {
-            Some(answer) => Ok(Packet::Accept {
-                channel: 1,
+            Some(answer) => Ok(Requested::Accept {
                 facilities: answer.field_for(proposed),
             }),
-            None => Ok(Packet::Accept {
-                channel: 1,
+            None => Ok(Requested::Accept {
                 facilities: FacilityField::none(),
             }),
         }
@@ -191,17 +190,13 @@ impl Circuit {
         &mut self,
         cause: u8,
         diagnostic: u8,
-    ) -> Result<Packet<'a>, CircuitError>
+    ) -> Result<Requested<'a>, CircuitError>
         ensures { SendsBy self.old self.new result (λ c x. outcome c x (Clears cause diagnostic)) }
     {
         if let Some(error) = self.clear_refusal(cause) {
             return Err(error);
         }
         self.end_call(State::Clearing);
-        Ok(Packet::Clear {
-            channel: 1,
-            cause,
-            diagnostic,
-        })
+        Ok(Requested::Owed(Owed::Clear { cause, diagnostic }))
     }
 }

@@ -22,7 +22,7 @@ use crate::notice::{Notice, Reply};
 use crate::octets::Octets;
 use crate::owed::Owed;
 use crate::state::State;
-use x25_packet::{Marks, Packet, Seq};
+use x25_packet::{Marks, Packet, Seq, facility_field};
 
 fn delivered<'a>(message: Option<Message>) -> Option<Notice<'a>>
     ensures notices { plain_notices result ≡ deliveries (option_to_list message) }
@@ -195,14 +195,10 @@ impl Circuit {
             (λ c x. answers c x (plain packet.now)) }
     {
         match packet {
-            Packet::Call {
-                called,
-                calling,
-                facilities,
-                user,
-                ..
-            } => self.hear_call(called, calling, facilities.as_slice(), user),
-            Packet::Accept { facilities, .. } => self.hear_accept(facilities.as_slice()),
+            Packet::Call { a, body, .. } => self.hear_call(*a, body),
+            Packet::Accept { a, body, .. } => {
+                self.hear_accept(facility_field(*a, body).as_slice())
+            }
             Packet::Clear {
                 cause,
                 diagnostic,

@@ -4,18 +4,17 @@ ghost use Rattle.x25_packet.specs.Spelling.{IsInRange};
 use crate::message::Message;
 use crate::owed::Owed;
 use crate::params::Params;
-use x25_packet::Digits;
 
-/// What a packet brought the user. User data is borrowed from the packet; a message is handed over whole.
+/// What a packet brought the user. Octets are borrowed from the packet; a message is handed over whole.
 #[derive(Debug, Drop)]
 pub enum Notice<'a> {
     /// The other end calls.
     Incoming {
-        called: Digits,
-        calling: Digits,
-        user: &'a [u8],
+        /// The A bit, and what stands behind the type of its CALL.
+        a: bool,
         /// The packet sizes and windows that it proposes.
         params: Params,
+        body: &'a [u8],
     },
     /// The other end accepted the call, with these packet sizes and windows.
     Connected {

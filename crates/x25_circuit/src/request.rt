@@ -4,7 +4,6 @@ ghost use Rattle.std.specs.Prelude.{None};
 ghost use Rattle.std.specs.Prelude.{IsErrOf};
 ghost use Rattle.std.specs.Prelude.{length};
 ghost use Rattle.x25_packet.specs.declared.marks.Marks.{Marks};
-ghost use Rattle.x25_packet.specs.Packet.{plain};
 ghost use Rattle.x25_packet.specs.Spelling.{IsInRange};
 ghost use Rattle.x25_circuit.specs.Circuit.{Settings};
 ghost use Rattle.x25_circuit.specs.Circuit.{Circuit as Channel};
@@ -22,9 +21,10 @@ use crate::circuit::Circuit;
 use crate::error::CircuitError;
 use crate::proposal::Proposal;
 use crate::queue::PLACES;
+use crate::requested::Requested;
 use crate::state::State;
 use crate::talking::INTERRUPT_OCTETS;
-use x25_packet::{Marks, Packet};
+use x25_packet::Marks;
 
 /// A call of the user of a circuit. What it says is borrowed.
 #[derive(Clone, Copy, Debug)]
@@ -60,8 +60,8 @@ pub enum Request<'a> {
 
 // A packet that is sent is one that there may be.
 fn with_packet<'a>(
-    answer: Result<Packet<'a>, CircuitError>,
-) -> Result<Option<Packet<'a>>, CircuitError>
+    answer: Result<Requested<'a>, CircuitError>,
+) -> Result<Option<Requested<'a>>, CircuitError>
     ensures { result ≡ with_packet answer.entry }
 {
     Ok(Some(answer?))
@@ -80,7 +80,7 @@ impl Circuit {
     /// message, which is copied, and for a call and an acceptance, where the circuit had no call yet for which the
     /// memory of messages that come was made. The circuit is as before then. No request changes a count.
     #[inline(always)]
-    pub fn ask<'a>(&mut self, request: Request<'a>) -> Result<Option<Packet<'a>>, CircuitError>
+    pub fn ask<'a>(&mut self, request: Request<'a>) -> Result<Option<Requested<'a>>, CircuitError>
         ensures outcome { (c : Settings) (x : Channel) → FitsCircuit c self.old x
             → AnswersRequest c self.new result (outcome c x (plain_request request.entry)) }
         ensures range { IfOk result (λ packet. IsSendable (plain_sent packet)) }

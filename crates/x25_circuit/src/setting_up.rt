@@ -1,5 +1,6 @@
 //! CALL and CALL ACCEPTED. ITU-T X.25 (10/96), sections 4.1.2 to 4.1.6.
 ghost use Rattle.std.specs.Prelude.{◌≡◌, true};
+ghost use Rattle.x25_packet.specs.Views.{called_of, calling_of, field_of, user_of};
 ghost use Rattle.x25_circuit.specs.Notice.{incoming};
 ghost use Rattle.x25_circuit.specs.Params.{said_in};
 ghost use Rattle.x25_circuit.specs.code.FitsCircuit.{made_of};
@@ -12,28 +13,23 @@ use crate::notice::{Notice, Reply};
 use crate::params::{FlowControl, Params};
 use crate::state::State;
 use x25_bits::Role;
-use x25_packet::Digits;
+use x25_packet::facility_field;
 
 impl Circuit {
-    pub(crate) fn hear_call<'a>(
-        &mut self,
-        called: &Digits,
-        calling: &Digits,
-        facilities: &[u8],
-        user: &'a [u8],
-    ) -> Reply<'a>
+    pub(crate) fn hear_call<'a>(&mut self, a: bool, body: &'a [u8]) -> Reply<'a>
         ensures { RepliesBy self.old self.new result
-            (λ c x. row_call c x self.old.state (request_in called.now calling.now facilities.now user.now)) }
+            (λ c x. row_call c x self.old.state (request_in (called_of a body.now) (calling_of a body.now)
+            (field_of a body.now) (user_of a body.now))) }
     {
         match self.state {
             State::Free => {
-                let flow = FlowControl::usual().said(facilities);
+                let flow = FlowControl::usual().said(facility_field(a, body).as_slice());
                 self.enter(State::Arriving, flow, false);
-                Reply::tells(incoming(called, calling, user, flow.params))
+                Reply::tells(incoming(a, body, flow.params))
             }
             State::Calling => {
-                let flow = FlowControl::usual().said(facilities);
-                self.collide(called, calling, user, flow)
+                let flow = FlowControl::usual().said(facility_field(a, body).as_slice());
+                self.collide(a, body, flow)
             }
             State::Clearing => Reply::nothing(),
             _ => self.unexpected(),
@@ -41,19 +37,13 @@ impl Circuit {
     }
 
     // A call of each end: the DTE waits for the DCE's answer to what it proposed, and the DCE gives its own call up.
-    fn collide<'a>(
-        &mut self,
-        called: &Digits,
-        calling: &Digits,
-        user: &'a [u8],
-        flow: FlowControl,
-    ) -> Reply<'a>
+    fn collide<'a>(&mut self, a: bool, body: &'a [u8], flow: FlowControl) -> Reply<'a>
         requires { made_of self.old ≡ true }
         ensures { RepliesBy self.old self.new result
             (λ c x. collides c.role x (record {
-              called = called.now;
-              calling = calling.now;
-              user = user.now;
+              called = called_of a body.now;
+              calling = calling_of a body.now;
+              user = user_of a body.now;
               params = flow.params;
             })) }
     {
@@ -67,7 +57,7 @@ impl Circuit {
                 Reply {
                     packet: None,
                     collided: true,
-                    notice: Some(incoming(called, calling, user, flow.params)),
+                    notice: Some(incoming(a, body, flow.params)),
                 }
             }
         }
@@ -101,15 +91,14 @@ impl Circuit {
     }
 }
 
-fn incoming<'a>(called: &Digits, calling: &Digits, user: &'a [u8], params: Params) -> Notice<'a>
-    ensures notice { plain_notice result
-        ≡ incoming (record { called = called.now; calling = calling.now; user = user.now; params = params }) }
+fn incoming<'a>(a: bool, body: &'a [u8], params: Params) -> Notice<'a>
+    ensures notice { plain_notice result ≡ incoming (record {
+      called = called_of a body.now;
+      calling = calling_of a body.now;
+      user = user_of a body.now;
+      params = params;
+    }) }
     ensures handed { handed_by result ≡ 0 }
 {
-    Notice::Incoming {
-        called: called.copied(),
-        calling: calling.copied(),
-        user,
-        params,
-    }
+    Notice::Incoming { a, params, body }
 }

@@ -9,8 +9,10 @@ ghost use Rattle.x25_circuit.specs.code.FitsCircuit.{FitsCircuit, Keeps, KeepsCo
 
 use crate::circuit::Circuit;
 use crate::error::CircuitError;
+use crate::owed::Owed;
+use crate::requested::Requested;
 use crate::state::State;
-use x25_packet::{Marks, Packet};
+use x25_packet::Marks;
 
 /// The most octets of an interrupt's user data.
 pub(crate) const INTERRUPT_OCTETS: usize = 32;
@@ -38,14 +40,14 @@ impl Circuit {
     /// Sends an interrupt of 1 to 32 octets. It answers INTERRUPT.
     ///
     /// 30 WrongState outside of p4 with d1, then 34 BadParameter for another length, then 33 InterruptOutstanding.
-    pub(crate) fn interrupt<'a>(&mut self, user: &'a [u8]) -> Result<Packet<'a>, CircuitError>
+    pub(crate) fn interrupt<'a>(&mut self, user: &'a [u8]) -> Result<Requested<'a>, CircuitError>
         ensures { SendsBy self.old self.new result (λ c x. outcome c x (Interrupts user.now)) }
     {
         if let Some(error) = self.interrupt_refusal(user) {
             return Err(error);
         }
         self.transfer.interrupt_out = true;
-        Ok(Packet::Interrupt { channel: 1, user })
+        Ok(Requested::Interrupt { user })
     }
 
     /// Resets the call, and drops what waits and what came in part. It answers RESET.
@@ -55,30 +57,26 @@ impl Circuit {
         &mut self,
         cause: u8,
         diagnostic: u8,
-    ) -> Result<Packet<'a>, CircuitError>
+    ) -> Result<Requested<'a>, CircuitError>
         ensures { SendsBy self.old self.new result (λ c x. outcome c x (Resets cause diagnostic)) }
     {
         if let Some(error) = self.reset_refusal(cause) {
             return Err(error);
         }
         self.begin_stretch(State::Resetting);
-        Ok(Packet::Reset {
-            channel: 1,
-            cause,
-            diagnostic,
-        })
+        Ok(Requested::Owed(Owed::Reset { cause, diagnostic }))
     }
 
     /// Says whether this end is ready to receive data packets, also where that was so before. It answers RR or RNR.
     ///
     /// 30 WrongState outside of p4 with d1.
-    pub(crate) fn say<'a>(&mut self, is_ready: bool) -> Result<Packet<'a>, CircuitError>
+    pub(crate) fn say<'a>(&mut self, is_ready: bool) -> Result<Requested<'a>, CircuitError>
         ensures { SendsBy self.old self.new result (λ c x. ready_in x x.state is_ready) }
     {
         if let Some(error) = self.closed() {
             return Err(error);
         }
         self.transfer.own_ready = is_ready;
-        Ok(self.status().packet(1))
+        Ok(Requested::Owed(self.status()))
     }
 }

@@ -5,7 +5,7 @@ ghost use Rattle.x25_packet.specs.Packet.{plain};
 ghost use Rattle.x25_packet.specs.Spelling.{HasChannel};
 
 use std::alloc::Global;
-use x25_circuit::{Circuit, CircuitError, Octets, Reply, Request, Role};
+use x25_circuit::{Circuit, CircuitError, Octets, Reply, Request, Requested, Role};
 use x25_packet::{Packet, PacketError};
 
 // A value in a place of its own: a body that holds the box lets go of it by one call, and not of each part of the
@@ -27,7 +27,7 @@ pub fn circuit(alloc: Global, role: Role) -> Result<Box<Circuit>, CircuitError> 
 pub fn ask<'a>(
     circuit: &mut Circuit,
     request: Request<'a>,
-) -> Result<Option<Packet<'a>>, CircuitError> {
+) -> Result<Option<Requested<'a>>, CircuitError> {
     circuit.ask(request)
 }
 

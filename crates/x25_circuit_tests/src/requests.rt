@@ -2,8 +2,8 @@
 
 use crate::calls::{ask, circuit, hear, spare};
 use std::alloc::Global;
-use x25_circuit::{Circuit, CircuitError, Params, Proposal, Request, Role};
-use x25_packet::{FacilityField, Marks, Packet};
+use x25_circuit::{Circuit, CircuitError, Owed, Params, Proposal, Request, Requested, Role};
+use x25_packet::{Marks, Packet};
 
 /// What is proposed: one that may be, and one that may not.
 #[derive(Drop)]
@@ -114,8 +114,9 @@ static REFUSALS: [[u8; 3]; 17] = [
 /// The other end's answer to a call.
 pub fn acceptance() -> Packet<'static> {
     Packet::Accept {
+        a: false,
         channel: 1,
-        facilities: FacilityField::none(),
+        body: &[],
     }
 }
 
@@ -184,20 +185,9 @@ fn sent(alloc: Global, role: Role, request: Request<'_>) -> Option<(u8, u8)> {
     match circuit.ask(request) {
         Ok(
             Some(
-                Packet::Clear {
-                    cause,
-                    diagnostic,
-                    ..
-                },
-            ),
-        ) => Some((cause, diagnostic)),
-        Ok(
-            Some(
-                Packet::Reset {
-                    cause,
-                    diagnostic,
-                    ..
-                },
+                Requested::Owed(
+                    Owed::Clear { cause, diagnostic } | Owed::Reset { cause, diagnostic },
+                ),
             ),
         ) => Some((cause, diagnostic)),
         _ => None,

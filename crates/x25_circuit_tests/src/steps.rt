@@ -3,8 +3,10 @@
 use crate::calls::{ask, circuit, circuit_with, hear, hear_too_few, spare};
 use crate::requests::{Proposals, acceptance};
 use std::alloc::Global;
-use x25_circuit::{Circuit, CircuitError, Message, Notice, Octets, Owed, Params, Reply, Role};
-use x25_packet::{Marks, Packet, Seq};
+use x25_circuit::{
+    Circuit, CircuitError, Message, Notice, Octets, Owed, Params, Reply, Requested, Role,
+};
+use x25_packet::{Marks, Packet, Seq, user_data};
 
 /// What happens to a circuit.
 #[derive(Clone, Copy)]
@@ -229,7 +231,7 @@ static JOINED: [Row; 6] = [
 // The third octet of a packet, and how many octets of user data it has.
 fn shape(packet: &Packet) -> (u8, usize) {
     match packet {
-        Packet::Call { user, .. } => (0x0B, user.len()),
+        Packet::Call { a, body, .. } => (0x0B, user_data(*a, body).len()),
         Packet::Accept { .. } => (0x0F, 0),
         Packet::Clear { .. } => (0x13, 0),
         Packet::ClearConf { .. } => (0x17, 0),
@@ -264,9 +266,19 @@ fn shape_of(owed: &Option<Owed>) -> Option<(u8, usize)> {
     }
 }
 
+// The shape of a packet that a request sends.
+fn shape_asked(packet: &Requested) -> (u8, usize) {
+    match packet {
+        Requested::Call { user, .. } => (0x0B, user.len()),
+        Requested::Accept { .. } => (0x0F, 0),
+        Requested::Interrupt { user } => (0x23, user.len()),
+        Requested::Owed(owed) => shape(&owed.packet(1)),
+    }
+}
+
 fn asked(circuit: &mut Circuit, index: usize) -> Answer {
     match ask(circuit, Proposals::new().request(index)) {
-        Ok(Some(packet)) => (0, None, Some(shape(&packet))),
+        Ok(Some(packet)) => (0, None, Some(shape_asked(&packet))),
         Ok(None) => NOTHING,
         Err(error) => (error.number(), None, None),
     }

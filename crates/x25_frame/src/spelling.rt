@@ -3,7 +3,6 @@ ghost use Rattle.std.specs.Prelude.{◌≡◌, ◌+◌, ◌*◌, ◌≤◌, [], 
 ghost use Rattle.std.specs.Prelude.{vec_capacity};
 ghost use Rattle.std.specs.Vec.{VecUnchanged};
 ghost use Rattle.x25_frame.specs.Frame.{plain};
-ghost use Rattle.x25_bits.specs.Bits.{bit};
 ghost use Rattle.x25_bits.specs.FrameCheck.Sealed.{seal_of};
 ghost use Rattle.x25_frame.specs.Spelling.{spelling_of, body_of, control_of, information_of};
 
@@ -12,28 +11,20 @@ use crate::codes::{DISC, DM, FRMR, REJ, RNR, RR, SABM, UA};
 use crate::{Frame, NoMemory, Role};
 use x25_bits::{append_octets, fcs};
 
-/// The poll or final bit, in its place in the control.
-fn poll_bit(pf: bool) -> u8
-    ensures value { result ≡ 16 * bit pf }
-    ensures few { result ≤ 16 }
-{
-    if pf { 0x10 } else { 0 }
-}
-
 #[inline(always)]
 fn control(frame: &Frame) -> u8
     ensures { result ≡ control_of (plain frame.now) }
 {
     match frame {
-        Frame::I { ns, nr, p, info: _ } => 2 * ns.get() + poll_bit(*p) + 32 * nr.get(),
-        Frame::Rr { nr, pf, .. } => RR + poll_bit(*pf) + 32 * nr.get(),
-        Frame::Rnr { nr, pf, .. } => RNR + poll_bit(*pf) + 32 * nr.get(),
-        Frame::Rej { nr, pf, .. } => REJ + poll_bit(*pf) + 32 * nr.get(),
-        Frame::Sabm { p } => SABM + poll_bit(*p),
-        Frame::Disc { p } => DISC + poll_bit(*p),
-        Frame::Ua { f } => UA + poll_bit(*f),
-        Frame::Dm { f } => DM + poll_bit(*f),
-        Frame::Frmr { f, .. } => FRMR + poll_bit(*f),
+        Frame::I { ns, nr, p, info: _ } => 2 * ns.get() + 16 * u8::from(*p) + 32 * nr.get(),
+        Frame::Rr { nr, pf, .. } => RR + 16 * u8::from(*pf) + 32 * nr.get(),
+        Frame::Rnr { nr, pf, .. } => RNR + 16 * u8::from(*pf) + 32 * nr.get(),
+        Frame::Rej { nr, pf, .. } => REJ + 16 * u8::from(*pf) + 32 * nr.get(),
+        Frame::Sabm { p } => SABM + 16 * u8::from(*p),
+        Frame::Disc { p } => DISC + 16 * u8::from(*p),
+        Frame::Ua { f } => UA + 16 * u8::from(*f),
+        Frame::Dm { f } => DM + 16 * u8::from(*f),
+        Frame::Frmr { f, .. } => FRMR + 16 * u8::from(*f),
     }
 }
 

@@ -10,7 +10,10 @@ use crate::given::Given;
 use std::alloc::Global;
 use std::marker::Model;
 use x25_bits::{NoMemory, append_octets};
-use x25_packet::{FAST_SELECT_OCTETS, Packet, decode_within};
+use x25_packet::{
+    FAST_SELECT_OCTETS, Packet, called_digits, calling_digits, decode_within, facility_field,
+    user_data,
+};
 
 const CALL: u8 = 0x0B;
 
@@ -143,28 +146,22 @@ fn with_given(given: &Given<'_>, memory: Vec<u8>, octets: &[u8]) -> Option<Vec<u
         return None;
     };
     match packet {
-        Packet::Call {
-            channel,
-            called,
-            calling,
-            facilities,
-            user,
-        } => Some(spelled(
+        Packet::Call { a, channel, body } => Some(spelled(
             memory,
             &head(given.d, channel, CALL),
-            addresses(octets, called.len() + calling.len()),
-            facilities.as_slice(),
+            addresses(
+                octets,
+                called_digits(a, body).len() + calling_digits(a, body).len(),
+            ),
+            facility_field(a, body).as_slice(),
             given.facilities,
-            user,
+            user_data(a, body),
         )),
-        Packet::Accept {
-            channel,
-            facilities,
-        } => Some(spelled(
+        Packet::Accept { a, channel, body } => Some(spelled(
             memory,
             &head(given.d, channel, ACCEPT),
             &[0],
-            facilities.as_slice(),
+            facility_field(a, body).as_slice(),
             given.facilities,
             given.user,
         )),

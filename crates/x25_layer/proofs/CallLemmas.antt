@@ -2,7 +2,7 @@
 use Rattle.std.proofs.Common.{◌≡◌, ◌≢◌, ◌⊎◌, inl, inr, OnOk, ℕ, suc, ◌-◌, ◌<◌, ◌≤◌, List, [], length, Option, Some, None, Bool, true, false, nat_le, ◌==◌, if◌then◌else◌, get_or, set, refl, sym, ap, subst, ◌∙◌, arith, Result, Ok, Err, IsErrAnd}
 use Rattle.std.proofs.Math.ListN.{length-set}
 use Rattle.std.proofs.lemmas.Bool.{leb-true, and_parts}
-use Rattle.x25_packet.specs.declared.packet.Packet.{Packet}
+use Rattle.x25_circuit.specs.declared.requested.Requested.{Requested}
 use Rattle.x25_packet.specs.Packet.{PlainPacket, restart}
 use Rattle.x25_circuit.specs.Params.{Proposal}
 use Rattle.x25_circuit.specs.declared.circuit.Circuit as circuit_code
@@ -93,7 +93,7 @@ layer_kept c v v₂ l h i y fits at like items fit = record {
 
 -- ---- what the circuit answers
 
-pub asks_ok : (c : LayerSettings) (v v₂ : code.Layer) (l : Layer) (h i : ℕ) (y : circuit_code.Circuit) (packet : Option Packet) (o : Outcome) → FitsLayer c v l → suc i ≡ h → IsLike v v₂ → v₂.circuits.items ≡ set v.circuits.items i y
+pub asks_ok : (c : LayerSettings) (v v₂ : code.Layer) (l : Layer) (h i : ℕ) (y : circuit_code.Circuit) (packet : Option Requested) (o : Outcome) → FitsLayer c v l → suc i ≡ h → IsLike v v₂ → v₂.circuits.items ≡ set v.circuits.items i y
     → AnswersRequest c.circuit y (Ok packet) o → AsksCircuit c v₂ (Ok packet) l h o
 asks_ok c v v₂ l h i y packet (Done next p) fits at like items a = (layer_put c v v₂ l h i y next fits at like items a.0, a.1)
 asks_ok c v v₂ l h i y packet (Refused e) fits at like items a = cc
@@ -106,7 +106,7 @@ named circuit_error.InterruptOutstanding other = refl
 named circuit_error.BadParameter other = refl
 named circuit_error.NoMemory other = absurd (other refl)
 
-circuit_err_is : (e f : CircuitError) → ◌≡◌ {A = Result (Option Packet) CircuitError} (Err e) (Err f) → e ≡ f
+circuit_err_is : (e f : CircuitError) → ◌≡◌ {A = Result (Option Requested) CircuitError} (Err e) (Err f) → e ≡ f
 circuit_err_is e f same = cc
 
 some_is_none : (e : CircuitError) → refusal_of (Refused e) ≡ None → ⊥
@@ -129,12 +129,12 @@ asks_err c v l h y e (Refused f) a accepted =
     ap (λ (x : LayerError). Err x) (ap of_circuit same ∙ named f (λ none. some_is_none f (accepted (same ∙ none))))
 
 -- the layer after an accepted call, before the pulls
-pub record IsAccepted (c : LayerSettings) (v : code.Layer) (l : Layer) (h : ℕ) (packet : Option Packet) (o : Outcome) : Type 0 where
+pub record IsAccepted (c : LayerSettings) (v : code.Layer) (l : Layer) (h : ℕ) (packet : Option Requested) (o : Outcome) : Type 0 where
   pub next : Layer
   pub fits : FitsLayer c v next
   pub accepted : outcome_on l.restarts l.circuits h o ≡ Accepted next (packet_on h (plain_sent packet))
 
-pub is_accepted : (c : LayerSettings) (v : code.Layer) (l : Layer) (h : ℕ) (packet : Option Packet) (o : Outcome) → l.restarting ≡ false → AsksCircuit c v (Ok packet) l h o → IsAccepted c v l h packet o
+pub is_accepted : (c : LayerSettings) (v : code.Layer) (l : Layer) (h : ℕ) (packet : Option Requested) (o : Outcome) → l.restarting ≡ false → AsksCircuit c v (Ok packet) l h o → IsAccepted c v l h packet o
 is_accepted c v l h packet (Done next p) ready a = record {
   next = is_ready l.restarts (put_at l.circuits h next);
   fits = subst (λ (b : Bool). FitsLayer c v (record { restarting = b; restarts = l.restarts; circuits = put_at l.circuits h next })) ready a.0;
@@ -143,14 +143,14 @@ is_accepted c v l h packet (Done next p) ready a = record {
 is_accepted c v l h packet (Refused e) ready a = cc
 
 -- what an accepted call of the circuit leaves, with its packet to be put
-pub accepted : (T : Type 0) (u : T) (c : LayerSettings) (v v₂ : code.Layer) (l : Layer) (h : ℕ) (packet : Option Packet) (o : Outcome) → IsAccepted c v l h packet o → IsLike v v₂ → v₂.circuits.items ≡ v.circuits.items
+pub accepted : (T : Type 0) (u : T) (c : LayerSettings) (v v₂ : code.Layer) (l : Layer) (h : ℕ) (packet : Option Requested) (o : Outcome) → IsAccepted c v l h packet o → IsLike v v₂ → v₂.circuits.items ≡ v.circuits.items
     → v₂.sheet ≡ spelled (packet_on h (plain_sent packet)) → Gives c v₂ (Ok u) (outcome_on l.restarts l.circuits h o)
 accepted T u c v v₂ l h packet o a like items put =
     subst (λ (r : LayerOutcome). Gives c v₂ (Ok u) r) (sym a.accepted) (layer_same c v v₂ a.next like items a.fits, put)
 
 -- a message puts none at once
-pub put_later : (request : Request) (h : ℕ) (packet : Option Packet) (octets : List ℕ) → MayPut request packet → octets ≡ spelled (packet_on h (plain_sent packet)) → puts_at_once request ≡ false → octets ≡ []
-put_later (Sends marks user) h packet octets none put later = put ∙ ap (λ (o : Option Packet). spelled (packet_on h (plain_sent o))) none
+pub put_later : (request : Request) (h : ℕ) (packet : Option Requested) (octets : List ℕ) → MayPut request packet → octets ≡ spelled (packet_on h (plain_sent packet)) → puts_at_once request ≡ false → octets ≡ []
+put_later (Sends marks user) h packet octets none put later = put ∙ ap (λ (o : Option Requested). spelled (packet_on h (plain_sent o))) none
 put_later (Calls called calling user proposal) h packet octets may put later = absurd (cc)
 put_later (Accepts answer) h packet octets may put later = absurd (cc)
 put_later (Clears cause diagnostic) h packet octets may put later = absurd (cc)

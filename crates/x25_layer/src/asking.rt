@@ -15,8 +15,7 @@ ghost use Rattle.x25_layer.specs.Asking.{AsksCircuit, refusal_on};
 use crate::error::LayerError;
 use crate::layer::Layer;
 use crate::link_state::LinkState;
-use x25_circuit::Request;
-use x25_packet::Packet;
+use x25_circuit::{Request, Requested};
 
 /// All but a message put a packet at once.
 pub(crate) fn puts_at_once(request: &Request<'_>) -> bool
@@ -49,7 +48,7 @@ impl Layer {
         &mut self,
         channel: u16,
         request: Request<'a>,
-    ) -> Result<Option<Packet<'a>>, LayerError>
+    ) -> Result<Option<Requested<'a>>, LayerError>
         requires { is_number (length self.old.circuits.items) channel ≡ true }
         ensures outcome { (c : LayerSettings) (l : State) → FitsLayer c self.old l
             → AsksCircuit c self.new result l channel

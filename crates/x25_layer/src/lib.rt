@@ -17,7 +17,6 @@ mod ranges;
 mod receiving;
 mod report;
 mod restarting;
-mod sending;
 mod sheet;
 mod stretch;
 

@@ -1,17 +1,16 @@
 //! The packet that a call of a layer leaves to be put into its link.
 ghost use Rattle.std.specs.Prelude.{◌≡◌, ◌≤◌, length};
-ghost use Rattle.x25_packet.specs.Packet.{plain};
+ghost use Rattle.x25_packet.specs.Packet.{accept, call, plain};
 ghost use Rattle.x25_packet.specs.Spelling.{IsChannel, IsInRange, spelling_of};
 ghost use Rattle.x25_circuit.specs.code.Replies.{IsControl, IsSendable, plain_owed, plain_sent};
 ghost use Rattle.x25_layer.specs.Layer.{packet_on};
 ghost use Rattle.x25_layer.specs.code.Answering.{spelled};
 
-use crate::sending::on_channel;
 use std::alloc::{AllocError, Global};
 use std::marker::Model;
-use x25_circuit::Owed;
+use x25_circuit::{Owed, Requested};
 use x25_frame::N1;
-use x25_packet::{Packet, encode};
+use x25_packet::{Digits, FacilityField, Packet, encode, encode_accept, encode_call};
 
 /// Memory for one packet: its octets, or none.
 #[derive(Drop)]
@@ -67,9 +66,36 @@ impl Sheet {
         encode(packet, &mut self.octets).unwrap();
     }
 
-    /// The packet that a circuit sends for its user, where there is one, is to be put on its channel.
+    /// A CALL of these is to be put.
+    #[tactic(auto, using(crate::proofs::LengthLemmas::spelled_long))]
+    fn spell_call(
+        &mut self,
+        channel: u16,
+        called: &Digits,
+        calling: &Digits,
+        facilities: &FacilityField,
+        user: &[u8],
+    )
+        requires { IsInRange 128 (call channel called.now calling.now facilities.now user.now) }
+        ensures { self.new ≡ spelling_of (call channel called.now calling.now facilities.now user.now) }
+    {
+        self.octets.clear();
+        encode_call(channel, called, calling, facilities, user, &mut self.octets).unwrap();
+    }
+
+    /// An ACCEPT with these facilities is to be put.
+    #[tactic(auto, using(crate::proofs::LengthLemmas::spelled_long))]
+    fn spell_accept(&mut self, channel: u16, facilities: &FacilityField)
+        requires { IsInRange 128 (accept channel facilities.now) }
+        ensures { self.new ≡ spelling_of (accept channel facilities.now) }
+    {
+        self.octets.clear();
+        encode_accept(channel, facilities, &mut self.octets).unwrap();
+    }
+
+    /// The packet that a request of the user sends, where it sends one, is to be put on its channel.
     #[inline(always)]
-    pub(crate) fn spell_sent(&mut self, channel: u16, packet: Option<Packet<'_>>)
+    pub(crate) fn spell_sent(&mut self, channel: u16, packet: Option<Requested<'_>>)
         requires channel { IsChannel channel }
         requires range { IsSendable (plain_sent packet) }
         requires control { IsControl (plain_sent packet) }
@@ -80,7 +106,17 @@ impl Sheet {
             self.clear();
             return;
         };
-        self.spell(&on_channel(packet, channel));
+        match packet {
+            Requested::Call {
+                called,
+                calling,
+                facilities,
+                user,
+            } => self.spell_call(channel, &called, &calling, &facilities, user),
+            Requested::Accept { facilities } => self.spell_accept(channel, &facilities),
+            Requested::Interrupt { user } => self.spell(&Packet::Interrupt { channel, user }),
+            Requested::Owed(owed) => self.spell(&owed.packet(channel)),
+        }
     }
 
     /// The packet that a circuit owes for one that came, where there is one, is to be put on its channel.

@@ -1,12 +1,12 @@
 -- What is acknowledged at a step is what the N(R) that was heard acknowledges: the rest of the step leaves it.
-use Rattle.std.proofs.Common.{◌≡◌, ℕ, zero, suc, ◌+◌, Bool, true, false, not, if◌then◌else◌, List, Some, None, refl, sym, ap, ◌∙◌, arith}
+use Rattle.std.proofs.Common.{◌≡◌, ℕ, zero, suc, ◌+◌, Bool, true, false, not, if◌then◌else◌, refl, sym, ap, ◌∙◌, arith}
 use Rattle.std.specs.Prelude.{nat_lt}
 use Rattle.std.proofs.lemmas.Bool.{le-ltb}
 use Rattle.x25_link.specs.declared.phase.Phase.{Phase}
 use Rattle.x25_link.specs.declared.phase.Phase.TheVariants.{Down, Waiting, Up, Closed}
 use Rattle.x25_link.specs.declared.phase.Reason.TheVariants.{Retries}
 use Rattle.x25_link.specs.Station.{Settings, LinkStation, Side, is_busy, with_near, ready, may_send, pumped, owes_ready, ended}
-use Rattle.x25_link.specs.Hearing.{Step, acknowledges, quiet, leaves, is_taken, takes, answers, passes_over, hears_info, polls}
+use Rattle.x25_link.specs.Hearing.{Step, acknowledges, quiet, leaves, answers, passes_over, polls}
 use Rattle.x25_link.specs.Link.{asks_again, fires, closed_by}
 
 abbrev acked : Side → ℕ
@@ -33,21 +33,14 @@ polls_same true false t = refl
 polls_same false true t = refl
 polls_same false false t = refl
 
-answers_same : (k : ℕ) (p : Bool) (t : Side) → acked (answers k p t) ≡ acked t
+pub answers_same : (k : ℕ) (p : Bool) (t : Side) → acked (answers k p t) ≡ acked t
 answers_same k true t = ready_same false true t
 answers_same k false t = if_same (may_send k t.near) _ _ t refl (ready_same false false t)
 
-passed_same : (p : Bool) (t : Side) → acked (passes_over p t) ≡ acked t
+pub passed_same : (p : Bool) (t : Side) → acked (passes_over p t) ≡ acked t
 passed_same p t =
     if_same (is_busy t.near) _ _ t (ready_same false p t)
     (if_same (not t.near.rejecting) _ _ t refl (if_same p _ _ t (ready_same false true t) refl))
-
-pub info_same : (k ns : ℕ) (p : Bool) (packet : List ℕ) (t : Side) → acked (hears_info k ns p packet t).side ≡ acked t
-info_same k ns p packet t = by (is_taken ns t.near)
-  where
-    by : (b : Bool) → acked (if b then (record { side = answers k p (takes packet t); packet = Some packet; notes = record { down = None; up = false } }) else quiet (passes_over p t)).side ≡ acked t
-    by true = answers_same k p (takes packet t)
-    by false = passed_same p t
 
 -- the end of a step leaves what it acknowledges
 pub closed_same : (s : LinkStation) (k : ℕ) (step : Step) → acknowledges s (closed_by k step) ≡ acknowledges s step

@@ -1,5 +1,5 @@
 -- What the code's variables stand for after a small change.
-use Rattle.std.proofs.Common.{◌≡◌, ℕ, ◌%◌, List, [], ◌∷◌, ◌++◌, Bool, true, false, None, if◌then◌else◌, refl, sym, ap, ◌∙◌, append_assoc, add-one, ◌+◌, ◌<◌, ◌==◌, arith}
+use Rattle.std.proofs.Common.{◌≡◌, ℕ, ◌%◌, List, [], ◌∷◌, ◌++◌, Bool, true, false, if◌then◌else◌, refl, sym, ap, ◌∙◌, append_assoc, add-one, ◌+◌, ◌<◌, ◌==◌, max, arith}
 use Rattle.std.proofs.lemmas.Bool.{eq-eqb, ne_eqb}
 use Rattle.x25_window.specs.code.Modulo.{resolved}
 use Rattle.std.proofs.lemmas.List.{map-append}
@@ -13,8 +13,7 @@ use Rattle.x25_link.specs.code.OutgoingHeld.{FitsOutgoing}
 use Rattle.x25_link.specs.declared.phase.Phase.{Phase}
 use Rattle.x25_link.specs.declared.phase.Phase.TheVariants.{Up}
 use Rattle.x25_link.specs.Station.{Settings, LinkStation, Side, with_near, with_nothing, fresh, is_up, wanted, may_send, pumped, pumped_once}
-use Rattle.x25_link.specs.Hearing.{Step, acknowledged, is_taken, hears_info, peer_is, goes_back}
-use Rattle.x25_link.specs.declared.phase.Notes.{Notes}
+use Rattle.x25_link.specs.Hearing.{acknowledged, peer_is, goes_back}
 use Rattle.x25_link.specs.code.Fits.{FitsStation, FitsSide, Made}
 
 pub made_more : (c : Settings) (role : Role) (before old made : List (List ℕ)) (frames : List PlainFrame) (frame : PlainFrame) → role ≡ c.role → Made c before old frames
@@ -124,15 +123,14 @@ risen c v b before made t count nr side some number outgoing =
       out = side.out;
     })
 
-pub not_risen : (c : Settings) (v : StationCode) (b : OutgoingCode) (before made : List (List ℕ)) (t : Side) (count nr : ℕ) → FitsSide c v before made t → count ≡ 0
-    → t.near.outgoing.acked + count ≡ resolved t.near.outgoing.acked nr → FitsOutgoing c.window b (acknowledged_to (t.near.outgoing.acked + count) t.near.outgoing)
-    → FitsSide c (record v { outgoing = b }) before made (acknowledged nr t)
-not_risen c v b before made t count nr side none number outgoing =
-    let test : (resolved t.near.outgoing.acked nr == t.near.outgoing.acked) ≡ true = eq-eqb _ _ (omega arith) in
-    rw test (record {
-      near = with_outgoing c v t.near b _ side.near (rw number at outgoing);
-      out = side.out;
-    })
+pub not_risen : (c : Settings) (v : StationCode) (before made : List (List ℕ)) (t : Side) (count nr : ℕ) → FitsSide c v before made t → count ≡ 0
+    → t.near.outgoing.acked + count ≡ resolved t.near.outgoing.acked nr → FitsSide c v before made (acknowledged nr t)
+not_risen c v before made t count nr side none number =
+    let o = t.near.outgoing in
+    let same : resolved o.acked nr ≡ o.acked = omega (arith, number, none) in
+    let test : (o.acked == o.acked) ≡ true = eq-eqb _ _ refl in
+    let place : max o.place o.acked ≡ o.place = omega (arith, side.near.outgoing.sender.sound.place_low) in
+    rw (same, test, place) side
 
 pub no_tries : (c : Settings) (v : StationCode) (before made : List (List ℕ)) (t : Side) → FitsSide c v before made (with_near t (with_nothing Up t.near.tries))
     → FitsSide c (record v { tries = 0 }) before made (with_near t fresh)
@@ -164,13 +162,6 @@ peer_fits c v before made t busy side =
 pub back_fits : (c : Settings) (v : StationCode) (b : OutgoingCode) (before made : List (List ℕ)) (t : Side) → FitsSide c v before made t → FitsOutgoing c.window b (gone_back t.near.outgoing)
     → FitsSide c (record v { outgoing = b }) before made (goes_back t)
 back_fits c v b before made t side outgoing = record { near = with_outgoing c v t.near b _ side.near outgoing; out = side.out }
-
-notes_by : (b : Bool) (x y : Step) (n : Notes) → x.notes ≡ n → y.notes ≡ n → (let z : Step = if b then x else y in z.notes) ≡ n
-notes_by true x y n e f = e
-notes_by false x y n e f = f
-
-pub info_notes : (k ns : ℕ) (p : Bool) (packet : List ℕ) (t : Side) → (hears_info k ns p packet t).notes ≡ record { down = None; up = false }
-info_notes k ns p packet t = notes_by (is_taken ns t.near) _ _ _ refl refl
 
 -- ---- other variables
 

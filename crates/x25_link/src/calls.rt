@@ -1,10 +1,10 @@
 //! What a station does at the calls of its user and of its timer.
 ghost use Rattle.std.specs.Prelude.{◌≡◌, ℕ, ◌+◌, ◌<◌, ◌≤◌, List, length, false, true};
 ghost use Rattle.x25_link.specs.Station.{Settings, LinkStation as StationState, Side, may_send, owes_ready};
-ghost use Rattle.x25_link.specs.code.Fits.{FitsStation, FitsSide, Leads, Hears};
+ghost use Rattle.x25_link.specs.code.Fits.{FitsSide, Leads, Hears};
 ghost use Rattle.x25_link.specs.code.Places.{left_for};
 ghost use Rattle.x25_link.specs.Hearing.{quiet};
-ghost use Rattle.x25_link.specs.Link.{alone, puts, connects, disconnects, fires, timer_runs, is_idle, asks_again};
+ghost use Rattle.x25_link.specs.Link.{alone, puts, connects, disconnects, fires, asks_again};
 ghost use Rattle.x25_link.specs.Link.{closed_by, relinks};
 
 use crate::frames::Frames;
@@ -75,18 +75,6 @@ impl LinkStation {
         heard
     }
 
-    /// Whether timer T1 runs.
-    pub fn timer_runs(&self) -> bool
-        ensures { (c : Settings) (s : StationState) → FitsStation c self.now s → result ≡ timer_runs s.phase s }
-    {
-        if self.phase.is_up() {
-            // One test: a branch for each is often guessed wrong.
-            (self.outgoing.unacked() > 0) | (self.recovery | self.peer_busy)
-        } else {
-            self.phase.awaits_ua()
-        }
-    }
-
     /// A firing of timer T1, where it runs.
     pub fn fire<'a>(&mut self, out: &mut Frames) -> Heard<'a>
         requires { length out.old < 25 }
@@ -117,12 +105,5 @@ impl LinkStation {
                 out,
             ),
         }
-    }
-
-    /// Whether the link is up, nothing waits and all that was sent is acknowledged.
-    pub fn is_idle(&self) -> bool
-        ensures { (c : Settings) (s : StationState) → FitsStation c self.now s → result ≡ is_idle s }
-    {
-        self.phase.is_up() && self.outgoing.waiting() == 0 && self.outgoing.unacked() == 0
     }
 }

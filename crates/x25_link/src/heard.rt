@@ -44,14 +44,14 @@ impl<'a> Heard<'a> {
         }
     }
 
-    /// An N(R), which acknowledged frames or none.
-    pub(crate) fn numbered(acknowledged: bool) -> Heard<'a>
-        ensures packet { result.packet ≡ None }
+    /// An N(R), which acknowledged frames or none, and the packet that came with it.
+    pub(crate) fn numbered(packet: Option<&'a [u8]>, acknowledged: bool) -> Heard<'a>
+        ensures packet { result.packet ≡ packet.entry }
         ensures notes { result.notes ≡ record { down = None; up = false } }
         ensures acknowledged { result.acknowledged ≡ acknowledged }
     {
         Heard {
-            packet: None,
+            packet,
             notes: Notes {
                 down: None,
                 up: false,

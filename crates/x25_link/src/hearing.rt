@@ -1,12 +1,12 @@
 //! What a station does with the octets that it takes, phase by phase.
-ghost use Rattle.std.specs.Prelude.{◌≡◌, ℕ, ◌+◌, ◌<◌, ◌≤◌, List, length, Ok, Err, true, false};
+ghost use Rattle.std.specs.Prelude.{◌≡◌, ◌+◌, ◌<◌, ◌≤◌, length, Ok, Err, true, false};
 ghost use Rattle.x25_frame.specs.Frame.{plain};
 ghost use Rattle.x25_frame.specs.Reading.{frame_of};
-ghost use Rattle.x25_link.specs.Station.{Settings, LinkStation as StationState, is_up, may_send, owes_ready};
-ghost use Rattle.x25_link.specs.code.Fits.{FitsStation, FitsSide, FitsHeard, Leads, Hears};
+ghost use Rattle.x25_link.specs.Station.{is_up};
+ghost use Rattle.x25_link.specs.code.Fits.{Leads, Hears};
 ghost use Rattle.x25_link.specs.Hearing.{numbered, hears_info, polls, peer_is, goes_back, quiet, row_of_frame, row_of};
 ghost use Rattle.x25_link.specs.Hearing.{other};
-ghost use Rattle.x25_link.specs.Link.{declines, when_down, when_waiting, hears, alone, take_step};
+ghost use Rattle.x25_link.specs.Link.{declines, when_down, when_waiting, hears};
 
 use crate::frames::Frames;
 use crate::frmr::{BAD_INFORMATION, INVALID_NR, LONG_INFORMATION, UNDEFINED_CONTROL};
@@ -37,10 +37,12 @@ impl LinkStation {
         let Some(acknowledged) = self.acknowledge(nr) else {
             return self.reject(octets, INVALID_NR, out);
         };
-        let packet = self.hear_info(ns, p, info, out);
-        let mut heard = Heard::numbered(acknowledged);
-        heard.packet = packet;
-        heard
+        if !self.takes(ns) {
+            self.pass_over(p, out);
+            return Heard::numbered(None, acknowledged);
+        }
+        self.answer(p, out);
+        Heard::numbered(Some(info), acknowledged)
     }
 
     // RR, or RNR where the peer is busy.
@@ -64,7 +66,7 @@ impl LinkStation {
         };
         self.peer_busy = busy;
         self.poll(command, pf, out);
-        Heard::numbered(acknowledged)
+        Heard::numbered(None, acknowledged)
     }
 
     // REJ.
@@ -87,7 +89,7 @@ impl LinkStation {
         self.peer_busy = false;
         self.outgoing.go_back();
         self.poll(command, pf, out);
-        Heard::numbered(acknowledged)
+        Heard::numbered(None, acknowledged)
     }
 
     // A frame, in Up.
@@ -219,8 +221,8 @@ impl LinkStation {
 
     // ---- all phases
 
-    // What the octets bring, before the sending rule.
-    fn hear_octets<'a>(&mut self, octets: &'a [u8], out: &mut Frames) -> Heard<'a>
+    /// What the octets bring, before the sending rule.
+    pub fn hear<'a>(&mut self, octets: &'a [u8], out: &mut Frames) -> Heard<'a>
         requires place { length out.old < 25 }
         ensures step { Hears self.old self.new out.old out.new result
             (λ c t. hears c octets.now (frame_of (other c.role) c.longest octets.now) t.near.phase t) }
@@ -233,22 +235,5 @@ impl LinkStation {
             Ok(frame) => self.hear_frame(octets, frame, out),
             Err(error) => self.hear_error(octets, error, out),
         }
-    }
-
-    /// Takes octets, and sends what they ask for.
-    pub fn hear<'a>(&mut self, octets: &'a [u8], out: &mut Frames) -> Heard<'a>
-        requires places { length out.old + 9 ≤ 25 }
-        ensures step { (c : Settings) (before : List (List ℕ)) (s : StationState)
-            → FitsSide c self.old before out.old (alone s) →
-            FitsHeard c self.new s before out.new result (take_step c octets.now s) }
-        ensures settled { (c : Settings) (s : StationState) → FitsStation c self.old s
-            → may_send c.window (take_step c octets.now s).side.near ≡ false }
-        ensures calm { (c : Settings) (s : StationState) → FitsStation c self.old s
-            → owes_ready (take_step c octets.now s).side.near ≡ false }
-        ensures few { length out.new ≤ length out.old + 9 }
-    {
-        let heard = self.hear_octets(octets, out);
-        self.end(out);
-        heard
     }
 }

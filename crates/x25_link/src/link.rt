@@ -99,7 +99,9 @@ impl Link {
         ensures { Does self.old self.new (Ok result) (λ s. None) (λ c s. take_step c octets.now s) }
     {
         self.frames.clear();
-        self.station.hear(octets, &mut self.frames)
+        let heard = self.station.hear(octets, &mut self.frames);
+        self.station.end(&mut self.frames);
+        heard
     }
 
     /// Disconnects this end, for good: DISC with P=1. It notes LinkDown(local) where the link was up.
@@ -122,7 +124,7 @@ impl Link {
     pub fn t1(&mut self) -> Result<Heard<'static>, LinkError>
         ensures { Does self.old self.new result timer_refusal timer_step }
     {
-        if !self.station.timer_runs() {
+        if !self.timer_runs() {
             return Err(LinkError::NotRunning);
         }
         self.frames.clear();
@@ -183,7 +185,8 @@ impl Link {
     pub fn idle(&self) -> bool
         ensures { (c : Settings) (s : StationState) → FitsLink c self.now s → result ≡ is_idle s }
     {
-        self.station.is_idle()
+        let outgoing = &self.station.outgoing;
+        self.is_up() && outgoing.queue.len() == 0 && outgoing.sender.unacked() == 0
     }
 
     /// Whether this end sent a SABM and awaits its UA.
@@ -197,7 +200,13 @@ impl Link {
     pub fn timer_runs(&self) -> bool
         ensures { (c : Settings) (s : StationState) → FitsLink c self.now s → result ≡ timer_runs s.phase s }
     {
-        self.station.timer_runs()
+        let station = &self.station;
+        if station.phase.is_up() {
+            // One test: a branch for each is often guessed wrong.
+            (station.outgoing.sender.unacked() > 0) | (station.recovery | station.peer_busy)
+        } else {
+            station.phase.awaits_ua()
+        }
     }
 
     /// The most octets of a packet that is handed down.
@@ -213,7 +222,7 @@ impl Link {
         ensures state { (c : Settings) (s : StationState) → FitsLink c self.now s → result ≡ waits s.outgoing }
         ensures few { result ≤ 256 }
     {
-        self.station.outgoing.waiting()
+        self.station.outgoing.queue.len()
     }
 
     /// Whether the link is up.
@@ -245,7 +254,7 @@ impl Link {
         if !self.station.phase.is_up() {
             return Err(LinkError::NotUp);
         }
-        if self.station.outgoing.waiting() == PLACES {
+        if self.station.outgoing.queue.len() == PLACES {
             return Err(LinkError::QueueFull);
         }
         if self.frames.len() == MOST_FRAMES {

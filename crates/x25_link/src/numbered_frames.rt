@@ -1,10 +1,10 @@
 //! What a station that is Up does with frames that carry an N(R).
-ghost use Rattle.std.specs.Prelude.{◌≡◌, ℕ, ◌+◌, ◌<◌, ◌≤◌, nat_lt, List, length, true, false, option_copied};
+ghost use Rattle.std.specs.Prelude.{◌≡◌, ℕ, ◌+◌, ◌<◌, ◌≤◌, nat_lt, List, length, true, false};
 ghost use Rattle.std.specs.Prelude.{is_some, IfSome, OnSome, MatchOption};
 ghost use Rattle.x25_window.specs.code.Modulo.{resolved};
 ghost use Rattle.x25_link.specs.Station.{Settings, LinkStation as StationState, Side};
 ghost use Rattle.x25_link.specs.code.Fits.{FitsStation, FitsSide, Leads};
-ghost use Rattle.x25_link.specs.Hearing.{is_valid, acknowledged, is_taken, takes, answers, passes_over, hears_info};
+ghost use Rattle.x25_link.specs.Hearing.{is_valid, acknowledged, is_taken, takes, answers, passes_over};
 ghost use Rattle.x25_link.specs.Hearing.{polls};
 
 use crate::frames::Frames;
@@ -25,43 +25,20 @@ impl LinkStation {
             → OnSome result (FitsSide c self.new before made (acknowledged nr.number t)) }
         ensures unchanged { MatchOption result (self.new ≡ self.old) (λ _. Unit {0}) }
     {
-        let Ok(count) = self.outgoing.ack(nr) else {
+        let Ok(count) = self.outgoing.sender.acknowledges(nr) else {
             return None;
         };
         if count == 0 {
             return Some(false);
         }
+        self.outgoing.release(count);
         self.tries = 0;
         Some(true)
     }
 
-    /// Takes an I frame whose N(R) is valid. It hands the packet up where the frame is the one wanted and the station
-    /// isn't busy.
-    pub fn hear_info<'a>(
-        &mut self,
-        ns: Seq,
-        p: bool,
-        info: &'a [u8],
-        out: &mut Frames,
-    ) -> Option<&'a [u8]>
-        requires place { length out.old < 25 }
-        ensures step { (c : Settings) (before : List (List ℕ)) (t : Side) → FitsSide c self.old before out.old t →
-            FitsSide c self.new before out.new (hears_info c.window ns.number p info.now t).side }
-        ensures packet { (c : Settings) (before : List (List ℕ)) (t : Side)
-            → FitsSide c self.old before out.old t →
-            option_copied result ≡ (hears_info c.window ns.number p info.now t).packet }
-        ensures one { length out.new ≤ length out.old + 1 }
-    {
-        if self.takes(ns) {
-            self.answer(p, out);
-            return Some(info);
-        }
-        self.pass_over(p, out);
-        None
-    }
-
-    // Whether an I frame of this number is taken. The REJ condition ends with that.
-    fn takes(&mut self, ns: Seq) -> bool
+    /// Whether an I frame of this number is taken: the one wanted, where the station isn't busy. The REJ condition ends
+    /// with that.
+    pub fn takes(&mut self, ns: Seq) -> bool
         ensures value { (c : Settings) (s : StationState) → FitsStation c self.old s → result ≡ is_taken ns.number s }
         ensures taken { (c : Settings) (packet : List ℕ) (before made : List (List ℕ)) (t : Side)
             → FitsSide c self.old before made t → result ≡ true → FitsSide c self.new before made (takes packet t) }
@@ -79,8 +56,8 @@ impl LinkStation {
         true
     }
 
-    // Answers an I frame that was taken.
-    fn answer(&mut self, p: bool, out: &mut Frames)
+    /// Answers an I frame that was taken.
+    pub fn answer(&mut self, p: bool, out: &mut Frames)
         requires place { length out.old < 25 }
         ensures step { Leads self.old self.new out.old out.new (λ c t. answers c.window p t) }
         ensures one { length out.new ≤ length out.old + 1 }
@@ -94,8 +71,8 @@ impl LinkStation {
         }
     }
 
-    // Passes over an I frame that isn't taken.
-    fn pass_over(&mut self, p: bool, out: &mut Frames)
+    /// Passes over an I frame that isn't taken.
+    pub fn pass_over(&mut self, p: bool, out: &mut Frames)
         requires { length out.old < 25 }
         ensures step { Leads self.old self.new out.old out.new (λ c t. passes_over p t) }
         ensures one { length out.new ≤ length out.old + 1 }

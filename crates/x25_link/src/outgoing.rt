@@ -1,12 +1,11 @@
-ghost use Rattle.std.specs.Prelude.{◌≡◌, ℕ, ◌+◌, ◌-◌, ◌%◌, ◌<◌, ◌≤◌, ◌&&◌, nat_lt, List, [], ◌∷◌, ◌++◌, length};
-ghost use Rattle.std.specs.Prelude.{slice_get, slice_index_or, IfOk, IfErr, OnOk, OnErr, MatchOption};
+ghost use Rattle.std.specs.Prelude.{◌≡◌, ℕ, ◌+◌, ◌-◌, ◌%◌, ◌<◌, ◌≤◌, nat_lt, List, [], ◌∷◌, ◌++◌, length};
+ghost use Rattle.std.specs.Prelude.{slice_index_or, IfOk, IfErr, MatchOption};
 ghost use Rattle.std.specs.Prelude.{true, false, if◌then◌else◌};
-ghost use Rattle.x25_window.specs.code.Modulo.{resolved};
 ghost use Rattle.x25_window.specs.Sender.{Sending, acknowledged, moved_on, offered};
 ghost use Rattle.x25_window.specs.code.Held.{Fits, with_item};
 ghost use Rattle.x25_frame.specs.Frame.{info};
 ghost use Rattle.x25_frame.specs.Spelling.{spelling_of};
-ghost use Rattle.x25_link.specs.Outgoing.{Outgoing as OutgoingState, no_packet, added, acknowledged_to, gone_back};
+ghost use Rattle.x25_link.specs.Outgoing.{Outgoing as OutgoingState, no_packet, added, gone_back};
 ghost use Rattle.x25_link.specs.Outgoing.{is_open, next_packet, waits};
 ghost use Rattle.x25_link.specs.Outgoing.{moved_on as sent_on};
 ghost use Rattle.x25_link.specs.code.Places.{longs, left_for};
@@ -17,7 +16,7 @@ use crate::places::{Packet, Places};
 use crate::waiting_packets::WaitingPackets;
 use std::alloc::Global;
 use x25_bits::{Role, Seq};
-use x25_window::{Sender, WindowError};
+use x25_window::Sender;
 
 /// How many places there are for long packets: for 7 that stand unacknowledged and 8 that wait, as a packet layer has
 /// them.
@@ -59,23 +58,6 @@ impl Outgoing {
         }))
     }
 
-    /// How many packets wait.
-    pub fn waiting(&self) -> usize
-        ensures value { result ≡ length self.now.queue }
-        ensures state { (k : ℕ) (o : OutgoingState) → FitsOutgoing k self.now o → result ≡ waits o }
-        ensures few { result ≤ 256 }
-    {
-        self.queue.len()
-    }
-
-    /// How many frames were sent and aren't acknowledged.
-    #[tactic(auto, using(crate::proofs::OutgoingLemmas::sent_length))]
-    pub fn unacked(&self) -> u8
-        ensures { (k : ℕ) (o : OutgoingState) → FitsOutgoing k self.now o → o.acked + result ≡ o.sent }
-    {
-        self.sender.unacked()
-    }
-
     /// The highest number ever sent plus one.
     #[tactic(auto, using(crate::proofs::OutgoingLemmas::sent_length))]
     pub fn top(&self) -> Seq
@@ -107,31 +89,8 @@ impl Outgoing {
         self.queue.push(packet);
     }
 
-    /// Takes a received N(R), and says how many frames it acknowledges. 7 BadAck where it is none from the first frame
-    /// that isn't acknowledged to V(S) at its highest; nothing changes then.
-    #[inline(always)]
-    #[tactic(auto, using(crate::proofs::OutgoingLemmas::sent_length))]
-    pub fn ack(&mut self, nr: Seq) -> Result<u8, WindowError>
-        ensures step { (k : ℕ) (o : OutgoingState) → FitsOutgoing k self.old o
-            → IfOk result (λ count. FitsOutgoing k self.new (acknowledged_to (o.acked + count) o)) }
-        ensures number { (k : ℕ) (o : OutgoingState) → FitsOutgoing k self.old o
-            → IfOk result (λ count. o.acked + count ≡ resolved o.acked nr.number) }
-        ensures within { (k : ℕ) (o : OutgoingState) → FitsOutgoing k self.old o
-            → IfOk result (λ count. o.acked + count ≤ o.sent) }
-        ensures beyond { (k : ℕ) (o : OutgoingState) → FitsOutgoing k self.old o
-            → OnErr result (o.sent < resolved o.acked nr.number) }
-        ensures err { OnErr result (self.new ≡ self.old) }
-    {
-        let count = self.sender.acknowledges(nr)?;
-        if count == 0 {
-            return Ok(0);
-        }
-        self.release(count);
-        Ok(count)
-    }
-
-    // Takes the first packets as acknowledged, and their places back.
-    fn release(&mut self, count: u8)
+    /// Takes the first packets as acknowledged, and their places back.
+    pub fn release(&mut self, count: u8)
         requires { count ≤ length self.old.sender.items }
         ensures sender { (w : Sending (List ℕ)) → Fits self.old.sender w
             → Fits self.new.sender (acknowledged w (w.acked + count)) }

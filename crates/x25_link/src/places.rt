@@ -3,7 +3,7 @@ ghost use Rattle.x25_link.specs.code.Places.{room_for, long_of, left_for};
 
 use std::alloc::{AllocError, Global};
 use std::marker::Model;
-use x25_bits::with_octets;
+use x25_bits::append_octets;
 
 /// How many packets at most wait or stand unacknowledged: for each there is a short place.
 const MOST_PACKETS: usize = 263;
@@ -102,7 +102,8 @@ impl<const ROOM: usize> Spares<ROOM> {
         let spare = self.places.pop().unwrap();
         let mut octets = spare.octets;
         octets.clear();
-        with_octets(octets, packet)
+        append_octets(&mut octets, packet);
+        octets
     }
 
     // Takes a place back.

@@ -3,7 +3,7 @@ ghost use Rattle.x25_frame.specs.Frame.{plain};
 ghost use Rattle.x25_frame.specs.Spelling.{information_of};
 ghost use Rattle.x25_link.specs.Hearing.{leaves};
 ghost use Rattle.x25_link.specs.Station.{Settings, LinkStation as StationState, Side, is_busy, sends, ready};
-ghost use Rattle.x25_link.specs.Station.{with_nothing, with_near, fresh, may_send, pumped_once, pumped, finished};
+ghost use Rattle.x25_link.specs.Station.{with_nothing, with_near, fresh, may_send, pumped_once, pumped};
 ghost use Rattle.x25_link.specs.Station.{ended};
 
 use crate::frames::Frames;
@@ -51,7 +51,7 @@ impl LinkStation {
     pub fn is_busy(&self) -> bool
         ensures { (c : Settings) (s : StationState) → FitsStation c self.now s → result ≡ is_busy s }
     {
-        self.outgoing.waiting() > BUSY_ABOVE
+        self.outgoing.queue.len() > BUSY_ABOVE
     }
 
     /// Sends a frame that carries no packet.
@@ -90,27 +90,18 @@ impl LinkStation {
         ensures few { length out.new ≤ length out.old + 8 }
     {
         self.pump(out);
-        self.finish(out);
+        if self.phase.is_up() && self.said_busy && !self.is_busy() {
+            self.ready(false, false, out);
+        }
     }
 
-    // The sending rule, for the frames of a window: where it sends no first one, it sends none.
+    // The sending rule, for the frames of a window: where it sends none, there is none behind it.
     fn pump(&mut self, out: &mut Frames)
         requires { length out.old + 7 ≤ 25 }
         ensures step { Leads self.old self.new out.old out.new (λ c t. pumped 7 c.window t) }
         ensures few { length out.new ≤ length out.old + 7 }
     {
-        if self.pump_once(out) {
-            self.pump_on(out);
-        }
-    }
-
-    // The sending rule, for the frames behind the first one of a window.
-    fn pump_on(&mut self, out: &mut Frames)
-        requires { length out.old + 6 ≤ 25 }
-        ensures step { Leads self.old self.new out.old out.new (λ c t. pumped 6 c.window t) }
-        ensures few { length out.new ≤ length out.old + 6 }
-    {
-        for _frame in 0..FRAMES - 1 {
+        for _frame in 0..FRAMES {
             if !self.pump_once(out) {
                 return;
             }
@@ -131,17 +122,6 @@ impl LinkStation {
         }
         let nr = self.receiver.wanted();
         self.outgoing.send_next(self.role, nr, out)
-    }
-
-    // RR, where RNR was the last and the station is no longer busy.
-    fn finish(&mut self, out: &mut Frames)
-        requires { length out.old < 25 }
-        ensures step { Leads self.old self.new out.old out.new (λ c t. finished t) }
-        ensures one { length out.new ≤ length out.old + 1 }
-    {
-        if self.phase.is_up() && self.said_busy && !self.is_busy() {
-            self.ready(false, false, out);
-        }
     }
 
     /// Drops all packets, and sets all variables but `tries` to 0.

@@ -2,10 +2,10 @@
 use Rattle.std.proofs.Common.{ℕ, zero, suc, ◌+◌, ◌-◌, ◌*◌, ◌/◌, ◌%◌, ◌<◌, ◌≤◌, ◌≡◌, ◌≢◌, ◌∙◌, Bool, true, false, List, [], ◌∷◌, ◌++◌, length, get_or, take, drop, refl, ap, sym, arith, nat_eq}
 use Rattle.std.specs.Prelude.{◌&&◌, nat_le}
 use Rattle.std.specs.List.{list_all}
-use Rattle.std.proofs.lemmas.List.{drop_all, drop_more, take-append-drop}
+use Rattle.std.proofs.lemmas.List.{append-nil, drop_all, drop_more, length-map, take-append-drop}
 use Rattle.std.proofs.lemmas.List.Folds.{list_all-append}
 use Rattle.std.proofs.lemmas.Bool.{and_parts, leb-true, le-leb, and_from}
-use Rattle.x25_packet.specs.Digits.{halves_of, digits_of_text, is_digit, is_pair, is_figure, hold_digits}
+use Rattle.x25_packet.specs.Digits.{IsAddress, halves_of, digits_of_text, is_digit, is_pair, is_figure, hold_digits}
 
 pub length-halves_of : (octets : List ℕ) → length (halves_of octets) ≡ 2 * length octets
 unfolding halves_of
@@ -48,6 +48,17 @@ figures_are_digits (c ∷ text) h =
     let low : c ≤ 57 = leb-true c 57 (and_parts (nat_le 48 c) (nat_le c 57) parts.0).1 in
     and_from (is_digit (c - 48)) (list_all is_digit (digits_of_text text)) (le-leb (c - 48) 9 (omega (arith, low))) (figures_are_digits text parts.1)
 
+-- figures, and no half octets behind them
+pub figures_are_address : (text rest : List ℕ) → rest ≡ [] → length text ≤ 15 → list_all is_figure text ≡ true → IsAddress (digits_of_text text ++ rest)
+figures_are_address text rest none short h = rw (none, append-nil) (record { short = rw length-map short; decimal = figures_are_digits text h })
+
+-- the digit that a figure shows
+pub digit_shown : (figures rest : List ℕ) (place : ℕ) → list_all is_digit (digits_of_text figures ++ rest) ≡ true → place < length figures
+    → get_or figures place 0 - 48 ≤ 9
+digit_shown [] rest place h small = absurd (omega arith)
+digit_shown (c ∷ figures) rest zero h small = leb-true (c - 48) 9 (and_parts _ _ h).0
+digit_shown (c ∷ figures) rest (suc place) h small = digit_shown figures rest place (and_parts _ _ h).1 (omega (arith, small))
+
 pub half_even : (octets : List ℕ) (place : ℕ) → place % 2 ≡ 0 → get_or octets (place / 2) 0 / 16 ≡ get_or (halves_of octets) place 0
 half_even octets place even =
     let at : place ≡ 2 * (place / 2) = omega arith in
@@ -69,10 +80,10 @@ halves_are_digits (b ∷ octets) = rw (halves_are_digits octets) (regroup (is_di
     regroup true y z = refl
     regroup false y z = refl
 
-pub filler_none : (count : ℕ) (octets : List ℕ) → length octets ≡ (count + 1) / 2 → count % 2 ≡ 0
+pub filler_none : (count : ℕ) (octets : List ℕ) → 2 * length octets ≤ count
     → list_all (λ half. nat_eq half 0) (drop count (halves_of octets)) ≡ true
-filler_none count octets size even =
-    let none : drop count (halves_of octets) ≡ [] = drop_all count (halves_of octets) (rw length-halves_of (omega arith)) in
+filler_none count octets few =
+    let none : drop count (halves_of octets) ≡ [] = drop_all count (halves_of octets) (rw length-halves_of few) in
     rw none refl
 
 pub filler_one : (count : ℕ) (octets : List ℕ) → length octets ≡ (count + 1) / 2 → count % 2 ≢ 0
@@ -92,9 +103,9 @@ no_pairs count octets b e h =
 pub all_digits : (octets : List ℕ) (b : Bool) → b ≡ list_all is_pair octets → b ≡ true → list_all is_digit (halves_of octets) ≡ true
 all_digits octets b e h = halves_are_digits octets ∙ sym e ∙ h
 
-pub no_filler : (count : ℕ) (octets : List ℕ) → length octets ≡ (count + 1) / 2 → count % 2 ≡ 0 → list_all is_digit (halves_of octets) ≡ true
+pub no_filler : (count : ℕ) (octets : List ℕ) → 2 * length octets ≤ count → list_all is_digit (halves_of octets) ≡ true
     → true ≡ hold_digits count octets
-no_filler count octets size even all = rw (all, filler_none count octets size even) refl
+no_filler count octets few all = rw (all, filler_none count octets few) refl
 
 pub a_filler : (count : ℕ) (octets : List ℕ) → length octets ≡ (count + 1) / 2 → count % 2 ≢ 0 → list_all is_digit (halves_of octets) ≡ true
     → nat_eq (get_or octets (count / 2) 0 % 16) 0 ≡ hold_digits count octets

@@ -1,38 +1,34 @@
--- Half octets in a part of the octets, and the digits behind the type and the plan of an address.
-use Rattle.std.proofs.Common.{ℕ, zero, suc, ◌+◌, ◌-◌, ◌*◌, ◌/◌, ◌%◌, ◌≤◌, ◌≡◌, ◌∙◌, true, List, [], ◌∷◌, take, drop, refl, ap, sym, arith}
-use Rattle.std.specs.List.{list_all}
-use Rattle.std.proofs.lemmas.Bool.{le-leb}
-use Rattle.std.proofs.lemmas.List.{drop-drop, drop-take}
-use Rattle.x25_packet.proofs.DigitLemmas.{list_all-drop}
-use Rattle.x25_packet.specs.Digits.{halves_at, halves_of, hold_digits, is_digit}
-use Rattle.x25_packet.specs.Block.{PlainBlock}
+-- Half octets as far as they are there, and the digits behind the type and the plan of an address.
+use Rattle.std.proofs.Common.{ℕ, zero, suc, ◌+◌, ◌-◌, ◌*◌, ◌/◌, ◌%◌, ◌<◌, ◌≤◌, ◌≡◌, ◌∙◌, Bool, true, false, List, [], ◌∷◌, length, take, drop, get_or, if◌then◌else◌, refl, ap, sym, arith, length-drop}
+use Rattle.std.specs.Prelude.{◌&&◌, nat_le}
+use Rattle.std.proofs.Math.Nat.{min-le_left}
+use Rattle.std.proofs.lemmas.Bool.{and_parts, le-leb, leb-true}
+use Rattle.std.proofs.lemmas.List.{drop_all, drop-drop, drop-take, length-take, take_all}
+use Rattle.x25_packet.proofs.DigitLemmas.{length-halves_of}
+use Rattle.x25_packet.specs.Digits.{halves_at, halves_of, hold_digits}
+use Rattle.x25_packet.specs.Block.{PlainBlock, block_at}
 use Rattle.x25_packet.specs.Narrowing.{digits_behind}
-
-halves_drop : (k : ℕ) (octets : List ℕ) → halves_of (drop k octets) ≡ drop (2 * k) (halves_of octets)
-unfolding halves_of
-halves_drop zero octets = refl
-halves_drop (suc k) [] = let size : 2 * suc k ≡ suc (suc (2 * k)) = omega arith in ap (λ (n : ℕ). drop n none) (sym size)
-  where
-    none : List ℕ
-    none = []
-halves_drop (suc k) (octet ∷ octets) =
-    let size : 2 * suc k ≡ suc (suc (2 * k)) = omega arith in
-    halves_drop k octets ∙ ap (λ n. drop n (octet / 16 ∷ octet % 16 ∷ halves_of octets)) (sym size)
-
--- half octets from one on are half octets of the octets from its own on
-halves_from : (first count : ℕ) (octets : List ℕ) → halves_at (drop (first / 2) octets) (first % 2) count ≡ halves_at octets first count
-halves_from first count octets =
-    let at : 2 * (first / 2) + first % 2 ≡ first = omega arith in
-    ap (λ (halves : List ℕ). take count (drop (first % 2) halves)) (halves_drop (first / 2) octets)
-    ∙ ap (take count) (drop-drop (first % 2) (2 * (first / 2)) (halves_of octets) ∙ ap (λ n. drop n (halves_of octets)) at)
-
-pub digits_from : (k : ℕ) (octets : List ℕ) → list_all is_digit (halves_of octets) ≡ true → list_all is_digit (halves_of (drop k octets)) ≡ true
-digits_from k octets h = ap (list_all is_digit) (halves_drop k octets) ∙ list_all-drop is_digit (2 * k) (halves_of octets) h
+use Rattle.x25_packet.specs.Views.{called_of, calling_of}
 
 pub behind_in : (b : PlainBlock) (start count : ℕ) → hold_digits (b.called + b.calling) b.addresses ≡ true → 2 ≤ count → count ≤ 17
-    → halves_at (drop ((start + 2) / 2) b.addresses) ((start + 2) % 2) (count - 2) ≡ digits_behind b start count
-behind_in b start count hold two few =
-    halves_from (start + 2) (count - 2) b.addresses ∙ rw (hold, le-leb _ _ two, le-leb _ _ few) refl
+    → halves_at b.addresses (start + 2) (count - 2) ≡ digits_behind b start count
+behind_in b start count hold two few = rw (hold, le-leb _ _ two, le-leb _ _ few) refl
+
+-- half octets that aren't there
+pub none_there : (start count : ℕ) (octets : List ℕ) → 2 * length octets ≤ start → halves_at octets start count ≡ []
+none_there start count octets end =
+    ap (take count) (drop_all start (halves_of octets) (rw length-halves_of (omega (arith, end)))) ∙ take_none count
+  where
+    take_none : (n : ℕ) → (let none : List ℕ = [] in take n none ≡ none)
+    take_none zero = refl
+    take_none (suc n) = refl
+
+-- those that are there, where fewer are than are asked for
+pub all_there : (start count left : ℕ) (octets : List ℕ) → 2 * length octets ≤ start + left → left ≤ count
+    → halves_at octets start left ≡ halves_at octets start count
+all_there start count left octets end few =
+    let size : length (drop start (halves_of octets)) ≤ left = rw (length-drop, length-halves_of) (omega (arith, end)) in
+    take_all left (drop start (halves_of octets)) size ∙ sym (take_all count (drop start (halves_of octets)) (omega (arith, size, few)))
 
 -- half octets behind the first of some
 pub halves_behind : (start count n : ℕ) (octets : List ℕ) → count ≤ n → halves_at octets (start + count) (n - count) ≡ drop count (halves_at octets start n)
@@ -40,3 +36,27 @@ halves_behind start count n octets room =
     let size : n ≡ count + (n - count) = omega arith in
     sym (ap (λ k. drop count (take k (drop start (halves_of octets)))) size ∙ drop-take count (n - count) (drop start (halves_of octets))
     ∙ ap (take (n - count)) (drop-drop count start (halves_of octets)))
+
+-- ---- a station takes at most 15 digits
+
+take_few : (n : ℕ) (xs : List ℕ) → n ≤ 15 → length (take n xs) ≤ 15
+take_few n xs few = rw length-take (let less = min-le_left n (length xs) in omega (arith, less, few))
+
+if_few : (b : Bool) (xs : List ℕ) → (b ≡ true → length xs ≤ 15) → length (if b then xs else []) ≤ 15
+if_few true xs few = few refl
+if_few false xs few = omega arith
+
+behind_few : (b : PlainBlock) (start count : ℕ) → length (digits_behind b start count) ≤ 15
+behind_few b start count = if_few _ _ (λ is.
+    let short : count ≤ 17 = leb-true count 17 (and_parts (nat_le 2 count) (nat_le count 17) (and_parts (hold_digits (b.called + b.calling) b.addresses) (nat_le 2 count && nat_le count 17) is).1).1 in
+    take_few (count - 2) (drop (start + 2) (halves_of b.addresses)) (omega (arith, short)))
+
+pub called_few : (a : Bool) (body : List ℕ) → length (called_of a body) ≤ 15
+called_few true body = let b = block_at true body in behind_few b 0 b.called
+called_few false [] = omega arith
+called_few false (lengths ∷ octets) = take_few (lengths % 16) _ (omega arith)
+
+pub calling_few : (a : Bool) (body : List ℕ) → ((i : ℕ) → get_or body i 0 < 256) → length (calling_of a body) ≤ 15
+calling_few true body small = let b = block_at true body in behind_few b b.called b.calling
+calling_few false [] small = omega arith
+calling_few false (lengths ∷ octets) small = let first : lengths < 256 = small 0 in take_few (lengths / 16) _ (omega (arith, first))

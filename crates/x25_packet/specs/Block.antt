@@ -1,12 +1,12 @@
 -- Addresses, facilities and user data as a value alone, and their octets. ITU-T X.25 (10/96), sections 5.2.1 to 5.2.4.
-use Rattle.std.specs.Prelude.{ℕ, ◌+◌, ◌*◌, ◌/◌, ◌<◌, ◌≤◌, ◌≡◌, ◌==◌, Bool, true, false, List, [], ◌∷◌, ◌++◌, length}
-use Rattle.std.specs.Prelude.{drop, Option, Some, None}
+use Rattle.std.specs.Prelude.{ℕ, ◌+◌, ◌*◌, ◌/◌, ◌%◌, ◌<◌, ◌≤◌, ◌≡◌, ◌==◌, Bool, true, false, List, [], ◌∷◌, ◌++◌}
+use Rattle.std.specs.Prelude.{length, take, drop, Option, Some, None}
 use Rattle.std.specs.List.{list_all}
 use Rattle.x25_packet.specs.Digits.{halves_at, halves_of, hold_digits}
 use Rattle.x25_packet.specs.Facilities as written_field
 use Rattle.x25_packet.specs.Classes.{IsFacilityField}
 use Rattle.x25_packet.specs.declared.block.Block.{Block}
-use Rattle.x25_packet.specs.declared.fields.Fields.{Fields}
+use Rattle.x25_packet.specs.declared.block.Fields.{Fields}
 use Rattle.x25_packet.specs.declared.form.Forms.{Forms}
 use Rattle.x25_packet.specs.declared.form.Forms.TheVariants.{Written, Any}
 
@@ -29,9 +29,26 @@ abbrev pub plain_block : Block → PlainBlock
 plain_block b =
     record { called = b.called; calling = b.calling; addresses = b.addresses.now; fields = plain_fields b.fields }
 
-abbrev pub plain_optional : Option Block → Option PlainBlock
-plain_optional None = None
-plain_optional (Some b) = Some (plain_block b)
+-- the facility field behind its length, and all that follows it
+abbrev pub fields_at : List ℕ → Option PlainFields
+fields_at [] = None
+fields_at (size ∷ rest) = Some (record { facilities = take size rest; user = drop size rest })
+
+abbrev pub block_behind : ℕ → ℕ → List ℕ → PlainBlock
+block_behind called calling octets = let size = (called + calling + 1) / 2 in
+    record { called = called; calling = calling; addresses = take size octets; fields = fields_at (drop size octets) }
+
+-- The block that octets are, by the A bit, whatever they are: what is missing isn't there.
+abbrev pub block_at : Bool → List ℕ → PlainBlock
+block_at false [] = block_behind 0 0 []
+block_at false (lengths ∷ octets) = block_behind (lengths % 16) (lengths / 16) octets
+block_at true [] = block_behind 0 0 []
+block_at true (called ∷ []) = block_behind 0 0 []
+block_at true (called ∷ calling ∷ octets) = block_behind called calling octets
+
+abbrev pub optional_at : Bool → List ℕ → Option PlainBlock
+optional_at a [] = None
+optional_at a (octet ∷ rest) = Some (block_at a (octet ∷ rest))
 
 -- the facility field behind its length, and user data: section 5.2.1
 abbrev pub fields_octets : Option PlainFields → List ℕ

@@ -10,6 +10,7 @@ pub mod Block
 pub mod Form
 pub mod Grammar
 pub mod Narrowing
+pub mod Views
 pub mod Made
 pub mod Taking
 pub mod laws

@@ -3,11 +3,11 @@ use Rattle.std.specs.Prelude.{ℕ, ◌+◌, ◌-◌, ◌&&◌, nat_le, Bool, tru
 use Rattle.std.specs.Prelude.{Some, None, Result, Ok, Err}
 use Rattle.x25_packet.specs.Digits.{halves_at, hold_digits}
 use Rattle.x25_packet.specs.Facilities.{field_of, is_within}
-use Rattle.x25_packet.specs.Packet as written
+use Rattle.x25_packet.specs.Packet.Plain as written
 use Rattle.x25_packet.specs.declared.error.PacketError.{PacketError}
 use Rattle.x25_packet.specs.declared.error.PacketError.TheVariants.{BadParameter, Unidentified}
 use Rattle.x25_packet.specs.declared.facilities.Directions.{Directions}
-use Rattle.x25_packet.specs.Block.{AreAddresses, PlainBlock, PlainFields, called_in, calling_in}
+use Rattle.x25_packet.specs.Block.{PlainBlock, PlainFields, called_in, calling_in}
 use Rattle.x25_packet.specs.Classes.{none_own, own_in}
 use Rattle.x25_packet.specs.Form.{PlainKind, PlainForm, call, accept, clear, extended_clear, clear_conf}
 use Rattle.x25_packet.specs.Form.{user_data, rr}
@@ -21,16 +21,24 @@ abbrev pub are_within : ℕ → ℕ → Option Directions → Bool
 are_within least most None = true
 are_within least most (Some values) = is_within least most values.called && is_within least most values.calling
 
--- Packet sizes and window sizes, in the order of the profile. Values out of their ranges are an error as there.
+-- packet sizes and window sizes, in the order of the profile
+abbrev pub field_asked : Own → List ℕ
+field_asked own = field_of (record { packet_size = own.packet_size; window_size = own.window_size })
+
+-- values out of their ranges are an error as there
 abbrev pub field_said : Own → Result (List ℕ) PacketError
 field_said own = if are_within 4 12 own.packet_size && are_within 1 7 own.window_size
-    then Ok (field_of (record { packet_size = own.packet_size; window_size = own.window_size }))
-    else Err BadParameter
+    then Ok (field_asked own) else Err BadParameter
 
 -- the facilities before a marker that a station knows
 abbrev pub field_taken : Option PlainFields → Result (List ℕ) PacketError
 field_taken None = Ok []
 field_taken (Some f) = field_said (own_in none_own 0 f.facilities)
+
+-- the field of that, which was checked
+abbrev pub field_shown : Option PlainFields → List ℕ
+field_shown None = []
+field_shown (Some f) = field_asked (own_in none_own 0 f.facilities)
 
 abbrev pub user_taken : Option PlainFields → List ℕ
 user_taken None = []
@@ -41,11 +49,6 @@ abbrev pub field_in : PlainKind → Result (List ℕ) PacketError
 field_in (call block) = field_taken block.fields
 field_in (accept (Some block)) = field_taken block.fields
 field_in _ = Ok []
-
--- the addresses of a CALL are addresses
-abbrev pub HasAddresses : Bool → PlainKind → Type 0
-HasAddresses a (call block) = AreAddresses a block
-HasAddresses a _ = Unit {0}
 
 -- Of an address with its type and plan, which are its first two half octets, the digits behind these: where both
 -- addresses are of digits alone, and it has at most 15. Else there is none.

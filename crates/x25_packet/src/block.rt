@@ -1,23 +1,27 @@
 //! Addresses, facilities and user data, as CALL, ACCEPT, CLEAR and CLEAR CONFIRMATION have them.
-ghost use Rattle.std.specs.Prelude.{◌≡◌, ◌≤◌, ◌/◌, ◌+◌, [], false, length, true, IfOk};
-ghost use Rattle.x25_packet.specs.Block.{AreAddresses, called_in, calling_in, hold_addresses, plain_block};
-ghost use Rattle.x25_packet.specs.Block.{plain_fields};
-ghost use Rattle.x25_packet.specs.Block.{plain_optional};
+ghost use Rattle.std.specs.Prelude.{◌≡◌, ◌≤◌, ◌/◌, ◌+◌, None, drop, length, take};
+ghost use Rattle.x25_packet.specs.Block.{block_at, block_behind, called_in, calling_in, fields_at, hold_addresses};
+ghost use Rattle.x25_packet.specs.Block.{optional_at, plain_block, plain_fields};
 ghost use Rattle.x25_packet.specs.Narrowing.{called_taken, calling_taken, digits_behind};
-ghost use Rattle.x25_packet.specs.Classes.{none_own, own_in};
 ghost use Rattle.x25_packet.specs.Grammar.{Gives, addressed, block_of, field_read, fields_of, is_over, no_fields};
 ghost use Rattle.x25_packet.specs.Grammar.{optional_block};
 
-use crate::classes::{Own, own_facilities};
-use crate::digits::{Digits, hold_digits};
+use crate::classes::are_facilities;
+use crate::digits::hold_digits;
 use crate::error::PacketError;
 use crate::facilities::Facilities;
-use crate::fields::Fields;
 use crate::form::Forms;
 use crate::halves::Halves;
 
 /// The most octets of a facility field, section 7.1.
 const FIELD_OCTETS: usize = 109;
+
+/// A facility field, and the user data behind it.
+#[derive(Clone, Copy, Debug)]
+pub struct Fields<'a> {
+    pub facilities: &'a [u8],
+    pub user: &'a [u8],
+}
 
 /// Addresses, and what may follow them.
 ///
@@ -32,12 +36,12 @@ pub struct Block<'a> {
     pub fields: Option<Fields<'a>>,
 }
 
-fn no_fields<'a>(forms: Forms) -> Result<Option<Fields<'a>>, PacketError>
-    ensures { Gives plain_fields result (no_fields forms) }
+fn no_fields(forms: Forms) -> Result<(), PacketError>
+    ensures { Gives (λ _. None) result (no_fields forms) }
 {
     match forms {
         Forms::Written => Err(PacketError::TooShort),
-        Forms::Any => Ok(None),
+        Forms::Any => Ok(()),
     }
 }
 
@@ -51,35 +55,28 @@ fn is_over(forms: Forms, size: usize) -> bool
     }
 }
 
-/// What a facility field asks for.
-#[inline(always)]
-fn read_field(forms: Forms, field: &[u8]) -> Result<Own, PacketError>
-    ensures exact { Gives (λ own. tt) result (field_read forms field.now) }
-    ensures own { IfOk result (λ own. own ≡ own_in none_own 0 field.now) }
+/// Whether octets are a facility field, or why they are none.
+fn check_field(forms: Forms, field: &[u8]) -> Result<(), PacketError>
+    ensures { result ≡ field_read forms field.now }
 {
     match forms {
         Forms::Written => {
-            let facilities = Facilities::of(field)?;
-            Ok(Own {
-                fast_select: false,
-                packet_size: facilities.packet_size,
-                window_size: facilities.window_size,
-            })
+            Facilities::of(field)?;
+            Ok(())
         }
-        Forms::Any => match own_facilities(field) {
-            Some(own) => Ok(own),
-            None => Err(PacketError::BadParameter),
-        },
+        Forms::Any => {
+            if are_facilities(field) {
+                Ok(())
+            } else {
+                Err(PacketError::BadParameter)
+            }
+        }
     }
 }
 
 #[inline(always)]
-fn read_fields<'a>(
-    forms: Forms,
-    most: usize,
-    octets: &'a [u8],
-) -> Result<Option<Fields<'a>>, PacketError>
-    ensures { Gives plain_fields result (fields_of forms most octets.now) }
+fn check_fields(forms: Forms, most: usize, octets: &[u8]) -> Result<(), PacketError>
+    ensures { Gives (λ _. fields_at octets.now) result (fields_of forms most octets.now) }
 {
     let [size, rest @ ..] = octets else {
         return no_fields(forms);
@@ -92,15 +89,11 @@ fn read_fields<'a>(
         return Err(PacketError::TooShort);
     }
     let (facilities, user) = rest.split_at(size);
-    let own = read_field(forms, facilities)?;
+    check_field(forms, facilities)?;
     if user.len() > most {
         return Err(PacketError::TooLong);
     }
-    Ok(Some(Fields {
-        facilities,
-        own,
-        user,
-    }))
+    Ok(())
 }
 
 /// Whether the half octets behind the first `count` are 0, and where A is 0 all are digits.
@@ -117,17 +110,18 @@ fn hold_addresses(a: bool, count: usize, octets: &[u8]) -> bool
     octets[count / 2] % 16 == 0
 }
 
-/// What stands behind the lengths of the addresses.
+/// Whether what stands behind the lengths of the addresses is so, or why it isn't.
 #[inline(always)]
-fn read_addresses<'a>(
+fn check_addresses(
     forms: Forms,
     a: bool,
     most: usize,
     called: u8,
     calling: u8,
-    octets: &'a [u8],
-) -> Result<Block<'a>, PacketError>
-    ensures { Gives plain_block result (addressed forms a most called calling octets.now) }
+    octets: &[u8],
+) -> Result<(), PacketError>
+    ensures { Gives (λ _. block_behind called calling octets.now) result
+        (addressed forms a most called calling octets.now) }
 {
     let count = usize::from(called) + usize::from(calling);
     let size = (count + 1) / 2;
@@ -138,149 +132,146 @@ fn read_addresses<'a>(
     if !hold_addresses(a, count, addresses) {
         return Err(PacketError::BadDigit);
     }
-    let fields = read_fields(forms, most, rest)?;
-    Ok(Block {
-        called,
-        calling,
-        addresses,
-        fields,
-    })
+    check_fields(forms, most, rest)?;
+    Ok(())
 }
 
-/// What a block is read as.
+/// Whether octets are a block with at most `most` octets of user data, in the format that the A bit says, or why they
+/// are none.
 #[inline(always)]
-fn block_in<'a>(
+pub(crate) fn check_block(
     forms: Forms,
     a: bool,
     most: usize,
-    octets: &'a [u8],
-) -> Result<Block<'a>, PacketError>
-    ensures { Gives plain_block result (block_of forms a most octets.now) }
+    octets: &[u8],
+) -> Result<(), PacketError>
+    ensures { Gives (λ _. block_at a octets.now) result (block_of forms a most octets.now) }
 {
     if a {
         let [called, calling, octets @ ..] = octets else {
             return Err(PacketError::TooShort);
         };
-        return read_addresses(forms, true, most, *called, *calling, octets);
+        return check_addresses(forms, true, most, *called, *calling, octets);
     }
     let [lengths, octets @ ..] = octets else {
         return Err(PacketError::TooShort);
     };
-    read_addresses(forms, false, most, *lengths % 16, *lengths / 16, octets)
+    check_addresses(forms, false, most, *lengths % 16, *lengths / 16, octets)
 }
 
-/// A block with at most `most` octets of user data, in the format that the A bit says.
-#[inline(always)]
-pub(crate) fn read_block<'a>(
+/// The same where there are octets.
+pub(crate) fn check_optional_block(
     forms: Forms,
     a: bool,
     most: usize,
-    octets: &'a [u8],
-) -> Result<Block<'a>, PacketError>
-    ensures exact { Gives plain_block result (block_of forms a most octets.now) }
-    ensures addresses { IfOk result (λ block. AreAddresses a (plain_block block)) }
-{
-    block_in(forms, a, most, octets)
-}
-
-/// A block where there are octets.
-pub(crate) fn read_optional_block<'a>(
-    forms: Forms,
-    a: bool,
-    most: usize,
-    octets: &'a [u8],
-) -> Result<Option<Block<'a>>, PacketError>
-    ensures { Gives plain_optional result (optional_block forms a most octets.now) }
+    octets: &[u8],
+) -> Result<(), PacketError>
+    ensures { Gives (λ _. optional_at a octets.now) result (optional_block forms a most octets.now) }
 {
     if octets.is_empty() {
-        return Ok(None);
+        return Ok(());
     }
-    let block = read_block(forms, a, most, octets)?;
-    Ok(Some(block))
+    check_block(forms, a, most, octets)?;
+    Ok(())
 }
 
-#[tactic(auto, unfolding(crate::specs::Digits::halves_of))]
-fn no_digits() -> Digits
-    ensures { result ≡ [] }
+fn fields_in<'a>(octets: &'a [u8]) -> Option<Fields<'a>>
+    ensures { plain_fields result ≡ fields_at octets.now }
 {
-    Digits::in_halves(&[], 0, 0)
+    let [size, rest @ ..] = octets else {
+        return None;
+    };
+    let (facilities, user) = front(usize::from(*size), rest);
+    Some(Fields { facilities, user })
+}
+
+/// The first `count` octets, all where there are fewer, and what is behind them.
+fn front<'a>(count: usize, octets: &'a [u8]) -> (&'a [u8], &'a [u8])
+    ensures { (result.0.now ≡ take count octets.now) × (result.1.now ≡ drop count octets.now) }
+{
+    if octets.len() < count {
+        return (octets, &[]);
+    }
+    octets.split_at(count)
 }
 
 impl<'a> Block<'a> {
-    /// The digits of the called address, where the A bit is 0.
-    pub fn called_digits(&self) -> Digits
-        requires { AreAddresses false (plain_block self.now) }
-        ensures { result ≡ called_in (plain_block self.now) }
+    fn behind(called: u8, calling: u8, octets: &'a [u8]) -> Block<'a>
+        ensures { plain_block result ≡ block_behind called calling octets.now }
     {
-        Digits::in_halves(self.addresses, 0, usize::from(self.called))
+        let size = (usize::from(called) + usize::from(calling) + 1) / 2;
+        let (addresses, rest) = front(size, octets);
+        Block {
+            called,
+            calling,
+            addresses,
+            fields: fields_in(rest),
+        }
     }
 
-    /// The digits of the calling address, where the A bit is 0.
-    pub fn calling_digits(&self) -> Digits
-        requires { AreAddresses false (plain_block self.now) }
-        ensures { result ≡ calling_in (plain_block self.now) }
+    /// The block that octets are, in the format that the A bit says. What they lack isn't there.
+    pub fn of(a: bool, octets: &'a [u8]) -> Block<'a>
+        ensures { plain_block result ≡ block_at a octets.now }
     {
-        Digits::in_halves(
-            self.addresses,
-            usize::from(self.called),
-            usize::from(self.calling),
-        )
+        if a {
+            let [called, calling, rest @ ..] = octets else {
+                return Block::behind(0, 0, &[]);
+            };
+            return Block::behind(*called, *calling, rest);
+        }
+        let [lengths, rest @ ..] = octets else {
+            return Block::behind(0, 0, &[]);
+        };
+        Block::behind(*lengths % 16, *lengths / 16, rest)
     }
 
-    /// The half octets of the called address, where the A bit is 1.
+    /// The half octets of the called address.
     pub fn called_halves(&self) -> Halves<'a>
-        requires { AreAddresses true (plain_block self.now) }
         ensures { result ≡ called_in (plain_block self.now) }
     {
         Halves::of(self.addresses, 0, self.called)
     }
 
-    /// The half octets of the calling address, where the A bit is 1.
+    /// The half octets of the calling address.
     pub fn calling_halves(&self) -> Halves<'a>
-        requires { AreAddresses true (plain_block self.now) }
         ensures { result ≡ calling_in (plain_block self.now) }
     {
         Halves::of(self.addresses, usize::from(self.called), self.calling)
     }
 
     /// The digits behind the type and the plan of an address, which begins at the half octet `start`.
-    fn digits_behind(&self, start: usize, count: usize) -> Digits
-        requires addresses { AreAddresses true (plain_block self.now) }
-        requires there { start + count ≤ self.now.called + self.now.calling }
+    fn digits_behind(&self, start: u8, count: u8) -> Halves<'a>
+        requires { length self.now.addresses.now ≤ (self.now.called + self.now.calling + 1) / 2 }
         ensures { result ≡ digits_behind (plain_block self.now) start count }
     {
         let total = usize::from(self.called) + usize::from(self.calling);
         if !hold_digits(total, self.addresses) || count < 2 || count > 17 {
-            return no_digits();
+            return Halves::of(&[], 0, 0);
         }
-        let first = start + 2;
-        let (_, octets) = self.addresses.split_at(first / 2);
-        Digits::in_halves(octets, first % 2, count - 2)
+        Halves::of(self.addresses, usize::from(start) + 2, count - 2)
     }
 
     /// What a station takes the called address for.
-    #[inline(always)]
-    pub(crate) fn called_taken(&self, a: bool) -> Digits
-        requires { AreAddresses a (plain_block self.now) }
+    pub fn called_taken(&self, a: bool) -> Halves<'a>
+        requires { length self.now.addresses.now ≤ (self.now.called + self.now.calling + 1) / 2 }
         ensures { result ≡ called_taken a (plain_block self.now) }
     {
         if a {
-            self.digits_behind(0, usize::from(self.called))
+            self.digits_behind(0, self.called)
         } else {
-            self.called_digits()
+            self.called_halves()
         }
     }
 
     /// What a station takes the calling address for.
-    #[inline(always)]
-    pub(crate) fn calling_taken(&self, a: bool) -> Digits
-        requires { AreAddresses a (plain_block self.now) }
+    pub fn calling_taken(&self, a: bool) -> Halves<'a>
+        requires { length self.now.addresses.now ≤ (self.now.called + self.now.calling + 1) / 2 }
         ensures { result ≡ calling_taken a (plain_block self.now) }
     {
         if a {
-            self.digits_behind(usize::from(self.called), usize::from(self.calling))
+            self.digits_behind(self.called, self.calling)
         } else {
-            self.calling_digits()
+            self.calling_halves()
         }
     }
 }

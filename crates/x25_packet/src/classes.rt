@@ -50,7 +50,7 @@ fn behind_facility<'a>(field: &'a [u8]) -> Option<&'a [u8]>
 }
 
 /// Whether the octets are facilities, one behind another: each as long as its class says.
-fn are_facilities(field: &[u8]) -> bool
+pub(crate) fn are_facilities(field: &[u8]) -> bool
     ensures { result ≡ are_facilities 0 field.now }
 {
     let mut rest = field;
@@ -84,11 +84,9 @@ fn with_front(own: Own, field: &[u8]) -> Own
     }
 }
 
-/// What the facilities of a field ask for, of those that a station knows. None: the octets aren't facilities, one
-/// behind another, each as long as its class says.
-pub fn own_facilities(field: &[u8]) -> Option<Own>
-    ensures whole { is_some result ≡ are_facilities 0 field.now }
-    ensures own { IfSome result (λ own. own ≡ own_in none_own 0 field.now) }
+/// What the facilities of a field ask for, of those that a station knows. One that is cut off asks for nothing.
+pub(crate) fn asked(field: &[u8]) -> Own
+    ensures { result ≡ own_in none_own 0 field.now }
 {
     let mut own = Own {
         fast_select: false,
@@ -98,14 +96,21 @@ pub fn own_facilities(field: &[u8]) -> Option<Own>
     let mut rest = field;
     while let Some(behind) = behind_facility(rest) {
         if rest[0] == MARKER {
-            return if are_facilities(behind) {
-                Some(own)
-            } else {
-                None
-            };
+            return own;
         }
         own = with_front(own, rest);
         rest = behind;
     }
-    if rest.is_empty() { Some(own) } else { None }
+    own
+}
+
+/// The same where the octets are facilities, one behind another, each as long as its class says, and else None.
+pub fn own_facilities(field: &[u8]) -> Option<Own>
+    ensures whole { is_some result ≡ are_facilities 0 field.now }
+    ensures own { IfSome result (λ own. own ≡ own_in none_own 0 field.now) }
+{
+    if !are_facilities(field) {
+        return None;
+    }
+    Some(asked(field))
 }

@@ -1,46 +1,19 @@
 //! The digits of an address, ITU-T X.25 (10/96), section 5.2.1.
-ghost use Rattle.std.specs.Prelude.{◌≡◌, ◌==◌, ◌<◌, ◌≤◌, ◌+◌, ◌*◌, ◌/◌, List, ℕ, length, IfSome, IsSome, IsTrue, ◌↔◌};
-ghost use Rattle.std.specs.Prelude.{slice_index, take, true};
+ghost use Rattle.std.specs.Prelude.{◌≡◌, ◌==◌, ◌<◌, ◌≤◌, ◌+◌, ◌/◌, length, IfSome, IsSome, ◌↔◌, slice_index, true};
 ghost use Rattle.std.specs.List.{list_all};
-ghost use Rattle.x25_packet.specs.Digits.{digits_of_text, halves_at, halves_of, hold_digits, is_digit, is_figure};
-ghost use Rattle.x25_packet.specs.Digits.{is_pair, IsAddress};
+ghost use Rattle.x25_packet.specs.Digits.{IsAddress, digits_of_text, hold_digits, is_figure, is_pair};
 
+use crate::halves::Halves;
 use std::marker::Model;
 
 /// The most digits that an address has.
 const MOST: usize = 15;
-
-/// The octets in which so many digits lie, wherever in the first they begin.
-const PLACES: usize = 8;
 
 fn are_figures(text: &[u8]) -> bool
     ensures { result ≡ list_all is_figure text.now }
 {
     text.iter()
         .all(|character| 48 <= *character && *character <= 57)
-}
-
-/// The digits of an address, at most 15. Contracts see the list of them.
-#[derive(Debug, Drop)]
-pub struct Digits {
-    /// The octets as they stand in a packet, two digits to each, and then 0s.
-    octets: [u8; PLACES],
-    /// The half octet of the first digit, 0 or 1.
-    start: u8,
-    count: u8,
-}
-
-impl Model for Digits {
-    ghost use Rattle.std.specs.Prelude.{◌≡◌, ◌≤◌, ℕ, List, length, true};
-    ghost use Rattle.std.specs.List.{list_all};
-    ghost use Rattle.x25_packet.specs.Digits.{halves_at, is_digit};
-
-    ghost Value = { List ℕ };
-
-    ghost view = { λ d. halves_at d.octets d.start d.count };
-
-    ghost invariant = { λ d. (length d.octets ≡ 8) × (d.start ≤ 1) × (d.count ≤ 15)
-        × (list_all is_digit (halves_at d.octets d.start d.count) ≡ true) };
 }
 
 fn are_digit_pairs(octets: &[u8]) -> bool
@@ -53,9 +26,8 @@ fn are_digit_pairs(octets: &[u8]) -> bool
 
 /// Whether each half octet is a digit, and those behind the first `count` are 0.
 pub fn hold_digits(count: usize, octets: &[u8]) -> bool
-    requires { length octets.now ≡ (count + 1) / 2 }
-    ensures value { result ≡ hold_digits count octets.now }
-    ensures digits { IsTrue result → list_all is_digit (halves_of octets.now) ≡ true }
+    requires { length octets.now ≤ (count + 1) / 2 }
+    ensures { result ≡ hold_digits count octets.now }
 {
     if !are_digit_pairs(octets) {
         return false;
@@ -63,82 +35,33 @@ pub fn hold_digits(count: usize, octets: &[u8]) -> bool
     if count % 2 == 0 {
         return true;
     }
+    if octets.len() <= count / 2 {
+        return true;
+    }
     octets[count / 2] % 16 == 0
 }
 
-/// The half octet at a place, the high half of an octet first.
-pub(crate) fn half(octets: &[u8], place: usize) -> u8
-    requires { place < 2 * length octets.now }
-    ensures value { result ≡ slice_index (halves_of octets.now) place }
-    ensures small { result < 16 }
-{
-    let octet = octets[place / 2];
-    if place % 2 == 0 {
-        octet / 16
-    } else {
-        octet % 16
-    }
+/// The digits of an address, at most 15: figures of a text, or half octets. Contracts see the list of them.
+#[derive(Debug, Drop)]
+pub struct Digits<'a> {
+    figures: &'a [u8],
+    halves: Halves<'a>,
 }
 
-/// The digit that a figure at a place shows, 0 behind them.
-fn shown(figures: &[u8], place: usize) -> u8
-    requires { list_all is_figure figures.now ≡ true }
-    ensures value { result ≡ slice_index (digits_of_text figures.now) place }
-    ensures digit { result ≤ 9 }
-{
-    if place < figures.len() {
-        return figures[place] - 48;
-    }
-    0
+impl<'a> Model for Digits<'a> {
+    ghost use Rattle.std.specs.Prelude.{ℕ, List, ◌++◌};
+    ghost use Rattle.x25_packet.specs.Digits.{IsAddress, digits_of_text};
+
+    ghost Value = { List ℕ };
+
+    ghost view = { λ d. digits_of_text d.figures.now ++ d.halves };
+
+    ghost invariant = { λ d. IsAddress (digits_of_text d.figures.now ++ d.halves) };
 }
 
-/// The digits that figures show, two to an octet, and then 0s.
-fn packed(figures: &[u8]) -> [u8; PLACES]
-    requires short { length figures.now ≤ 15 }
-    requires figures { list_all is_figure figures.now ≡ true }
-    ensures long { length result ≡ 8 }
-    ensures digits { halves_at result 0 (length figures.now) ≡ digits_of_text figures.now }
-{
-    let mut octets = [0u8; PLACES];
-    for pair in 0..(figures.len() + 1) / 2 {
-        let high = shown(figures, 2 * pair);
-        let low = shown(figures, 2 * pair + 1);
-        octets[pair] = 16 * high + low;
-    }
-    octets
-}
-
-/// Octets, and then 0s.
-fn at_front(octets: &[u8]) -> [u8; PLACES]
-    requires { length octets.now ≤ 8 }
-    ensures long { length result ≡ 8 }
-    ensures front { take (length octets.now) result ≡ octets.now }
-{
-    let mut places = [0u8; PLACES];
-    places[..octets.len()].copy_from_slice(octets);
-    places
-}
-
-impl Digits {
-    /// The digits in `count` half octets, from the half octet `start` on.
-    pub fn in_halves(octets: &[u8], start: usize, count: usize) -> Digits
-        requires short { count ≤ 15 }
-        requires near { start ≤ 15 }
-        requires there { start + count ≤ 2 * length octets.now }
-        requires digits { list_all is_digit (halves_of octets.now) ≡ true }
-        ensures { result ≡ halves_at octets.now start count }
-    {
-        let first = start / 2;
-        let len = (start % 2 + count + 1) / 2;
-        Digits {
-            octets: at_front(&octets[first..first + len]),
-            start: (start % 2) as u8,
-            count: count as u8,
-        }
-    }
-
+impl<'a> Digits<'a> {
     /// The digits of a text of at most 15 figures `0` to `9`.
-    pub fn of(text: &str) -> Option<Digits>
+    pub fn of(text: &'a str) -> Option<Digits<'a>>
         ensures some { IsSome result ↔ ((length text.now ≤ 15) × (list_all is_figure text.now ≡ true)) }
         ensures digits { IfSome result (λ digits. digits ≡ digits_of_text text.now) }
         ensures address { IfSome result (λ digits. IsAddress digits) }
@@ -148,20 +71,19 @@ impl Digits {
             return None;
         }
         Some(Digits {
-            octets: packed(figures),
-            start: 0,
-            count: figures.len() as u8,
+            figures,
+            halves: Halves::of(&[], 0, 0),
         })
     }
 
-    /// The same digits once more.
-    pub fn copied(&self) -> Digits
-        ensures { result ≡ self.now }
+    /// The digits that half octets are.
+    pub(crate) fn in_halves(halves: Halves<'a>) -> Digits<'a>
+        requires { IsAddress halves }
+        ensures { result ≡ halves.entry }
     {
         Digits {
-            octets: self.octets,
-            start: self.start,
-            count: self.count,
+            figures: &[],
+            halves,
         }
     }
 
@@ -170,7 +92,7 @@ impl Digits {
         ensures number { result ≡ length self.now }
         ensures address { IsAddress self.now }
     {
-        usize::from(self.count)
+        self.figures.len() + self.halves.len()
     }
 
     /// Whether there is no digit.
@@ -186,6 +108,9 @@ impl Digits {
         ensures value { result ≡ slice_index self.now place }
         ensures digit { result ≤ 9 }
     {
-        half(&self.octets, usize::from(self.start) + place)
+        if place < self.figures.len() {
+            return self.figures[place].saturating_sub(48);
+        }
+        self.halves.get(place - self.figures.len())
     }
 }

@@ -1,4 +1,3 @@
-use crate::block::Block;
 use x25_bits::Seq;
 
 /// Which forms of packets are read: of each packet the one that a station writes (profile), or all that X.25 has.
@@ -9,13 +8,16 @@ pub enum Forms {
 }
 
 /// What a packet is, but for its channel and the bits of its first octet. ITU-T X.25 (10/96), section 5.
+///
+/// `Block::of` reads the addresses, facilities and user data of a `body`, which is what stands behind the type, and in
+/// an extended CLEAR behind the diagnostic. Where it is empty there are none.
 #[derive(Clone, Copy, Debug)]
 pub enum Kind<'a> {
     Call {
-        block: Block<'a>,
+        body: &'a [u8],
     },
     Accept {
-        block: Option<Block<'a>>,
+        body: &'a [u8],
     },
     Clear {
         cause: u8,
@@ -24,10 +26,10 @@ pub enum Kind<'a> {
     ExtendedClear {
         cause: u8,
         diagnostic: u8,
-        block: Block<'a>,
+        body: &'a [u8],
     },
     ClearConf {
-        block: Option<Block<'a>>,
+        body: &'a [u8],
     },
     Data {
         m: bool,

@@ -2,7 +2,6 @@
 ghost use Rattle.std.specs.Prelude.{◌≡◌, IfOk, IsOkAnd};
 ghost use Rattle.x25_packet.specs.Block.{plain_fields};
 ghost use Rattle.x25_packet.specs.Made.{Makes, Reads};
-ghost use Rattle.x25_packet.specs.Narrowing.{HasAddresses};
 ghost use Rattle.x25_packet.specs.Form.{PlainForm, plain, plain_kind};
 ghost use Rattle.x25_packet.specs.Form.Spelling.{Spells, may_have};
 ghost use Rattle.x25_packet.specs.Grammar.{Gives, accept_of, answer_most, answer_read, bare, call_of, cause_alone};
@@ -12,10 +11,10 @@ ghost use Rattle.x25_packet.specs.Grammar.{read_of, reason_of, registered, rej_o
 ghost use Rattle.x25_packet.specs.Grammar.{form_in};
 ghost use Rattle.x25_packet.specs.declared.form.Forms.TheVariants.{Any};
 
-use crate::block::{read_block, read_optional_block};
+use crate::block::{Block, Fields, check_block, check_optional_block};
+use crate::classes::asked;
 use crate::codes;
 use crate::error::PacketError;
-use crate::fields::Fields;
 use crate::form::{Form, Forms, Kind};
 use crate::made::{Head, Made};
 use x25_bits::Seq;
@@ -41,8 +40,7 @@ const EXPLANATION_OCTETS: usize = 3;
 
 #[inline(always)]
 fn bare<'a, M: Made<'a>>(head: Head, kind: Kind<'a>, body: &[u8]) -> Result<M, PacketError>
-    requires { HasAddresses head.bit_8 (plain_kind kind) }
-    ensures { Makes M.gives head result (bare (plain_kind kind.entry) body.now) }
+    ensures { Makes M.gives head result (bare (plain_kind head.bit_8 kind.entry) body.now) }
 {
     match body {
         [] => M::made(head, kind),
@@ -55,7 +53,7 @@ fn is_short(most: usize, fields: Option<Fields>) -> bool
 {
     match fields {
         None => true,
-        Some(fields) => { fields.user.len() <= most || fields.own.fast_select }
+        Some(fields) => fields.user.len() <= most || asked(fields.facilities).fast_select,
     }
 }
 
@@ -69,15 +67,15 @@ fn call<'a, M: Made<'a>>(
 {
     match forms {
         Forms::Written => {
-            let block = read_block(forms, head.bit_8, most, body)?;
-            M::made(head, Kind::Call { block })
+            check_block(forms, head.bit_8, most, body)?;
+            M::made(head, Kind::Call { body })
         }
         Forms::Any => {
-            let block = read_block(forms, head.bit_8, most.max(FAST_SELECT_OCTETS), body)?;
-            if !is_short(most, block.fields) {
+            check_block(forms, head.bit_8, most.max(FAST_SELECT_OCTETS), body)?;
+            if !is_short(most, Block::of(head.bit_8, body).fields) {
                 return Err(PacketError::TooLong);
             }
-            M::made(head, Kind::Call { block })
+            M::made(head, Kind::Call { body })
         }
     }
 }
@@ -110,8 +108,8 @@ fn accept<'a, M: Made<'a>>(head: Head, forms: Forms, body: &'a [u8]) -> Result<M
     ensures { Makes M.gives head result (accept_of forms head.bit_8 body.now) }
 {
     read_answer(forms, body)?;
-    let block = read_optional_block(forms, head.bit_8, answer_most(forms), body)?;
-    M::made(head, Kind::Accept { block })
+    check_optional_block(forms, head.bit_8, answer_most(forms), body)?;
+    M::made(head, Kind::Accept { body })
 }
 
 /// A cause alone, which a station doesn't write.
@@ -149,13 +147,13 @@ fn extended<'a, M: Made<'a>>(
     match forms {
         Forms::Written => Err(PacketError::TooLong),
         Forms::Any => {
-            let block = read_block(forms, head.bit_8, FAST_SELECT_OCTETS, octets)?;
+            check_block(forms, head.bit_8, FAST_SELECT_OCTETS, octets)?;
             M::made(
                 head,
                 Kind::ExtendedClear {
                     cause,
                     diagnostic,
-                    block,
+                    body: octets,
                 },
             )
         }
@@ -186,10 +184,10 @@ fn clear_conf<'a, M: Made<'a>>(head: Head, forms: Forms, body: &'a [u8]) -> Resu
     ensures { Makes M.gives head result (clear_conf_of forms head.bit_8 body.now) }
 {
     match forms {
-        Forms::Written => bare(head, Kind::ClearConf { block: None }, body),
+        Forms::Written => bare(head, Kind::ClearConf { body: &[] }, body),
         Forms::Any => {
-            let block = read_optional_block(forms, head.bit_8, 0, body)?;
-            M::made(head, Kind::ClearConf { block })
+            check_optional_block(forms, head.bit_8, 0, body)?;
+            M::made(head, Kind::ClearConf { body })
         }
     }
 }

@@ -1,6 +1,6 @@
 //! What a packet is read to.
 ghost use Rattle.x25_packet.specs.Made.{head_with};
-ghost use Rattle.x25_packet.specs.Narrowing.{HasAddresses, narrow_of};
+ghost use Rattle.x25_packet.specs.Narrowing.{narrow_of};
 ghost use Rattle.x25_packet.specs.Packet.{plain as plain_written};
 ghost use Rattle.x25_packet.specs.Form.{PlainForm, plain, plain_kind};
 ghost use Rattle.x25_packet.specs.Grammar.{Gives};
@@ -26,8 +26,7 @@ pub(crate) trait Made<'a>: Sized {
     ghost gives: { Result Self PacketError → PlainForm → Type 0 };
 
     fn made(head: Head, kind: Kind<'a>) -> Result<Self, PacketError>
-        requires { HasAddresses head.bit_8 (plain_kind kind) }
-        ensures { gives result (head_with head (plain_kind kind.entry)) };
+        ensures { gives result (head_with head (plain_kind head.bit_8 kind.entry)) };
 }
 
 impl<'a> Made<'a> for Form<'a> {

@@ -2,15 +2,14 @@
 ghost use Rattle.std.specs.Prelude.{◌≡◌};
 ghost use Rattle.x25_packet.specs.Packet.{plain as plain_written};
 ghost use Rattle.x25_packet.specs.Block.{plain_fields};
-ghost use Rattle.x25_packet.specs.Narrowing.{HasAddresses, are_within, field_in, field_said, field_taken, narrow_of};
-ghost use Rattle.x25_packet.specs.Narrowing.{user_taken, with_field};
-ghost use Rattle.x25_packet.specs.Form.{plain, plain_kind};
+ghost use Rattle.x25_packet.specs.Narrowing.{are_within, field_asked, field_said, field_shown, field_taken, narrow_of};
+ghost use Rattle.x25_packet.specs.Form.{plain};
 ghost use Rattle.x25_packet.specs.Grammar.{Gives};
 
-use crate::classes::Own;
+use crate::block::{Block, Fields};
+use crate::classes::{Own, asked};
 use crate::error::PacketError;
 use crate::facilities::{Directions, Facilities, FacilityField};
-use crate::fields::Fields;
 use crate::form::{Form, Kind};
 use crate::marks::Marks;
 use crate::packet::Packet;
@@ -28,91 +27,79 @@ fn are_within(least: u8, most: u8, values: Option<Directions>) -> bool
     }
 }
 
-fn field_said(own: Own) -> Result<FacilityField, PacketError>
-    ensures { result ≡ field_said own }
+/// Whether what is asked for is in its range.
+fn check_asked(own: Own) -> Result<(), PacketError>
+    ensures { Gives (λ _. field_asked own) result (field_said own) }
 {
     if !are_within(4, 12, own.packet_size) || !are_within(1, 7, own.window_size) {
         return Err(PacketError::BadParameter);
     }
-    Ok(FacilityField::of(Facilities {
+    Ok(())
+}
+
+fn check_fields(fields: Option<Fields>) -> Result<(), PacketError>
+    ensures { Gives (λ _. field_shown (plain_fields fields.entry)) result (field_taken (plain_fields fields.entry)) }
+{
+    match fields {
+        None => Ok(()),
+        Some(fields) => check_asked(asked(fields.facilities)),
+    }
+}
+
+/// The field that says what facilities ask for of those that a station knows.
+pub(crate) fn field_shown(fields: Option<Fields>) -> FacilityField
+    ensures { result ≡ field_shown (plain_fields fields.entry) }
+{
+    let Some(fields) = fields else {
+        return FacilityField::none();
+    };
+    let own = asked(fields.facilities);
+    FacilityField::of(Facilities {
         packet_size: own.packet_size,
         window_size: own.window_size,
-    }))
+    })
 }
 
-fn field_taken(fields: &Option<Fields>) -> Result<FacilityField, PacketError>
-    ensures { result ≡ field_taken (plain_fields fields.now) }
-{
-    match fields {
-        None => Ok(FacilityField::none()),
-        Some(fields) => field_said(fields.own),
-    }
-}
-
-// The facility field of what a packet is taken for: the facilities before a marker that a station knows.
+/// What a station takes the packet for.
+///
+/// 26: a packet size or window size out of its range. 22: REJ, DIAGNOSTIC and REGISTRATION, which a station doesn't
+/// know.
 #[inline(always)]
-fn field_in(packet: &Form) -> Result<FacilityField, PacketError>
-    ensures { result ≡ field_in (plain_kind packet.now.kind) }
-{
-    match &packet.kind {
-        Kind::Call { block } => field_taken(&block.fields),
-        Kind::Accept { block: Some(block) } => field_taken(&block.fields),
-        _ => Ok(FacilityField::none()),
-    }
-}
-
-fn user_taken<'a>(fields: &Option<Fields<'a>>) -> &'a [u8]
-    ensures { result.now ≡ user_taken (plain_fields fields.now) }
-{
-    match fields {
-        None => &[],
-        Some(fields) => fields.user,
-    }
-}
-
-#[inline(always)]
-fn with_field<'a>(packet: &Form<'a>, field: FacilityField) -> Result<Packet<'a>, PacketError>
-    requires { HasAddresses packet.now.bit_8 (plain_kind packet.now.kind) }
-    ensures { Gives plain_written result (with_field packet.now.channel packet.now.bit_8 packet.now.d
-        (plain_kind packet.now.kind) field) }
+pub(crate) fn narrow<'a>(packet: &Form<'a>) -> Result<Packet<'a>, PacketError>
+    ensures { Gives plain_written result (narrow_of (plain packet.now)) }
 {
     let channel = packet.channel;
+    let a = packet.bit_8;
     match &packet.kind {
-        Kind::Call { block } => Ok(Packet::Call {
-            channel,
-            called: block.called_taken(packet.bit_8),
-            calling: block.calling_taken(packet.bit_8),
-            facilities: field,
-            user: user_taken(&block.fields),
-        }),
-        Kind::Accept { .. } => Ok(Packet::Accept {
-            channel,
-            facilities: field,
-        }),
+        Kind::Call { body } => {
+            check_fields(Block::of(a, body).fields)?;
+            Ok(Packet::Call { a, channel, body })
+        }
+        Kind::Accept { body } => {
+            check_fields(Block::of(a, body).fields)?;
+            Ok(Packet::Accept { a, channel, body })
+        }
         Kind::Clear { cause, diagnostic } => Ok(Packet::Clear {
-            channel,
             cause: *cause,
             diagnostic: diagnostic.unwrap_or(0),
+            channel,
         }),
         Kind::ExtendedClear {
             cause,
             diagnostic,
             ..
         } => Ok(Packet::Clear {
-            channel,
             cause: *cause,
             diagnostic: *diagnostic,
+            channel,
         }),
         Kind::ClearConf { .. } => Ok(Packet::ClearConf { channel }),
         Kind::Data { m, ps, pr, user } => Ok(Packet::Data {
-            channel,
-            marks: Marks {
-                q: packet.bit_8,
-                d: packet.d,
-            },
+            marks: Marks { q: a, d: packet.d },
             m: *m,
             ps: *ps,
             pr: *pr,
+            channel,
             user,
         }),
         Kind::Rr { pr } => Ok(Packet::Rr { channel, pr: *pr }),
@@ -120,9 +107,9 @@ fn with_field<'a>(packet: &Form<'a>, field: FacilityField) -> Result<Packet<'a>,
         Kind::Interrupt { user } => Ok(Packet::Interrupt { channel, user }),
         Kind::InterruptConf => Ok(Packet::InterruptConf { channel }),
         Kind::Reset { cause, diagnostic } => Ok(Packet::Reset {
-            channel,
             cause: *cause,
             diagnostic: diagnostic.unwrap_or(0),
+            channel,
         }),
         Kind::ResetConf => Ok(Packet::ResetConf { channel }),
         Kind::Restart { cause, diagnostic } => Ok(Packet::Restart {
@@ -135,17 +122,4 @@ fn with_field<'a>(packet: &Form<'a>, field: FacilityField) -> Result<Packet<'a>,
         | Kind::Registration { .. }
         | Kind::RegistrationConf { .. } => Err(PacketError::Unidentified),
     }
-}
-
-/// What a station takes the packet for.
-///
-/// 26: a packet size or window size out of its range. 22: REJ, DIAGNOSTIC and REGISTRATION, which a station doesn't
-/// know.
-#[inline(always)]
-pub(crate) fn narrow<'a>(packet: &Form<'a>) -> Result<Packet<'a>, PacketError>
-    requires { HasAddresses packet.now.bit_8 (plain_kind packet.now.kind) }
-    ensures { Gives plain_written result (narrow_of (plain packet.now)) }
-{
-    let field = field_in(packet)?;
-    with_field(packet, field)
 }

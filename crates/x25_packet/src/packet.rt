@@ -1,41 +1,40 @@
 ghost use Rattle.std.specs.Prelude.{◌≡◌, ℕ};
 
-use crate::digits::Digits;
-use crate::facilities::FacilityField;
 use crate::marks::Marks;
 use x25_bits::Seq;
 
-/// A packet, ITU-T X.25 (10/96), sections 5.2 to 5.5. User data is borrowed.
+/// A packet, ITU-T X.25 (10/96), sections 5.2 to 5.5. Its octets are borrowed.
 ///
-/// `channel` is the logical channel, group and number together: 1 to 4,095. `ps` is P(S), `pr` is P(R), and `m` the
-/// more data mark. `Facilities::of` reads the octets of `facilities`.
-#[derive(Debug, Drop)]
+/// `channel` is the logical channel, group and number together: 1 to 4,095. `a` is the A bit and `body` what stands
+/// behind the type, of a CALL or an ACCEPT in any form: `called_digits`, `calling_digits`, `facility_field` and
+/// `user_data` read it. `ps` is P(S), `pr` is P(R), and `m` the more data mark.
+#[derive(Clone, Copy, Debug)]
 pub enum Packet<'a> {
     Call {
+        a: bool,
         channel: u16,
-        called: Digits,
-        calling: Digits,
-        facilities: FacilityField,
-        user: &'a [u8],
+        body: &'a [u8],
     },
     Accept {
+        a: bool,
         channel: u16,
-        facilities: FacilityField,
+        body: &'a [u8],
     },
     Clear {
-        channel: u16,
         cause: u8,
         diagnostic: u8,
+        channel: u16,
     },
     ClearConf {
         channel: u16,
     },
+    // The channel stands next to the user data: so those begin in the second word of eight octets.
     Data {
-        channel: u16,
         marks: Marks,
         m: bool,
         ps: Seq,
         pr: Seq,
+        channel: u16,
         user: &'a [u8],
     },
     Rr {
@@ -54,9 +53,9 @@ pub enum Packet<'a> {
         channel: u16,
     },
     Reset {
-        channel: u16,
         cause: u8,
         diagnostic: u8,
+        channel: u16,
     },
     ResetConf {
         channel: u16,
@@ -80,31 +79,16 @@ impl<'a> Packet<'a> {
         ensures range { (most : ℕ) → IsInRange most (plain self.entry) → IsInRange most (plain result) }
     {
         match self {
-            Packet::Call {
-                called,
-                calling,
-                facilities,
-                user,
-                ..
-            } => Packet::Call {
-                channel,
-                called,
-                calling,
-                facilities,
-                user,
-            },
-            Packet::Accept { facilities, .. } => Packet::Accept {
-                channel,
-                facilities,
-            },
+            Packet::Call { a, body, .. } => Packet::Call { a, channel, body },
+            Packet::Accept { a, body, .. } => Packet::Accept { a, channel, body },
             Packet::Clear {
                 cause,
                 diagnostic,
                 ..
             } => Packet::Clear {
-                channel,
                 cause,
                 diagnostic,
+                channel,
             },
             Packet::ClearConf { .. } => Packet::ClearConf { channel },
             Packet::Data {
@@ -115,11 +99,11 @@ impl<'a> Packet<'a> {
                 user,
                 ..
             } => Packet::Data {
-                channel,
                 marks,
                 m,
                 ps,
                 pr,
+                channel,
                 user,
             },
             Packet::Rr { pr, .. } => Packet::Rr { channel, pr },
@@ -131,9 +115,9 @@ impl<'a> Packet<'a> {
                 diagnostic,
                 ..
             } => Packet::Reset {
-                channel,
                 cause,
                 diagnostic,
+                channel,
             },
             Packet::ResetConf { .. } => Packet::ResetConf { channel },
             Packet::Restart { .. } | Packet::RestartConf => unreachable!(),

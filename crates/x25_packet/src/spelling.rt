@@ -3,16 +3,17 @@ ghost use Rattle.std.specs.Prelude.{ℕ, ◌≡◌, ◌+◌, ◌*◌, ◌≤◌,
 ghost use Rattle.std.specs.Prelude.{vec_len, vec_capacity};
 ghost use Rattle.std.specs.Vec.{VecUnchanged};
 ghost use Rattle.x25_packet.specs.Digits.{IsAddress, packed};
-ghost use Rattle.x25_packet.specs.Packet.{plain};
+ghost use Rattle.x25_packet.specs.Packet.{accept, call, plain};
 ghost use Rattle.x25_packet.specs.Reading.{packet_of};
 ghost use Rattle.x25_bits.specs.Bits.{bit};
 ghost use Rattle.x25_packet.specs.Spelling.{IsInRange, IsWithoutD, accept_body, body_of, call_body, channel_of};
-ghost use Rattle.x25_packet.specs.Spelling.{format_of};
-ghost use Rattle.x25_packet.specs.Spelling.{spelling_of, type_of};
+ghost use Rattle.x25_packet.specs.Spelling.{IsChannel, format_of, spelling_of, type_of};
 
 use crate::codes;
 use crate::digits::Digits;
+use crate::facilities::FacilityField;
 use crate::packet::Packet;
+use crate::views::{called_digits, calling_digits, facility_field, user_data};
 use x25_bits::{NoMemory, append_octets};
 
 fn channel(packet: &Packet) -> u16
@@ -106,14 +107,14 @@ fn body_len(packet: &Packet) -> usize
     ensures few { result ≤ 4096 }
 {
     match packet {
-        Packet::Call {
-            called,
-            calling,
-            facilities,
-            user,
-            ..
-        } => call_len(called, calling, facilities.as_slice(), user),
-        Packet::Accept { facilities, .. } => accept_len(facilities.as_slice()),
+        Packet::Call { a, body, .. } => {
+            let called = Digits::in_halves(called_digits(*a, body));
+            let calling = Digits::in_halves(calling_digits(*a, body));
+            let facilities = facility_field(*a, body);
+            let user = user_data(*a, body);
+            call_len(&called, &calling, facilities.as_slice(), user)
+        }
+        Packet::Accept { a, body, .. } => accept_len(facility_field(*a, body).as_slice()),
         Packet::Data { user, .. } | Packet::Interrupt { user, .. } => user.len(),
         Packet::Clear { .. } | Packet::Reset { .. } | Packet::Restart { .. } => 2,
         _ => 0,
@@ -158,8 +159,6 @@ fn append_call(
     user: &[u8],
     octets: &mut Vec<u8>,
 )
-    requires called { length called.now ≤ 15 }
-    requires calling { length calling.now ≤ 15 }
     requires field { length facilities.now ≤ 6 }
     requires room { vec_len octets.old + length
         (call_body called.now calling.now facilities.now user.now) ≤ vec_capacity octets.old }
@@ -196,14 +195,16 @@ fn append_body(packet: &Packet, octets: &mut Vec<u8>)
     ensures capacity { vec_capacity octets.new ≡ vec_capacity octets.old }
 {
     match packet {
-        Packet::Call {
-            called,
-            calling,
-            facilities,
-            user,
-            ..
-        } => append_call(called, calling, facilities.as_slice(), user, octets),
-        Packet::Accept { facilities, .. } => append_accept(facilities.as_slice(), octets),
+        Packet::Call { a, body, .. } => {
+            let called = Digits::in_halves(called_digits(*a, body));
+            let calling = Digits::in_halves(calling_digits(*a, body));
+            let facilities = facility_field(*a, body);
+            let user = user_data(*a, body);
+            append_call(&called, &calling, facilities.as_slice(), user, octets);
+        }
+        Packet::Accept { a, body, .. } => {
+            append_accept(facility_field(*a, body).as_slice(), octets);
+        }
         Packet::Data { user, .. } | Packet::Interrupt { user, .. } => append_octets(octets, user),
         Packet::Clear {
             cause,
@@ -259,4 +260,60 @@ pub fn encode(packet: &Packet, octets: &mut Vec<u8>) -> Result<(), NoMemory>
     ensures capacity { vec_capacity octets.old ≤ vec_capacity octets.new }
 {
     append_packet(packet, octets)
+}
+
+/// Appends the octets that spell a CALL of these fields, with at most 128 octets of user data.
+///
+/// It takes memory and is refused it as `encode`.
+pub fn encode_call(
+    channel: u16,
+    called: &Digits,
+    calling: &Digits,
+    facilities: &FacilityField,
+    user: &[u8],
+    octets: &mut Vec<u8>,
+) -> Result<(), NoMemory>
+    requires channel { IsChannel channel }
+    requires user { length user.now ≤ 128 }
+    ensures ok { OnOk result (octets.new.items ≡ octets.old.items
+        ++ spelling_of (call channel called.now calling.now facilities.now user.now)) }
+    ensures err { OnErr result (VecUnchanged octets.old octets.new) }
+    ensures room { vec_len octets.old
+        + length (spelling_of (call channel called.now calling.now facilities.now user.now))
+        ≤ vec_capacity octets.old → IsOk result }
+    ensures memory { vec_capacity octets.new ≤ max (vec_capacity octets.old) (vec_len octets.old
+        + length (spelling_of (call channel called.now calling.now facilities.now user.now))) }
+    ensures capacity { vec_capacity octets.old ≤ vec_capacity octets.new }
+{
+    let facilities = facilities.as_slice();
+    octets.reserve_exact(3 + call_len(called, calling, facilities, user))?;
+    let [group, number] = channel.to_be_bytes();
+    append_octets(octets, &[16 + group, number, codes::CALL]);
+    append_call(called, calling, facilities, user, octets);
+    Ok(())
+}
+
+/// Appends the octets that spell an ACCEPT with these facilities.
+///
+/// It takes memory and is refused it as `encode`.
+pub fn encode_accept(
+    channel: u16,
+    facilities: &FacilityField,
+    octets: &mut Vec<u8>,
+) -> Result<(), NoMemory>
+    requires channel { IsChannel channel }
+    ensures ok { OnOk result (octets.new.items ≡ octets.old.items ++ spelling_of (accept channel facilities.now)) }
+    ensures err { OnErr result (VecUnchanged octets.old octets.new) }
+    ensures room { vec_len octets.old + length (spelling_of (accept channel facilities.now)) ≤ vec_capacity octets.old
+        → IsOk result }
+    ensures memory { vec_capacity octets.new
+        ≤ max (vec_capacity octets.old) (vec_len octets.old + length (spelling_of (accept channel facilities.now))) }
+    ensures capacity { vec_capacity octets.old ≤ vec_capacity octets.new }
+{
+    let facilities = facilities.as_slice();
+    octets.reserve_exact(3 + accept_len(facilities))?;
+    let [group, number] = channel.to_be_bytes();
+    append_octets(octets, &[16 + group, number, codes::ACCEPT]);
+    append_accept(facilities, octets);
+    Ok(())
 }

@@ -10,7 +10,7 @@ static TEXTS: [(&str, Option<(usize, bool)>); 5] = [
 ];
 
 /// Whether these are the digits of a text.
-pub fn are_digits(found: &Digits, wanted: &str) -> bool {
+fn are_digits(found: &Digits, wanted: &str) -> bool {
     let wanted = wanted.as_bytes();
     if found.len() != wanted.len() {
         return false;
@@ -38,30 +38,32 @@ fn digits_of_a_text(rt: HostRuntime) {
     }
 }
 
-/// Digits, the octets that they are packed in, and where they are packed right how many are behind the first, and the
-/// third.
-static PACKED: [(usize, [u8; 2], Option<(usize, u8)>); 4] = [
-    (3, [0x12, 0x30], Some((2, 3))),
-    (4, [0x12, 0x30], Some((3, 3))),
-    (3, [0x12, 0x31], None),
-    (4, [0x12, 0x3A], None),
+/// Digits, octets, and whether they are packed right in these, or in more of which these are the first.
+static PACKED: [(u8, [u8; 2], bool); 6] = [
+    (3, [0x12, 0x30], true),
+    (4, [0x12, 0x30], true),
+    (3, [0x12, 0x31], false),
+    (4, [0x12, 0x3A], false),
+    (5, [0x12, 0x31], true),
+    (6, [0xA2, 0x31], false),
 ];
 
-fn halves(count: usize, octets: &[u8]) -> Option<(usize, u8)> {
-    if octets.len() != 2 || count < 3 || count > 4 || !hold_digits(count, octets) {
+fn are_packed(count: u8, octets: &[u8]) -> Option<bool> {
+    let count = usize::from(count);
+    if octets.len() > (count + 1) / 2 {
         return None;
     }
-    let digits = Digits::in_halves(octets, 1, count - 1);
-    if digits.len() < 2 {
-        return None;
-    }
-    Some((digits.len(), digits.get(1)))
+    Some(hold_digits(count, octets))
 }
 
 #[test]
 fn digits_in_half_octets(rt: HostRuntime) {
     for (count, octets, wanted) in &PACKED {
-        assert_eq!(rt; halves(*count, octets.as_slice()), *wanted, "{octets:?}");
+        assert_eq!(rt;
+            are_packed(*count, octets.as_slice()),
+            Some(*wanted),
+            "{octets:?}"
+        );
     }
 }
 

@@ -11,4 +11,6 @@ mod narrowing;
 #[cfg(test)]
 mod packets;
 #[cfg(test)]
+mod views;
+#[cfg(test)]
 mod wide_packets;

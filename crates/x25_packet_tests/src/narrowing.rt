@@ -1,6 +1,9 @@
-use crate::fields::are_digits;
+use crate::views::are_figures;
 use std::alloc::Global;
-use x25_packet::{Packet, PacketError, read, take, taking_keeps_octets};
+use x25_packet::{
+    Packet, PacketError, called_digits, calling_digits, facility_field, read, take,
+    taking_keeps_octets,
+};
 
 /// What is taken of a packet: a cause, a diagnostic, and the facility field.
 type Taken = (u8, u8, &'static [u8]);
@@ -44,10 +47,11 @@ static ROWS: [(&str, u8, Taken); 19] = [
     ("1001", 20, (0, 0, &[])),
 ];
 
-fn told<'a>(packet: &'a Packet<'_>) -> (u8, u8, &'a [u8]) {
+// Whether a packet tells what is wanted.
+fn tells(packet: &Packet<'_>, wanted: &Taken) -> bool {
     match packet {
-        Packet::Call { facilities, .. } | Packet::Accept { facilities, .. } => {
-            (0, 0, facilities.as_slice())
+        Packet::Call { a, body, .. } | Packet::Accept { a, body, .. } => {
+            facility_field(*a, body).as_slice() == wanted.2
         }
         Packet::Clear {
             cause,
@@ -59,19 +63,15 @@ fn told<'a>(packet: &'a Packet<'_>) -> (u8, u8, &'a [u8]) {
             diagnostic,
             ..
         }
-        | Packet::Restart { cause, diagnostic } => (*cause, *diagnostic, &[]),
-        _ => (255, 255, &[]),
+        | Packet::Restart { cause, diagnostic } => *cause == wanted.0 && *diagnostic == wanted.1,
+        _ => false,
     }
 }
 
 // The number of the error, 0 where a packet tells what is wanted, and else 255.
 fn number_of(taken: &Result<Packet, PacketError>, wanted: &Taken) -> u8 {
     match taken {
-        Ok(packet) => {
-            let (cause, diagnostic, field) = told(packet);
-            let is_wanted = cause == wanted.0 && diagnostic == wanted.1 && field == wanted.2;
-            if is_wanted { 0 } else { 255 }
-        }
+        Ok(packet) => { if tells(packet, wanted) { 0 } else { 255 } }
         Err(error) => error.number(),
     }
 }
@@ -139,13 +139,10 @@ static TYPED: [(&str, &str, &str); 7] = [
 // Whether these addresses are taken of a CALL.
 fn are_taken(octets: &[u8], wanted_called: &str, wanted_calling: &str) -> bool {
     match take(16, octets) {
-        Ok(
-            Packet::Call {
-                called,
-                calling,
-                ..
-            },
-        ) => are_digits(&called, wanted_called) && are_digits(&calling, wanted_calling),
+        Ok(Packet::Call { a, body, .. }) => {
+            are_figures(&called_digits(a, body), wanted_called)
+                && are_figures(&calling_digits(a, body), wanted_calling)
+        }
         _ => false,
     }
 }

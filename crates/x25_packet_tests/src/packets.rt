@@ -1,7 +1,8 @@
 use std::alloc::Global;
 use x25_packet::{
-    CALL_OCTETS, LONG_CALL_OCTETS, NoMemory, Packet, PacketError, channel, decode_within, encode,
-    longest_user,
+    CALL_OCTETS, Digits, Directions, Facilities, FacilityField, LONG_CALL_OCTETS, NoMemory, Packet,
+    PacketError, channel, decode_within, encode, encode_accept, encode_call, longest_user,
+    user_data,
 };
 
 /// Octets in hexadecimal, and the number of their error, 0 where they spell a packet.
@@ -138,7 +139,9 @@ fn errors_of_call(octets: &[u8], count: usize) -> (u8, u8, u8, u8, bool) {
 // Where it is read at all.
 fn has_user_data(octets: &[u8]) -> bool {
     match decode_within(LONG_CALL_OCTETS, octets) {
-        Ok(Packet::Call { user, .. }) => octets.len() >= 5 && user == &octets[5..],
+        Ok(Packet::Call { a, body, .. }) => {
+            octets.len() >= 5 && user_data(a, body) == &octets[5..]
+        }
         _ => true,
     }
 }
@@ -178,9 +181,9 @@ fn channels(rt: HostRuntime) {
 // Whether a CLEAR is spelled right on channel 256.
 fn spells_on_another_channel(alloc: Global) -> bool {
     let packet = Packet::Clear {
-        channel: 1,
         cause: 0,
         diagnostic: 20,
+        channel: 1,
     };
     let mut octets = Vec::new(alloc);
     let is_spelled = encode(&packet.with_channel(256), &mut octets).is_ok();
@@ -190,6 +193,48 @@ fn spells_on_another_channel(alloc: Global) -> bool {
 #[test]
 fn another_channel(rt: HostRuntime) {
     assert!(rt; spells_on_another_channel(rt.alloc()));
+}
+
+const SIZES: Facilities = Facilities {
+    packet_size: Some(Directions {
+        called: 7,
+        calling: 8,
+    }),
+    window_size: None,
+};
+
+// Whether a CALL of three digits to four on channel 256, with packet sizes, is spelled right.
+fn spells_a_call(alloc: Global) -> bool {
+    let (Some(called), Some(calling)) = (Digits::of("123"), Digits::of("4567")) else {
+        return false;
+    };
+    let field = FacilityField::of(SIZES);
+    let mut octets = Vec::new(alloc);
+    let is_spelled = encode_call(256, &called, &calling, &field, &[0x41], &mut octets).is_ok();
+    let wanted = [
+        0x11, 0x00, 0x0B, 0x43, 0x12, 0x34, 0x56, 0x70, 3, 0x42, 7, 8, 0x41,
+    ];
+    is_spelled && octets.as_slice() == wanted.as_slice()
+}
+
+#[test]
+fn a_call(rt: HostRuntime) {
+    assert!(rt; spells_a_call(rt.alloc()));
+}
+
+// Whether the ACCEPT with these facilities on channel 1 is spelled so.
+fn spells_accept(alloc: Global, field: &FacilityField, wanted: &[u8]) -> bool {
+    let mut octets = Vec::new(alloc);
+    let is_spelled = encode_accept(1, field, &mut octets).is_ok();
+    is_spelled && octets.as_slice() == wanted
+}
+
+#[test]
+fn acceptances(rt: HostRuntime) {
+    let sizes = FacilityField::of(SIZES);
+    let is_spelled = spells_accept(rt.alloc(), &sizes, &[0x10, 1, 0x0F, 0, 3, 0x42, 7, 8]);
+    let none = FacilityField::none();
+    assert!(rt; is_spelled && spells_accept(rt.alloc(), &none, &[0x10, 1, 0x0F]));
 }
 
 /// Each error, its number, its diagnostic code and its message.

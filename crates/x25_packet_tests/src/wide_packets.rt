@@ -1,6 +1,6 @@
-use crate::fields::are_digits;
+use crate::views::are_figures;
 use std::alloc::Global;
-use x25_packet::{Form, Halves, Kind, decode};
+use x25_packet::{Block, Form, Halves, Kind, decode};
 
 /// Octets in hexadecimal, and the number of their error, 0 where they spell a packet.
 static ROWS: [(&str, u8); 61] = [
@@ -105,11 +105,12 @@ fn has_digits(octets: &[u8], called: &str, calling: &str) -> bool {
                 channel: 1,
                 bit_8: false,
                 d: true,
-                kind: Kind::Call { block },
+                kind: Kind::Call { body },
             },
         ) => {
-            are_digits(&block.called_digits(), called)
-                && are_digits(&block.calling_digits(), calling)
+            let block = Block::of(false, body);
+            are_figures(&block.called_halves(), called)
+                && are_figures(&block.calling_halves(), calling)
         }
         _ => false,
     }
@@ -120,10 +121,10 @@ fn has_fields(octets: &[u8], facilities: &[u8], user: &[u8]) -> bool {
     match decode(16, octets) {
         Ok(
             Form {
-                kind: Kind::Call { block },
+                kind: Kind::Call { body },
                 ..
             },
-        ) => match block.fields {
+        ) => match Block::of(false, body).fields {
             Some(fields) => fields.facilities == facilities && fields.user == user,
             None => false,
         },
@@ -159,13 +160,14 @@ fn has_halves(octets: &[u8], called: &[u8], calling: &[u8], behind: &[u8]) -> bo
     let Ok(
         Form {
             bit_8: true,
-            kind: Kind::Call { block },
+            kind: Kind::Call { body },
             ..
         },
     ) = decode(16, octets)
     else {
         return false;
     };
+    let block = Block::of(true, body);
     let found = block.called_halves();
     found.len() >= 2
         && are_halves(&found, called)

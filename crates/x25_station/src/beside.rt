@@ -3,7 +3,7 @@ ghost use Rattle.std.specs.Prelude.{◌≡◌, true};
 ghost use Rattle.x25_station.specs.Entry.{entries_beside};
 ghost use Rattle.x25_station.specs.Beside.{AreFew, beside_in, beside_kind, of_block, of_fields, plain_beside};
 ghost use Rattle.x25_station.specs.Beside.{may_diagnose, without_user};
-ghost use Rattle.x25_packet.specs.Block.{plain_fields, plain_optional};
+ghost use Rattle.x25_packet.specs.Block.{plain_fields, optional_at};
 ghost use Rattle.x25_packet.specs.Form.{plain_kind};
 
 use x25_packet::codes::DIAGNOSTIC;
@@ -40,29 +40,28 @@ fn without_user<'a>(fields: Option<Fields<'a>>) -> Option<Fields<'a>>
     match fields {
         Some(fields) => Some(Fields {
             facilities: fields.facilities,
-            own: fields.own,
             user: &[],
         }),
         None => None,
     }
 }
 
-fn of_block<'a>(block: Option<Block<'a>>) -> Beside<'a>
-    ensures { plain_beside result ≡ of_block (plain_optional block.entry) }
+fn of_body<'a>(a: bool, body: &'a [u8]) -> Beside<'a>
+    ensures { plain_beside result ≡ of_block (optional_at a body.now) }
 {
-    match block {
-        Some(block) => of_fields(block.fields),
-        None => Beside::Nothing,
+    if body.is_empty() {
+        return Beside::Nothing;
     }
+    of_fields(Block::of(a, body).fields)
 }
 
-fn beside_kind<'a>(kind: Kind<'a>) -> Beside<'a>
-    ensures { plain_beside result ≡ beside_kind (plain_kind kind.entry) }
+fn beside_kind<'a>(a: bool, kind: Kind<'a>) -> Beside<'a>
+    ensures { plain_beside result ≡ beside_kind (plain_kind a kind.entry) }
 {
     match kind {
-        Kind::Call { block } => of_fields(without_user(block.fields)),
-        Kind::Accept { block } | Kind::ClearConf { block } => of_block(block),
-        Kind::ExtendedClear { block, .. } => of_fields(block.fields),
+        Kind::Call { body } => of_fields(without_user(Block::of(a, body).fields)),
+        Kind::Accept { body } | Kind::ClearConf { body } => of_body(a, body),
+        Kind::ExtendedClear { body, .. } => of_fields(Block::of(a, body).fields),
         Kind::Diagnostic { code, .. } => Beside::Diagnostic(code),
         _ => Beside::Nothing,
     }
@@ -79,7 +78,7 @@ fn read_beside<'a>(octets: &'a [u8]) -> Beside<'a>
         return Beside::Nothing;
     }
     match decode(FAST_SELECT_OCTETS, octets) {
-        Ok(packet) => beside_kind(packet.kind),
+        Ok(packet) => beside_kind(packet.bit_8, packet.kind),
         Err(_) => Beside::Nothing,
     }
 }

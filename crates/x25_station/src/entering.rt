@@ -20,6 +20,7 @@ use crate::entry::{Entry, Said, Told};
 use crate::memory::Memory;
 use x25_circuit::Notice;
 use x25_layer::{Layer, Report, Stretch};
+use x25_packet::{called_digits, calling_digits, user_data};
 
 // The name of no stretch: there is none on a channel that isn't configured.
 const NO_NAME: Stretch = Stretch {
@@ -59,15 +60,10 @@ fn told_of(memory: &mut Memory, notice: Notice<'_>) -> Told
     ensures handed { messages_told result ≡ handed_over (Some notice.entry) }
 {
     match notice {
-        Notice::Incoming {
-            called,
-            calling,
-            user,
-            params,
-        } => {
-            let called = memory.digits(&called);
-            let calling = memory.digits(&calling);
-            let user = memory.text(user);
+        Notice::Incoming { a, params, body } => {
+            let called = memory.digits(&called_digits(a, body));
+            let calling = memory.digits(&calling_digits(a, body));
+            let user = memory.text(user_data(a, body));
             Told::Incoming {
                 called,
                 calling,

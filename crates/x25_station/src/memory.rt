@@ -1,4 +1,4 @@
-ghost use Rattle.std.specs.Prelude.{◌≡◌, ◌+◌, ◌<◌, ◌≤◌, take, vec_len, vec_capacity, IfOk, OnOk};
+ghost use Rattle.std.specs.Prelude.{◌≡◌, ◌+◌, ◌<◌, ◌≤◌, length, take, vec_len, vec_capacity, IfOk, OnOk};
 ghost use Rattle.x25_circuit.specs.code.PartialMessage.{spares};
 ghost use Rattle.x25_station.specs.code.Memory.{all_memory, messages_in};
 ghost use Rattle.x25_station.specs.code.Memory.{texts_in};
@@ -8,7 +8,7 @@ use crate::text::Text;
 use std::alloc::{AllocError, Global};
 use std::marker::Model;
 use x25_circuit::{LONGEST_MESSAGE, Message, Octets};
-use x25_packet::Digits;
+use x25_packet::Halves;
 
 /// The most texts that the entries of a step have: the two addresses of a call and its user data, and the two of what
 /// came beside.
@@ -70,8 +70,9 @@ impl Memory {
     }
 
     /// A text of the digits of an address.
-    pub(crate) fn digits(&mut self, digits: &Digits) -> Text
-        requires { 0 < self.old.texts }
+    pub(crate) fn digits(&mut self, digits: &Halves) -> Text
+        requires short { length digits.now ≤ 15 }
+        requires texts { 0 < self.old.texts }
         ensures text { result ≡ digits.now }
         ensures texts { self.new.texts + 1 ≡ self.old.texts }
         ensures messages { self.new.messages ≡ self.old.messages }

@@ -3,7 +3,7 @@ ghost use Rattle.std.specs.Prelude.{◌≡◌, ◌≤◌, [], length, take, vec_
 use std::alloc::{AllocError, Global};
 use std::marker::Model;
 use x25_bits::append_octets;
-use x25_packet::Digits;
+use x25_packet::Halves;
 
 /// The most octets of a text: those of the user data of a call, where it may be long. Interrupts, addresses and
 /// facilities have fewer.
@@ -45,7 +45,8 @@ impl Text {
     }
 
     /// Puts the digits of an address in the place of its octets.
-    pub(crate) fn set_digits(&mut self, digits: &Digits)
+    pub(crate) fn set_digits(&mut self, digits: &Halves)
+        requires { length digits.now ≤ 15 }
         ensures { self.new ≡ digits.now }
     {
         self.octets.clear();
@@ -62,9 +63,9 @@ impl Text {
 }
 
 // Puts digits where nothing is.
-fn append_digits(octets: &mut Vec<u8>, digits: &Digits)
+fn append_digits(octets: &mut Vec<u8>, digits: &Halves)
     requires none { octets.old.items ≡ [] }
-    requires room { 15 ≤ vec_capacity octets.old }
+    requires room { length digits.now ≤ vec_capacity octets.old }
     ensures digits { octets.new.items ≡ digits.now }
     ensures room { vec_capacity octets.new ≡ vec_capacity octets.old }
 {

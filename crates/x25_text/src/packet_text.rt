@@ -2,6 +2,7 @@
 ghost use Rattle.std.specs.Prelude.{◌≡◌, ◌+◌, ◌*◌, ◌≤◌, ◌<◌, ◌++◌, codes, decimal, length, map};
 ghost use Rattle.x25_packet.specs.Packet.{plain};
 ghost use Rattle.x25_packet.specs.Spelling.{IsInRange};
+ghost use Rattle.x25_packet.specs.Views.{called_of, calling_of, field_of, user_of};
 ghost use Rattle.x25_text.specs.Text.{octets_text};
 ghost use Rattle.x25_text.specs.PacketText.{addresses_text, digits_text, fields_text, information_text, marks_text};
 ghost use Rattle.x25_text.specs.PacketText.{confirmation_text};
@@ -9,7 +10,9 @@ ghost use Rattle.x25_text.specs.PacketText.{numbers_text, packet_fault_text, pac
 
 use crate::text::{MOST_OCTETS, ROOM, Text, bit_digit, seq_digit};
 use x25_frame::Seq;
-use x25_packet::{Digits, Marks, Packet, PacketError, decode_within, longest_user};
+use x25_packet::{
+    Halves, Marks, Packet, PacketError, call_views, decode_within, facility_field, longest_user,
+};
 
 /// The most characters of a packet or of its error on one line.
 pub const MOST_PACKET_TEXT: usize = 8_260;
@@ -25,18 +28,22 @@ pub(crate) fn push_field(label: &[u8], octets: &[u8], text: &mut Text)
     text.push_octets(octets);
 }
 
-fn push_digits(digits: &Digits, text: &mut Text)
+fn push_digits(digits: &Halves, text: &mut Text)
+    requires few { length digits.now ≤ 15 }
     requires room { length text.old + length digits.now ≤ ROOM }
     ensures text { text.new ≡ text.old ++ map (λ digit. 48 + digit) digits.now }
     ensures size { length text.new ≡ length text.old + length digits.now }
 {
+    let mut figures = [b'0'; 15];
     for place in 0..digits.len() {
-        text.push_digit(digits.get(place));
+        figures[place] = b'0' + digits.get(place);
     }
+    text.push(&figures[..digits.len()]);
 }
 
 /// Appends a label and then an address.
-fn push_address(label: &[u8], digits: &Digits, text: &mut Text)
+fn push_address(label: &[u8], digits: &Halves, text: &mut Text)
+    requires digits { length digits.now ≤ 15 }
     requires room { length text.old + (length label.now + 16) ≤ ROOM }
     ensures text { text.new ≡ text.old ++ (label.now ++ digits_text digits.now) }
     ensures size { length text.new ≤ length text.old + (length label.now + 16) }
@@ -59,7 +66,9 @@ pub(crate) fn push_reason(cause: u8, diagnostic: u8, text: &mut Text)
     text.push_number(b" diag=", u16::from(diagnostic));
 }
 
-pub(crate) fn push_addresses(called: &Digits, calling: &Digits, text: &mut Text)
+pub(crate) fn push_addresses(called: &Halves, calling: &Halves, text: &mut Text)
+    requires called { length called.now ≤ 15 }
+    requires calling { length calling.now ≤ 15 }
     requires room { length text.old + 49 ≤ ROOM }
     ensures text { text.new ≡ text.old ++ addresses_text called.now calling.now }
     ensures size { length text.new ≤ length text.old + 49 }
@@ -100,6 +109,28 @@ fn push_marks(ps: Seq, pr: Seq, m: bool, marks: Marks, text: &mut Text)
     }
 }
 
+/// Appends what a CALL says behind its channel.
+fn push_call_body(a: bool, body: &[u8], text: &mut Text)
+    requires user { length (user_of a body.now) ≤ 128 }
+    requires room { length text.old + 536 ≤ ROOM }
+    ensures text { text.new ≡ text.old ++ (addresses_text (called_of a body.now) (calling_of a body.now)
+        ++ fields_text (field_of a body.now) (user_of a body.now)) }
+    ensures size { length text.new ≤ length text.old + 536 }
+{
+    let views = call_views(a, body);
+    push_addresses(&views.called, &views.calling, text);
+    push_fields(views.facilities.as_slice(), views.user, text);
+}
+
+/// Appends what an ACCEPT says behind its channel.
+fn push_accept_body(a: bool, body: &[u8], text: &mut Text)
+    requires room { length text.old + 18 ≤ ROOM }
+    ensures text { text.new ≡ text.old ++ (codes " fac=" ++ octets_text (field_of a body.now)) }
+    ensures size { length text.new ≤ length text.old + 18 }
+{
+    push_field(b" fac=", facility_field(a, body).as_slice(), text);
+}
+
 /// Appends a packet on one line. A CALL has at most 128 octets of user data.
 pub fn push_packet(packet: &Packet, text: &mut Text)
     requires range { IsInRange 128 (plain packet.now) }
@@ -108,23 +139,13 @@ pub fn push_packet(packet: &Packet, text: &mut Text)
     ensures size { length text.new ≤ length text.old + MOST_PACKET_TEXT }
 {
     match packet {
-        Packet::Call {
-            channel,
-            called,
-            calling,
-            facilities,
-            user,
-        } => {
+        Packet::Call { a, channel, body } => {
             text.push_number(b"CALL ch=", *channel);
-            push_addresses(called, calling, text);
-            push_fields(facilities.as_slice(), user, text);
+            push_call_body(*a, body, text);
         }
-        Packet::Accept {
-            channel,
-            facilities,
-        } => {
+        Packet::Accept { a, channel, body } => {
             text.push_number(b"ACCEPT ch=", *channel);
-            push_field(b" fac=", facilities.as_slice(), text);
+            push_accept_body(*a, body, text);
         }
         Packet::Clear {
             channel,

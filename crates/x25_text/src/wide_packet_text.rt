@@ -2,7 +2,7 @@
 ghost use Rattle.std.specs.Prelude.{◌≡◌, ◌+◌, ◌*◌, ◌≤◌, ◌<◌, ◌++◌, ◌∷◌, [], codes, decimal, false, length, map, true};
 ghost use Rattle.std.specs.Fmt.{digit_glyph};
 ghost use Rattle.x25_packet.specs.Block.{AreAddresses, IsBlock, MayBeBlock, MayBeFields, called_in, calling_in};
-ghost use Rattle.x25_packet.specs.Block.{plain_block, plain_fields, plain_optional};
+ghost use Rattle.x25_packet.specs.Block.{optional_at, plain_block, plain_fields};
 ghost use Rattle.x25_packet.specs.Form.{plain, plain_kind};
 ghost use Rattle.x25_packet.specs.Form.Spelling.{IsKind};
 ghost use Rattle.x25_packet.specs.declared.form.Forms.TheVariants.{Any};
@@ -158,19 +158,19 @@ fn push_block(a: bool, block: &Block, text: &mut Text)
         push_typed_addresses(block, text);
         push_wide_fields(&block.fields, text);
     } else {
-        push_addresses(&block.called_digits(), &block.calling_digits(), text);
+        push_addresses(&block.called_halves(), &block.calling_halves(), text);
         push_wide_fields(&block.fields, text);
     }
 }
 
-fn push_optional_block(a: bool, block: &Option<Block>, text: &mut Text)
-    requires block { MayBeBlock Any a 128 (plain_optional block.now) }
+fn push_optional_block(a: bool, body: &[u8], text: &mut Text)
+    requires block { MayBeBlock Any a 128 (optional_at a body.now) }
     requires room { length text.old + 1_020 ≤ ROOM }
-    ensures text { text.new ≡ text.old ++ optional_block_text a (plain_optional block.now) }
+    ensures text { text.new ≡ text.old ++ optional_block_text a (optional_at a body.now) }
     ensures size { length text.new ≤ length text.old + 1_020 }
 {
-    if let Some(block) = block {
-        push_block(a, block, text);
+    if !body.is_empty() {
+        push_block(a, &Block::of(a, body), text);
     }
 }
 
@@ -188,24 +188,24 @@ fn push_wide_reason(cause: u8, diagnostic: Option<u8>, text: &mut Text)
 /// Appends a packet without the mark of its form.
 #[tactic(auto, using(crate::proofs::BlockLength::with_user_data))]
 fn push_kind(packet: &Form, text: &mut Text)
-    requires range { IsKind Any packet.now.bit_8 128 (plain_kind packet.now.kind) }
+    requires range { IsKind Any packet.now.bit_8 128 (plain_kind packet.now.bit_8 packet.now.kind) }
     requires room { length text.old + 8_250 ≤ ROOM }
     ensures text { text.new ≡ text.old
-        ++ kind_text packet.now.channel packet.now.bit_8 packet.now.d (plain_kind packet.now.kind) }
+        ++ kind_text packet.now.channel packet.now.bit_8 packet.now.d (plain_kind packet.now.bit_8 packet.now.kind) }
     ensures size { length text.new ≤ length text.old + 8_250 }
 {
     match &packet.kind {
-        Kind::Call { block } => {
+        Kind::Call { body } => {
             text.push_number(b"CALL ch=", packet.channel);
             push_format(packet.bit_8, text);
             push_confirmation(packet.d, text);
-            push_block(packet.bit_8, block, text);
+            push_block(packet.bit_8, &Block::of(packet.bit_8, body), text);
         }
-        Kind::Accept { block } => {
+        Kind::Accept { body } => {
             text.push_number(b"ACCEPT ch=", packet.channel);
             push_format(packet.bit_8, text);
             push_confirmation(packet.d, text);
-            push_optional_block(packet.bit_8, block, text);
+            push_optional_block(packet.bit_8, body, text);
         }
         Kind::Clear { cause, diagnostic } => {
             text.push_number(b"CLEAR ch=", packet.channel);
@@ -215,17 +215,17 @@ fn push_kind(packet: &Form, text: &mut Text)
         Kind::ExtendedClear {
             cause,
             diagnostic,
-            block,
+            body,
         } => {
             text.push_number(b"CLEAR ch=", packet.channel);
             push_format(packet.bit_8, text);
             push_reason(*cause, *diagnostic, text);
-            push_block(packet.bit_8, block, text);
+            push_block(packet.bit_8, &Block::of(packet.bit_8, body), text);
         }
-        Kind::ClearConf { block } => {
+        Kind::ClearConf { body } => {
             text.push_number(b"CLEARCONF ch=", packet.channel);
             push_format(packet.bit_8, text);
-            push_optional_block(packet.bit_8, block, text);
+            push_optional_block(packet.bit_8, body, text);
         }
         Kind::Data { m, ps, pr, user } => {
             text.push_number(b"DATA ch=", packet.channel);
@@ -272,7 +272,7 @@ fn push_kind(packet: &Form, text: &mut Text)
 
 /// Appends a packet that has another form than a station writes, with the mark of that.
 pub fn push_wide_packet(packet: &Form, text: &mut Text)
-    requires range { IsKind Any packet.now.bit_8 128 (plain_kind packet.now.kind) }
+    requires range { IsKind Any packet.now.bit_8 128 (plain_kind packet.now.bit_8 packet.now.kind) }
     requires room { length text.old + MOST_PACKET_TEXT ≤ ROOM }
     ensures text { text.new ≡ text.old ++ wide_packet_text (plain packet.now) }
     ensures size { length text.new ≤ length text.old + MOST_PACKET_TEXT }

@@ -1,8 +1,8 @@
-ghost use Rattle.std.specs.Prelude.{ℕ, ◌≡◌, ◌+◌, ◌-◌, ◌%◌, ◌<◌, ◌≤◌, ◌↔◌, IsTrue, IsErr, OnOk, OnErr, OnSome, IfOk};
-ghost use Rattle.std.specs.Prelude.{IfErr, IfSome, IfNone, MatchOption, length, drop, slice_get};
+ghost use Rattle.std.specs.Prelude.{ℕ, ◌≡◌, ◌+◌, ◌-◌, ◌%◌, ◌<◌, ◌≤◌, ◌↔◌, IsTrue, IsErr, OnOk, OnErr, IfOk};
+ghost use Rattle.std.specs.Prelude.{IfErr, MatchOption, length, slice_get};
 ghost use Rattle.x25_window.specs.code.Modulo.{resolved};
-ghost use Rattle.x25_window.specs.Sender.{Sending, Acknowledges, fresh, offered, acknowledged, from_acked, moved_on};
-ghost use Rattle.x25_window.specs.code.Held.{Fits, advanced, with_item, without};
+ghost use Rattle.x25_window.specs.Sender.{Sending, Acknowledges, fresh, offered, acknowledged, from_acked};
+ghost use Rattle.x25_window.specs.code.Held.{Fits, with_item, without};
 
 use crate::window_error::WindowError;
 use circular_buffer::HeapCircularBuffer;
@@ -143,35 +143,13 @@ impl<T> Sender<T> {
             ≡ length self.old.items) (λ _. self.old.before < length self.old.items) }
         ensures* after { sem 𝓛 (EndsFitting T.row self.entry) }
     {
-        let number = self.advance()?;
-        Some((number, self.last_sent()))
-    }
-
-    // Moves the place to send from on, and gives the number that it had.
-    fn advance(&mut self) -> Option<Seq>
-        ensures number { (w : Sending T) → Fits self.old w → MatchOption result (w.place ≡ length w.given)
-            (λ number. (w.place < length w.given) × (number.number ≡ w.place % 8)) }
-        ensures step { (w : Sending T) → Fits self.old w → OnSome result (Fits self.new (moved_on w)) }
-        ensures held { self.new ≡ advanced self.old }
-        ensures some { IfSome result (λ _. (self.new.before ≡ self.old.before + 1)
-            × (self.new.before ≤ length self.new.items)) }
-        ensures none { IfNone result ((self.old.before ≡ length self.old.items) × (self.new ≡ self.old)) }
-    {
         if self.before == self.unacked() {
             return None;
         }
-        let number = Seq::modulo(self.first.get() + self.before);
+        let at = self.before;
         self.before += 1;
-        Some(number)
-    }
-
-    // The item before the place to send from.
-    fn last_sent(&self) -> &T
-        requires low { 0 < self.now.before }
-        requires high { self.now.before ≤ length self.now.items }
-        ensures { slice_get self.now.items (self.now.before - 1) ≡ Some result.now }
-    {
-        self.items.get(self.before as usize - 1).unwrap()
+        let number = Seq::modulo(self.first.get() + at);
+        Some((number, self.items.get(at as usize).unwrap()))
     }
 
     /// How many items a received N(R) acknowledges: all below the number that it stands for.
@@ -223,7 +201,8 @@ impl<T> Sender<T> {
         ensures unchanged { OnErr result (self.new ≡ self.old) }
     {
         let count = self.acknowledges(number)?;
-        drop_front(&mut self.items, count);
+        let kept = self.items.len() - count as usize;
+        self.items.truncate_front(kept);
         self.first = number;
         self.before = self.before.saturating_sub(count);
         Ok(count)
@@ -255,14 +234,4 @@ impl<T> Sender<T> {
         self.items.clear();
         self.first = Seq::ZERO;
     }
-}
-
-// Removes the first items.
-fn drop_front<T: Drop>(items: &mut HeapCircularBuffer<T>, count: u8)
-    requires { count ≤ length items.old.items }
-    ensures items { items.new.items ≡ drop count items.old.items }
-    ensures capacity { items.new.capacity ≡ items.old.capacity }
-{
-    let kept = items.len() - count as usize;
-    items.truncate_front(kept);
 }

@@ -1,8 +1,9 @@
 -- Which states of the definition a circuit stands for, and what its calls mean.
 use Rattle.std.specs.Prelude.{◌≡◌, ◌≢◌, ℕ, List, [], length, Some, None, Result, Err, IsOkAnd, MatchResult}
 use Rattle.std.specs.Prelude.{OnErr, IfOk, IfErr, IsErrOf, Bool, false}
-use Rattle.x25_packet.specs.declared.packet.Packet.{Packet}
-use Rattle.x25_packet.specs.Packet.{PlainPacket, plain, user_data}
+use Rattle.x25_circuit.specs.declared.requested.Requested.{Requested}
+use Rattle.x25_packet.specs.Packet.{PlainPacket, user_data}
+use Rattle.x25_circuit.specs.code.Owed.{plain_requested}
 use Rattle.x25_packet.specs.Spelling.{IsInRange}
 use Rattle.x25_circuit.specs.declared.circuit.Circuit as code
 use Rattle.x25_circuit.specs.declared.error.CircuitError.{CircuitError}
@@ -39,14 +40,14 @@ abbrev pub resets_of : code.Circuit → ℕ
 resets_of v = v.resets
 
 -- a call with a packet to send
-abbrev pub Sends : Settings → code.Circuit → Result Packet CircuitError → Outcome → Type 0
-Sends c v result (Done next packet) = IsOkAnd result (λ p. FitsCircuit c v next × (packet ≡ Some (plain p)))
+abbrev pub Sends : Settings → code.Circuit → Result Requested CircuitError → Outcome → Type 0
+Sends c v result (Done next packet) = IsOkAnd result (λ p. FitsCircuit c v next × (packet ≡ Some (plain_requested p)))
 Sends c v result (Refused e) = result ≡ Err e
 
 -- a call with a packet to send, or for which memory is missing
-abbrev pub SendsOrLacks : Settings → code.Circuit → Result Packet CircuitError → Outcome → Type 0
+abbrev pub SendsOrLacks : Settings → code.Circuit → Result Requested CircuitError → Outcome → Type 0
 SendsOrLacks c v result (Done next packet) =
-    MatchResult result (λ p. FitsCircuit c v next × (packet ≡ Some (plain p))) (λ e. e ≡ error.NoMemory)
+    MatchResult result (λ p. FitsCircuit c v next × (packet ≡ Some (plain_requested p))) (λ e. e ≡ error.NoMemory)
 SendsOrLacks c v result (Refused e) = result ≡ Err e
 
 -- a call with none, or for which memory is missing
@@ -72,21 +73,21 @@ user_octets other = []
 
 -- What is asked is done so, by a packet that can be spelled and brings no user data for a message, or it is refused,
 -- and then the circuit is as before. It takes no memory.
-pub record SendsBy (old new : code.Circuit) (result : Result Packet CircuitError) (said : Settings → Circuit → Outcome)
-    : Type 0 where
+pub record SendsBy (old new : code.Circuit) (result : Result Requested CircuitError)
+    (said : Settings → Circuit → Outcome) : Type 0 where
   pub outcome : (c : Settings) (x : Circuit) → FitsCircuit c old x → Sends c new result (said c x)
-  pub range : IfOk result (λ packet. IsInRange 128 (plain packet))
-  pub control : IfOk result (λ packet. user_octets (plain packet) ≡ [])
+  pub range : IfOk result (λ packet. IsInRange 128 (plain_requested packet))
+  pub control : IfOk result (λ packet. user_octets (plain_requested packet) ≡ [])
   pub keeps : KeepsCounts old new
   pub unchanged : OnErr result (new ≡ old)
   pub kinds : IfErr result (λ e. e ≢ error.NoMemory)
 
 -- The same of what begins a call, for which the memory of the message in part is made, where there is none yet.
-pub record BeginsBy (old new : code.Circuit) (result : Result Packet CircuitError) (said : Settings → Circuit → Outcome)
-    : Type 0 where
+pub record BeginsBy (old new : code.Circuit) (result : Result Requested CircuitError)
+    (said : Settings → Circuit → Outcome) : Type 0 where
   pub outcome : (c : Settings) (x : Circuit) → FitsCircuit c old x → SendsOrLacks c new result (said c x)
-  pub range : IfOk result (λ packet. IsInRange 128 (plain packet))
-  pub control : IfOk result (λ packet. user_octets (plain packet) ≡ [])
+  pub range : IfOk result (λ packet. IsInRange 128 (plain_requested packet))
+  pub control : IfOk result (λ packet. user_octets (plain_requested packet) ≡ [])
   pub keeps : KeepsCounts old new
   pub unchanged : OnErr result (new ≡ old)
   pub lacks : IsErrOf result error.NoMemory → made_of old ≡ false

@@ -1,14 +1,15 @@
 -- What a reply says, as values alone, and that it is the answer of the table.
 use Rattle.std.specs.Prelude.{◌≡◌, ℕ, ◌+◌, Bool, true, false, List, [], ◌∷◌, Option, Some, None}
-use Rattle.x25_packet.specs.declared.packet.Packet.{Packet}
-use Rattle.x25_packet.specs.Packet.{PlainPacket, plain, clear, clear_conf, rr, rnr, interrupt_conf, reset, reset_conf}
+use Rattle.x25_packet.specs.Views.{called_of, calling_of, user_of}
+use Rattle.x25_packet.specs.Packet.{PlainPacket}
 use Rattle.x25_packet.specs.Spelling.{IsInRange}
 use Rattle.x25_circuit.specs.declared.circuit.Circuit as circuit
 use Rattle.x25_circuit.specs.declared.notice.Notice.{Notice}
 use Rattle.x25_circuit.specs.declared.notice.Notice.TheVariants as code
 use Rattle.x25_circuit.specs.declared.notice.Reply.{Reply}
+use Rattle.x25_circuit.specs.declared.requested.Requested.{Requested}
 use Rattle.x25_circuit.specs.declared.owed.Owed.{Owed}
-use Rattle.x25_circuit.specs.declared.owed.Owed.TheVariants as owing
+pub use Rattle.x25_circuit.specs.code.Owed.{packet_owed, plain_requested}
 use Rattle.x25_circuit.specs.Circuit.{Settings, Circuit}
 use Rattle.x25_circuit.specs.Hearing.{Answer}
 use Rattle.x25_circuit.specs.code.FitsCircuit.{FitsCircuit, user_octets}
@@ -16,8 +17,12 @@ use Rattle.x25_circuit.specs.Notice.{PlainNotice, incoming, connected, collided,
 use Rattle.x25_circuit.specs.Notice.{reset_done, delivered, interrupted, interrupt_done, fault}
 
 abbrev pub plain_notice : Notice → PlainNotice
-plain_notice (code.Incoming called calling user params) = incoming
-    (record { called = called; calling = calling; user = user.now; params = params })
+plain_notice (code.Incoming a params body) = incoming (record {
+  called = called_of a body.now;
+  calling = calling_of a body.now;
+  user = user_of a body.now;
+  params = params;
+})
 plain_notice (code.Connected params) = connected params
 plain_notice (code.Cleared cause diagnostic) = cleared cause diagnostic
 plain_notice code.ClearDone = clear_done
@@ -46,20 +51,10 @@ abbrev pub notices_of : Bool → Option Notice → List PlainNotice
 notices_of true notice = collided ∷ plain_notices notice
 notices_of false notice = plain_notices notice
 
--- what the user's own calls send
-abbrev pub plain_sent : Option Packet → Option PlainPacket
+-- what a request of the user sends, where it sends a packet
+abbrev pub plain_sent : Option Requested → Option PlainPacket
 plain_sent None = None
-plain_sent (Some packet) = Some (plain packet)
-
--- what is owed for a packet that came, on this channel
-abbrev pub packet_owed : ℕ → Owed → PlainPacket
-packet_owed channel (owing.Clear cause diagnostic) = clear channel cause diagnostic
-packet_owed channel owing.ClearConf = clear_conf channel
-packet_owed channel (owing.Rr pr) = rr channel pr.number
-packet_owed channel (owing.Rnr pr) = rnr channel pr.number
-packet_owed channel owing.InterruptConf = interrupt_conf channel
-packet_owed channel (owing.Reset cause diagnostic) = reset channel cause diagnostic
-packet_owed channel owing.ResetConf = reset_conf channel
+plain_sent (Some packet) = Some (plain_requested packet)
 
 -- what is owed, where something is, on channel 1
 abbrev pub plain_owed : Option Owed → Option PlainPacket

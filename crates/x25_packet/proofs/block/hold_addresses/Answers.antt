@@ -1,4 +1,4 @@
-use Rattle.std.proofs.Common.{◌≡◌, ◌∙◌, ℕ, Bool, true, false, get_or, ◌/◌, ◌%◌, nat_eq, refl, sym, ap}
+use Rattle.std.proofs.Common.{arith, ◌≡◌, ◌∙◌, ℕ, Bool, true, false, get_or, ◌/◌, ◌%◌, nat_eq, refl, sym, ap}
 use Rattle.std.specs.Prelude.{◌&&◌}
 use Rattle.std.specs.List.{list_all}
 use Rattle.x25_packet.proofs.DigitLemmas.{filler_none, filler_one}
@@ -9,7 +9,7 @@ pub returns-then-count-eq0 : goal.returns-then-count-eq0
 returns-then-count-eq0 c = at c.args.a c.if-not-a.false
   where
     at : (a : Bool) → a ≡ true → true ≡ hold_addresses a c.args.count c.args.octets.now
-    at true is = sym (filler_none c.args.count c.args.octets.now c.requires c.if-count-eq0.true)
+    at true is = sym (filler_none c.args.count c.args.octets.now (omega (arith, c.requires, c.if-count-eq0.true)))
     at false is = absurd (cc)
 
 pub returns : goal.returns

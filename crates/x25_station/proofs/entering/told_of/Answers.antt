@@ -1,5 +1,6 @@
-use Rattle.std.proofs.Common.{◌≡◌, ℕ, List, ap, sym, subst, ◌∙◌}
+use Rattle.std.proofs.Common.{◌≡◌, ℕ, List, ap, sym, subst, take, ◌∙◌}
 use Rattle.std.proofs.lemmas.List.{take_all}
+use Rattle.x25_packet.specs.Views.{user_of}
 use Rattle.x25_circuit.specs.declared.notice.Notice.{Notice}
 use Rattle.x25_circuit.specs.declared.params.Params.{Params}
 use Rattle.x25_circuit.specs.Notice.{incoming, interrupted}
@@ -16,7 +17,9 @@ incoming_is a b k d u v params p q r =
 pub returns-in-Incoming-clause-told : goal.returns-in-Incoming-clause-told
 returns-in-Incoming-clause-told c = λ short.
     let now = subst (λ (n : Notice). IsShort (plain_notice n)) c.in-Incoming.is short in
-    incoming_is _ _ _ _ _ _ c.in-Incoming.params c.digits-called.ensures.text c.digits-calling.ensures.text (c.text-user.ensures.text ∙ take_all 128 c.in-Incoming.user.now now)
+    let user = user_of c.in-Incoming.a c.in-Incoming.body.now in
+    incoming_is _ _ _ _ _ _ c.in-Incoming.params (c.digits-called.ensures.text ∙ c.called_digits.ensures.digits) (c.digits-calling.ensures.text ∙ c.calling_digits.ensures.digits)
+    (c.text-user.ensures.text ∙ ap (λ (octets : List ℕ). take 128 octets) c.user_data.ensures ∙ take_all 128 user now)
     ∙ sym (ap plain_notice c.in-Incoming.is)
 
 pub returns-in-Interrupted-clause-told : goal.returns-in-Interrupted-clause-told

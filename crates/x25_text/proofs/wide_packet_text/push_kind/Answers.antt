@@ -1,5 +1,5 @@
 use Rattle.std.proofs.Common.{◌∙◌, ◌++◌, ap, append_assoc, codes, decimal}
-use Rattle.x25_packet.specs.Block.{plain_optional}
+use Rattle.x25_packet.specs.Block.{optional_at}
 use Rattle.x25_text.specs.WidePacketText.{format_text, optional_block_text}
 use Rattle.x25_text.proofs.wide_packet_text.push_kind.Goals as goal
 
@@ -7,7 +7,7 @@ pub returns-in-ClearConf-clause-text : goal.returns-in-ClearConf-clause-text
 returns-in-ClearConf-clause-text c =
     let front = codes "CLEARCONF ch=" ++ decimal c.args.packet.now.channel in
     let format = format_text c.args.packet.now.bit_8 in
-    let behind = optional_block_text c.args.packet.now.bit_8 (plain_optional c.in-ClearConf.block) in
+    let behind = optional_block_text c.args.packet.now.bit_8 (optional_at c.args.packet.now.bit_8 c.in-ClearConf.body.now) in
     rw c.in-ClearConf.is
     (c.push_optional_block-in-ClearConf.ensures.text
     ∙ ap (λ t. t ++ behind) (c.push_format-in-ClearConf.ensures.text ∙ ap (λ t. t ++ format) c.push_number-in-ClearConf.ensures.text

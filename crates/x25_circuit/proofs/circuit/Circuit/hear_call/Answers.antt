@@ -1,8 +1,9 @@
-use Rattle.std.proofs.Common.{rules, ap, false, subst, ◌∙◌}
+use Rattle.std.proofs.Common.{rules, ap, false, List, ℕ, subst, ◌∙◌}
 use Rattle.x25_circuit.specs.declared.params.Params.{Params}
 use Rattle.x25_circuit.specs.declared.state.State.TheVariants.{Arriving}
 use Rattle.x25_circuit.specs.Circuit.{entered}
 use Rattle.x25_circuit.specs.code.FitsCircuit.{FitsCircuit}
+use Rattle.x25_packet.specs.Views.{field_of}
 use Rattle.x25_circuit.specs.Params.{said_in}
 use Rattle.x25_circuit.proofs.TableLemmas.{call_strays}
 use Rattle.x25_circuit.proofs.circuit.Circuit.hear_call.Goals as goal
@@ -11,7 +12,7 @@ pub returns-in-Free : goal.returns-in-Free
 returns-in-Free c = record {
   next = λ d x fits.
       rw c.in-Free.is
-      (subst (λ (p : Params). FitsCircuit d c.enter.new.self (entered x Arriving p false)) (c.said-flow.ensures ∙ ap (λ (p : Params). said_in p c.args.facilities.now) c.usual.ensures) (c.enter.ensures.fits d x fits));
+      (subst (λ (p : Params). FitsCircuit d c.enter.new.self (entered x Arriving p false)) (c.said-flow.ensures ∙ ap (λ (field : List ℕ). said_in c.usual.result.params field) (c.as_slice.ensures.octets ∙ c.facility_field.ensures) ∙ ap (λ (p : Params). said_in p (field_of c.args.a c.args.body.now)) c.usual.ensures) (c.enter.ensures.fits d x fits));
   says = search rules;
   range = search rules;
   handed = search rules;

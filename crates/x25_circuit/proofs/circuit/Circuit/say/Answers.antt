@@ -18,7 +18,7 @@ pub returns : goal.returns
 returns c = record {
   outcome = λ d x fits.
       let now = with_transfer d c.args.self.now x _ _ _ fits (own_fits (outgoing x).size c.args.self.now.transfer x.talk c.args.is_ready fits.talk) refl in
-      rw (ready_at x x.state c.args.is_ready (sym fits.state ∙ c.in_default.ensures.open)) ((now, ap Some (sym (c.packet.ensures.value ∙ c.status.ensures.value d _ now))));
+      rw (ready_at x x.state c.args.is_ready (sym fits.state ∙ c.in_default.ensures.open)) ((now, ap Some (sym (c.status.ensures.value d _ now))));
   range = search rules;
   control = search rules;
   keeps = search rules;
