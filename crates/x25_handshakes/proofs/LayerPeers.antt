@@ -1,8 +1,9 @@
 -- What our own end does is what a peer may do.
 use Rattle.std.proofs.Common.{◌≡◌, ℕ, ◌+◌, ◌%◌, ◌≤◌, List, [], ◌∷◌, ◌++◌, length, Option, Some, None, Bool, true, false, nat_lt, nat_le, if◌then◌else◌, refl}
-use Rattle.std.proofs.{Common.{sym, ap, ◌∙◌, arith}, lemmas.List.{length_push, append-nil}, lemmas.Bool.{cond_both, ltb-true}}
+use Rattle.std.proofs.{Common.{sym, ap, ◌∙◌, ◌==◌, subst, arith}, lemmas.List.{length_push, append-nil}, lemmas.Bool.{cond_both, ltb-true, eqb-true}}
 use Rattle.x25_packet.specs.declared.marks.Marks.{Marks}
-use Rattle.x25_circuit.specs.Message.{Piece, no_part, cut, wholes, AreSound}
+use Rattle.x25_circuit.specs.Message.{Piece, no_part, joining, piece_ground, cut, wholes, AreSound}
+use Rattle.x25_window.specs.code.Modulo.{resolved}
 use Rattle.x25_handshakes.specs.laws.Stretch.{Packet, Data, Rr, Rnr, Int, IntConf, Reset, Call, Accept, Clear, ClearConf, Stretch, stretch_does, stretch_fails}
 use Rattle.x25_handshakes.specs.laws.Stretch.{StretchAct, Send, Pull, Ready, NotReady, Interrupt, sends, pulls, interrupts, stretch_acts, ack_ground}
 use Rattle.x25_handshakes.specs.laws.Stretch.{data_ground, by_ground, takes_data, takes_status, stretch_takes}
@@ -11,7 +12,7 @@ use Rattle.x25_handshakes.specs.laws.Handshake.{Side, Live, Left, At, Step, Peer
 use Rattle.x25_handshakes.specs.laws.Transfer.{lifted, TransferAct, Inside, SendsReset, transfer_side_takes, transfer_side_acts}
 use Rattle.x25_handshakes.specs.laws.PeerTransfer.{TransferDeed, InStretch, Resets, MayDoTransfer, does_transfer, transfer_packet_of, transfer_taking}
 use Rattle.x25_handshakes.specs.{laws.LayerPeers.{as_peer_stretch, as_side, as_at}, laws.Terms.{Terms}}
-use Rattle.x25_handshakes.proofs.TextLemmas.{AreSound-back}
+use Rattle.x25_handshakes.proofs.{PeerDeeds.{takes_next}, TextLemmas.{AreSound-back}}
 
 -- the deeds of a peer at one level: which it may do, what it is then, and the packet that it sends
 pub record Deeds (Y D P : Type 0) : Type 1 where
@@ -104,9 +105,18 @@ abbrev Hears : ℕ → ℕ → Stretch → Packet → Step Stretch Packet → Ty
 Hears longest size x p s = StretchDid longest size (taking (as_peer_stretch x) p) (as_peer_stretch s.next) s.out
 
 by_none : {longest size : ℕ} (x : Stretch) (p : Packet) (g : Option ℕ) (good : Step Stretch Packet) → (by_ground g x good).error ≡ None
-    → Hears longest size x p good → Hears longest size x p (by_ground g x good)
-by_none x p None good quiet h = h
+    → (g ≡ None → Hears longest size x p good) → Hears longest size x p (by_ground g x good)
+by_none x p None good quiet h = h refl
 by_none x p (Some n) good quiet h = absurd (cc)
+
+is_next : (longest size : ℕ) (x : Stretch) (s r : ℕ) (p : Piece) → data_ground longest size x s r p ≡ None → s ≡ length x.taken % 8
+is_next longest size x s r p h = go (nat_le (resolved x.acked r) (length x.sent)) (s == length x.taken % 8) refl h
+  where
+    go : (a b : Bool) → (s == length x.taken % 8) ≡ b
+        → (if a then (if b then piece_ground longest size (joining no_part x.taken) p else Some 1) else Some 2) ≡ None → s ≡ length x.taken % 8
+    go true true is none = eqb-true s (length x.taken % 8) is
+    go true false is none = absurd (cc)
+    go false b is none = absurd (cc)
 
 hears_confirmed : (longest size : ℕ) (x : Stretch) (b : Bool) → (if b then stretch_does (record x { int_out = false }) [] else stretch_fails x 43).error ≡ None
     → Hears longest size x IntConf (if b then stretch_does (record x { int_out = false }) [] else stretch_fails x 43)
@@ -116,10 +126,13 @@ hears_confirmed longest size x false quiet = absurd (cc)
 pub stretch_heard : (longest size most b : ℕ) (x : Stretch) (p : Packet) → (stretch_takes most b x p).error ≡ None
     → Hears longest size x p (stretch_takes most b x p)
 stretch_heard longest size most b x (Data s r p) quiet = by_none x (Data s r p) (data_ground most b x s r p) (takes_data x r p) quiet
-    (let n = length_push x.taken p in Something (Says x.own_ready (length x.taken + 1)) (record { rising = omega arith; taken = omega (arith, n) })
-    (ap (λ k. record (as_peer_stretch (takes_data x r p).next) { told = k }) (sym n)) refl)
-stretch_heard longest size most b x (Rr r) quiet = by_none x (Rr r) (ack_ground x r) (takes_status x true r) quiet (Nothing refl refl)
-stretch_heard longest size most b x (Rnr r) quiet = by_none x (Rnr r) (ack_ground x r) (takes_status x false r) quiet (Nothing refl refl)
+    (λ none. let n = length_push x.taken p in
+    subst (λ y. StretchDid longest size y (as_peer_stretch (takes_data x r p).next) (takes_data x r p).out)
+    (takes_next (as_peer_stretch x) s r p (is_next most b x s r p none))
+    (Something (Says x.own_ready (length x.taken + 1)) (record { rising = omega arith; taken = omega (arith, n) })
+    (ap (λ k. record (as_peer_stretch (takes_data x r p).next) { told = k }) (sym n)) refl))
+stretch_heard longest size most b x (Rr r) quiet = by_none x (Rr r) (ack_ground x r) (takes_status x true r) quiet (λ _. Nothing refl refl)
+stretch_heard longest size most b x (Rnr r) quiet = by_none x (Rnr r) (ack_ground x r) (takes_status x false r) quiet (λ _. Nothing refl refl)
 stretch_heard longest size most b x (Int xs) quiet = Something Confirms (omega arith) refl refl
 stretch_heard longest size most b x IntConf quiet = hears_confirmed longest size x x.int_out quiet
 stretch_heard longest size most b x p quiet = absurd (cc)

@@ -1,6 +1,6 @@
 -- What the peer does keeps what is kept of our circuit and it.
-use Rattle.std.proofs.Common.{◌≡◌, ℕ, ◌+◌, ◌%◌, ◌≤◌, List, [], ◌∷◌, ◌++◌, length, Some, None, Bool, true, false, refl, subst, arith, sym}
-use Rattle.std.proofs.lemmas.List.{length_push}
+use Rattle.std.proofs.Common.{◌≡◌, ℕ, ◌+◌, ◌%◌, ◌≤◌, List, [], ◌∷◌, ◌++◌, length, Some, None, Bool, true, false, refl, subst, arith, sym, ap, if◌then◌else◌}
+use Rattle.std.proofs.lemmas.{List.{length_push}, Bool.{eq-eqb}}
 use Rattle.x25_circuit.specs.Message.{Piece, no_part}
 use Rattle.x25_window.specs.code.Modulo.{resolved}
 use Rattle.x25_handshakes.specs.laws.Stretch.{Packet, Data, Rr, Rnr, Int, IntConf, Stretch}
@@ -96,12 +96,19 @@ status_heard {t} {x} u {v} {y} r q none no_int no_conf ack h = record {
   };
 }
 
+-- a data packet whose P(S) is the next one is taken
+pub takes_next : (y : PeerStretch) (s r : ℕ) (p : Piece) → s ≡ length y.taken % 8
+    → record y { acked = resolved y.acked r; taken = y.taken ++ p ∷ [] } ≡ taking y (Data s r p)
+takes_next y s r p next =
+    ap (λ b. record y { acked = resolved y.acked r; taken = if b then y.taken ++ p ∷ [] else y.taken })
+    (sym (eq-eqb s (length y.taken % 8) next))
+
 pub taking_kept : {t : Terms} {longest size : ℕ} {x : Stretch} (p : Packet) (u : List Packet) {v : List Packet} {y : PeerStretch}
     → Kept t longest size x (p ∷ u) v y → Kept t longest size x u v (taking y p)
-taking_kept {x} (Data s r p) u {v} {y} h =
+taking_kept {t} {longest} {size} {x} (Data s r p) u {v} {y} h =
     let longer = length_push y.taken p in
     let late = h.there.acks.late in
-    record {
+    subst (λ z. Kept t longest size x u v z) (takes_next y s r p h.there.line.numbers.0) (record {
       there = record {
         line = Line-take u s r p h.there.line;
         acks = record { acks = h.there.acks.acks; late = omega arith };
@@ -114,7 +121,7 @@ taking_kept {x} (Data s r p) u {v} {y} h =
         ints = Ints-skip u (Data s r p) refl h.back.ints;
         text = h.back.text;
       };
-    }
+    })
 taking_kept {t} {longest} {size} {x} (Rr r) u {v} {y} h = status_heard u r (Rr r) refl refl refl refl h
 taking_kept {t} {longest} {size} {x} (Rnr r) u {v} {y} h = status_heard u r (Rnr r) refl refl refl refl h
 taking_kept {x} (Int xs) u {v} {y} h = record {

@@ -5,10 +5,6 @@ use Rattle.x25_bits.specs.Role.{other}
 use Rattle.x25_bits.specs.declared.role.Role.{Role}
 use Rattle.x25_frame.specs.Frame.{PlainFrame}
 use Rattle.x25_frame.specs.Spelling.{spelling_of}
-use Rattle.x25_link.specs.declared.error.LinkError.{LinkError}
-use Rattle.x25_link.specs.Station.{is_up}
-use Rattle.x25_link.specs.Hearing.{Step as LinkStep}
-use Rattle.x25_link.specs.Link.{take_step, timer_refusal, timer_step, connect_refusal, connect_step, disconnect_refusal, disconnect_step, abandon_step, probe_refusal, relink_refusal, relink_step}
 use Rattle.x25_line.specs.laws.Sessions.{Entry, Meeting, sent_in, begun_by}
 use Rattle.x25_layer.specs.Calls.{PullsAll}
 use Rattle.x25_script.specs.laws.ReadingLaw.{ReadsOctets}
@@ -17,25 +13,25 @@ use Rattle.x25_station.specs.declared.config.Cfg.{Cfg}
 use Rattle.x25_station.specs.declared.error.StationError.TheVariants as error
 use Rattle.x25_station.specs.Command as command
 use Rattle.x25_station.specs.Command.{Command, Requests, RequestsWith, Connects, Disconnects, Probes, Relinks}
-use Rattle.x25_station.specs.Entry.{StationEntry, connect_asked, disconnect_asked, relink_asked}
-use Rattle.x25_station.specs.Config.{Settings, settings_from, config_refusal, link_settings}
+use Rattle.x25_station.specs.Entry.{StationEntry}
+use Rattle.x25_station.specs.Config.{Settings, settings_from, config_refusal}
 use Rattle.x25_station.specs.Station.{Station, new_station}
-use Rattle.x25_station.specs.Step.{Step, Outcome, Did, Refused, unless, led_by, follows, abandons, commands, fires}
+use Rattle.x25_station.specs.Step.{Step, Outcome, Did, Refused, link_receives, receives, commands, fires}
 use Rattle.x25_station.specs.laws.TimerLaw.{Event, Comes, Asks, Fires, outcome}
 use Rattle.x25_pipe.specs.Pipe.{Saying, pulled_behind, and_pulls, with_pulls, event_in, turn, piped}
 use Rattle.x25_world.specs.laws.Claims.{ups_in}
 use Rattle.x25_world.specs.laws.TapOctets.{AreOfFrame}
 use Rattle.x25_peer.specs.laws.BesideSessions as beside
-use Rattle.x25_peer.specs.laws.BesideSessions.{Own, BesideSessions, in_session, own_anew, stepped, followed, heard_here}
+use Rattle.x25_peer.specs.laws.BesideSessions.{Own, BesideSessions, in_session, own_anew, own_after, stepped, acted, took, met_by}
 use Rattle.x25_peer.specs.laws.BesideSessionClaims as over_sessions
 use Rattle.x25_joined.specs.laws.Joined.{written, written_more, station_of, entries_in, frames_in, IsNoFrame}
-use Rattle.x25_joined.specs.laws.BesidePeer.{Program, nothing_read, begun_in, seen, bare, sent_then, reads, met_by, IsInTime, IsElsewhere, HappensToProgram, Reads, Takes, Elsewhere, ReachedProgram, at_start, goes_on}
+use Rattle.x25_joined.specs.laws.BesidePeer.{Program, nothing_read, begun_in, seen, bare, sent_then, reads, IsInTime, HappensToProgram, Reads, Takes, Elsewhere, ReachedProgram, at_start, goes_on}
 use Rattle.x25_joined.specs.laws.BesidePeerClaims.{entries_to, OfProgram}
 use Rattle.x25_joined.proofs.LineText.{AreWhole, none_whole, more_whole, one_more, said_more, first_said}
 use Rattle.x25_joined.proofs.FrameText.{frame_words, frame_text, frame_open, frame_comes}
 use Rattle.x25_joined.proofs.Turns.{entries-append, TurnIs, first_is, line_did, line_refused, line_none}
 use Rattle.x25_joined.proofs.AskedOctets.{AsksOctets, asks_octets}
-use Rattle.x25_joined.proofs.PeerEntries.{ups_append, follows_ups, refused_did, the_step, requests_ups, gives_ups}
+use Rattle.x25_joined.proofs.PeerEntries.{ups_append, follows_ups, commands_ups, fires_ups}
 use Rattle.x25_world.proofs.sessions.acts.SessionRequests.{said_octets}
 
 -- ---- the entries of sessions
@@ -86,17 +82,15 @@ kept_steps c w es up left met step k reached = record {
 }
   where
     by : (up : Bool) → entries_to (begun_by up w.begun) (stepped c w (begun_by up w.begun) left met step).own ≡ entries_to w.begun w.own ++ step.entries
-    by true = more_next w.begun
-        (record { layer = if is_up step.near.link.phase then step.near.layer else (w.own (suc w.begun)).layer; entries = (w.own (suc w.begun)).entries ++ step.entries }) w.own step.entries
-        (k.later (suc w.begun) (omega (arith))) refl
-    by false = more_here w.begun (record { layer = if is_up step.near.link.phase then step.near.layer else (w.own w.begun).layer; entries = (w.own w.begun).entries ++ step.entries }) w.own step.entries refl
+    by true = more_next w.begun (own_after (w.own (suc w.begun)) step) w.own step.entries (k.later (suc w.begun) (omega (arith))) refl
+    by false = more_here w.begun (own_after (w.own w.begun) step) w.own step.entries refl
 
     lower : (up : Bool) (b n : ℕ) → begun_by up b < n → b < n
     lower true b n over = omega (arith, over)
     lower false b n over = over
 
     later : (n : ℕ) (b : Bool) → (n == begun_by up w.begun) ≡ b → begun_by up w.begun < n
-        → (if b then (record { layer = if is_up step.near.link.phase then step.near.layer else (w.own (begun_by up w.begun)).layer; entries = (w.own (begun_by up w.begun)).entries ++ step.entries }) else w.own n).entries ≡ []
+        → (if b then own_after (w.own (begun_by up w.begun)) step else w.own n).entries ≡ []
     later n true is over = absurd (never (eqb-true n (begun_by up w.begun) is))
       where
         never : n ≡ begun_by up w.begun → ⊥
@@ -182,8 +176,8 @@ module _ (c : Settings) (p : Program) (k : Kept c p) where
           let u : BesideSessions = stepped c v v.begun v.back v.met more in
           let both : Step = pulled_behind step (Did more) in
           let again : KeptWorld c u ((entries_in (written c p.read) ++ step.entries) ++ more.entries) =
-          kept_steps c v (entries_in (written c p.read) ++ step.entries) false left met more kept (beside.goes_on v u kept.reached (beside.Asks PullsAll more tt found)) in
-          let quiet = requests_ups c step.near PullsAll more found in
+          kept_steps c v (entries_in (written c p.read) ++ step.entries) false left met more kept (beside.here v u kept.reached (beside.Asks PullsAll more tt found)) in
+          let quiet = commands_ups c step.near (Requests PullsAll) more found in
           let sum = ups_append step.entries more.entries in
           let lines : (p.out ++ sent_in (begun_by up b) c.role step.out) ++ sent_in (begun_by up b) c.role more.out ≡ p.out ++ sent_in (begun_by up b) c.role both.out =
           append_assoc p.out (sent_in (begun_by up b) c.role step.out) (sent_in (begun_by up b) c.role more.out) ∙ ap (λ (es : List Entry). p.out ++ es) (sym (sent_more (begun_by up b) c.role step.out more.out)) in
@@ -193,61 +187,33 @@ module _ (c : Settings) (p : Program) (k : Kept c p) where
           (subst (λ (os : List Entry). KeptWorld c (record { near = more.near; begun = begun_by up b; own = u.own; peer = p.peer; theirs = p.theirs; out = os; back = left; met = met }) ((entries_in (written c p.read) ++ step.entries) ++ more.entries))
           lines again))
 
-  -- a step of the link, and then the layer
-  link_happens : (line : List ℕ) → IsOpen line → (event : Event) → event_in c.wide c.role line ≡ Some event → (asked : List StationEntry) → ups_in asked ≡ 0 → (left : List Entry) (met : List Meeting) (l : LinkStep)
-      → (let step = led_by asked (follows c s.layer l) in with_pulls c (outcome c s event) ≡ Did (and_pulls c step))
-      → beside.HappensBeside c w (followed c w asked left met l) → Kept c (reads c p (line ++ 10 ∷ []) left met)
-  link_happens line none event asks asked quiet left met l is happens =
-      let step : Step = led_by asked (follows c s.layer l) in
-      let ups = follows_ups c s.layer l b in
-      let sum = ups_append asked (follows c s.layer l).entries in
-      something_happens line none l.notes.up left met step (line_did c s line event (and_pulls c step) asks is) (omega (arith, ups, sum, quiet))
-      (beside.goes_on w (followed c w asked left met l) k.world.reached happens)
+  -- a step of its own accord
+  acts : (line : List ℕ) → IsOpen line → (event : Event) → event_in c.wide c.role line ≡ Some event → (step : Step) → outcome c s event ≡ Did step
+      → ups_in step.entries ≡ 0 → beside.StationDoes c w (acted c w step) → Kept c (reads c p (line ++ 10 ∷ []) p.back p.met)
+  acts line none event asks step is ups does =
+      something_happens line none false p.back p.met step (line_did c s line event (and_pulls c step) asks (ap (with_pulls c) is)) (omega (arith, ups))
+      (beside.here w (acted c w step) k.world.reached does)
 
   -- ---- a line of the user
 
-  unless_did : (r : Option LinkError) (done step : Step) → unless r done ≡ Did step → (r ≡ None) × (done ≡ step)
-  unless_did None done step is = (refl, the_step step done is)
-  unless_did (Some e) done step is = refused_did (error.Link e) step is
+  does : (asked : Command) (step : Step) → AsksOctets (Some (Asks asked)) → commands c s asked ≡ Did step → beside.StationDoes c w (acted c w step)
+  does (Requests request) step octets is = beside.Asks (command.said_by c.say_sizes s.layer request) step (said_octets c.say_sizes s.layer request octets) is
+  does (RequestsWith given request) step octets is =
+      beside.AsksWith given (command.said_by c.say_sizes s.layer request) step octets.0 (said_octets c.say_sizes s.layer request octets.1) is
+  does Connects step octets is = beside.Connects step is
+  does Disconnects step octets is = beside.Disconnects step is
+  does Probes step octets is = beside.Probes step is
+  does Relinks step octets is = beside.Relinks step is
 
   commanded : (line : List ℕ) (asked : Command) (o : Outcome) → IsOpen line → event_in c.wide c.role line ≡ Some (Asks asked) → AsksOctets (Some (Asks asked)) → commands c s asked ≡ o → Kept c (reads c p (line ++ 10 ∷ []) p.back p.met)
   commanded line asked (Refused e) none asks octets is = nothing_happens line none (line_refused c s line (Asks asked) e asks is)
-  commanded line (Requests request) (Did step) none asks octets is =
-      let said = command.said_by c.say_sizes s.layer request in
-      let ups = requests_ups c s said step is in
-      something_happens line none false p.back p.met step (line_did c s line (Asks (Requests request)) (and_pulls c step) asks (ap (with_pulls c) is)) (omega (arith, ups))
-      (beside.goes_on w (stepped c w b p.back p.met step) k.world.reached (beside.Asks said step (said_octets c.say_sizes s.layer request octets) is))
-  commanded line (RequestsWith given request) (Did step) none asks octets is =
-      let said = command.said_by c.say_sizes s.layer request in
-      let ups = gives_ups c s given said step is in
-      something_happens line none false p.back p.met step (line_did c s line (Asks (RequestsWith given request)) (and_pulls c step) asks (ap (with_pulls c) is)) (omega (arith, ups))
-      (beside.goes_on w (stepped c w b p.back p.met step) k.world.reached (beside.AsksWith given said step octets.0 (said_octets c.say_sizes s.layer request octets.1) is))
-  commanded line Connects (Did step) none asks octets is =
-      let l : LinkStep = connect_step (link_settings c) s.link in
-      let whole : Step = led_by (connect_asked ∷ []) (follows c s.layer l) in
-      let did = unless_did (connect_refusal s.link.phase) whole step is in
-      link_happens line none (Asks Connects) asks (connect_asked ∷ []) refl p.back p.met l (ap (with_pulls c) (is ∙ ap (λ (x : Step). Did x) (sym did.1))) (beside.Connects did.0)
-  commanded line Disconnects (Did step) none asks octets is =
-      let l : LinkStep = disconnect_step (link_settings c) s.link in
-      let whole : Step = led_by (disconnect_asked ∷ []) (follows c s.layer l) in
-      let did = unless_did (disconnect_refusal s.link.phase) whole step is in
-      link_happens line none (Asks Disconnects) asks (disconnect_asked ∷ []) refl p.back p.met l (ap (with_pulls c) (is ∙ ap (λ (x : Step). Did x) (sym did.1))) (beside.Disconnects did.0)
-  commanded line Probes (Did step) none asks octets is =
-      let l : LinkStep = timer_step (link_settings c) s.link in
-      let did = unless_did (probe_refusal s.link.phase) (follows c s.layer l) step is in
-      link_happens line none (Asks Probes) asks [] refl p.back p.met l (ap (with_pulls c) (is ∙ ap (λ (x : Step). Did x) (sym did.1))) (beside.Probes did.0)
-  commanded line Relinks (Did step) none asks octets is =
-      let l : LinkStep = relink_step (link_settings c) s.link in
-      let whole : Step = led_by (relink_asked ∷ []) (follows c s.layer l) in
-      let did = unless_did (relink_refusal s.link.phase) whole step is in
-      link_happens line none (Asks Relinks) asks (relink_asked ∷ []) refl p.back p.met l (ap (with_pulls c) (is ∙ ap (λ (x : Step). Did x) (sym did.1))) (beside.Relinks did.0)
+  commanded line asked (Did step) none asks octets is = acts line none (Asks asked) asks step is (commands_ups c s asked step is) (does asked step octets is)
 
   fired : (line : List ℕ) (o : Outcome) → IsOpen line → event_in c.wide c.role line ≡ Some Fires → IsInTime c p (Some Fires) → fires c s ≡ o → Kept c (reads c p (line ++ 10 ∷ []) p.back p.met)
   fired line (Refused e) none asks due is = nothing_happens line none (line_refused c s line Fires e asks is)
   fired line (Did step) none asks due is =
-      let l : LinkStep = timer_step (link_settings c) s.link in
-      let did = unless_did (timer_refusal s.link) (follows c s.layer l) step is in
-      link_happens line none Fires asks [] refl p.back p.met l (ap (with_pulls c) (is ∙ ap (λ (x : Step). Did x) (sym did.1))) (beside.Fires did.0 due)
+      acts line none Fires asks step is (fires_ups c s step is)
+      (beside.Fires step is (λ waiting. (let d = due waiting in record { sabm = d.sabm; ua = d.ua; crossing = d.crossing })))
 
   asked_kept : (line : List ℕ) (event : Option Event) → IsOpen line → event_in c.wide c.role line ≡ event → IsNoFrame event → IsInTime c p event → AsksOctets event → Kept c (reads c p (line ++ 10 ∷ []) p.back p.met)
   asked_kept line None none asks no_frame due octets = nothing_happens line none (line_none c s line asks)
@@ -257,47 +223,39 @@ module _ (c : Settings) (p : Program) (k : Kept c p) where
 
   -- ---- a frame comes
 
-  comes_kept : (e : Entry) (rest : List Entry) → p.back ≡ e ∷ rest → AreOfFrame e.octets → Kept c (reads c p (frame_words (other c.role) e.octets ++ 10 ∷ []) rest (met_by c p e))
-  comes_kept e rest front fits = by (abandons c s) refl
-    where
-      goes_by : (full : Bool) → abandons c s ≡ full → with_pulls c (outcome c s (Comes e.octets)) ≡ Did (and_pulls c (led_by [] (follows c s.layer (if full then abandon_step (link_settings c) s.link else take_step (link_settings c) e.octets s.link))))
-      goes_by full is = ap (λ (x : Bool). Did (and_pulls c (follows c s.layer (if x then abandon_step (link_settings c) s.link else take_step (link_settings c) e.octets s.link)))) is
-
-      by : (full : Bool) → abandons c s ≡ full → Kept c (reads c p (frame_words (other c.role) e.octets ++ 10 ∷ []) rest (met_by c p e))
-      by true full =
-          subst (λ (x : Bool). Kept c (reads c p (frame_words (other c.role) e.octets ++ 10 ∷ []) rest (if x then p.met else heard_here c (bare c p) e))) (sym full)
-          (link_happens (frame_words (other c.role) e.octets) (frame_open (other c.role) e.octets) (Comes e.octets) (frame_comes c.wide c.role e.octets fits) [] refl rest p.met (abandon_step (link_settings c) s.link) (goes_by true full) (beside.Abandons e rest front full))
-      by false free =
-          subst (λ (x : Bool). Kept c (reads c p (frame_words (other c.role) e.octets ++ 10 ∷ []) rest (if x then p.met else heard_here c (bare c p) e))) (sym free)
-          (link_happens (frame_words (other c.role) e.octets) (frame_open (other c.role) e.octets) (Comes e.octets) (frame_comes c.wide c.role e.octets fits) [] refl rest (heard_here c w e) (take_step (link_settings c) e.octets s.link) (goes_by false free) (beside.Receives e rest front free))
+  comes_kept : (e : Entry) (rest : List Entry) → p.back ≡ e ∷ rest → AreOfFrame e.octets → Kept c (reads c p (frame_words (other c.role) e.octets ++ 10 ∷ []) rest (met_by c (bare c p) e))
+  comes_kept e rest front fits =
+      let step = receives c s e.octets in
+      let l = link_receives c s e.octets in
+      something_happens (frame_words (other c.role) e.octets) (frame_open (other c.role) e.octets) l.notes.up rest (met_by c w e) step
+      (line_did c s (frame_words (other c.role) e.octets) (Comes e.octets) (and_pulls c step) (frame_comes c.wide c.role e.octets fits) refl)
+      (follows_ups c s.layer l b) (beside.here w (took c w e rest) k.world.reached (beside.Takes e rest front))
 
   -- ---- the peer and the line
 
   -- where the world goes on to this one, with the same station
-  passes : (v : BesideSessions) → beside.HappensBeside c w v → v.near ≡ s → v.begun ≡ b → v.own ≡ k.own → Kept c (record p { peer = v.peer; theirs = v.theirs; out = v.out; back = v.back; met = v.met })
+  passes : (v : BesideSessions) → beside.Elsewhere c w v → v.near ≡ s → v.begun ≡ b → v.own ≡ k.own → Kept c (record p { peer = v.peer; theirs = v.theirs; out = v.out; back = v.back; met = v.met })
   passes v h near begun own = record {
     own = k.own;
     whole = k.whole;
     world = record {
       reached = subst (λ (o : ℕ → Own). beside.ReachedBeside c (record v { near = s; begun = b; own = o })) own
           (subst (λ (n : ℕ). beside.ReachedBeside c (record v { near = s; begun = n })) begun
-          (subst (λ (x : Station). beside.ReachedBeside c (record v { near = x })) near (beside.goes_on w v k.world.reached h)));
+          (subst (λ (x : Station). beside.ReachedBeside c (record v { near = x })) near (beside.elsewhere w v k.world.reached h)));
       entries = k.world.entries;
       later = k.world.later;
     };
   }
 
-  elsewhere : (v : BesideSessions) (h : beside.HappensBeside c (bare c p) v) → IsElsewhere h → Kept c (record p { peer = v.peer; theirs = v.theirs; out = v.out; back = v.back; met = v.met })
-  elsewhere v (beside.Loses place) there = passes (record w { back = v.back }) (beside.Loses place) refl refl refl
-  elsewhere v (beside.Damages place octets visible) there = passes (record w { back = v.back }) (beside.Damages place octets visible) refl refl refl
-  elsewhere v (beside.Links links happens) there = passes (record w { peer = v.peer; out = v.out; back = v.back; met = v.met }) (beside.Links links happens) refl refl refl
-  elsewhere v (beside.LayerDoes deed packet octets stand may is configured reads) there =
-      passes (record w { theirs = v.theirs; peer = v.peer }) (beside.LayerDoes deed packet octets stand may is configured reads) refl refl refl
-  elsewhere v (beside.LayerHears packet read behind packets all stand reads waits answered read_all) there =
-      passes (record w { theirs = v.theirs; peer = v.peer }) (beside.LayerHears packet read behind packets all stand reads waits answered read_all) refl refl refl
-  elsewhere v (beside.LayerHearsChannel y packet read passed behind packets all stand live has apart reads waits answered read_all) there =
-      passes (record w { theirs = v.theirs; peer = v.peer }) (beside.LayerHearsChannel y packet read passed behind packets all stand live has apart reads waits answered read_all) refl refl refl
-  elsewhere v h there = absurd there
+  elsewhere : (v : BesideSessions) → beside.Elsewhere c (bare c p) v → Kept c (record p { peer = v.peer; theirs = v.theirs; out = v.out; back = v.back; met = v.met })
+  elsewhere v (beside.Loses back less) = passes (record w { back = v.back }) (beside.Loses back less) refl refl refl
+  elsewhere v (beside.Links links happens) =
+      passes (record w { peer = v.peer; out = v.out; back = v.back; met = v.met })
+      (beside.Links links (record { does = happens.does; left = happens.left; puts = happens.puts })) refl refl refl
+  elsewhere v (beside.Comes packet octets rest stand is reads) =
+      passes (record w { theirs = v.theirs; peer = v.peer }) (beside.Comes packet octets rest stand is reads) refl refl refl
+  elsewhere v (beside.LayerMoves near u happens all stand of_peer reads) =
+      passes (record w { theirs = v.theirs; peer = v.peer }) (beside.LayerMoves near u happens all stand of_peer reads) refl refl refl
 
 -- ---- all that happens
 
@@ -305,8 +263,8 @@ module _ (octets : ReadsOctets) (c : Settings) where
   step_kept : (p q : Program) → Kept c p → HappensToProgram c p q → Kept c q
   step_kept p q k (Reads line may) = asked_kept c p k line (event_in c.wide c.role line) may.is_line refl may.is_no_frame may.in_time (asks_octets octets c.wide c.role line)
   step_kept p q k (Takes e rest front fits) =
-      subst (λ (text : List ℕ). Kept c (reads c p text rest (met_by c p e))) (sym (frame_text (other c.role) e.octets)) (comes_kept c p k e rest front fits)
-  step_kept p q k (Elsewhere v h there) = elsewhere c p k v h there
+      subst (λ (text : List ℕ). Kept c (reads c p text rest (met_by c (bare c p) e))) (sym (frame_text (other c.role) e.octets)) (comes_kept c p k e rest front fits)
+  step_kept p q k (Elsewhere v h) = elsewhere c p k v h
 
   kept_first : Kept c nothing_read
   kept_first =

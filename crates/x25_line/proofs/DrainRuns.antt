@@ -7,10 +7,10 @@ use Rattle.x25_frame.specs.{Frame.{PlainFrame, info}, Spelling.{spelling_of}, Re
 use Rattle.x25_frame.specs.declared.error.FrameError.{FrameError}
 use Rattle.x25_link.specs.{Station.{Settings, LinkStation}, Hearing.{other}, Link.{take_step}}
 use Rattle.x25_line.specs.laws.Stations.{Deliver, LinkEvent, Near, Far}
-use Rattle.x25_line.specs.laws.Sessions.{Entry, Meeting, Sessions, sent_in, begun_by, after_step, delivered, acts, swapped, run, IsStart}
+use Rattle.x25_line.specs.laws.Sessions.{Entry, Meeting, Sessions, sent_in, begun_by, after_step, delivered, acts, swapped, run}
 use Rattle.x25_line.specs.{laws.StationClaims.{AreJoined}, Healing.{IsDelivery, EachFindsIn, SessionsDrainEnd, SomeSessionsDrain}, laws.LawsBelow.{HealingLaws}}
 use Rattle.x25_line.specs.laws.SessionClaims.{Each}
-use Rattle.x25_line.proofs.{StationSends.{AllWithin}, StationRuns.{joined_swapped}, HealingRuns.{within_of, fit_from}, HealingSteps.{IsDrained}}
+use Rattle.x25_line.proofs.{StationRuns.{joined_swapped}, HealingRuns.{Fit, keeps_fit, fit_from}}
 use Rattle.x25_line.proofs.DrainWeights.{more_if, times, times_more, seven_times, read_weight, weights, to_take, station_weight, AreSpelled}
 use Rattle.x25_line.proofs.DrainSteps.{changes, asks_in, read_weight_some, GoesOn, Changes, Took, took}
 
@@ -105,20 +105,9 @@ falls_by back j (suc i) n m le high = omega (arith, most_more back j i m (omega 
 
 -- ---- worlds
 
--- V(S) isn't below what is acknowledged, and each packet may be sent
-pub record Fit (c d : Settings) (w : Sessions) : Type 0 where
-  pub near_place : w.near.station.outgoing.acked ≤ w.near.station.outgoing.place
-  pub far_place : w.far.station.outgoing.acked ≤ w.far.station.outgoing.place
-  pub near_within : AllWithin d.longest w.near.station.outgoing.given
-  pub far_within : AllWithin c.longest w.far.station.outgoing.given
-
-fit_swapped : {c d : Settings} {w : Sessions} → Fit c d w → Fit d c (swapped w)
-fit_swapped h = record { near_place = h.far_place; far_place = h.near_place; near_within = h.far_within; far_within = h.near_within }
-
 -- `back` is enough for each packet to be sent again
-pub record Enough (back : ℕ) (w : Sessions) : Type 0 where
-  pub near : 4 * length w.near.station.outgoing.given + 2 ≤ back
-  pub far : 4 * length w.far.station.outgoing.given + 2 ≤ back
+abbrev pub Enough : ℕ → Sessions → Type 0
+Enough back w = 4 * (length w.near.station.outgoing.given + length w.far.station.outgoing.given) + 2 ≤ back
 
 abbrev heap : ℕ → Settings → Settings → Sessions → ℕ
 heap back c d w =
@@ -145,23 +134,18 @@ pub record Falls (back : ℕ) (c d : Settings) (w v : Sessions) : Type 0 where
   pub enough : Enough back v
   pub less : at_most back c d v + 1 ≤ at_most back c d w
 
-enough_of : (back : ℕ) (old new : List (List ℕ)) → (new ≡ old) ⊎ (new ≡ []) → 4 * length old + 2 ≤ back → 4 * length new + 2 ≤ back
-enough_of back old new (inl same) h = omega (arith, h, ap length same)
-enough_of back old new (inr none) h = omega (arith, h, ap length none)
+no_more : {old new : List (List ℕ)} → (new ≡ old) ⊎ (new ≡ []) → length new ≤ length old
+no_more (inl same) = omega (arith, ap length same)
+no_more (inr none) = omega (arith, ap length none)
 
-module _ (reads : ReadsSpelled) {c d : Settings} (joined : AreJoined c d) (back : ℕ) where
+module _ (reads : ReadsSpelled) (laws : HealingLaws) {c d : Settings} (joined : AreJoined c d) (back : ℕ) where
   -- the front octets are taken
   takes_front : (w : Sessions) → Fit c d w → Enough back w → (e : Entry) (es : List Entry) (met : List Meeting) → w.back ≡ e ∷ es
       → Falls back c d w (after_step c w es met [] (take_step c e.octets w.near.station))
   takes_front w fit enough e es met is =
       record {
-        fit = record {
-          near_place = t.place;
-          far_place = fit.far_place;
-          near_within = within_of d.longest v.near.station.outgoing.given t.given fit.near_within;
-          far_within = fit.far_within;
-        };
-        enough = record { near = enough_of back s.outgoing.given v.near.station.outgoing.given t.given enough.near; far = enough.far };
+        fit = ((keeps_fit laws c d.longest joined.near_high joined.longest).takes o s fit.0, fit.1);
+        enough = omega (arith, enough, no_more t.given);
         less = by t.by;
       }
     where
@@ -181,7 +165,7 @@ module _ (reads : ReadsSpelled) {c d : Settings} (joined : AreJoined c d) (back 
       v = after_step c w es met [] (take_step c o s)
 
       t : Took d.longest back low (read_weight back low read) (asks_in read) s (take_step c o s).side
-      t = took c d.longest back low s joined.near_high fit.near_within enough.near fit.near_place o read refl
+      t = took c d.longest back low s joined.near_high fit.0.within (omega (arith, enough)) fit.0.said.low o read refl
 
       put : List PlainFrame
       put = (take_step c o s).side.out
@@ -228,7 +212,7 @@ module _ (reads : ReadsSpelled) {c d : Settings} (joined : AreJoined c d) (back 
                 )),
           )
       by (inr g) =
-          let some : 2 ≤ back = omega (arith, enough.near) in
+          let some : 2 ≤ back = omega (arith, enough) in
           falls_by back (to_change c d v) (to_change c d w) (heap back c d w) (heap back c d v) (omega (arith, g.fewer, asks_is, asked))
           (omega (
             arith,
@@ -240,40 +224,38 @@ module _ (reads : ReadsSpelled) {c d : Settings} (joined : AreJoined c d) (back 
             times_more (8 * back) (line_weight back s.outgoing.acked (other d.role) d.longest w.out) (heap back c d w) (omega arith),
           ))
 
-  pub near_falls : {w : Sessions} → Fit c d w → Enough back w → (w.back ≡ [] → ⊥) → Falls back c d w (acts c Deliver w)
-  near_falls {w} fit enough finds = by w.back refl
+  near_falls : (w : Sessions) → Fit c d w → Enough back w → (w.back ≡ [] → ⊥) → Falls back c d w (acts c Deliver w)
+  near_falls w fit enough finds = by w.back refl
     where
       by : (es : List Entry) → w.back ≡ es → Falls back c d w (delivered c es w)
       by [] is = absurd (finds is)
       by (e ∷ es) is = takes_front w fit enough e es _ is
 
-module _ (reads : ReadsSpelled) {c d : Settings} (joined : AreJoined c d) (back : ℕ) where
+module _ (reads : ReadsSpelled) (laws : HealingLaws) {c d : Settings} (joined : AreJoined c d) (back : ℕ) where
   far_falls : (w : Sessions) → Fit c d w → Enough back w → (w.out ≡ [] → ⊥) → Falls back c d w (swapped (acts d Deliver (swapped w)))
   far_falls w fit enough finds =
-      let f = near_falls reads (joined_swapped joined) back (fit_swapped fit) (record { near = enough.far; far = enough.near }) finds in
+      let f = near_falls reads laws (joined_swapped joined) back (swapped w) (fit.1, fit.0) (omega (arith, enough)) finds in
       let v : Sessions = acts d Deliver (swapped w) in
       record {
-        fit = fit_swapped f.fit;
-        enough = record { near = f.enough.far; far = f.enough.near };
+        fit = (f.fit.1, f.fit.0);
+        enough = omega (arith, f.enough);
         less = omega (arith, f.less, most_swapped back c d w, most_swapped back d c v);
       }
 
-  pub count : (es : List LinkEvent) {w : Sessions} → Each IsDelivery es → Fit c d w → Enough back w → EachFindsIn c d es w → length es ≤ at_most back c d w
-  count [] are fit enough finds = omega arith
-  count (Near Deliver ∷ es) {w} are fit enough finds =
-      let f = near_falls reads joined back fit enough finds.0 in
-      omega (arith, f.less, count es are.1 f.fit f.enough finds.1)
-  count (Far Deliver ∷ es) {w} are fit enough finds =
+  count : (es : List LinkEvent) (w : Sessions) → Each IsDelivery es → Fit c d w → Enough back w → EachFindsIn c d es w → length es ≤ at_most back c d w
+  count [] w are fit enough finds = omega arith
+  count (Near Deliver ∷ es) w are fit enough finds =
+      let f = near_falls reads laws joined back w fit enough finds.0 in
+      omega (arith, f.less, count es _ are.1 f.fit f.enough finds.1)
+  count (Far Deliver ∷ es) w are fit enough finds =
       let f = far_falls w fit enough finds.0 in
-      omega (arith, f.less, count es are.1 f.fit f.enough finds.1)
-  count (Near a ∷ es) are fit enough finds = absurd are.0
-  count (Far a ∷ es) are fit enough finds = absurd are.0
+      omega (arith, f.less, count es _ are.1 f.fit f.enough finds.1)
+  count (Near a ∷ es) w are fit enough finds = absurd are.0
+  count (Far a ∷ es) w are fit enough finds = absurd are.0
 
   -- some deliveries drain the line
-  pub record Drains (w : Sessions) : Type 0 where
-    pub deliveries : List LinkEvent
-    pub are : Each IsDelivery deliveries
-    pub drained : IsDrained (run c d deliveries w)
+  abbrev Drains : Sessions → Type 0
+  Drains w = (deliveries : List LinkEvent) × Each IsDelivery deliveries × (let v = run c d deliveries w in (v.out ≡ []) × (v.back ≡ []))
 
   not_nil : (o : Entry) (os line : List Entry) → line ≡ o ∷ os → line ≡ [] → ⊥
   not_nil o os line is none = absurd (omega (arith, ap length (sym is ∙ none)))
@@ -283,13 +265,13 @@ module _ (reads : ReadsSpelled) {c d : Settings} (joined : AreJoined c d) (back 
   drains_on w fit enough go = by w.out refl w.back refl
     where
       by : (out : List Entry) → w.out ≡ out → (bs : List Entry) → w.back ≡ bs → Drains w
-      by [] no_out [] no_back = record { deliveries = []; are = tt; drained = record { out = no_out; back = no_back } }
+      by [] no_out [] no_back = ([], tt, (no_out, no_back))
       by [] no_out (o ∷ os) is =
-          let rest = go (acts c Deliver w) (near_falls reads joined back fit enough (not_nil o os w.back is)) in
-          record { deliveries = Near Deliver ∷ rest.deliveries; are = (tt, rest.are); drained = rest.drained }
+          let rest = go (acts c Deliver w) (near_falls reads laws joined back w fit enough (not_nil o os w.back is)) in
+          (Near Deliver ∷ rest.0, (tt, rest.1), rest.2)
       by (o ∷ os) is bs any =
           let rest = go (swapped (acts d Deliver (swapped w))) (far_falls w fit enough (not_nil o os w.out is)) in
-          record { deliveries = Far Deliver ∷ rest.deliveries; are = (tt, rest.are); drained = rest.drained }
+          (Far Deliver ∷ rest.0, (tt, rest.1), rest.2)
 
   drains : (bound : ℕ) (w : Sessions) → Fit c d w → Enough back w → at_most back c d w ≤ bound → Drains w
   drains zero w fit enough le = drains_on w fit enough (λ v f. absurd (omega (arith, le, f.less)))
@@ -300,22 +282,13 @@ module _ (reads : ReadsSpelled) {c d : Settings} (joined : AreJoined c d) (back 
 abbrev back_of : Sessions → ℕ
 back_of w = 4 * (length w.near.station.outgoing.given + length w.far.station.outgoing.given) + 2
 
-enough_for : (w : Sessions) → Enough (back_of w) w
-enough_for w = record { near = omega arith; far = omega arith }
-
 module _ (reads : ReadsSpelled) (laws : HealingLaws) where
-  fit_after : {c d : Settings} → AreJoined c d → {begin : Sessions} → IsStart begin → (events : List LinkEvent) → Fit c d (run c d events begin)
-  fit_after {c} {d} joined {begin} is events =
-      let fit = fit_from laws joined is events in
-      record { near_place = fit.0.said.low; far_place = fit.1.said.low; near_within = fit.0.within; far_within = fit.1.within }
-
   pub sessions_drain_end : SessionsDrainEnd
   sessions_drain_end c d joined begin is events =
       let w : Sessions = run c d events begin in
-      (at_most (back_of w) c d w, λ es are finds. count reads joined (back_of w) es are (fit_after joined is events) (enough_for w) finds)
+      (at_most (back_of w) c d w, λ es are finds. count reads laws joined (back_of w) es w are (fit_from laws joined is events) (omega arith) finds)
 
   pub some_sessions_drain : SomeSessionsDrain
   some_sessions_drain c d joined begin is events =
       let w : Sessions = run c d events begin in
-      let some = drains reads joined (back_of w) (at_most (back_of w) c d w) w (fit_after joined is events) (enough_for w) (omega arith) in
-      (some.deliveries, some.are, (some.drained.out, some.drained.back))
+      drains reads laws joined (back_of w) (at_most (back_of w) c d w) w (fit_from laws joined is events) (omega arith) (omega arith)

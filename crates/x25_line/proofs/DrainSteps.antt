@@ -45,7 +45,6 @@ pub record Changes (back low cost asks : ℕ) (s : LinkStation) (u : Side) : Typ
   pub load : weights back u.near.outgoing.acked u.out + station_weight back low u.near ≤ cost + station_weight back low s + 8 * back
 
 pub record Took (n1 back low cost asks : ℕ) (s : LinkStation) (u : Side) : Type 0 where
-  pub place : u.near.outgoing.acked ≤ u.near.outgoing.place
   pub given : (u.near.outgoing.given ≡ s.outgoing.given) ⊎ (u.near.outgoing.given ≡ [])
   pub spelled : AreSpelled n1 u.out
   pub by : GoesOn back low cost s u ⊎ Changes back low cost asks s u
@@ -109,7 +108,6 @@ module _ (c : Settings) (n1 back low : ℕ) (s : LinkStation) (small : c.window 
       let e = W-ended n1 c.window back low s.outgoing.acked (top_of s) s.outgoing.given s.phase small within many heavy n h in
       let u : Side = ended c.window t in
       record {
-        place = omega (arith, e.stands.acked, e.stands.place);
         given = inl e.stands.given;
         spelled = e.spelled;
         by = inl (record {
@@ -125,7 +123,6 @@ module _ (c : Settings) (n1 back low : ℕ) (s : LinkStation) (small : c.window 
       let e = W-ended n1 c.window back low a (top_of s) s.outgoing.given s.phase small within many heavy n h in
       let u : Side = ended c.window t in
       record {
-        place = omega (arith, e.stands.acked, e.stands.place);
         given = inl e.stands.given;
         spelled = e.spelled;
         by = inr (record {
@@ -150,7 +147,6 @@ module _ (c : Settings) (n1 back low : ℕ) (s : LinkStation) (small : c.window 
       }) in
       let u : Side = ended c.window t in
       record {
-        place = omega (arith, e.stands.acked, e.stands.place);
         given = inr e.stands.given;
         spelled = e.spelled;
         by = inr (record {
@@ -238,10 +234,8 @@ module _ (c : Settings) (n1 back low : ℕ) (s : LinkStation) (small : c.window 
         W-rej n1 c.window back low (heard nr s) (top_of s) s.outgoing.given s.phase small within many heavy before (before + (w - 1)) command pf t
             (omega (arith, le)) h,
       ))
-  frame_took octets (sabm p) up = anew 2 1 0 Up (ua p ∷ []) (omega arith) (said, tt) (omega (arith, ap phase_weight up))
-    where
-      said : IsSpelled n1 (ua p)
-      said = record { in_range = tt; carries = refl; within = tt; asks_not = refl }
+  frame_took octets (sabm p) up = anew 2 1 0 Up (ua p ∷ []) (omega arith) (record { in_range = tt; carries = refl; within = tt; asks_not = refl }, tt)
+      (omega (arith, ap phase_weight up))
   frame_took octets (disc p) up = anew 2 0 s.tries Down (ua p ∷ []) (omega arith) (record { in_range = tt; carries = refl; within = tt; asks_not = refl }, tt)
       (omega (arith, ap phase_weight up))
   frame_took octets (ua f) up = goes_on 1 0 (omega arith) begins

@@ -24,13 +24,9 @@ rest_free {s} rest =
     let none : waits s.outgoing ≡ 0 = eqb-true (waits s.outgoing) 0 inner.0 in
     le-ltb 254 (waits s.outgoing) (omega (arith, none))
 
-asks_at : (busy : Bool) (n : ℕ) → NoFinal (says busy true n true ∷ [])
-asks_at true n = (tt, tt)
-asks_at false n = (refl, tt)
-
-asks_first : (busy : Bool) (n : ℕ) → AsksFirst (says busy true n true ∷ [])
-asks_first true n = tt
-asks_first false n = tt
+asks_first : (busy : Bool) (n : ℕ) → AsksFirst (says busy true n true ∷ []) × NoFinal (says busy true n true ∷ [])
+asks_first true n = (tt, (tt, tt))
+asks_first false n = (tt, (refl, tt))
 
 on : HealingLaws → {s : LinkStation} {fs : List PlainFrame} → GoesOn s fs → is_up s.phase ≡ true
 on laws (polls up recovery said) = up
@@ -56,8 +52,8 @@ polled_first a said true busy = inr (inr
 
 begins_near : {s t : LinkStation} {fs gs : List PlainFrame} → (IsAtRest s → HasAll s t) → GoesOn s fs → GoesOn t gs → Phases s t fs gs
 begins_near {s} {t} all (polls up recovery said) (polls far_up far_recovery far_said) =
-    inl (record { recovery = recovery; asks = asks_first (is_busy s) (wanted s); heard = asks_at (is_busy t) (wanted t) })
-begins_near {s} all (polls up recovery said) (stays rest) = inl (record { recovery = recovery; asks = asks_first (is_busy s) (wanted s); heard = tt })
+    inl (record { recovery = recovery; asks = (asks_first (is_busy s) (wanted s)).0; heard = (asks_first (is_busy t) (wanted t)).1 })
+begins_near {s} all (polls up recovery said) (stays rest) = inl (record { recovery = recovery; asks = (asks_first (is_busy s) (wanted s)).0; heard = tt })
 begins_near {s} {t} all (stays rest) (polls up recovery said) = polled_first (all rest) said (is_busy t) refl
 begins_near {s} {t} all (stays rest) (stays far_rest) = resent_first (all rest) (all rest).acked (rest_free far_rest)
 

@@ -10,7 +10,7 @@ use Rattle.x25_line.specs.{laws.Stations.{T1, LinkEvent}, laws.Sessions.{Session
 use Rattle.x25_line.specs.{laws.StationClaims.{AreJoined, IsWhole, AreWhole}, Healing.{IsDelivery, HasTries}, laws.SessionClaims.{Each}}
 use Rattle.x25_line.specs.laws.LawsBelow.{HealingLaws}
 use Rattle.x25_line.proofs.{DrainWeights.{below_eight}, StationSteps.{not_both, out_not_up}, StationRuns.{joined_swapped}, HealingLines.{Reads}}
-use Rattle.x25_line.proofs.{StationEvents.{timer_up}, HealingSteps.{IsDrained, IsInOrderIfUp, refused, fires_is, reads_put}}
+use Rattle.x25_line.proofs.{StationEvents.{timer_up}, HealingSteps.{IsDrained, IsInOrderIfUp, stopped_rests, refused, fires_is, reads_put}}
 use Rattle.x25_line.proofs.{HealingSetUp.{RestsOrOut, AreOfSetUp, Parts, asked, asked_polling, polled, rests, Settles, settle}, StationAway.{is_up_phase}}
 
 poll_whole : (n1 : ℕ) (busy : Bool) (n : ℕ) → n < 8 → IsWhole n1 [] (says busy true n true)
@@ -108,7 +108,7 @@ module _ (c d : Settings) (joined : AreJoined c d) (reads : ReadsSpelled) (laws 
         by false a = fires running a.near a.out tt (inr (record { had_none = not_up; is = out tt }))
 
     -- an end that is Up
-    up_runs : IsInOrderIfUp c w.near → is_up s.phase ≡ true → timer_runs s.phase s ≡ true → (b : Bool) → nat_lt s.tries c.retries ≡ b
+    up_runs : IsInOrderIfUp c w.near.station → is_up s.phase ≡ true → timer_runs s.phase s ≡ true → (b : Bool) → nat_lt s.tries c.retries ≡ b
         → HasFired c d w (acts c T1 w)
     up_runs h up running true few =
         let left = ltb-true _ _ few in
@@ -123,16 +123,16 @@ module _ (c d : Settings) (joined : AreJoined c d) (reads : ReadsSpelled) (laws 
         fires running refl follows.frames tt
         (inr (record { had_none = λ has. omega (arith, has.tries running, none_left); is = out (subst IsOut (sym follows.phase) tt) }))
 
-    up_fires : IsInOrderIfUp c w.near → is_up s.phase ≡ true → (b : Bool) → timer_runs s.phase s ≡ b → HasFired c d w (acts c T1 w)
+    up_fires : IsInOrderIfUp c w.near.station → is_up s.phase ≡ true → (b : Bool) → timer_runs s.phase s ≡ b → HasFired c d w (acts c T1 w)
     up_fires h up true running = up_runs h up running (nat_lt s.tries c.retries) refl
     up_fires h up false stopped =
         stands stopped (inl (record {
           tries = record { up = up; tries = λ running. not_both (timer_runs s.phase s) running stopped };
           busy = refl;
-          is = stays (record { idle = laws.rest.no_timer c.window s joined.near_low (h.sound up) h.said up stopped; no_timer = stopped });
+          is = stays (stopped_rests laws joined.near_low h up stopped);
         }))
 
-    has_fired : IsInOrderIfUp c w.near → HasFired c d w (acts c T1 w)
+    has_fired : IsInOrderIfUp c w.near.station → HasFired c d w (acts c T1 w)
     has_fired h = by s.phase refl
       where
         by : (p : Phase) → s.phase ≡ p → HasFired c d w (acts c T1 w)
@@ -161,12 +161,12 @@ pub record BothFired (c d : Settings) (w v : Sessions) : Type 0 where
   pub far_begun : v.far.begun ≡ w.far.begun
 
 module _ (reads : ReadsSpelled) (laws : HealingLaws) where
-  pub both_fire : {c d : Settings} → AreJoined c d → {w : Sessions} → IsInOrderIfUp c w.near → IsInOrderIfUp d w.far → IsDrained w
+  pub both_fire : {c d : Settings} → AreJoined c d → {w : Sessions} → IsInOrderIfUp c w.near.station → IsInOrderIfUp d w.far.station → IsDrained w
       → BothFired c d w (after_firings c d w)
   both_fire {c} {d} joined {w} near_in far_in was =
       let x : Sessions = acts c T1 w in
       let f = has_fired c d joined reads laws w was.out near_in in
-      let g = has_fired d c (joined_swapped joined) reads laws (swapped x) (f.back ∙ was.back) (subst (IsInOrderIfUp d) (sym f.far) far_in) in
+      let g = has_fired d c (joined_swapped joined) reads laws (swapped x) (f.back ∙ was.back) (subst (λ e. IsInOrderIfUp d e.station) (sym f.far) far_in) in
       record {
         there = f.frames;
         behind = g.frames;
@@ -186,7 +186,7 @@ module _ (reads : ReadsSpelled) (laws : HealingLaws) where
   parts (stays rest) (out gone) = rests rest gone
 
   -- from any two ends, where two that are Up and have tries left come to rest
-  pub rest_or_out : (c d : Settings) → AreJoined c d → (w : Sessions) → IsInOrderIfUp c w.near → IsInOrderIfUp d w.far → IsDrained w → (es : List LinkEvent)
+  pub rest_or_out : (c d : Settings) → AreJoined c d → (w : Sessions) → IsInOrderIfUp c w.near.station → IsInOrderIfUp d w.far.station → IsDrained w → (es : List LinkEvent)
       → Each IsDelivery es
       → IsDrained (run c d es (after_firings c d w))
       → (HasTries c.retries w.near.station → HasTries d.retries w.far.station → RestOrOut c d es (after_firings c d w))

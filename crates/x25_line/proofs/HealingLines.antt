@@ -150,12 +150,12 @@ tells_behind s r nr (info ns k p x ∷ gs) es h more = (h.0, tells_behind s r k 
 tells_behind s r nr (rr command k pf ∷ gs) es h more = (h.0, tells_behind s r k gs es h.1 more)
 tells_behind s r nr (frame ∷ gs) es h more = absurd h
 
--- the first of frames that tell a number in the end
-first_reports : {r : ℕ} (a : ℕ) (es : List PlainFrame) → (es ≡ [] → a ≡ r) → LastTells r (r % 8) es → Reports r a es
-first_reports a [] none h = none refl
-first_reports a (info ns k p x ∷ es) none h = h
-first_reports a (rr command k pf ∷ es) none h = h
-first_reports a (frame ∷ es) none h = absurd h
+-- what the frames tell once others were heard, by which all up to `a` is acknowledged
+pub reports_heard : {r : ℕ} (a : ℕ) {nr : ℕ} (gs : List PlainFrame) → LastTells r nr gs → (gs ≡ [] → nr ≡ r % 8 → a ≡ r) → Reports r a gs
+reports_heard a [] h all = all refl h
+reports_heard a (info ns k p x ∷ gs) h all = h
+reports_heard a (rr command k pf ∷ gs) h all = h
+reports_heard a (frame ∷ gs) h all = absurd h
 
 reports_behind : (s r a : ℕ) (gs es : List PlainFrame) → Reports s a gs → ((k : ℕ) → (k ≡ s % 8) → LastTells r k es) → (a ≡ s → Reports r a es)
     → Reports r a (gs ++ es)
@@ -167,17 +167,10 @@ reports_behind s r a (frame ∷ gs) es h more alone = absurd h
 -- the number stays: what goes has it
 pub reports_more : (r a n m : ℕ) (gs es : List PlainFrame) → Reports r a gs → AreNext r n es m → Reports r a (gs ++ es)
 reports_more r a n m gs es h next =
-    reports_behind r r a gs es h (λ k is. next_tells r k n m es is next) (λ same. first_reports a es (λ _. same) (next_tells r (r % 8) n m es refl next))
+    reports_behind r r a gs es h (λ k is. next_tells r k n m es is next) (λ same. reports_heard a es (next_tells r (r % 8) n m es refl next) (λ _ _. same))
 
 -- a new number: at least one frame goes with it
 pub reports_new : (s r a n m : ℕ) (gs es : List PlainFrame) → Reports s a gs → AreNext r n es m → (es ≡ [] → ⊥) → Reports r a (gs ++ es)
 reports_new s r a n m gs es h next some =
     reports_behind s r a gs es h (λ k is. some_tells r k n m es some next)
-    (λ same. first_reports a es (λ none. absurd (some none)) (next_tells r (r % 8) n m es refl next))
-
--- once the first was heard, by which all up to `a` is acknowledged
-pub reports_heard : {r : ℕ} (a : ℕ) {nr : ℕ} (gs : List PlainFrame) → LastTells r nr gs → (nr ≡ r % 8 → a ≡ r) → Reports r a gs
-reports_heard a [] h all = all h
-reports_heard a (info ns k p x ∷ gs) h all = h
-reports_heard a (rr command k pf ∷ gs) h all = h
-reports_heard a (frame ∷ gs) h all = absurd h
+    (λ same. reports_heard a es (next_tells r (r % 8) n m es refl next) (λ none _. absurd (some none)))

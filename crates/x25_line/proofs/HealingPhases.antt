@@ -1,17 +1,17 @@
 -- How an end heals after its firing, where one of the two may be busy, told of two stations and the frames between them. Its poll is on the line, then
 -- the answer; then what isn't acknowledged goes again, or waits until the other end is heard to be busy no more.
-use Rattle.std.proofs.Common.{◌≡◌, ℕ, ◌+◌, ◌%◌, ◌≤◌, List, [], ◌∷◌, ◌++◌, ◌⊎◌, inl, inr, length, max, Bool, true, false, if◌then◌else◌, Ok, None, refl, sym, ap}
+use Rattle.std.proofs.Common.{◌≡◌, ℕ, ◌+◌, ◌%◌, ◌≤◌, List, [], ◌∷◌, ◌++◌, ◌⊎◌, inl, inr, length, max, Bool, true, false, if◌then◌else◌, Ok, None, Some, refl, sym, ap}
 use Rattle.std.proofs.{Common.{◌∙◌, subst, arith, length-append}, lemmas.Bool.{ltb-false, le-ltb, eq-eqb}}
 use Rattle.std.specs.Prelude.{not}
 use Rattle.x25_frame.specs.{Frame.{PlainFrame, info, rr, rnr, rej}, Reading.{frame_of}}
 use Rattle.x25_link.specs.{Station.{Settings, LinkStation, is_up, is_busy, wanted}, Hearing.{Step, other, is_valid, is_taken}, Link.{take_step}}
 use Rattle.x25_link.specs.laws.AnswerLaw.{says, AreNext, Outcome, Answers, heard, goes_on_from, confirms, once_taken, busy_after, passed_over}
 use Rattle.x25_link.specs.laws.BusyLaw.{Says, BusyLaws, NoInfo}
-use Rattle.x25_line.specs.laws.LawsBelow.{HealingLaws}
+use Rattle.x25_line.specs.{laws.LawsBelow.{HealingLaws}, laws.StationClaims.{number_in}}
 use Rattle.x25_line.proofs.StationSteps.{not_both}
 use Rattle.x25_line.proofs.HealingLines.{LastTells, next_tells, tells_behind, Reports, reports_more, reports_new, reports_heard, Ahead, ahead_low, ahead_more}
 use Rattle.x25_line.proofs.HealingLines.{next_ahead, IsMild, Mild, mild_ahead, mild_more, held_mild, IsNoFinal, NoFinal}
-use Rattle.x25_line.proofs.HealingSteps.{IsNumbered, number_of, HearsWell}
+use Rattle.x25_line.proofs.HealingSteps.{number_of, HearsWell}
 use Rattle.x25_line.proofs.{BusyLines.{silent_stays, none_behind, hears_busy, hears_more, tells_free, Told, told_on, told_first}, StationAway.{is_up_phase}}
 
 -- ---- what is on the line
@@ -207,7 +207,7 @@ confirms_next r n m false next h = (refl, refl, refl, h)
 pub record Beside (c : Settings) (s t : LinkStation) (f : PlainFrame) (octets : List ℕ) : Type 0 where
   pub up : is_up s.phase ≡ true
   pub read : frame_of (other c.role) c.longest octets ≡ Ok f
-  pub well : IsNumbered f → HearsWell s t (number_of f)
+  pub well : number_in (Ok f) ≡ Some f → HearsWell s t (number_of f)
   pub all : (nr : ℕ) → nr ≡ length t.taken % 8 → heard nr s ≡ length t.taken
 
 -- what the end becomes and sends, and its phase; and the phase of the other end
@@ -310,11 +310,11 @@ module _ (c : Settings) (laws : HealingLaws) (busy_laws : BusyLaws) (octets : Li
 
   replies : (g : PlainFrame) → Beside c s t g octets → s.recovery ≡ true → IsNoFinal g → Replies
   replies (info ns nr true x) k recovery is = not_both true refl is
-  replies (info ns nr false x) k recovery is = replied recovery (hears_info ns nr x k.up k.read (k.well tt).valid)
-  replies (rr true nr true) k recovery is = replied recovery (hears_poll false nr k.up k.read (k.well tt).valid)
+  replies (info ns nr false x) k recovery is = replied recovery (hears_info ns nr x k.up k.read (k.well refl).valid)
+  replies (rr true nr true) k recovery is = replied recovery (hears_poll false nr k.up k.read (k.well refl).valid)
   replies (rr false nr true) k recovery is = not_both true refl is
-  replies (rr command nr false) k recovery is = replied recovery (hears_ready false command nr k.up k.read (k.well tt).valid)
-  replies (rnr true nr true) k recovery is = replied recovery (hears_poll true nr k.up k.read (k.well tt).valid)
+  replies (rr command nr false) k recovery is = replied recovery (hears_ready false command nr k.up k.read (k.well refl).valid)
+  replies (rnr true nr true) k recovery is = replied recovery (hears_poll true nr k.up k.read (k.well refl).valid)
   replies g k recovery is = absurd is
 
   -- ---- what isn't acknowledged goes again
@@ -330,7 +330,7 @@ module _ (c : Settings) (laws : HealingLaws) (busy_laws : BusyLaws) (octets : Li
       peer_busy = a.peer_busy ∙ peer_busy;
       ahead = ahead_more r n m fs step.side.out ahead
           (rw a.out (ahead_more n o.place m o.first a.next first (next_ahead (length o.taken) o.place a.next m a.sends)));
-      reports = reports_heard z.outgoing.acked gs tells (λ is. a.acked ∙ acked ∙ all is);
+      reports = reports_heard z.outgoing.acked gs tells (λ _ is. a.acked ∙ acked ∙ all is);
       free = free;
     })));
   }
@@ -349,12 +349,12 @@ module _ (c : Settings) (laws : HealingLaws) (busy_laws : BusyLaws) (octets : Li
       → Reports r s.outgoing.acked (g ∷ gs) → IsNear fs gs
   resent_hears fs gs (info ns nr true x) k recovery peer_busy ahead free reports = not_both true refl reports.0
   resent_hears fs gs (info ns nr false x) k recovery peer_busy ahead free reports =
-      goes_on (subst (Hears nr) peer_busy (hears_info ns nr x k.up k.read (k.well tt).valid)) recovery ahead (k.well tt).high reports.1 (k.all nr) free
+      goes_on (subst (Hears nr) peer_busy (hears_info ns nr x k.up k.read (k.well refl).valid)) recovery ahead (k.well refl).high reports.1 (k.all nr) free
   resent_hears fs gs (rr true nr true) k recovery peer_busy ahead free reports =
-      goes_on (hears_poll false nr k.up k.read (k.well tt).valid) recovery ahead (k.well tt).high reports.1 (k.all nr) free
+      goes_on (hears_poll false nr k.up k.read (k.well refl).valid) recovery ahead (k.well refl).high reports.1 (k.all nr) free
   resent_hears fs gs (rr false nr true) k recovery peer_busy ahead free reports = not_both true refl reports.0
   resent_hears fs gs (rr command nr false) k recovery peer_busy ahead free reports =
-      goes_on (hears_ready false command nr k.up k.read (k.well tt).valid) recovery ahead (k.well tt).high reports.1 (k.all nr) free
+      goes_on (hears_ready false command nr k.up k.read (k.well refl).valid) recovery ahead (k.well refl).high reports.1 (k.all nr) free
   resent_hears fs gs g k recovery peer_busy ahead free reports = absurd reports
 
   -- ---- nothing but what neither asks nor carries goes to a busy peer
@@ -398,33 +398,33 @@ module _ (c : Settings) (laws : HealingLaws) (busy_laws : BusyLaws) (octets : Li
       → Told (hears_busy true (g ∷ gs)) t → IsNear fs gs
   withheld_hears fs gs hs (info ns nr true x) k h tells told = not_both true refl tells.0
   withheld_hears fs gs hs (info ns nr false x) k h tells told =
-      withholds_on k.up (subst (Hears nr) h.peer_busy (hears_info ns nr x k.up k.read (k.well tt).valid)) (k.well tt) h.recovery h.place h.acked h.mild tells.1
+      withholds_on k.up (subst (Hears nr) h.peer_busy (hears_info ns nr x k.up k.read (k.well refl).valid)) (k.well refl) h.recovery h.place h.acked h.mild tells.1
       told
   withheld_hears fs gs hs (rr true nr true) k h tells told =
-      goes_on (hears_poll false nr k.up k.read (k.well tt).valid) h.recovery (subst (Ahead r fs) (sym h.place) (mild_ahead r fs h.mild)) (k.well tt).high
+      goes_on (hears_poll false nr k.up k.read (k.well refl).valid) h.recovery (subst (Ahead r fs) (sym h.place) (mild_ahead r fs h.mild)) (k.well refl).high
       tells.1 (k.all nr) (free_again nr gs tells.1 told)
   withheld_hears fs gs hs (rr false nr true) k h tells told = not_both true refl tells.0
   withheld_hears fs gs hs (rr command nr false) k h tells told =
-      goes_on (hears_ready false command nr k.up k.read (k.well tt).valid) h.recovery (subst (Ahead r fs) (sym h.place) (mild_ahead r fs h.mild))
-      (k.well tt).high tells.1 (k.all nr) (free_again nr gs tells.1 told)
+      goes_on (hears_ready false command nr k.up k.read (k.well refl).valid) h.recovery (subst (Ahead r fs) (sym h.place) (mild_ahead r fs h.mild))
+      (k.well refl).high tells.1 (k.all nr) (free_again nr gs tells.1 told)
   withheld_hears fs gs hs g k h tells told = absurd tells
 
   -- the poll of the busy far end, which has all that there is
   rested_hears : (fs gs hs : List PlainFrame) (g : PlainFrame) → Beside c s t g octets → Polled s t fs hs → BusyPolls r (g ∷ gs) → IsNear fs gs
   rested_hears fs (x ∷ gs) hs g k h polls = absurd polls.1
   rested_hears fs [] hs (rnr true nr true) k h polls =
-      withholds_on k.up (hears_poll true nr k.up k.read (k.well tt).valid) (k.well tt) h.recovery h.place h.acked (none_mild fs h.none) polls.0 h.told
+      withholds_on k.up (hears_poll true nr k.up k.read (k.well refl).valid) (k.well refl) h.recovery h.place h.acked (none_mild fs h.none) polls.0 h.told
   rested_hears fs [] hs g k h polls = absurd polls.0
 
   -- F=1 comes: what isn't acknowledged goes again, or the far end is busy
   answered_hears : (fs gs : List PlainFrame) (g : PlainFrame) → Beside c s t g octets → s.recovery ≡ true → Mild fs → Brings t (g ∷ gs) → IsNear fs gs
   answered_hears fs gs (rr false nr true) k recovery mild brings =
-      resends r (laws.answers.recovery false nr c octets s (is_up_phase s.phase k.up) k.read (k.well tt).valid) refl refl refl (mild_ahead r fs mild)
+      resends r (laws.answers.recovery false nr c octets s (is_up_phase s.phase k.up) k.read (k.well refl).valid) refl refl refl (mild_ahead r fs mild)
       (sym (k.all nr brings.is))
       brings.tells (k.all nr) (free_again nr gs brings.tells brings.told)
   answered_hears fs gs (rnr false nr true) k recovery mild brings =
       let all = k.all nr brings.is in
-      withholds nr k.up (laws.answers.recovery true nr c octets s (is_up_phase s.phase k.up) k.read (k.well tt).valid) refl refl all all mild tt brings.tells
+      withholds nr k.up (laws.answers.recovery true nr c octets s (is_up_phase s.phase k.up) k.read (k.well refl).valid) refl refl all all mild tt brings.tells
       brings.told
   answered_hears fs gs g k recovery mild brings =
       let a = replies g k recovery brings.0 in
@@ -479,13 +479,13 @@ module _ (c : Settings) (laws : HealingLaws) (busy_laws : BusyLaws) (octets : Li
 
   plain : (f : PlainFrame) → Beside c s t f octets → IsMild f → Plain
   plain (rr true nr true) k is = not_both true refl is
-  plain (rr false nr true) k is = plain_final false nr k.up k.read (k.well tt).valid
-  plain (rr command nr false) k is = plain_ready false command nr k.up k.read (k.well tt).valid
+  plain (rr false nr true) k is = plain_final false nr k.up k.read (k.well refl).valid
+  plain (rr command nr false) k is = plain_ready false command nr k.up k.read (k.well refl).valid
   plain (rnr true nr true) k is = not_both true refl is
-  plain (rnr false nr true) k is = plain_final true nr k.up k.read (k.well tt).valid
-  plain (rnr command nr false) k is = plain_ready true command nr k.up k.read (k.well tt).valid
+  plain (rnr false nr true) k is = plain_final true nr k.up k.read (k.well refl).valid
+  plain (rnr command nr false) k is = plain_ready true command nr k.up k.read (k.well refl).valid
   plain (rej command nr true) k is = not_both true refl is
-  plain (rej command nr false) k is = plain_by k.up (laws.answers.rej command nr c octets s (is_up_phase s.phase k.up) k.read (k.well tt).valid) refl refl
+  plain (rej command nr false) k is = plain_by k.up (laws.answers.rej command nr c octets s (is_up_phase s.phase k.up) k.read (k.well refl).valid) refl refl
   plain f k is = absurd is
 
   abbrev IsFar : List PlainFrame → List PlainFrame → Type 0
@@ -516,8 +516,8 @@ module _ (c : Settings) (laws : HealingLaws) (busy_laws : BusyLaws) (octets : Li
       }
 
   polling_heard : (fs gs : List PlainFrame) (f : PlainFrame) → Beside c s t f octets → t.recovery ≡ true → AsksFirst (f ∷ gs) → NoFinal fs → IsFar fs gs
-  polling_heard fs gs (rr true nr true) k recovery asks heard = poll_comes false nr k.up k.read (k.well tt).valid recovery asks heard
-  polling_heard fs gs (rnr true nr true) k recovery asks heard = poll_comes true nr k.up k.read (k.well tt).valid recovery asks heard
+  polling_heard fs gs (rr true nr true) k recovery asks heard = poll_comes false nr k.up k.read (k.well refl).valid recovery asks heard
+  polling_heard fs gs (rnr true nr true) k recovery asks heard = poll_comes true nr k.up k.read (k.well refl).valid recovery asks heard
   polling_heard fs gs f k recovery asks heard = absurd asks
 
   -- the I frame that is wanted comes: it is taken, and its number is told
@@ -556,7 +556,7 @@ module _ (c : Settings) (laws : HealingLaws) (busy_laws : BusyLaws) (octets : Li
   resent_heard : {fs : List PlainFrame} (gs : List PlainFrame) {hs : List PlainFrame} (f : PlainFrame) → Beside c s t f octets → Resent t s hs fs
       → Ahead (length s.taken) (f ∷ gs) t.outgoing.place → IsFar fs gs
   resent_heard gs (info ns nr true x) k h ahead = not_both true refl ahead.1
-  resent_heard gs (info ns nr false x) k h ahead = info_comes ns nr x k.up k.read (k.well tt).valid h ahead.0 ahead.2
+  resent_heard gs (info ns nr false x) k h ahead = info_comes ns nr x k.up k.read (k.well refl).valid h ahead.0 ahead.2
   resent_heard gs (rr command nr pf) k h ahead = resent_plain (plain (rr command nr pf) k ahead.0) h ahead.1
   resent_heard gs (rnr command nr pf) k h ahead = resent_plain (plain (rnr command nr pf) k ahead.0) h ahead.1
   resent_heard gs (rej command nr pf) k h ahead = resent_plain (plain (rej command nr pf) k ahead.0) h ahead.1

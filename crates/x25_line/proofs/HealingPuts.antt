@@ -1,6 +1,6 @@
 -- Packets are put while an end heals: in recovery they wait, and behind it each goes in order, as one I frame more at the end of the line.
 use Rattle.std.proofs.Common.{◌≡◌, ℕ, ◌+◌, ◌≤◌, List, [], ◌∷◌, ◌++◌, inl, inr, length, Bool, true, false, if◌then◌else◌, Option, Some, None, refl, sym, ap, ◌∙◌}
-use Rattle.std.proofs.{Common.{subst, arith, length-append}, lemmas.Bool.{lt-ltb, le-ltb, ltb-false}}
+use Rattle.std.proofs.{Common.{subst, arith, length-append, append-nil}, lemmas.Bool.{lt-ltb, le-ltb, ltb-false}}
 use Rattle.std.specs.Prelude.{nat_le}
 use Rattle.x25_frame.specs.{Frame.{PlainFrame}, laws.ReadingLaw.{ReadsSpelled}}
 use Rattle.x25_link.specs.{declared.error.LinkError.{LinkError}, Outgoing.{waits, is_open}}
@@ -133,17 +133,13 @@ module _ (reads : ReadsSpelled) (busy_laws : BusyLaws) {c d : Settings} (joined 
     pub far : v.far ≡ w.far
     pub begun : v.near.begun ≡ w.near.begun
 
-  append_none : (fs : List PlainFrame) → fs ++ [] ≡ fs
-  append_none [] = refl
-  append_none (f ∷ fs) = ap (λ gs. f ∷ gs) (append_none fs)
-
   -- it is refused
   not_put : (w : Sessions) → WasPut w w
   not_put w = record {
     next = [];
     given = record { phase = refl; recovery = refl; peer_busy = refl; taken = refl; acked = refl; sends = refl; held = λ recovers. refl; grows = omega arith };
     says = record { said = refl; free = λ never. not_both false never refl; held = λ _. tt };
-    out = λ fs read. subst (Reads (other d.role) d.longest w.out) (sym (append_none fs)) read;
+    out = λ fs read. subst (Reads (other d.role) d.longest w.out) (sym (append-nil fs)) read;
     back = refl;
     far = refl;
     begun = refl;

@@ -26,7 +26,10 @@ pub record IsFit (k n1 : ℕ) (s : LinkStation) : Type 0 where
   pub said : HasSaidAll k s
   pub within : AllWithin n1 s.outgoing.given
 
-pub within_of : (n1 : ℕ) {old : List (List ℕ)} (new : List (List ℕ)) → (new ≡ old) ⊎ (new ≡ []) → AllWithin n1 old → AllWithin n1 new
+abbrev pub Fit : Settings → Settings → Sessions → Type 0
+Fit c d w = IsFit c.window d.longest w.near.station × IsFit d.window c.longest w.far.station
+
+within_of : (n1 : ℕ) {old : List (List ℕ)} (new : List (List ℕ)) → (new ≡ old) ⊎ (new ≡ []) → AllWithin n1 old → AllWithin n1 new
 within_of n1 new (inl same) h = subst (AllWithin n1) (sym same) h
 within_of n1 new (inr none) h = subst (AllWithin n1) (sym none) tt
 
@@ -49,7 +52,7 @@ fires_within n1 true s h = asks_within n1 s.phase (with_near (alone s) (record s
 fires_within n1 false s h = tt
 
 module _ (laws : HealingLaws) where
-  keeps_fit : (c : Settings) (n1 : ℕ) → c.window ≤ 7 → c.longest ≡ n1 → Keeps c (IsFit c.window n1)
+  pub keeps_fit : (c : Settings) (n1 : ℕ) → c.window ≤ 7 → c.longest ≡ n1 → Keeps c (IsFit c.window n1)
   keeps_fit c n1 small longest = record {
     takes = λ o s h.
         let t = took c n1 (4 * length s.outgoing.given + 2) 0 s small h.within (omega arith) h.said.low o (frame_of (other c.role) c.longest o) refl in
@@ -77,7 +80,7 @@ module _ (laws : HealingLaws) where
 
   -- after any events both stations have said all that they may, and hold no packet that is too long
   pub fit_from : {c d : Settings} → AreJoined c d → {begin : Sessions} → IsStart begin → (events : List LinkEvent)
-      → (let w = run c d events begin in IsFit c.window d.longest w.near.station × IsFit d.window c.longest w.far.station)
+      → Fit c d (run c d events begin)
   fit_from {c} {d} joined {begin} is events =
       run_stays (keeps_fit c d.longest joined.near_high joined.longest) (keeps_fit d c.longest joined.far_high (sym joined.longest)) events begin
       (first_fit c.window d.longest is).0 (first_fit d.window c.longest is).1

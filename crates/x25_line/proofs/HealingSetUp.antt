@@ -3,7 +3,7 @@ use Rattle.std.proofs.Common.{◌≡◌, ℕ, ◌<◌, List, [], ◌∷◌, ◌+
 use Rattle.std.proofs.lemmas.Bool.{leb-true, le-ltb, eq-eqb, and_parts}
 use Rattle.std.specs.Prelude.{◌&&◌, nat_lt}
 use Rattle.x25_bits.specs.declared.role.Role.{Role}
-use Rattle.x25_frame.specs.{Frame.{PlainFrame, info, rr, rnr, rej, sabm, disc, ua, dm, frmr}, Spelling.{is_command, poll_or_final}, Reading.{frame_of}}
+use Rattle.x25_frame.specs.{Frame.{PlainFrame, info, rr, rnr, rej, sabm, disc, ua, dm, frmr}, Spelling.{is_command, poll_or_final}}
 use Rattle.x25_frame.specs.laws.ReadingLaw.{ReadsSpelled}
 use Rattle.x25_link.specs.{declared.phase.Phase.{Phase}, declared.phase.Phase.TheVariants.{Down, Waiting, Up, Closed}, Outgoing.{waits}}
 use Rattle.x25_link.specs.Station.{Settings, LinkStation, Side, is_up, is_busy, wanted, with_nothing, fresh, sends, ready, may_send, owes_ready, finished}
@@ -188,10 +188,6 @@ calm_hears c octets f s h is Waiting phase = calm_waiting f s (ap is_up phase) i
 calm_hears c octets f s h is Up phase = calm_up c octets f (blank_of s (ap is_up phase) h) is
 calm_hears c octets f s h is Closed phase = calm_declines f s (ap is_up phase)
 
-calm_takes : (c : Settings) (octets : List ℕ) (f : PlainFrame) (s : LinkStation) → frame_of (other c.role) c.longest octets ≡ Ok f → IsOfSetUp f
-    → IsBlankOrOff s → IsCalm (take_step c octets s).side
-calm_takes c octets f s read is h = calm_ended c.window (rw read (calm_hears c octets f s h is s.phase refl))
-
 -- ---- two ends of which not both go on, and the frames between them
 
 -- The near end is Up and the far end isn't: what is on the way to the far end, and back.
@@ -237,17 +233,10 @@ settled from to n m {s} {t} {fs} {gs} out back (inr (inl h)) = (let both = parte
 settled from to n m {s} {t} out back (inr (inr h)) = (rests_or_out h.near, rests_or_out h.far)
 
 -- a poll changes nothing of an end that awaits UA, and is answered by DM where an end is out
-poll_passed : (busy : Bool) (n : ℕ) (s : LinkStation) → waiting_after (Ok (says busy true n true)) s ≡ s
-poll_passed true n s = refl
-poll_passed false n s = refl
-
-poll_unanswered : (busy : Bool) (n : ℕ) → waiting_sends (Ok (says busy true n true)) ≡ []
-poll_unanswered true n = refl
-poll_unanswered false n = refl
-
-asks_poll : (busy : Bool) (n : ℕ) → asks (says busy true n true) ≡ true
-asks_poll true n = refl
-asks_poll false n = refl
+poll_off : (busy : Bool) (n : ℕ) (s : LinkStation) → (waiting_after (Ok (says busy true n true)) s ≡ s)
+    × (waiting_sends (Ok (says busy true n true)) ≡ []) × (asks (says busy true n true) ≡ true)
+poll_off true n s = (refl, refl, refl)
+poll_off false n s = (refl, refl, refl)
 
 -- ---- worlds
 
@@ -289,7 +278,7 @@ module _ (c d : Settings) (joined : AreJoined c d) (reads : ReadsSpelled) (laws 
         → Reads (other c.role) c.longest (e ∷ es) (says busy true n true ∷ gs) → Settles s t (fs ++ []) gs → Settling c d (delivered c (e ∷ es) w)
     passes e es busy n gs fs waits out back is =
         let a = laws.sessions.laws.set_up.waits c e.octets s waits (Ok (says busy true n true)) (sym back.0) in
-        goes e _ [] fs s out back.1 (a.near ∙ poll_passed busy n s) (a.out ∙ poll_unanswered busy n) tt is
+        goes e _ [] fs s out back.1 (a.near ∙ (poll_off busy n s).0) (a.out ∙ (poll_off busy n s).1) tt is
 
     -- an end that is Up hears
     up_hears : (es : List Entry) {fs gs : List PlainFrame} → Reads (other d.role) d.longest w.out fs → Reads (other c.role) c.longest es gs → Parts s t fs gs
@@ -320,7 +309,7 @@ module _ (c d : Settings) (joined : AreJoined c d) (reads : ReadsSpelled) (laws 
     off_hears (e ∷ es) out back (granted n blank is) =
         passes e es true n (ua true ∷ []) [] is out back (inr (inr (record { near = inr (ap is_up is); far = inl blank; there = tt; back = (tt, tt) })))
     off_hears (e ∷ es) out back (polled busy n up gone) =
-        let a = laws.answers.out c e.octets s gone (says busy true n true) back.0 (asks_poll busy n) in
+        let a = laws.answers.out c e.octets s gone (says busy true n true) back.0 (poll_off busy n s).2 in
         goes e _ (dm true ∷ []) [] s out back.1 a.near a.out (tt, tt) (inr (inl (declined up gone)))
     off_hears (e ∷ es) out back p = absurd back
 
@@ -330,7 +319,7 @@ module _ (c d : Settings) (joined : AreJoined c d) (reads : ReadsSpelled) (laws 
     calm_hears_more (e ∷ es) fs [] out back p = absurd back
     calm_hears_more (e ∷ es) fs (g ∷ gs) out back p =
         let step = take_step c e.octets s in
-        let k = calm_takes c e.octets g s back.0 p.back.0 p.near in
+        let k : IsCalm step.side = calm_ended c.window (rw back.0 (calm_hears c e.octets g s p.near p.back.0 s.phase refl)) in
         goes e _ step.side.out fs step.side.near out back.1 refl refl k.out
         (inr (inr (record { near = k.near; far = p.far; there = set_up_more fs step.side.out p.there k.out; back = p.back.1 })))
 

@@ -4,14 +4,14 @@ use Rattle.std.proofs.lemmas.Bool.{le-leb}
 use Rattle.x25_frame.specs.{Frame.{PlainFrame, info, rr, rnr, rej}, Reading.{frame_of}, laws.ReadingLaw.{ReadsSpelled}}
 use Rattle.x25_window.specs.{code.Modulo.{resolved}, laws.Window.{Frame}}
 use Rattle.x25_link.specs.{Station.{Settings, LinkStation, is_up}, Hearing.{other, is_valid}, Link.{timer_runs, timer_step}}
-use Rattle.x25_link.specs.{laws.WindowMachine.{Shows, ShowAll}, laws.WindowLaw.{IsSound}, laws.RestLaw.{HasSaidAll}, laws.AnswerLaw.{heard}}
+use Rattle.x25_link.specs.{laws.WindowMachine.{Shows, ShowAll}, laws.WindowLaw.{IsSound}, laws.RestLaw.{HasSaidAll, IsAtRest}, laws.AnswerLaw.{heard}}
 use Rattle.x25_line.specs.laws.StationClaims.{AreJoined, number_in, AreWhole}
-use Rattle.x25_line.specs.laws.Sessions.{Entry, SessionEnd, Sessions, sent_in, IsStart, after_step, acts, swapped, happens, run, IsTimely, IsTimelyAt}
+use Rattle.x25_line.specs.laws.Sessions.{Entry, Sessions, sent_in, IsStart, after_step, acts, swapped, happens, run, IsTimely, IsTimelyAt}
 use Rattle.x25_line.specs.{laws.Sessions.{AreTimely}, laws.SessionClaims.{Each, Throughout}, Healing.{IsDelivery}, laws.LawsBelow.{HealingLaws}}
 use Rattle.x25_line.specs.{laws.Line.{Line, line_swapped}, laws.Stations.{Deliver, T1, LinkEvent, Near, Far}}
 use Rattle.x25_line.proofs.{Kept.{Kept, Kept-swapped, Way, hears_valid, Way-acked, resolved_is}, Frames.{Acks-le}, StationLines.{front_of, consed}}
 use Rattle.x25_line.proofs.{StationSteps.{AsUp, not_both}, sessions.SessionLines.{numbers}, sessions.SessionActs.{up_in_session}}
-use Rattle.x25_line.proofs.{sessions.SessionRuns.{HeldOf, held_swapped, throughout}, HealingRuns.{fit_from}, HealingLines.{Reads, reads_more}}
+use Rattle.x25_line.proofs.{sessions.SessionRuns.{HeldOf, held_swapped, throughout}, HealingRuns.{Fit, fit_from}, HealingLines.{Reads, reads_more}}
 
 -- ---- worlds that events lead to
 
@@ -74,23 +74,25 @@ sound_swapped h = record {
 }
 
 -- an end that is Up has numbers in order, and has said all that it may
-pub record IsInOrderIfUp (c : Settings) (e : SessionEnd) : Type 0 where
-  pub sound : is_up e.station.phase ≡ true → IsSound c.window e.station.outgoing
-  pub said : HasSaidAll c.window e.station
+pub record IsInOrderIfUp (c : Settings) (s : LinkStation) : Type 0 where
+  pub sound : is_up s.phase ≡ true → IsSound c.window s.outgoing
+  pub said : HasSaidAll c.window s
+
+-- so it is at rest where timer T1 doesn't run
+pub stopped_rests : HealingLaws → {c : Settings} → 1 ≤ c.window → {s : LinkStation} → IsInOrderIfUp c s → is_up s.phase ≡ true
+    → timer_runs s.phase s ≡ false → IsAtRest s
+stopped_rests laws {c} low {s} h up stopped = record { idle = laws.rest.no_timer c.window s low (h.sound up) h.said up stopped; no_timer = stopped }
 
 -- all that was sent may be read
 abbrev pub SentWhole : ℕ → List PlainFrame → Type 0
 SentWhole n1 frames = (given : List (List ℕ)) × AreWhole n1 given frames
 
 module _ (reads : ReadsSpelled) (laws : HealingLaws) (c d : Settings) (joined : AreJoined c d) (w : Sessions) (r : Reached c d w) where
-  abbrev BothSaid : Settings → Settings → Sessions → Type 0
-  BothSaid c d w = HasSaidAll c.window w.near.station × HasSaidAll d.window w.far.station
-
   held : HeldOf c d w
   held = at_reached HeldOf (throughout reads laws.sessions) joined r
 
-  said : BothSaid c d w
-  said = at_reached BothSaid (λ c d joined begin is events timely. (let fit = fit_from laws joined is events in (fit.0.said, fit.1.said))) joined r
+  fit : Fit c d w
+  fit = at_reached Fit (λ c d joined begin is events timely. fit_from laws joined is events) joined r
 
   -- behind two ends that are both Up there is the machine, in order
   pub sound_at : is_up w.near.station.phase ≡ true → is_up w.far.station.phase ≡ true → Sound c d w
@@ -106,14 +108,14 @@ module _ (reads : ReadsSpelled) (laws : HealingLaws) (c d : Settings) (joined : 
         far = subst (λ s. AsUp d s line.far) far.is.station far.machine;
         out = rw far.is.comes h.holds.out;
         back = rw near.is.comes h.holds.back;
-        near_said = said.0;
-        far_said = said.1;
+        near_said = fit.0.said;
+        far_said = fit.1.said;
       }
 
-  pub in_order_at : IsInOrderIfUp c w.near × IsInOrderIfUp d w.far
+  pub in_order_at : IsInOrderIfUp c w.near.station × IsInOrderIfUp d w.far.station
   in_order_at = (
-    record { sound = λ up. (up_in_session c d w held.1 up).running.sound; said = said.0 },
-    record { sound = λ up. (up_in_session d c (swapped w) (held_swapped c d joined w held.1) up).running.sound; said = said.1 },
+    record { sound = λ up. (up_in_session c d w held.1 up).running.sound; said = fit.0.said },
+    record { sound = λ up. (up_in_session d c (swapped w) (held_swapped c d joined w held.1) up).running.sound; said = fit.1.said },
   )
 
   pub whole_at : SentWhole d.longest w.sent
@@ -150,26 +152,12 @@ number_of (rnr command nr pf) = nr
 number_of (rej command nr pf) = nr
 number_of f = 0
 
-abbrev pub IsNumbered : PlainFrame → Type 0
-IsNumbered (info ns nr p x) = Unit {0}
-IsNumbered (rr command nr pf) = Unit {0}
-IsNumbered (rnr command nr pf) = Unit {0}
-IsNumbered (rej command nr pf) = Unit {0}
-IsNumbered f = ⊥
-
-has_number : (f : PlainFrame) → IsNumbered f → number_in (Ok f) ≡ Some f
-has_number (info ns nr p x) h = refl
-has_number (rr command nr pf) h = refl
-has_number (rnr command nr pf) h = refl
-has_number (rej command nr pf) h = refl
-has_number f h = absurd h
-
-shows_number : (f : PlainFrame) (g : Frame (List ℕ)) → IsNumbered f → Shows f g → number_of f ≡ g.ack % 8
-shows_number (info ns nr p x) g h s = s.1
-shows_number (rr command nr pf) g h s = s.1
-shows_number (rnr command nr pf) g h s = s.1
-shows_number (rej command nr pf) g h s = s.1
-shows_number f g h s = absurd h
+shows_number : (f : PlainFrame) (g : Frame (List ℕ)) → Shows f g → number_of f ≡ g.ack % 8
+shows_number (info ns nr p x) g s = s.1
+shows_number (rr command nr pf) g s = s.1
+shows_number (rnr command nr pf) g s = s.1
+shows_number (rej command nr pf) g s = s.1
+shows_number f g s = absurd s
 
 -- an N(R) that comes is valid, and stands for a number that the other end has taken
 pub record HearsWell (s other : LinkStation) (nr : ℕ) : Type 0 where
@@ -178,7 +166,7 @@ pub record HearsWell (s other : LinkStation) (nr : ℕ) : Type 0 where
   pub high : heard nr s ≤ length other.taken
 
 pub hears_well : (c d : Settings) (w : Sessions) → Sound c d w → (f : PlainFrame) (e : Entry) (es : List Entry) → w.back ≡ e ∷ es
-    → frame_of (other c.role) c.longest e.octets ≡ Ok f → IsNumbered f → HearsWell w.near.station w.far.station (number_of f)
+    → frame_of (other c.role) c.longest e.octets ≡ Ok f → number_in (Ok f) ≡ Some f → HearsWell w.near.station w.far.station (number_of f)
 hears_well c d w h f front_entry es is read is_numbered =
     let u = h.near in
     let v = h.far in
@@ -186,7 +174,7 @@ hears_well c d w h f front_entry es is read is_numbered =
     let shows : ShowAll (f ∷ rest) h.line.back =
     subst (λ fs. ShowAll fs h.line.back)
     (ap (numbers (other c.role) c.longest) is ∙ ap (λ z. consed (number_in z) rest) read
-    ∙ ap (λ o. consed o rest) (has_number f is_numbered)) h.back in
+    ∙ ap (λ o. consed o rest) is_numbered) h.back in
     let front = front_of f rest h.line.back shows in
     let g = front.frame in
     let way = subst (λ bs. Way h.line.near h.line.far.taken (length h.line.far.taken) h.line.out bs) front.is h.kept.from_near in
@@ -194,7 +182,7 @@ hears_well c d w h f front_entry es is read is_numbered =
     let acked = ap (λ z. z.acked) u.same in
     let high = Acks-le g.ack front.others way.acks.1 in
     let heard_is : heard (number_of f) w.near.station ≡ g.ack =
-    ap (resolved w.near.station.outgoing.acked) (shows_number f g is_numbered front.shows) ∙ ap (λ a. resolved a (g.ack % 8)) acked ∙ valid.0 in
+    ap (resolved w.near.station.outgoing.acked) (shows_number f g front.shows) ∙ ap (λ a. resolved a (g.ack % 8)) acked ∙ valid.0 in
     record {
       valid = le-leb (heard (number_of f) w.near.station) w.near.station.outgoing.sent (omega (arith, heard_is, (ap (λ z. z.sent) u.same), valid.2));
       low = omega (arith, heard_is, acked, valid.1);

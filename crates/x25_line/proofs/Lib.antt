@@ -1,5 +1,6 @@
 pub mod Choices
 pub mod Lists
+pub mod Losses
 pub mod Frames
 pub mod Kept
 pub mod StationLines
@@ -31,5 +32,6 @@ pub mod HealingPhases
 pub mod HealingBoth
 pub mod HealingPuts
 pub mod SessionsHeal
+pub mod HealingOnce
 pub mod sessions
 pub mod ends

@@ -12,7 +12,8 @@ use Rattle.x25_link.specs.laws.WindowLaw.{ending_of}
 use Rattle.x25_line.specs.{laws.Peer.{Peer, fresh_peer, numbered_to, told_to, hearing, IsWanted, taking, MaySay, MayMake}, laws.InWindow.{IsPrefix}}
 use Rattle.x25_line.proofs.Kept.{Way, BothWays, hears_valid, Way-hand, Way-send, Way-tell, Way-told, Way-hears, Way-takes, Way-giver, Way-unheard, Way-passed}
 use Rattle.x25_line.proofs.Kept.{Way-acked}
-use Rattle.x25_line.specs.{laws.WholeNumbers.{taken_out}, laws.Said.{Said, Carried, Tells, Odd as OddSaid, said}}
+use Rattle.x25_line.proofs.Losses.{untouched}
+use Rattle.x25_line.specs.{laws.Loss.{LessAt, nothing, gone, hurt, deeper, Less}, laws.Said.{Said, Carried, Tells, Odd as OddSaid, said}}
 
 -- ---- what is told on a line, and the frames of the window machine that it stands for
 
@@ -58,38 +59,26 @@ bear_push : {ts : List Told} {gs : List (Frame (List ℕ))} (t : Told) (g : Fram
 bear_push t g none shows number = here t [] g [] shows number none
 bear_push t g (here x xs y ys same ack h) shows number = here x (xs ++ t ∷ []) y (ys ++ g ∷ []) same ack (bear_push t g h shows number)
 
-bear_removed : {ts : List Told} {gs : List (Frame (List ℕ))} (i : ℕ) → Bear ts gs → Bear (remove ts i) (remove gs i)
-bear_removed zero none = none
-bear_removed (suc i) none = none
-bear_removed zero (here t xs g ys shows number h) = h
-bear_removed (suc i) (here t xs g ys shows number h) = here t (remove xs i) g (remove ys i) shows number (bear_removed i h)
-
--- without what is at a place, or at none
-abbrev pub without : Option ℕ → List Told → List Told
-without None ts = ts
-without (Some i) ts = remove ts i
-
--- one at most is gone
+-- one at most is gone, and none comes in its place
 abbrev pub Left : List Told → List Told → Type 0
-Left xs ys = (o : Option ℕ) × (ys ≡ without o xs)
+Left xs ys = Less (λ x y. ⊥) xs ys
+
+bear_less : {ts us : List Told} {gs : List (Frame (List ℕ))} {i : ℕ} → LessAt (λ x y. ⊥) i ts us → Bear ts gs → Bear us (remove gs i)
+bear_less (nothing zero) none = none
+bear_less (nothing (suc i)) none = none
+bear_less (gone t ts) (here x xs g ys shows number h) = h
+bear_less (hurt t u ts never) h = absurd never
+bear_less (deeper i t ts us l) (here x xs g ys shows number h) = here t us g (remove ys i) shows number (bear_less l h)
 
 -- a line without its first frame has one N(R) less at most
 pub left_front : (s : Said) (xs : List Told) → Left (only s xs) xs
-left_front (Tells c n) xs = (Some 0, refl)
-left_front s xs = (None, refl)
+left_front (Tells c n) xs = (0, gone _ xs)
+left_front s xs = (_, untouched xs)
 
 -- so it has where a frame stands before both
 pub left_deeper : (s : Said) {xs ys : List Told} → Left xs ys → Left (only s xs) (only s ys)
-left_deeper (Tells c n) {xs} {ys} h = go h.0 h.1
-  where
-    go : (o : Option ℕ) → ys ≡ without o xs → Left (told c n ∷ xs) (told c n ∷ ys)
-    go None is = (None, ap (λ zs. told c n ∷ zs) is)
-    go (Some i) is = (Some (suc i), ap (λ zs. told c n ∷ zs) is)
+left_deeper (Tells c n) {xs} {ys} h = (suc h.0, deeper h.0 _ xs ys h.1)
 left_deeper s h = h
-
-bear_without : (o : Option ℕ) {ts : List Told} {gs : List (Frame (List ℕ))} → Bear ts gs → Bear (without o ts) (taken_out o gs)
-bear_without None h = h
-bear_without (Some i) {ts} {gs} h = bear_removed i h
 
 -- ---- what holds
 
@@ -189,16 +178,15 @@ module _ (p q : Peer) (out back : List Told) where
 
   -- ---- the line to it
 
-  fewer : (o : Option ℕ) → Hold p q out back → Hold p q out (without o back)
-  fewer o h = record { there = h.there; here = taken_out o h.here; ways = ways o h.ways; out_bears = h.out_bears; back_bears = bear_without o h.back_bears }
-    where
-      ways : (o : Option ℕ) → Ways p q h.there h.here → Ways p q h.there (taken_out o h.here)
-      ways None k = k
-      ways (Some i) k = record { from_near = Way-unheard i k.from_near; from_far = Way-passed i k.from_far }
-
   -- an N(R) on the line to an end is lost
   pub left : {ys : List Told} → Left back ys → Hold p q out back → Hold p q out ys
-  left l h = rw l.1 (fewer l.0 h)
+  left l h = record {
+    there = h.there;
+    here = remove h.here l.0;
+    ways = record { from_near = Way-unheard l.0 h.ways.from_near; from_far = Way-passed l.0 h.ways.from_far };
+    out_bears = h.out_bears;
+    back_bears = bear_less l.1 h.back_bears;
+  }
 
 -- ---- what comes to it
 

@@ -1,20 +1,19 @@
 -- A station and any peer keep the way in both directions, whatever happens, and that says the claims.
-use Rattle.std.proofs.Common.{◌≡◌, ℕ, zero, suc, ◌≤◌, List, [], ◌∷◌, ◌++◌, length, remove, true, false, Option, None, refl, sym, ap, ◌∙◌, subst, arith}
+use Rattle.std.proofs.Common.{◌≡◌, ℕ, ◌≤◌, List, [], ◌∷◌, ◌++◌, length, false, Option, refl, sym, ap, ◌∙◌, subst, arith}
 use Rattle.x25_bits.specs.declared.role.Role.{Role}
 use Rattle.x25_frame.specs.{Reading.{frame_of}, laws.ReadingLaw.{ReadsSpelled}}
 use Rattle.x25_window.specs.code.Modulo.{resolved}
 use Rattle.x25_link.specs.{Station.{Settings, fresh}, Hearing.{other}}
-use Rattle.x25_line.specs.{laws.Stations.{StationEnd, Act, Near, replaced, is_visible, acts}, laws.StationClaims.{Each, InOrder, HandsOne}}
-use Rattle.x25_line.specs.laws.LawsBelow.{Laws}
-use Rattle.x25_line.specs.laws.PeerJoined.{JoinedOnce, our_end, with_peer, HappensOnce, Ours, HandsDown, Sends, Hears, Loses, Damages, ReachedOnce, at_start}
+use Rattle.x25_line.specs.{laws.Stations.{StationEnd, Act, Near, acts}, laws.StationClaims.{Each, InOrder, HandsOne}}
+use Rattle.x25_line.specs.{laws.LawsBelow.{Laws}, laws.Loss.{LessAt, nothing, gone, hurt, deeper, IsSeen}}
+use Rattle.x25_line.specs.laws.PeerJoined.{JoinedOnce, our_end, with_peer, HappensOnce, Ours, HandsDown, Sends, Hears, Loses, ReachedOnce, at_start}
 use Rattle.x25_line.specs.{laws.PeerJoined.{goes_on}, laws.PeerClaims.{WithAnyPeer, WithAnyLapbPeer, KeepsOrder, FindsNoFault}}
-use Rattle.x25_line.proofs.{Lists.{each_append, each_removed, each_replaced}, sessions.Letters.{visible_said, visible_fine}, Kept.{Way}}
+use Rattle.x25_line.proofs.{Lists.{each_append}, Losses.{each_less}, sessions.Letters.{visible_said, visible_fine}, Kept.{Way}}
 use Rattle.x25_line.proofs.Order.{Told, only, only_append, Left, left_front, left_deeper, Hold, starts, hold_turned, handed, says, left, makes}
 use Rattle.x25_line.proofs.{StationClaimLemmas.{in_order}, StationSays.{machine_of, MayDo}, StationPeers.{Seen, seen_so, start_seen, peer_acts}}
 use Rattle.x25_line.proofs.StationEvents.{each_hands_one}
 use Rattle.x25_line.proofs.{Order.{in_order as peers_in_order, valid_front, by_frmr, no_fault}, StationRuns.{noted_before}}
 use Rattle.x25_line.specs.{laws.Said.{Said, Carried, Tells, Odd as OddSaid, said}, laws.Peer.{Peer, MaySay}}
-use Rattle.x25_line.specs.laws.PeerJoined as joined
 
 -- ---- what is told on a line of octets
 
@@ -32,16 +31,11 @@ module _ (from : Role) (n1 : ℕ) where
   tolds_push (x ∷ os) o = ap (only (said (frame_of from n1 x))) (tolds_push os o)
       ∙ sym (only_append (said (frame_of from n1 x)) (tolds os) (only (said (frame_of from n1 o)) []))
 
-  tolds_removed : (os : List (List ℕ)) (i : ℕ) → Left (tolds os) (tolds (remove os i))
-  tolds_removed [] zero = (None, refl)
-  tolds_removed [] (suc i) = (None, refl)
-  tolds_removed (o ∷ os) zero = left_front (said (frame_of from n1 o)) (tolds os)
-  tolds_removed (o ∷ os) (suc i) = left_deeper (said (frame_of from n1 o)) (tolds_removed os i)
-
-  tolds_replaced : (o : List ℕ) → is_visible o ≡ true → (os : List (List ℕ)) (i : ℕ) → Left (tolds os) (tolds (replaced os i o))
-  tolds_replaced o visible [] i = (None, refl)
-  tolds_replaced o visible (x ∷ os) zero = rw (visible_said from n1 o visible) (left_front (said (frame_of from n1 x)) (tolds os))
-  tolds_replaced o visible (x ∷ os) (suc i) = left_deeper (said (frame_of from n1 x)) (tolds_replaced o visible os i)
+  tolds_less : {i : ℕ} {os ps : List (List ℕ)} → LessAt IsSeen i os ps → Left (tolds os) (tolds ps)
+  tolds_less (nothing j) = (0, nothing 0)
+  tolds_less (gone o os) = left_front (said (frame_of from n1 o)) (tolds os)
+  tolds_less (hurt o p os visible) = rw (visible_said from n1 p visible) (left_front (said (frame_of from n1 o)) (tolds os))
+  tolds_less (deeper j o os ps l) = left_deeper (said (frame_of from n1 o)) (tolds_less l)
 
 -- ---- a station and a peer q
 
@@ -66,13 +60,9 @@ module _ (Odd : Type 0) (c : Settings) (q : Peer) where
       hold = makes p q (tolds c.role c.longest out) (said (frame_of (other c.role) c.longest o)) (tolds (other c.role) c.longest os) may h.hold;
       lapb = λ lapb. (h.lapb lapb).1;
     };
-    loses = λ os p out i h. record {
-      hold = left p q (tolds c.role c.longest out) (tolds (other c.role) c.longest os) (tolds_removed (other c.role) c.longest os i) h.hold;
-      lapb = λ lapb. each_removed (IsFine (other c.role) c.longest) os i (h.lapb lapb);
-    };
-    damages = λ os p out i octets visible h. record {
-      hold = left p q (tolds c.role c.longest out) (tolds (other c.role) c.longest os) (tolds_replaced (other c.role) c.longest octets visible os i) h.hold;
-      lapb = λ lapb. each_replaced (IsFine (other c.role) c.longest) os i octets (visible_fine (other c.role) c.longest octets visible) (h.lapb lapb);
+    loses = λ {i} {os} p out l h. record {
+      hold = left p q (tolds c.role c.longest out) (tolds (other c.role) c.longest os) (tolds_less (other c.role) c.longest l) h.hold;
+      lapb = λ lapb. each_less (IsFine (other c.role) c.longest) (λ _ o visible _. visible_fine (other c.role) c.longest o visible) l (h.lapb lapb);
     };
     faultless = λ o os p out ending h lapb.
         (let none = no_fault (frame_of (other c.role) c.longest o) (machine_of c.window p) (h.lapb lapb).0 (λ carried nr is. valid o os p out h carried nr is)
@@ -131,18 +121,11 @@ module _ (Odd : Type 0) (c : Settings) (w : JoinedOnce) (h : JoinedHolds Odd c w
       after Odd h rest w.back
       (makes w.peer h.peer backs (said (frame_of c.role c.longest octets)) (tolds c.role c.longest rest) may
       (subst (λ os. Hold w.peer h.peer backs (tolds c.role c.longest os)) is turned)) h.reached.lapb
-  theirs v (Loses i) once ours =
-      after Odd h (remove w.out i) w.back (left w.peer h.peer backs outs (tolds_removed c.role c.longest w.out i) turned) h.reached.lapb
-  theirs v (Damages i octets visible) once ours =
-      after Odd h (replaced w.out i octets) w.back
-      (left w.peer h.peer backs outs (tolds_replaced c.role c.longest octets visible w.out i) turned) h.reached.lapb
+  theirs v (Loses i os l) once ours = after Odd h os w.back (left w.peer h.peer backs outs (tolds_less c.role c.longest l) turned) h.reached.lapb
 
 -- the peer in the place of an end that takes
 abbrev taker : Peer → StationEnd
 taker p = record { station = fresh; down = []; up = p.taken; reasons = []; came_up = false }
-
-start_holds : (Odd : Type 0) (c : Settings) → JoinedHolds Odd c joined.start
-start_holds Odd c = start_seen (record { hold = starts; lapb = λ lapb. tt })
 
 module _ (reads : ReadsSpelled) (laws : Laws) where
   ours : (Odd : Type 0) (c : Settings) → c.window ≤ 7 → (w : JoinedOnce) → JoinedHolds Odd c w → (act : Act) → (acts c act (our_end w)).near.came_up ≡ false
@@ -152,7 +135,7 @@ module _ (reads : ReadsSpelled) (laws : Laws) where
       seen_so refl k k.reached
 
   reached_holds : (Odd : Type 0) {c : Settings} → c.window ≤ 7 → {w : JoinedOnce} → ReachedOnce Odd c w → w.near.came_up ≡ false → JoinedHolds Odd c w
-  reached_holds Odd {c} high at_start once = start_holds Odd c
+  reached_holds Odd {c} high at_start once = start_seen (record { hold = starts; lapb = λ lapb. tt })
   reached_holds Odd {c} high {w} (goes_on v u r event) once =
       let h = reached_holds Odd high r (once_before Odd event once) in
       theirs Odd c v h w event once (ours Odd c high v h)

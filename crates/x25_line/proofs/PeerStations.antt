@@ -6,7 +6,7 @@ use Rattle.x25_link.specs.{Station.{Settings}, Link.{put_refusal}}
 use Rattle.x25_line.specs.laws.Stations.{StationEnd, Stations, Act, Put, Deliver, Lose, Damage, LinkEvent, Near, Far, after_step, delivered, is_visible, acts}
 use Rattle.x25_line.specs.{laws.Stations.{stations_swapped, happens, run}, laws.StationClaims.{AreJoined, IsSetUpOnce, Always}}
 use Rattle.x25_line.specs.{laws.StationPeers.{AreBothPeers}, laws.Peer.{Peer}, laws.LawsBelow.{Laws}}
-use Rattle.x25_line.specs.laws.PeerJoined.{our_end, with_peer, Ours, HandsDown, Sends, Hears, Loses, Damages, ReachedOnce, at_start, goes_on}
+use Rattle.x25_line.specs.laws.PeerJoined.{our_end, with_peer, Ours, HandsDown, Sends, Hears, Loses, ReachedOnce, at_start, goes_on}
 use Rattle.x25_line.proofs.{Choices.{unless_both, if_both, own_both}, StationSays.{MayDo}, StationPeers.{Seen, seen_so, start_seen, peer_acts}}
 use Rattle.x25_line.proofs.{StationEvents.{each_hands_one}, StationRuns.{joined_swapped, there, here, once_before}}
 
@@ -46,8 +46,7 @@ peer_may {c} {d} joined near = record {
   handed = λ os p out packet short h. goes_on _ _ h (HandsDown packet);
   sends = λ os p q out octets may next h. goes_on _ _ h (Sends octets q (rw (sym (there joined octets)) may));
   hears = λ o os p q out may h. goes_on _ _ h (Hears o os q refl (rw (sym (here joined o)) may));
-  loses = λ os p out i h. goes_on _ _ h (Loses i);
-  damages = λ os p out i octets visible h. goes_on _ _ h (Damages i octets visible);
+  loses = λ {i} p out l h. goes_on _ _ h (Loses i _ l);
   faultless = λ o os p out ending h never. never;
 }
 

@@ -1,13 +1,13 @@
 -- The laws of healing: what rest shows; whatever the two ends are on a drained line, with one busy end, and while packets are put.
-use Rattle.std.proofs.Common.{◌≡◌, ℕ, List, [], ◌∷◌, inl, Option, Some, None, refl, sym, ap, ◌∙◌}
+use Rattle.std.proofs.Common.{◌≡◌, ℕ, List, [], ◌∷◌, inl, refl, sym, ap, ◌∙◌}
 use Rattle.x25_frame.specs.laws.ReadingLaw.{ReadsSpelled}
-use Rattle.x25_link.specs.{declared.error.LinkError.{LinkError}, Station.{Settings}, Hearing.{Step}, Link.{take_step, timer_step, timer_refusal}}
+use Rattle.x25_link.specs.{Station.{Settings}, Hearing.{Step}, Link.{take_step, timer_step, timer_refusal}}
 use Rattle.x25_link.specs.{laws.RestLaw.{IsAtRest}, laws.BusyLaw.{BusyLaws}}
-use Rattle.x25_line.specs.{laws.Stations.{Deliver, T1}, laws.Sessions.{Entry, Meeting, Sessions, begun_by, after_step, unless, delivered, acts, swapped, run}}
+use Rattle.x25_line.specs.{laws.Stations.{Deliver, T1}, laws.Sessions.{Entry, Meeting, Sessions, begun_by, after_step, delivered, acts, swapped, run}}
 use Rattle.x25_line.specs.{laws.StationClaims.{AreJoined}, laws.SessionClaims.{Throughout, IdleHasArrived}, Healing.{EachRestShows, SessionsHealUnlessBothBusy}}
 use Rattle.x25_line.specs.{laws.LawsBelow.{HealingLaws}, laws.HealingPuts.{SessionsHaveArrived, PutsHealSessions}}
-use Rattle.x25_line.proofs.{sessions.SessionHeld.{extended_nil}, sessions.TwoSessions.{idle_has_arrived}}
-use Rattle.x25_line.proofs.{HealingSteps.{IsDrained, Reached, at_reached, in_order_at, deliveries_keep}, HealingEnds.{after_firings, rest_or_out}}
+use Rattle.x25_line.proofs.{Choices.{unless_by}, sessions.SessionHeld.{extended_nil}, sessions.TwoSessions.{idle_has_arrived}}
+use Rattle.x25_line.proofs.{HealingSteps.{IsDrained, Reached, at_reached, in_order_at, stopped_rests, deliveries_keep}, HealingEnds.{after_firings, rest_or_out}}
 use Rattle.x25_line.proofs.{HealingBoth.{HealsAt, begins, both_settle, deliveries_heal}, HealingPuts.{puts_run}}
 
 -- ---- firings and deliveries hand nothing down
@@ -26,11 +26,8 @@ step_hands : (c : Settings) (w : Sessions) (es : List Entry) (met : List Meeting
 step_hands c w es met step = record { near = extended_nil w.near.down (begun_by step.notes.up w.near.begun); far = λ _. refl }
 
 fire_hands : (c : Settings) (w : Sessions) → HandNothingDown w (acts c T1 w)
-fire_hands c w = by (timer_refusal w.near.station)
-  where
-    by : (o : Option LinkError) → HandNothingDown w (unless o w (after_step c w w.back w.met [] (timer_step c w.near.station)))
-    by (Some e) = record { near = λ _. refl; far = λ _. refl }
-    by None = step_hands c w w.back w.met (timer_step c w.near.station)
+fire_hands c w = unless_by (HandNothingDown w) (timer_refusal w.near.station) (record { near = λ _. refl; far = λ _. refl })
+    (λ _. step_hands c w w.back w.met (timer_step c w.near.station))
 
 deliver_hands : (c : Settings) (w : Sessions) → HandNothingDown w (acts c Deliver w)
 deliver_hands c w = by w.back
@@ -45,20 +42,8 @@ each_rest_shows reads laws c d joined begin is events timely =
     let orders = in_order_at reads laws c d joined w (record { begin = begin; start = is; events = events; timely = timely; is = refl }) in
     let arrived = idle_has_arrived reads laws.sessions c d joined begin is events timely in
     record {
-      near = λ up stopped.
-          let rest : IsAtRest w.near.station = record {
-            idle = laws.rest.no_timer c.window w.near.station joined.near_low (orders.0.sound up) orders.0.said up
-                stopped;
-            no_timer = stopped;
-          } in
-          (rest, arrived.near rest.idle);
-      far = λ up stopped.
-          let rest : IsAtRest w.far.station = record {
-            idle = laws.rest.no_timer d.window w.far.station joined.far_low (orders.1.sound up) orders.1.said up
-                stopped;
-            no_timer = stopped;
-          } in
-          (rest, arrived.far rest.idle);
+      near = λ up stopped. (let rest = stopped_rests laws joined.near_low orders.0 up stopped in (rest, arrived.near rest.idle));
+      far = λ up stopped. (let rest = stopped_rests laws joined.far_low orders.1 up stopped in (rest, arrived.far rest.idle));
     }
 
 module _ (reads : ReadsSpelled) (laws : HealingLaws) (busy_laws : BusyLaws) where

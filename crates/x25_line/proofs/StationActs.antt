@@ -1,5 +1,5 @@
 -- What follows of each act of a station that was set up once, where it is known of a few kinds of steps.
-use Rattle.std.proofs.Common.{◌≡◌, ℕ, suc, ◌≤◌, List, [], ◌∷◌, inl, inr, length, remove, Bool, true, false, if◌then◌else◌, Option, Some, None, Result, refl}
+use Rattle.std.proofs.Common.{◌≡◌, ℕ, suc, ◌≤◌, List, [], ◌∷◌, inl, inr, length, Bool, true, false, if◌then◌else◌, Option, Some, None, Result, refl}
 use Rattle.std.proofs.{Common.{sym, ap}, Common.{◌∙◌, subst}, lemmas.Bool.{leb-true}}
 use Rattle.std.specs.Prelude.{nat_le, nat_lt}
 use Rattle.x25_frame.specs.{Frame.{PlainFrame, sabm}, Reading.{frame_of}, declared.error.FrameError.{FrameError}}
@@ -9,8 +9,9 @@ use Rattle.x25_link.specs.Link.{take_step, put_step, put_refusal, timer_step, ti
 use Rattle.x25_link.specs.{Link.{disconnect_refusal, abandon_step}, laws.WindowMachine.{Window, nothing}, laws.SetUp.{Is, TakesPart}}
 use Rattle.x25_link.specs.laws.WindowLaw.{Stays, Follows, IsOut, StaysOut}
 use Rattle.x25_line.specs.laws.Stations.{Stations, Act, Put, Deliver, T1, Connect, Disconnect, Abandon, Probe, Lose, Damage, after_step, unless, delivered}
-use Rattle.x25_line.specs.{laws.Stations.{replaced, is_visible, acts}, laws.WholeNumbers.{place_taken}, laws.Sessions.{sabm_in}, laws.LawsBelow.{Laws}}
-use Rattle.x25_line.proofs.{Choices.{unless_by, if_by}, StationLines.{AreParting}}
+use Rattle.x25_line.specs.{laws.Stations.{replaced, is_visible, acts}, laws.WholeNumbers.{place_taken}, laws.Said.{sabm_of, said}, laws.LawsBelow.{Laws}}
+use Rattle.x25_line.specs.laws.Loss.{LessAt, IsSeen}
+use Rattle.x25_line.proofs.{Choices.{unless_by, if_by}, Losses.{removes, replaces}, StationLines.{AreParting}}
 use Rattle.x25_line.proofs.StationSteps.{out_not_up, AsUp, IsAway, FitsEnd, up_of, not_both, stays_out, in_vain, Parts, ends_parts, declining_parting}
 use Rattle.x25_line.proofs.StationHears.{sabm_or_not, sets_none_up}
 use Rattle.x25_line.proofs.StationAway.{closed_takes, waits_on, waiting_parting, quiet_by, up_takes_part, connects_from, second_false}
@@ -23,15 +24,14 @@ pub record OfSteps (c : Settings) (w : Stations) (e : Window) (Q : Option ℕ �
   pub fits : FitsEnd c w.near.station e
   pub still : Q None w
   pub none_comes : w.back ≡ [] → Q (Some 0) w
-  pub takes : (o : List ℕ) (os : List (List ℕ)) → w.back ≡ o ∷ os → AsUp c w.near.station e → sabm_in (frame_of (other c.role) c.longest o) ≡ 0
+  pub takes : (o : List ℕ) (os : List (List ℕ)) → w.back ≡ o ∷ os → AsUp c w.near.station e → sabm_of (said (frame_of (other c.role) c.longest o)) ≡ 0
       → Q (Some 0) (after_step c w os [] (take_step c o w.near.station))
   pub puts : (packet : List ℕ) → AsUp c w.near.station e → length packet ≤ c.longest
       → Q None (after_step c w w.back (packet ∷ []) (put_step c packet w.near.station))
   pub rests : (step : Step) → AsUp c w.near.station e → Stays c.window nothing w.near.station step → Q None (after_step c w w.back [] step)
   pub parts : (step : Step) → Parts w.near.station step → Q None (after_step c w w.back [] step)
   pub passes : (o : List ℕ) (os : List (List ℕ)) → w.back ≡ o ∷ os → (step : Step) → Parts w.near.station step → Q (Some 0) (after_step c w os [] step)
-  pub loses : (i : ℕ) → Q (Some i) (record w { back = remove w.back i })
-  pub damages : (i : ℕ) (octets : List ℕ) → is_visible octets ≡ true → Q (Some i) (record w { back = replaced w.back i octets })
+  pub loses : (i : ℕ) {os : List (List ℕ)} → LessAt IsSeen i w.back os → Q (Some i) (record w { back = os })
 
 module _ {c : Settings} (laws : Laws) {w : Stations} {e : Window} {Q : Option ℕ → Stations → Type 0} (k : OfSteps c w e Q) where
   abbrev s : LinkStation
@@ -51,7 +51,7 @@ module _ {c : Settings} (laws : Laws) {w : Stations} {e : Window} {Q : Option �
       not_up = second_false w.near.came_up step.notes.up once
 
       -- it would set the link up anew
-      no_sabm : TakesPart s.phase → sabm_in r ≡ 0
+      no_sabm : TakesPart s.phase → sabm_of (said r) ≡ 0
       no_sabm part = elim (sabm_or_not r) [
         | inl sets ↦ not_both step.notes.up (laws.set_up.sets_up c o s part sets.0 sets.1).up not_up
         | inr none ↦ none
@@ -180,9 +180,9 @@ module _ {c : Settings} (laws : Laws) {w : Stations} {e : Window} {Q : Option �
   of_act Disconnect once = unless_by (Q None) (disconnect_refusal s.phase) k.still (λ _. k.parts (disconnect_step c s) (disconnect_parts k.fits))
   of_act Abandon once = if_by (Q None) (is_up s.phase) k.still abandon_by
   of_act Probe once = if_by (Q None) (is_up s.phase) k.still (λ up. timer_up (up_of k.fits up))
-  of_act (Lose i) once = k.loses i
+  of_act (Lose i) once = k.loses i (removes w.back i)
   of_act (Damage i octets) once = by (is_visible octets) refl
     where
       by : (b : Bool) → is_visible octets ≡ b → Q (if b then Some i else None) (if b then record w { back = replaced w.back i octets } else w)
-      by true visible = k.damages i octets visible
+      by true visible = k.loses i (replaces octets visible w.back i)
       by false visible = k.still

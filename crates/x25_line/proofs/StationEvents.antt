@@ -18,7 +18,7 @@ record HandsNothing (w v : Stations) : Type 0 where
 nothing_changes : (w : Stations) → HandsNothing w w
 nothing_changes w = record { up = refl; down = refl; came_up = refl; far = refl }
 
-or_false : (b : Bool) → (b || false) ≡ b
+pub or_false : (b : Bool) → (b || false) ≡ b
 or_false true = refl
 or_false false = refl
 

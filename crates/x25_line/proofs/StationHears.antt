@@ -7,15 +7,15 @@ use Rattle.x25_window.specs.{code.Modulo.{resolved}, laws.Window.{after}, laws.W
 use Rattle.x25_link.specs.{declared.phase.Reason.{Reason}, declared.phase.Reason.TheVariants.{Disc, FrmrSent, Reset, Local}, Station.{Settings, LinkStation}}
 use Rattle.x25_link.specs.{Hearing.{Step}, laws.WindowMachine.{Window, Input, receives}}
 use Rattle.x25_link.specs.laws.WindowLaw.{window_of, brought_by, after_input, MayHandUp, ending_of, Stays, IsSound, sets_up}
-use Rattle.x25_line.specs.{laws.Sessions.{sabm_in, disc_in}, laws.Said.{Said, Tells, said}, laws.Peer.{Peer, MayHear, MayMake, hearing, taking, IsWanted}}
+use Rattle.x25_line.specs.{laws.Said.{Said, Tells, said, sabm_of, disc_of}, laws.Peer.{Peer, MayHear, MayMake, hearing, taking, IsWanted}}
 use Rattle.x25_line.proofs.{StationSays.{machine_of}, StationSends.{AllWithin}, StationSteps.{no_packet_of}}
 
-pub sabm_or_not : (r : Result PlainFrame FrameError) → ((p : Bool) × (r ≡ Ok (sabm p))) ⊎ (sabm_in r ≡ 0)
+pub sabm_or_not : (r : Result PlainFrame FrameError) → ((p : Bool) × (r ≡ Ok (sabm p))) ⊎ (sabm_of (said r) ≡ 0)
 sabm_or_not (Ok (sabm p)) = inl (p, refl)
 sabm_or_not (Err Short) = inr refl
 sabm_or_not r = inr refl
 
-pub sets_none_up : (r : Result PlainFrame FrameError) → sabm_in r ≡ 0 → sets_up r ≡ false
+pub sets_none_up : (r : Result PlainFrame FrameError) → sabm_of (said r) ≡ 0 → sets_up r ≡ false
 sets_none_up (Ok (sabm p)) h = absurd (omega (arith, h))
 sets_none_up r h = refl
 
@@ -38,7 +38,8 @@ numbered_left true = (refl, refl, refl)
 numbered_left false = (refl, refl, refl)
 
 -- by a DISC or a SABM alone it leaves so
-pub left_by : (r : Result PlainFrame FrameError) (v : Window) → let o = ending_of r v in (by_disc o ≡ disc_in r) × (by_reset o ≡ sabm_in r) × (by_local o ≡ 0)
+pub left_by : (r : Result PlainFrame FrameError) (v : Window)
+    → let o = ending_of r v in (by_disc o ≡ disc_of (said r)) × (by_reset o ≡ sabm_of (said r)) × (by_local o ≡ 0)
 left_by (Ok (info ns nr p x)) v = numbered_left _
 left_by (Ok (rr command nr pf)) v = numbered_left _
 left_by (Ok (rnr command nr pf)) v = numbered_left _
@@ -154,7 +155,7 @@ module _ {d : Settings} {s : LinkStation} {p : Peer} (facts : UpFacts d s p) (st
             taken = ap (λ z. p.taken ++ z ∷ []) may.1 ∙ sym (ap (λ o. p.taken ++ option_to_list o) some);
           }
 
-  pub stays_hears : (r : Result PlainFrame FrameError) → sabm_in r ≡ 0 → Stays k (brought_by r) s step → Hears d r s p step
+  pub stays_hears : (r : Result PlainFrame FrameError) → sabm_of (said r) ≡ 0 → Stays k (brought_by r) s step → Hears d r s p step
   stays_hears (Ok (info ns nr pf x)) no_sabm stays = carries ns nr pf x stays
   stays_hears (Ok (rr command nr pf)) no_sabm stays = tells (rr command nr pf) nr (λ packet. refl) (λ y never. never) (true, refl) stays
   stays_hears (Ok (rnr command nr pf)) no_sabm stays = tells (rnr command nr pf) nr (λ packet. refl) (λ y never. never) (true, refl) stays

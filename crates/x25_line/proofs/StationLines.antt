@@ -1,5 +1,5 @@
 -- The octets on a line, and the frames of the window machine that they show.
-use Rattle.std.proofs.Common.{◌≡◌, ℕ, zero, suc, ◌%◌, List, [], ◌∷◌, ◌++◌, ◌⊎◌, inl, inr, length, map, remove, Bool, true, false, not, if◌then◌else◌, Option}
+use Rattle.std.proofs.Common.{◌≡◌, ℕ, ◌%◌, List, [], ◌∷◌, ◌++◌, ◌⊎◌, inl, inr, length, map, Bool, true, false, not, if◌then◌else◌, Option}
 use Rattle.std.proofs.Common.{Some, None, Result, Ok, Err, refl, sym, ap, ◌∙◌, subst}
 use Rattle.std.proofs.lemmas.List.Elements.{Contains-append_left, Contains-append_right, Contains-append_cases}
 use Rattle.std.specs.{Prelude.{◌||◌, nat_lt, option_to_list}, List.{Contains}}
@@ -9,7 +9,8 @@ use Rattle.x25_frame.specs.{Reading.{frame_of, addressed_frame}, declared.error.
 use Rattle.x25_frame.specs.{declared.error.FrameError.TheVariants.{Short, BadFcs, Undefined, NoInfoAllowed, TooLong}, laws.ReadingLaw.{ReadsSpelled}}
 use Rattle.x25_window.specs.laws.Window.{Numbered, Frame}
 use Rattle.x25_link.specs.laws.WindowMachine.{ShowsItem, Shows, ShowAll}
-use Rattle.x25_line.specs.{laws.Stations.{replaced, is_visible}, laws.StationClaims.{number_in, numbered_on, NoFrmr, Each, IsHandedDown, IsWhole, AreWhole}}
+use Rattle.x25_line.specs.laws.Loss.{LessAt, nothing, gone, hurt, deeper, IsSeen}
+use Rattle.x25_line.specs.{laws.Stations.{is_visible}, laws.StationClaims.{number_in, numbered_on, NoFrmr, Each, IsHandedDown, IsWhole, AreWhole}}
 use Rattle.x25_line.specs.laws.WholeNumbers.{first_of, one_more, behind, place_of, taken_out}
 use Rattle.x25_line.proofs.Lists.{each_map, each_over}
 
@@ -212,24 +213,6 @@ shows_behind None fs es p gs f h = f gs h
 shows_behind (Some x) fs es p [] f h = absurd h
 shows_behind (Some x) fs es p (g ∷ gs) f h = subst (ShowAll (x ∷ es)) (sym (taken_out_behind p g gs)) (h.0, f gs h.1)
 
-pub shows_lost : (from : Role) (n1 : ℕ) (os : List (List ℕ)) (i : ℕ) (gs : List (Frame (List ℕ)))
-    → ShowAll (numbered_on from n1 os) gs → ShowAll (numbered_on from n1 (remove os i)) (taken_out (place_of from n1 os i) gs)
-shows_lost from n1 [] zero gs h = h
-shows_lost from n1 [] (suc i) gs h = h
-shows_lost from n1 (o ∷ os) zero gs h = shows_first (number_in (frame_of from n1 o)) (numbered_on from n1 os) gs h
-shows_lost from n1 (o ∷ os) (suc i) gs h =
-    shows_behind (number_in (frame_of from n1 o)) (numbered_on from n1 os) (numbered_on from n1 (remove os i)) (place_of from n1 os i) gs
-    (λ hs k. shows_lost from n1 os i hs k) h
-
-pub shows_damaged : (from : Role) (n1 : ℕ) (octets : List ℕ) → number_in (frame_of from n1 octets) ≡ None
-    → (os : List (List ℕ)) (i : ℕ) (gs : List (Frame (List ℕ)))
-    → ShowAll (numbered_on from n1 os) gs → ShowAll (numbered_on from n1 (replaced os i octets)) (taken_out (place_of from n1 os i) gs)
-shows_damaged from n1 octets none [] i gs h = h
-shows_damaged from n1 octets none (o ∷ os) zero gs h = rw none (shows_first (number_in (frame_of from n1 o)) (numbered_on from n1 os) gs h)
-shows_damaged from n1 octets none (o ∷ os) (suc i) gs h =
-    shows_behind (number_in (frame_of from n1 o)) (numbered_on from n1 os) (numbered_on from n1 (replaced os i octets)) (place_of from n1 os i) gs
-    (λ hs k. shows_damaged from n1 octets none os i hs k) h
-
 -- octets that are visibly damaged read as no frame
 pub visible_reads : (from : Role) (n1 : ℕ) (octets : List ℕ) → is_visible octets ≡ true → (frame_of from n1 octets ≡ Err Short)
     ⊎ (frame_of from n1 octets ≡ Err BadFcs)
@@ -250,3 +233,14 @@ visible_reads from n1 octets e = go (nat_lt (length octets) 4) (is_sealed octets
 pub visible_is : (P : Result PlainFrame FrameError → Type 0) (from : Role) (n1 : ℕ) (octets : List ℕ) → is_visible octets ≡ true → P (Err Short)
     → P (Err BadFcs) → P (frame_of from n1 octets)
 visible_is P from n1 octets visible short bad = elim (visible_reads from n1 octets visible) [ inl is ↦ subst P (sym is) short | inr is ↦ subst P (sym is) bad ]
+
+-- as frames of the window machine, where one is gone
+pub shows_less : (from : Role) (n1 : ℕ) {i : ℕ} {os ps : List (List ℕ)} → LessAt IsSeen i os ps → (gs : List (Frame (List ℕ)))
+    → ShowAll (numbered_on from n1 os) gs → ShowAll (numbered_on from n1 ps) (taken_out (place_of from n1 os i) gs)
+shows_less from n1 (nothing j) gs h = h
+shows_less from n1 (gone o os) gs h = shows_first (number_in (frame_of from n1 o)) (numbered_on from n1 os) gs h
+shows_less from n1 (hurt o p os visible) gs h =
+    rw (visible_is (λ r. number_in r ≡ None) from n1 p visible refl refl) (shows_first (number_in (frame_of from n1 o)) (numbered_on from n1 os) gs h)
+shows_less from n1 (deeper j o os ps l) gs h =
+    shows_behind (number_in (frame_of from n1 o)) (numbered_on from n1 os) (numbered_on from n1 ps) (place_of from n1 os j) gs
+    (λ hs k. shows_less from n1 l hs k) h

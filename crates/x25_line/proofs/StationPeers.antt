@@ -7,8 +7,8 @@ use Rattle.x25_window.specs.{laws.Window.{after}, laws.Window.Step.{HandDown}}
 use Rattle.x25_link.specs.{declared.phase.Reason.{Reason}, declared.phase.Reason.TheVariants.{FrmrSent, Reset}, Station.{Settings, LinkStation, is_up}}
 use Rattle.x25_link.specs.{Hearing.{Step, other}, Link.{take_step, put_step}, laws.WindowMachine.{Window, Input, hands_down, nothing}}
 use Rattle.x25_link.specs.laws.WindowLaw.{window_of, after_input, ending_of, brought_by, Stays, Ends, Follows}
-use Rattle.x25_line.specs.{laws.Stations.{Stations, Act, after_step, acts, start}, laws.LawsBelow.{Laws}, laws.Said.{said}}
-use Rattle.x25_line.specs.{laws.Peer.{Peer, fresh_peer, MayHear}, laws.PeerClaims.{IsNoFrmr}, laws.SessionClaims.{Each}, laws.Sessions.{sabm_in}}
+use Rattle.x25_line.specs.{laws.Stations.{Stations, Act, after_step, acts, start}, laws.LawsBelow.{Laws}, laws.Said.{said, sabm_of}}
+use Rattle.x25_line.specs.{laws.Peer.{Peer, fresh_peer, MayHear}, laws.PeerClaims.{IsNoFrmr}, laws.SessionClaims.{Each}}
 use Rattle.x25_line.proofs.{Lists.{each_append}, StationLines.{parts_of}, StationSends.{AllWithin, within_push}}
 use Rattle.x25_line.proofs.StationSteps.{AsUp, IsAway, FitsEnd, no_packet_of, Leaves, Noted, left_up, stays_out, in_vain, Parts, ends_parts, empty_lists}
 use Rattle.x25_line.proofs.{StationRuns.{fresh_sound}, StationAway.{is_up_phase, frmr_three}}
@@ -175,7 +175,7 @@ module _ (d : Settings) (high : d.window ≤ 7) (reads : ReadsSpelled) (laws : L
         up_is = x.taken ∙ ap (λ xs. xs ++ option_to_list step.packet) h.up;
       }) x.stays
 
-      ends_seen : (reason : Reason) → ending_of r (window_of d.window s) ≡ Some reason → sabm_in r ≡ 0 → Ends reason step → S (after_step d w os [] step)
+      ends_seen : (reason : Reason) → ending_of r (window_of d.window s) ≡ Some reason → sabm_of (said r) ≡ 0 → Ends reason step → S (after_step d w os [] step)
       ends_seen FrmrSent ending no_sabm ends =
           let f = ends.frames.0 in
           let why = ends.frames.1 in
@@ -189,7 +189,7 @@ module _ (d : Settings) (high : d.window ≤ 7) (reads : ReadsSpelled) (laws : L
       ends_seen Reset ending no_sabm ends = absurd (omega (arith, (left_by r (window_of d.window s)).1, ap by_reset ending, no_sabm))
       ends_seen reason ending no_sabm ends = parting_seen h passed (ends_parts u.up tt (laws.take_tells d o s) ends)
 
-      up_seen : sabm_in r ≡ 0 → S (after_step d w os [] step)
+      up_seen : sabm_of (said r) ≡ 0 → S (after_step d w os [] step)
       up_seen no_sabm = go (ending_of r (window_of d.window s)) refl (laws.window.take d o s (record { up = u.up; sound = u.sound }) r refl)
         where
           go : (end : Option Reason) → ending_of r (window_of d.window s) ≡ end → Follows end d.window (brought_by r) s step → S (after_step d w os [] step)
@@ -232,8 +232,7 @@ module _ (d : Settings) (high : d.window ≤ 7) (reads : ReadsSpelled) (laws : L
         (subst (Ready w w.back [] None) (sym u.same) (left_so h h.reached))) stays;
     parts = λ step parts. parting_seen h (left_so h h.reached) parts;
     passes = λ o os is step parts. parting_seen h (passed w h o os is) parts;
-    loses = λ i. seen_so refl h (does.loses w.back h.peer w.out i h.reached);
-    damages = λ i octets visible. seen_so refl h (does.damages w.back h.peer w.out i octets visible h.reached);
+    loses = λ i l. seen_so refl h (does.loses h.peer w.out l h.reached);
   }
 
   -- what the near end does, it may do as a peer

@@ -12,8 +12,8 @@ use Rattle.x25_line.specs.{laws.WholeNumbers.{place_of, gone_from, machine_acts,
 use Rattle.x25_line.specs.laws.StationClaims.{AreJoined, IsSetUpOnce, number_in, numbered_on, MachineReaches, at_start, near_moves, far_moves, NotesUp}
 use Rattle.x25_line.specs.{laws.StationClaims.{HandsOne}, laws.Line.{Line, moved, line_swapped}, laws.Line.Move.{HandsDown}}
 use Rattle.x25_line.proofs.Kept.{Way, Kept-moved, Kept-swapped}
-use Rattle.x25_line.proofs.StationLines.{IsOrderly, AreOrderly, shows_lost, shows_damaged, visible_is, whole_more, either_way}
-use Rattle.x25_line.proofs.{Lists.{each_removed, each_replaced}, StationSends.{AllWithin, within_push}}
+use Rattle.x25_line.proofs.StationLines.{IsOrderly, AreOrderly, shows_less, visible_is, whole_more, either_way}
+use Rattle.x25_line.proofs.{Losses.{each_less}, StationSends.{AllWithin, within_push}}
 use Rattle.x25_line.proofs.StationSteps.{AsUp, NotesOnce, Joint, Leads, StepLeads, Noted, left_up, stays_out, in_vain, left_joint, stands_still, stays_joint}
 use Rattle.x25_line.proofs.{StationSteps.{not_both, quiet_joint, parts_joint, ends_joint}, StationSteps.{read_joint, away_joint}, StationActs.{OfSteps, of_act}}
 use Rattle.x25_line.proofs.{StationAway.{first_false}, StationEvents.{each_hands_one}}
@@ -86,14 +86,9 @@ module _ {c d : Settings} (joined : AreJoined c d) (reads : ReadsSpelled) (laws 
     passes = λ o os is step parts. steps (Some 0) [] step (rw is
         (away_joint joined reads h (number_in (frame_of (other c.role) c.longest o)) (orderly (o ∷ os) is).1
         (shows (o ∷ os) is) parts));
-    loses = λ i. stays (Some i) (left_joint h (place_of (other c.role) c.longest w.back i)
-        (shows_lost (other c.role) c.longest w.back i l.back h.back)
-        (each_removed (λ o. IsOrderly (frame_of (other c.role) c.longest o)) w.back i h.back_orderly));
-    damages = λ i octets visible. stays (Some i) (left_joint h (place_of (other c.role) c.longest w.back i)
-        (shows_damaged (other c.role) c.longest octets (visible_is (λ r. number_in r ≡ None) (other c.role) c.longest octets visible refl refl) w.back i l.back
-        h.back)
-        (each_replaced (λ o. IsOrderly (frame_of (other c.role) c.longest o)) w.back i octets
-        (visible_is IsOrderly (other c.role) c.longest octets visible tt tt) h.back_orderly));
+    loses = λ i less. stays (Some i) (left_joint h (place_of (other c.role) c.longest w.back i) (shows_less (other c.role) c.longest less l.back h.back)
+        (each_less (λ o. IsOrderly (frame_of (other c.role) c.longest o)) (λ o p visible _. visible_is IsOrderly (other c.role) c.longest p visible tt tt)
+        less h.back_orderly));
   }
     where
       orderly : (os : List (List ℕ)) → w.back ≡ os → AreOrderly (other c.role) c.longest os
@@ -126,8 +121,7 @@ module _ {c d : Settings} (joined : AreJoined c d) (reads : ReadsSpelled) (laws 
     rests = λ step u stays. first u.up _;
     parts = λ step parts. by step parts.noted;
     passes = λ o os is step parts. by step parts.noted;
-    loses = λ i. few;
-    damages = λ i octets visible. few;
+    loses = λ i less. few;
   }) a once
     where
       first : is_up w.near.station.phase ≡ true → (reason : Option Reason) → length (w.near.reasons ++ option_to_list reason) ≤ 1
@@ -178,7 +172,7 @@ joint_swapped {c} {d} same {w} {l} h =
       whole = whole_more c.longest (w.near.down ++ w.far.down) (w.far.down ++ w.near.down) (either_way w.near.down w.far.down) w.sent (rw same h.whole);
     }
 
-event_joint : {c d : Settings} → AreJoined c d → ReadsSpelled → Laws → (e : LinkEvent) {w : Stations} {l : Line (List ℕ)} → IsSetUpOnce (happens c d e w)
+pub event_joint : {c d : Settings} → AreJoined c d → ReadsSpelled → Laws → (e : LinkEvent) {w : Stations} {l : Line (List ℕ)} → IsSetUpOnce (happens c d e w)
     → Joint c d w l → Joint c d (happens c d e w) (machine_happens c d e w l)
 event_joint joined reads laws (Near act) once h = act_joint joined reads laws act once.near h
 event_joint joined reads laws (Far act) once h = joint_swapped (sym joined.longest)

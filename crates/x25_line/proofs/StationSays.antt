@@ -1,12 +1,12 @@
 -- What an end may do that keeps the rules of a peer; and what a station sends, which is that.
-use Rattle.std.proofs.Common.{◌≡◌, ℕ, ◌+◌, ◌≤◌, List, [], ◌∷◌, ◌++◌, length, map, remove, Bool, true, Some, None, Ok, refl, sym, ap, ◌∙◌, subst, arith}
+use Rattle.std.proofs.Common.{◌≡◌, ℕ, ◌+◌, ◌≤◌, List, [], ◌∷◌, ◌++◌, length, map, Bool, Some, None, Ok, refl, sym, ap, ◌∙◌, subst, arith}
 use Rattle.std.proofs.{Common.{append_assoc, append-nil}, lemmas.List.{map-append}}
 use Rattle.std.specs.List.{slice_get}
 use Rattle.x25_bits.specs.declared.role.Role.{Role}
 use Rattle.x25_frame.specs.{Frame.{PlainFrame, info, rr, rnr, rej, frmr}, Spelling.{spelling_of}, Reading.{frame_of}, laws.ReadingLaw.{ReadsSpelled}}
 use Rattle.x25_link.specs.{Station.{Settings}, Hearing.{other}, declared.phase.Reason.TheVariants.{FrmrSent}, laws.WindowLaw.{ending_of}}
 use Rattle.x25_link.specs.laws.WindowMachine.{Window, ShowsItem, Shows, ShowAll, IsSent, Runs, rests, goes_on}
-use Rattle.x25_line.specs.{laws.Stations.{replaced, is_visible}, laws.StationClaims.{Each, number_in}, laws.Peer.{Peer, MaySend, MayHear, numbered_to, told_to}}
+use Rattle.x25_line.specs.{laws.Loss.{LessAt, IsSeen}, laws.StationClaims.{Each, number_in}, laws.Peer.{Peer, MaySend, MayHear, numbered_to, told_to}}
 use Rattle.x25_line.proofs.StationLines.{IsGood, IsPart, good_reads, part_reads}
 use Rattle.x25_line.proofs.{StationSends.{AllWithin, Item, item_at, single_of, tell_good, send_good, not_none}, Lists.{each_map}}
 use Rattle.x25_window.specs.{laws.Window.{Step, Allows, after, frame_of as machine_frame, frames_of, numbered}, laws.Window.Step.{Send, Tell}}
@@ -140,9 +140,7 @@ pub record MayDo (d : Settings) (Fine : Type 0) (R : List (List ℕ) → Peer �
       + 1 → R os p out → R os q (out ++ octets ∷ [])
   pub hears : (o : List ℕ) (os : List (List ℕ)) (p q : Peer) (out : List (List ℕ)) → MayHear p (frame_of (other d.role) d.longest o) q → R (o ∷ os) p out
       → R os q out
-  pub loses : (os : List (List ℕ)) (p : Peer) (out : List (List ℕ)) (place : ℕ) → R os p out → R (remove os place) p out
-  pub damages : (os : List (List ℕ)) (p : Peer) (out : List (List ℕ)) (place : ℕ) (octets : List ℕ) → is_visible octets ≡ true → R os p out
-      → R (replaced os place octets) p out
+  pub loses : {i : ℕ} {os ps : List (List ℕ)} (p : Peer) (out : List (List ℕ)) → LessAt IsSeen i os ps → R os p out → R ps p out
   pub faultless : (o : List ℕ) (os : List (List ℕ)) (p : Peer) (out : List (List ℕ)) → ending_of (frame_of (other d.role) d.longest o) (machine_of d.window p)
       ≡ Some FrmrSent → R (o ∷ os) p out → Fine → ⊥
 

@@ -13,7 +13,7 @@ use Rattle.x25_link.specs.laws.WindowMachine.{Window, Input, receives, Shows, Sh
 use Rattle.x25_link.specs.laws.WindowLaw.{IsSound, window_of, brought_by, after_input, MayHandUp, if_valid, ending_of, ends_in, AreLast, Stays, Ends, Follows}
 use Rattle.x25_link.specs.laws.WindowLaw.{IsOut, AreDeclining}
 use Rattle.x25_line.specs.{laws.Line.{Line, MayTake, FrontMayBeTaken, arrived, front_arrived, takes_item}, laws.Line.Move.{Arrives, Loses}}
-use Rattle.x25_line.specs.{laws.Stations.{StationEnd, Stations, after_step}, laws.Sessions.{sabm_in}}
+use Rattle.x25_line.specs.{laws.Stations.{StationEnd, Stations, after_step}, laws.Said.{sabm_of, said}}
 use Rattle.x25_line.specs.laws.StationClaims.{AreJoined, NotesItsEnd, MachineReaches, near_moves, number_in, numbered_on, Each, NoFrmr, IsWhole, AreWhole}
 use Rattle.x25_line.specs.laws.WholeNumbers.{given, first_of, taken_out, counted, machine_after}
 use Rattle.x25_line.proofs.{Lists.{each_append}, Kept.{Kept, Way, Kept-moved, hears_valid}}
@@ -517,8 +517,9 @@ module _ {c d : Settings} (joined : AreJoined c d) (reads : ReadsSpelled) where
   -- octets come to an end that is Up
   pub read_joint : {w : Stations} {l : Line (List ℕ)} → Joint c d w l → AsUp c w.near.station l.near
       → (r : Result PlainFrame FrameError) {os : List (List ℕ)} {step : Step}
-      → IsOrderly r → sabm_in r ≡ 0 → AreOrderly (other c.role) c.longest os → ShowAll (consed (number_in r) (numbered_on (other c.role) c.longest os)) l.back
-      → Tells w.near.station step → Follows (ending_of r (window_of c.window w.near.station)) c.window (brought_by r) w.near.station step
+      → IsOrderly r → sabm_of (said r) ≡ 0 → AreOrderly (other c.role) c.longest os
+      → ShowAll (consed (number_in r) (numbered_on (other c.role) c.longest os)) l.back → Tells w.near.station step
+      → Follows (ending_of r (window_of c.window w.near.station)) c.window (brought_by r) w.near.station step
       → StepLeads c d w l (first_of (number_in r)) os [] step
   read_joint {w} {l} h u (Ok (info ns nr p x)) {os} {step} good none orderly shows tells follows =
       let front = front_of (info ns nr p x) (numbered_on (other c.role) c.longest os) l.back shows in

@@ -1,5 +1,4 @@
 -- What holds over set-up and re-set-up: proofs of the claims on sessions.
-pub mod EntryLines
 pub mod Acts
 pub mod SessionLines
 pub mod SessionHeld

@@ -7,7 +7,9 @@ pub mod StationClaims
 pub mod StationPeers
 pub mod SessionClaims
 pub mod HealingPuts
+pub mod HealingOnce
 pub mod Line
+pub mod Loss
 pub mod Peer
 pub mod PeerClaims
 pub mod PeerJoined

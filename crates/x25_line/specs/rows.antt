@@ -1,5 +1,6 @@
 -- Worked rows.
 pub mod StationRows
+pub mod HealingRows
 pub mod SessionRows
 pub mod PeerRows
 pub mod PeerSessionRows

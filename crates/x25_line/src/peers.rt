@@ -53,7 +53,7 @@ pub fn any_peer_keeps_sessions()
 /// Our own station keeps the rules of a peer over set-up and re-set-up. Of two link stations, as `sessions_keep_order`
 /// of `x25_line` has them, after each list of events each is a peer of the other, which began the sessions that the
 /// station began, and in each was handed down what that was, and took what that handed up. It sent nothing that is
-/// answered by FRMR.
+/// answered by FRMR. By UA with F=0, which a peer may take, it begins no session.
 pub fn stations_are_peers_over_sessions()
     ensures { Throughout AreBothPeers }
 {

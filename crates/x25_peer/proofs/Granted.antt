@@ -1,14 +1,15 @@
 -- What is seen of a command that a station accepts, and of a firing of its timer T1.
-use Rattle.std.proofs.Common.{◌≡◌, ◌+◌, ◌==◌, nat_lt, List, Bool, true, false, if◌then◌else◌, Option, None, refl, sym, ap, subst}
+use Rattle.std.proofs.Common.{◌≡◌, ◌+◌, ◌==◌, nat_lt, List, Bool, true, false, if◌then◌else◌, Option, Some, None, refl, sym, ap, subst}
 use Rattle.x25_packet.specs.Packet.{PlainPacket}
 use Rattle.x25_given.specs.Given.{PlainGiven}
+use Rattle.x25_link.specs.declared.error.LinkError.{LinkError}
 use Rattle.x25_link.specs.{declared.phase.Phase.{Phase}, declared.phase.Phase.TheVariants.{Down, Up}, Hearing.{quiet, leaves}}
 use Rattle.x25_link.specs.Link.{alone, closed_by, asks_again, timer_step, connect_refusal, relink_refusal}
 use Rattle.x25_circuit.specs.Calling.{Sends}
 use Rattle.x25_layer.specs.{Layer.{Layer}, Calls.{LayerRequest, Asks, LayerOutcome, Accepted, Declined, layer_outcome}, laws.Rounds.{Refuses, went}}
 use Rattle.x25_station.specs.{declared.error.StationError.{StationError}, Config.{Settings, layer_settings, link_settings}, Command.{may_ask}}
 use Rattle.x25_station.specs.{Entry.{StationEntry}, Giving.{suits, is_taken, view_given, not_taken}, Station.{Station, view_of}}
-use Rattle.x25_station.specs.Step.{Step, Outcome, Did, Refused, requests, did, entries_of_outcome, gave, gives, where_asked}
+use Rattle.x25_station.specs.Step.{Step, Outcome, Did, Refused, unless, requests, did, entries_of_outcome, gave, gives, where_asked}
 use Rattle.x25_link.specs.{declared.phase.Reason.TheVariants.{Retries}, Outgoing.{waits}, Station.{Settings as LinkSettings, LinkStation, is_up, with_near}}
 use Rattle.x25_layer.specs.declared.error.LayerError.TheVariants as layer_error
 use Rattle.x25_station.specs.declared.error.StationError.TheVariants as error
@@ -37,6 +38,11 @@ pub record IsGranted (up taken : Bool) (o : LayerOutcome) (told : List StationEn
 
 entries_did : (step next : Step) → Did next ≡ Did step → step.entries ≡ next.entries
 entries_did step next is = ap (λ o. (step_in next o).entries) (sym is)
+
+-- what isn't refused for its link is done
+pub unless_did : (refusal : Option LinkError) (done step : Step) → unless refusal done ≡ Did step → (refusal ≡ None) × (done ≡ step)
+unless_did None done step is = (refl, ap (step_in done) is)
+unless_did (Some e) done step is = refused_did (error.Link e) step is
 
 -- that is seen of a request that was done
 pub did_granted : (c : Settings) (s : Station) (request : LayerRequest) (step : Step) → requests c s request ≡ Did step

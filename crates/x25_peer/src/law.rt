@@ -3,9 +3,10 @@ ghost use Rattle.x25_peer.specs.laws.BesideSessionClaims.{UnmetAreToldNothing, E
 ghost use Rattle.x25_peer.specs.laws.BesideSessionClaims.{FindsNoError};
 ghost use Rattle.x25_peer.specs.rows.BesideSessionRows.{DamagedUaIsMissing, LeavingPeerAsks, LostSabmGoesAgain};
 
+use x25_frame::reads_what_is_spelled;
 use x25_layer::any_peer_keeps_transcripts;
 use x25_line::any_peer_keeps_sessions;
-use x25_link::{notes_what_changes, sets_up_by_rows};
+use x25_link::{follows_the_window, notes_what_changes, sets_up_by_rows};
 use x25_station::{
     puts_beside_peers_are_readable, steps_are_joined, steps_keep_bounds, what_is_given_is_told,
 };
@@ -29,8 +30,8 @@ use x25_station::{
 ///   that its link took in it, both ends count a stretch that is open at both alike, and all that the user handed down
 ///   in it was taken, of messages where none waits;
 /// - in a session that meets none nothing is reported to the user, and the peer's packet layer takes nothing;
-/// - the session of an end that is in one meets no other than the latest of the other end, and of the station it is
-///   the one whose layer is that of the station as it is;
+/// - the session of an end that is in one meets no other than the latest of the other end, and of the station what is
+///   known of it is the station as it is;
 /// - the station reports no error of procedure, in no session.
 ///
 /// Premises: k is 1 to 7, at most 4,095 channels, and what the user hands down and gives is octets.
@@ -49,6 +50,8 @@ pub fn any_peer_keeps_stations_over_sessions()
     steps_are_joined();
     steps_keep_bounds();
     what_is_given_is_told();
+    reads_what_is_spelled();
+    follows_the_window();
     sets_up_by_rows();
     notes_what_changes();
 }

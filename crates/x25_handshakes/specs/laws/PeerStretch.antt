@@ -1,7 +1,8 @@
 -- A peer in d1 for one stretch, whatever station it is: the rules of data, flow control and interrupts that are asked
 -- of it, and no more. When it takes a packet, acknowledges and confirms, RR and RNR, data though this end isn't ready:
 -- all this is free. ITU-T X.25 (10/96), sections 4.3 and 4.4.1; docs/PEER.md has the rules in words.
-use Rattle.std.specs.Prelude.{◌≡◌, ℕ, ◌+◌, ◌-◌, ◌%◌, ◌<◌, ◌≤◌, List, [], ◌∷◌, ◌++◌, length, Bool, true, false, None}
+use Rattle.std.specs.Prelude.{◌≡◌, ◌==◌, ℕ, ◌+◌, ◌-◌, ◌%◌, ◌<◌, ◌≤◌, List, [], ◌∷◌, ◌++◌, length, if◌then◌else◌}
+use Rattle.std.specs.Prelude.{Bool, true, false, None}
 use Rattle.x25_circuit.specs.Message.{Piece, no_part, joining, piece_ground}
 use Rattle.x25_window.specs.code.Modulo.{resolved}
 use Rattle.x25_handshakes.specs.laws.Stretch.{Packet, Data, Rr, Rnr, Int, IntConf, status}
@@ -72,9 +73,13 @@ packet_of y Confirms = IntConf
 
 -- ---- what it makes of what comes
 
--- It takes packets in order, each once. By a P(R) all data packets below it are acknowledged (section 4.4.1.3).
+-- It takes packets in order, each once, and a data packet only where its P(S) is the next one (section 4.4.1.1). By a
+-- P(R) all data packets below it are acknowledged (4.4.1.3).
 abbrev pub taking : PeerStretch → Packet → PeerStretch
-taking y (Data s r p) = record y { acked = resolved y.acked r; taken = y.taken ++ p ∷ [] }
+taking y (Data s r p) = record y {
+  acked = resolved y.acked r;
+  taken = if s == length y.taken % 8 then y.taken ++ p ∷ [] else y.taken;
+}
 taking y (Rr r) = record y { acked = resolved y.acked r }
 taking y (Rnr r) = record y { acked = resolved y.acked r }
 taking y (Int xs) = record y { owed = y.owed + 1; int_up = y.int_up ++ xs ∷ [] }

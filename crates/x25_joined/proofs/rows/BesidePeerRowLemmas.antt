@@ -17,23 +17,28 @@ use Rattle.x25_circuit.specs.Hearing.{request_in}
 use Rattle.x25_link.specs.Station.{pumped}
 use Rattle.x25_line.specs.laws.Sessions.{Entry, Meeting}
 use Rattle.x25_line.specs.laws.Peer.{Peer, numbered_to, told_to, taking, hearing}
-use Rattle.x25_line.specs.laws.PeerSessions.{PeerEnd, begins, now, with_now, untouched, without, nothing, put}
+use Rattle.x25_line.specs.laws.PeerSessions.{PeerEnd, begins, now, with_now, nothing, put}
+use Rattle.x25_line.specs.laws.Loss.{nothing as none_lost, gone}
 use Rattle.x25_line.specs.laws.Ends.{sends, listens, moves, takes_sabm}
 use Rattle.x25_handshakes.specs.laws.PeerCalls.{PlacesCall}
 use Rattle.x25_handshakes.specs.laws.PeerChannel.{InCall}
-use Rattle.x25_handshakes.specs.laws.Handshake.{At}
-use Rattle.x25_handshakes.specs.laws.Layers.{Restart}
+use Rattle.x25_handshakes.specs.laws.Handshake.{At, PeerStep}
+use Rattle.x25_handshakes.specs.laws.Layers.{LayerPacket, Restart}
 use Rattle.x25_handshakes.specs.laws.PeerLayer.{PeerChannels, LayerDeed, InChannel, does_layer, layer_taking}
 use Rattle.x25_handshakes.specs.laws.PeerLayers.{other_role}
+use Rattle.x25_layer.specs.Layer.{goes_up}
+use Rattle.x25_layer.specs.laws.TwoLayers.{started}
+use Rattle.x25_layer.specs.laws.PeerJoined as layer_peer
+use Rattle.x25_layer.specs.laws.PeerJoined.{Joined}
 use Rattle.x25_script.specs.Reading.{parts_of, number_in, small_number_in, params_in, with_params_in, call_in, accept_in, send_in, interrupt_in, with_fields, part_in, with_in, command_in, lose_in, damage_in, drain_in, line_in}
 use Rattle.x25_io.specs.Lines.{lines_of}
 use Rattle.x25_transcript.specs.EntryText.{entry_line}
 use Rattle.x25_console.specs.Telling.{frame_line, refusal_line}
-use Rattle.x25_station.specs.Config.{Settings, settings_from}
+use Rattle.x25_station.specs.Config.{Settings, settings_from, layer_settings}
 use Rattle.x25_pipe.specs.Pipe.{saying_line, event_in, event_turn, turn, turns, piped}
 use Rattle.x25_world.specs.laws.TapOctets.{AreOfFrame}
 use Rattle.x25_peer.specs.laws.BesideSessions as beside
-use Rattle.x25_peer.specs.laws.BesideSessions.{BesideSessions, links_of, their_now, their_layer, layer_went, layer_heard}
+use Rattle.x25_peer.specs.laws.BesideSessions.{BesideSessions, links, their_now, their_layer, at_peer, layer_went}
 use Rattle.x25_joined.specs.laws.BesidePeer.{Program, nothing_read, bare, reads, ReachedProgram, at_start, goes_on, Reads, Takes, Elsewhere}
 use Rattle.x25_joined.specs.rows.BesidePeerRows.{of_all_forms, CallIsAccepted}
 use Rattle.x25_joined.proofs.rows.JoinedRowLemmas.{opens}
@@ -97,11 +102,15 @@ call_fits = frame_octets 3 34 16 1 (omega arith) (omega arith) (omega arith) (om
 
 -- ---- the peer's layer
 
-abbrev layer_after : Settings → Program → At PeerChannels
-layer_after c p = (layer_taking (other_role c.role) (their_layer (bare c p)).epoch (their_layer (bare c p)).side Restart).next
+abbrev layer_hears : Settings → Program → PeerStep (At PeerChannels) LayerPacket
+layer_hears c p = layer_taking (other_role c.role) (their_layer (bare c p)).epoch (their_layer (bare c p)).side Restart
 
 abbrev layer_does : Settings → Program → LayerDeed → At PeerChannels
 layer_does c p deed = does_layer (their_layer (bare c p)).epoch (their_layer (bare c p)).side deed
+
+-- whatever end of the program's stands there
+abbrev at_layer : Program → Joined
+at_layer p = at_peer (started (goes_up (layer_settings ours))) (bare ours p)
 
 -- ---- the history
 
@@ -115,7 +124,7 @@ call_is_accepted =
     let p2 : Program = record p1 { peer = e2; out = []; back = sent 1 ua_octets ∷ [] } in
     let v2 : BesideSessions = record (bare ours p1) { peer = e2; out = []; back = sent 1 ua_octets ∷ [] } in
     let r2 : ReachedProgram ours p2 = goes_on p1 p2 r1 (Elsewhere v2
-    (beside.Links (links_of v2) (record { does = λ crossing. moves _ (takes_sabm 0 [] refl); left = without 0; puts = put _ (λ odd. tt) })) tt) in
+    (beside.Links (links v2) (record { does = λ crossing. moves _ (takes_sabm 0 [] refl); left = (0, gone _ _); puts = put _ (λ odd. tt) }))) in
     let p3 : Program = record p2 { read = codes "dte connect\n< 01738357\n"; out = sent 1 restart_octets ∷ []; back = [] } in
     let r3 : ReachedProgram ours p3 = goes_on p2 p3 r2 (Takes (sent 1 ua_octets) [] refl ua_fits) in
     let x4 : Peer = taking true restart_packet (hearing true 0 (now e2)) in
@@ -124,32 +133,39 @@ call_is_accepted =
     let p4 : Program = record p3 { peer = e4; out = []; met = met ∷ [] } in
     let v4 : BesideSessions = record (bare ours p3) { peer = e4; out = []; met = met ∷ [] } in
     let r4 : ReachedProgram ours p4 = goes_on p3 p4 r3 (Elsewhere v4
-    (beside.Links (links_of v4) (record { does = λ crossing. listens _ [] x4 refl refl (true, true, refl, refl); left = without 0; puts = nothing })) tt) in
-    let v5 : BesideSessions = layer_heard (bare ours p4) (layer_after ours p4) [] (confirmation_packet ∷ []) in
+    (beside.Links (links v4) (record { does = λ crossing. listens _ [] x4 refl refl (true, true, refl, refl); left = (0, gone _ _); puts = nothing }))) in
+    let came : BesideSessions = layer_went (bare ours p4) (record (their_now (bare ours p4)) { heard = 1; passed = restart 0 0 ∷ [] }) [] in
+    let q4 : Program = record p4 { peer = came.peer; theirs = came.theirs } in
+    let s4 : ReachedProgram ours q4 = goes_on p4 q4 r4 (Elsewhere came (beside.Comes (restart 0 0) restart_packet [] refl refl refl)) in
+    let j5 : Joined = layer_peer.peer_stepped (at_layer q4) [] (restart_conf ∷ []) (layer_hears ours q4) in
+    let v5 : BesideSessions = layer_went (bare ours q4) (record (their_now (bare ours q4)) { layer = j5.peer; passed = j5.out }) (confirmation_packet ∷ []) in
     let p5 : Program = record p4 { peer = v5.peer; theirs = v5.theirs } in
-    let r5 : ReachedProgram ours p5 = goes_on p4 p5 r4 (Elsewhere v5 (beside.LayerHears (restart 0 0) (restart 0 0 ∷ []) [] (restart_conf ∷ []) (confirmation_packet ∷ []) refl (refl, tt) refl (record { are = refl; configured = (λ has. absurd has, tt) }) (refl, tt)) tt) in
+    let r5 : ReachedProgram ours p5 = goes_on q4 p5 s4 (Elsewhere v5 (beside.LayerMoves (at_layer q4).near j5
+    (layer_peer.Hears (restart 0 0) [] (restart_conf ∷ []) refl (record { are = refl; configured = (λ has. absurd has, tt) })) (confirmation_packet ∷ []) refl tt (refl, tt))) in
     let deed : LayerDeed = InChannel 1 (InCall (PlacesCall (request_in [] [] [] []))) in
-    let v6 : BesideSessions = layer_went (bare ours p5) (record (their_now (bare ours p5)) { layer = layer_does ours p5 deed }) (call_packet ∷ []) in
+    let j6 : Joined = record (at_layer p5) { peer = layer_does ours p5 deed; back = call 1 [] [] [] [] ∷ [] } in
+    let v6 : BesideSessions = layer_went (bare ours p5) (record (their_now (bare ours p5)) { layer = j6.peer; passed = j6.out }) (call_packet ∷ []) in
     let p6 : Program = record p5 { peer = v6.peer; theirs = v6.theirs } in
-    let r6 : ReachedProgram ours p6 = goes_on p5 p6 r5 (Elsewhere v6 (beside.LayerDoes deed (call 1 [] [] [] []) call_packet refl refl refl (λ has. refl) refl) tt) in
+    let r6 : ReachedProgram ours p6 = goes_on p5 p6 r5 (Elsewhere v6 (beside.LayerMoves (at_layer p5).near j6
+    (layer_peer.Does deed (call 1 [] [] [] []) refl refl (λ has. refl)) (call_packet ∷ []) refl tt (refl, tt))) in
     let x7 : Peer = told_to 1 (numbered_to 0 (now p6.peer)) in
     let e7 : PeerEnd = with_now x7 p6.peer in
     let p7 : Program = record p6 { peer = e7; back = sent 1 confirmation_octets ∷ [] } in
     let v7 : BesideSessions = record (bare ours p6) { peer = e7; back = sent 1 confirmation_octets ∷ [] } in
-    let r7 : ReachedProgram ours p7 = goes_on p6 p7 r6 (Elsewhere v7 (beside.Links (links_of v7) (record {
+    let r7 : ReachedProgram ours p7 = goes_on p6 p7 r6 (Elsewhere v7 (beside.Links (links v7) (record {
       does = λ crossing. sends (Some (record { ns = 0; packet = confirmation_packet })) 1 x7 refl (0, 1, record { number = refl; same = refl; window = omega arith; again = omega arith }, record { number = refl; rising = omega arith; taken = omega arith }, refl);
-      left = untouched;
+      left = (0, none_lost 0);
       puts = put _ (λ odd. tt);
-    })) tt) in
+    }))) in
     let x8 : Peer = told_to 1 (numbered_to 1 (now p7.peer)) in
     let e8 : PeerEnd = with_now x8 p7.peer in
     let p8 : Program = record p7 { peer = e8; back = sent 1 confirmation_octets ∷ sent 1 call_octets ∷ [] } in
     let v8 : BesideSessions = record (bare ours p7) { peer = e8; back = sent 1 confirmation_octets ∷ sent 1 call_octets ∷ [] } in
-    let r8 : ReachedProgram ours p8 = goes_on p7 p8 r7 (Elsewhere v8 (beside.Links (links_of v8) (record {
+    let r8 : ReachedProgram ours p8 = goes_on p7 p8 r7 (Elsewhere v8 (beside.Links (links v8) (record {
       does = λ crossing. sends (Some (record { ns = 1; packet = call_packet })) 1 x8 refl (1, 1, record { number = refl; same = refl; window = omega arith; again = omega arith }, record { number = refl; rising = omega arith; taken = omega arith }, refl);
-      left = untouched;
+      left = (0, none_lost 0);
       puts = put _ (λ odd. tt);
-    })) tt) in
+    }))) in
     let p9 : Program = reads ours p8 (codes "< 03201000ff05d7\n") (sent 1 call_octets ∷ []) (met ∷ met ∷ []) in
     let r9 : ReachedProgram ours p9 = goes_on p8 p9 r8 (Takes (sent 1 confirmation_octets) (sent 1 call_octets ∷ []) refl confirmation_fits) in
     let p10 : Program = reads ours p9 (codes "< 032210010b00007528\n") [] (met ∷ met ∷ met ∷ []) in

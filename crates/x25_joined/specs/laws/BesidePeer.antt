@@ -1,21 +1,20 @@
 -- A program `x25 station`, joined by a line to any peer, link and packet layer, that keeps the rules of docs/PEER.md,
 -- set up and set up again by either end at any moment (profile). What the program writes is told by `piped`, of all
 -- that it read; what may happen at the peer and on the line is that of `BesideSessions` of `x25_peer`.
-use Rattle.std.specs.Prelude.{◌≡◌, ℕ, if◌then◌else◌, List, [], ◌∷◌, ◌++◌, Option, Some, codes}
+use Rattle.std.specs.Prelude.{◌≡◌, ℕ, List, [], ◌∷◌, ◌++◌, Option, Some, codes}
 use Rattle.x25_bits.specs.Role.{other}
 use Rattle.x25_link.specs.declared.phase.Phase.TheVariants.{Waiting}
 use Rattle.x25_line.specs.laws.Peer.{fresh_peer}
 use Rattle.x25_line.specs.laws.Sessions.{Entry, Meeting}
 use Rattle.x25_line.specs.laws.PeerSessions.{PeerEnd, Out, IsDue}
 use Rattle.x25_station.specs.Config.{Settings, link_settings}
-use Rattle.x25_station.specs.Step.{abandons}
 use Rattle.x25_station.specs.laws.TimerLaw.{Event, Fires}
 use Rattle.x25_io.specs.Lines.{IsOpen}
 use Rattle.x25_pipe.specs.Pipe.{sends, saying_line, event_in}
 use Rattle.x25_world.specs.laws.Claims.{ups_in}
 use Rattle.x25_world.specs.laws.TapOctets.{AreOfFrame}
 use Rattle.x25_peer.specs.laws.BesideSessions as beside
-use Rattle.x25_peer.specs.laws.BesideSessions.{Own, Theirs, BesideSessions, own_anew, theirs_anew, heard_here, links_of}
+use Rattle.x25_peer.specs.laws.BesideSessions.{Own, Theirs, BesideSessions, own_anew, theirs_anew, links, met_by}
 use Rattle.x25_joined.specs.laws.Joined.{written, written_more, station_of, entries_in, frames_in, IsNoFrame}
 
 -- All that the program read; the peer; the frames on the line from the program and on the line to it, front first; and
@@ -73,16 +72,12 @@ reads c p more back met = record p {
   met = met;
 }
 
--- who is met as a frame comes to it: none where a count is full, so that the link is left
-abbrev pub met_by : Settings → Program → Entry → List Meeting
-met_by c p e = if abandons c (station_of c p.read) then p.met else heard_here c (bare c p) e
-
 -- ---- what may happen
 
 -- timer T1 of a station that awaits UA runs out where it is due
 abbrev pub IsInTime : Settings → Program → Option Event → Type 0
 IsInTime c p (Some Fires) =
-    (station_of c p.read).link.phase ≡ Waiting → IsDue (link_settings c) (links_of (bare c p))
+    (station_of c p.read).link.phase ≡ Waiting → IsDue (link_settings c) (links (bare c p))
 IsInTime c p event = Unit {0}
 
 pub record IsOfUser (c : Settings) (p : Program) (line : List ℕ) : Type 0 where
@@ -90,27 +85,14 @@ pub record IsOfUser (c : Settings) (p : Program) (line : List ℕ) : Type 0 wher
   pub is_no_frame : IsNoFrame (event_in c.wide c.role line)
   pub in_time : IsInTime c p (event_in c.wide c.role line)
 
--- it happens at the peer, or on the line
-abbrev pub IsElsewhere : {c : Settings} {w v : BesideSessions} → beside.HappensBeside c w v → Type 0
-IsElsewhere (beside.Asks request step octets is) = ⊥
-IsElsewhere (beside.AsksWith given request step of_given octets is) = ⊥
-IsElsewhere (beside.Connects none) = ⊥
-IsElsewhere (beside.Disconnects none) = ⊥
-IsElsewhere (beside.Probes none) = ⊥
-IsElsewhere (beside.Relinks none) = ⊥
-IsElsewhere (beside.Fires none due) = ⊥
-IsElsewhere (beside.Receives e rest front free) = ⊥
-IsElsewhere (beside.Abandons e rest front full) = ⊥
-IsElsewhere other = Unit {0}
-
 pub data HappensToProgram (c : Settings) (p : Program) : Program → Type 0 where
   -- a line comes of the user, or of one who has a clock
   Reads : (line : List ℕ) → IsOfUser c p line → HappensToProgram c p (reads c p (line ++ codes "\n") p.back p.met)
   -- the front frame comes, as a line of a trace
   Takes : (e : Entry) (rest : List Entry) → p.back ≡ e ∷ rest → AreOfFrame e.octets
-      → HappensToProgram c p (reads c p (saying_line (other c.role) (sends e.octets)) rest (met_by c p e))
+      → HappensToProgram c p (reads c p (saying_line (other c.role) (sends e.octets)) rest (met_by c (bare c p) e))
   -- the peer does something, or the line loses or damages a frame
-  Elsewhere : (v : BesideSessions) (h : beside.HappensBeside c (bare c p) v) → IsElsewhere h
+  Elsewhere : (v : BesideSessions) → beside.Elsewhere c (bare c p) v
       → HappensToProgram c p (record p { peer = v.peer; theirs = v.theirs; out = v.out; back = v.back; met = v.met })
 
 -- what is reached, event by event

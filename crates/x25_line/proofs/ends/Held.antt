@@ -1,7 +1,8 @@
 -- What holds of two ends over sessions: one session of each stands, which meet or may yet meet; and what is on the lines is of these.
 use Rattle.std.proofs.Common.{◌≡◌, ◌≤◌, ◌+◌, ◌⊎◌, ℕ, suc, List, [], ◌∷◌, ◌++◌, inl, inr, refl, arith, subst}
 use Rattle.x25_line.specs.{laws.Said.{sabm_of, ua_of, disc_of, Sabm, Disc, Ua}, laws.Ends.{Stand, Out, Asking, In, Letter, letter, how_many, OfTells, AreOf}}
-use Rattle.x25_line.proofs.ends.Lines.{count_push, Less, count_less, AllTold, AllTags, tags_push, tags_more, tags_less, told_push, told_less, of_tells}
+use Rattle.x25_line.specs.{laws.Loss.{LessAt}, laws.Ends.{IsSpoilt}}
+use Rattle.x25_line.proofs.ends.Lines.{count_push, count_less, AllTold, AllTags, tags_push, tags_more, tags_less, told_push, told_less, of_tells}
 use Rattle.x25_line.proofs.ends.Lines.{sabm_free, Of, AfterUa, after_none, after_push, after_less, after_base, AllAsked, asked_none, asked_map, asked_now}
 use Rattle.x25_line.proofs.ends.Lines.{asked_push, asked_less}
 
@@ -78,8 +79,8 @@ module _ {sx sy : Stand} {bx p b q : ℕ} {out back : List Letter} where
 
   -- ---- the line to x is less
 
-  pub less_near : {fs : List Letter} → Less back fs → Side sx bx p sy b q out back → Side sx bx p sy b q out fs
-  less_near {fs} l h =
+  pub less_near : {i : ℕ} {fs : List Letter} → LessAt IsSpoilt i back fs → Side sx bx p sy b q out back → Side sx bx p sy b q out fs
+  less_near l h =
       let uas = count_less ua_of refl l in
       let one = h.one in
       record {
@@ -95,8 +96,8 @@ module _ {sx sy : Stand} {bx p b q : ℕ} {out back : List Letter} where
       }
 
   -- the same of the line from y
-  pub less_far : {fs : List Letter} → Less back fs → Side sy b q sx bx p back out → Side sy b q sx bx p fs out
-  less_far {fs} l h =
+  pub less_far : {i : ℕ} {fs : List Letter} → LessAt IsSpoilt i back fs → Side sy b q sx bx p back out → Side sy b q sx bx p fs out
+  less_far {fs = fs} l h =
       let sabms = count_less sabm_of refl l in
       from_near fs (asked_map _ _ bx p (λ n. n) (λ o. (o.0, omega (arith, o.1, sabms), o.2)) out h.asked)
       (λ k. (omega (arith, (h.asks_once k).0, sabms), omega (arith, (h.asks_once k).1, (count_less disc_of refl l)))) h

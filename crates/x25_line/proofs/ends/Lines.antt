@@ -1,7 +1,8 @@
 -- The lines between two ends over sessions, and what is said of them.
-use Rattle.std.proofs.Common.{◌≡◌, ◌≤◌, ◌<◌, ◌+◌, ◌⊎◌, inl, inr, ℕ, zero, suc, List, [], ◌∷◌, ◌++◌, remove, refl, sym, subst, arith}
-use Rattle.x25_line.proofs.Lists.{each_append, each_map}
-use Rattle.x25_line.specs.{laws.Said.{sabm_of, ua_of, Said, Tells, Sabm, Else}, laws.Ends.{Letter, letter, spoilt, how_many, OfSabm, OfTells, AreOf}}
+use Rattle.std.proofs.Common.{◌≡◌, ◌≤◌, ◌<◌, ◌+◌, ◌⊎◌, inl, inr, ℕ, zero, suc, List, [], ◌∷◌, ◌++◌, refl, sym, ap, subst, arith}
+use Rattle.x25_line.proofs.{Lists.{each_append, each_map}, Losses.{each_less}}
+use Rattle.x25_line.specs.laws.Loss.{LessAt, nothing, gone, hurt, deeper}
+use Rattle.x25_line.specs.{laws.Said.{sabm_of, ua_of, Said, Tells, Sabm, Else}, laws.Ends.{Letter, IsSpoilt, how_many, OfSabm, OfTells, AreOf}}
 use Rattle.x25_line.specs.laws.StationClaims.{Each}
 
 -- one or the other
@@ -17,29 +18,13 @@ pub count_push : (k : Said → ℕ) (es : List Letter) (e : Letter) → how_many
 count_push k [] e = omega arith
 count_push k (x ∷ es) e = omega (arith, count_push k es e)
 
--- one letter at most is gone
-pub data Less : List Letter → List Letter → Type 0 where
-  whole : (es : List Letter) → Less es es
-  gone : (e : Letter) (es : List Letter) → Less (e ∷ es) es
-  hurt : (e : Letter) (es : List Letter) → Less (e ∷ es) (letter e.session Else ∷ es)
-  deeper : (e : Letter) (es fs : List Letter) → Less es fs → Less (e ∷ es) (e ∷ fs)
+-- ---- one letter at most is gone
 
-pub less_removes : (es : List Letter) (i : ℕ) → Less es (remove es i)
-less_removes [] zero = whole []
-less_removes [] (suc i) = whole []
-less_removes (e ∷ es) zero = gone e es
-less_removes (e ∷ es) (suc i) = deeper e es (remove es i) (less_removes es i)
-
-pub less_spoils : (es : List Letter) (i : ℕ) → Less es (spoilt es i)
-less_spoils [] i = whole []
-less_spoils (e ∷ es) zero = hurt e es
-less_spoils (e ∷ es) (suc i) = deeper e es (spoilt es i) (less_spoils es i)
-
-pub count_less : (k : Said → ℕ) → k Else ≡ 0 → {es fs : List Letter} → Less es fs → how_many k fs ≤ how_many k es
-count_less k quiet (whole xs) = omega arith
+pub count_less : (k : Said → ℕ) → k Else ≡ 0 → {i : ℕ} {es fs : List Letter} → LessAt IsSpoilt i es fs → how_many k fs ≤ how_many k es
+count_less k quiet (nothing j) = omega arith
 count_less k quiet (gone e xs) = omega arith
-count_less k quiet (hurt e xs) = omega (arith, quiet)
-count_less k quiet (deeper e xs ys h) = omega (arith, count_less k quiet h)
+count_less k quiet (hurt e f xs is) = omega (arith, ap (λ x. k x.said) is, quiet)
+count_less k quiet (deeper j e xs ys h) = omega (arith, count_less k quiet h)
 
 -- each with an N(R) is of such a session
 abbrev pub AllTold : (ℕ → Type 0) → List Letter → Type 0
@@ -49,27 +34,20 @@ AllTold P es = Each (λ e. OfTells e.said (P e.session)) es
 abbrev pub AllTags : ℕ → List Letter → Type 0
 AllTags b es = Each (λ e. e.session ≤ b) es
 
--- what holds of each, where it holds of one that is damaged
-less_each : (P : Letter → Type 0) → ((e : Letter) → P e → P (letter e.session Else)) → {es fs : List Letter} → Less es fs → Each P es → Each P fs
-less_each P hurts (whole xs) h = h
-less_each P hurts (gone e xs) h = h.1
-less_each P hurts (hurt e xs) h = (hurts e h.0, h.1)
-less_each P hurts (deeper e xs ys l) h = (h.0, less_each P hurts l h.1)
-
 pub tags_push : {b : ℕ} (es : List Letter) (e : Letter) → AllTags b es → e.session ≤ b → AllTags b (es ++ e ∷ [])
 tags_push {b} es e h k = each_append (λ x. x.session ≤ b) es (e ∷ []) h (k, tt)
 
 pub tags_more : (b c : ℕ) (es : List Letter) → b ≤ c → AllTags b es → AllTags c es
 tags_more b c es le = each_map (λ x. x.session ≤ b) (λ x. x.session ≤ c) (λ x h. omega (arith, le, h)) es
 
-pub tags_less : (b : ℕ) {es fs : List Letter} → Less es fs → AllTags b es → AllTags b fs
-tags_less b {es} {fs} l h = less_each (λ e. e.session ≤ b) (λ e k. k) l h
+pub tags_less : (b : ℕ) {i : ℕ} {es fs : List Letter} → LessAt IsSpoilt i es fs → AllTags b es → AllTags b fs
+tags_less b l h = each_less (λ e. e.session ≤ b) (λ e f is k. rw is k) l h
 
 pub told_push : (P : ℕ → Type 0) (es : List Letter) (e : Letter) → AllTold P es → OfTells e.said (P e.session) → AllTold P (es ++ e ∷ [])
 told_push P es e h k = each_append (λ x. OfTells x.said (P x.session)) es (e ∷ []) h (k, tt)
 
-pub told_less : (P : ℕ → Type 0) {es fs : List Letter} → Less es fs → AllTold P es → AllTold P fs
-told_less P {es} {fs} l h = less_each (λ e. OfTells e.said (P e.session)) (λ e k. tt) l h
+pub told_less : (P : ℕ → Type 0) {i : ℕ} {es fs : List Letter} → LessAt IsSpoilt i es fs → AllTold P es → AllTold P fs
+told_less P l h = each_less (λ e. OfTells e.said (P e.session)) (λ e f is k. rw is tt) l h
 
 pub of_tells : (s : Said) {P : Type 0} (Q : Type 0) → (P → Q) → OfTells s P → OfTells s Q
 of_tells (Tells c n) Q f h = f h
@@ -101,8 +79,8 @@ are_none b (e ∷ es) h = (sabm_free e.said (e.session ≡ b) (omega (arith, h))
 pub are_push : (b : ℕ) (es : List Letter) (e : Letter) → AreOf b es → OfSabm e.said (e.session ≡ b) → AreOf b (es ++ e ∷ [])
 are_push b es e h k = each_append (λ x. OfSabm x.said (x.session ≡ b)) es (e ∷ []) h (k, tt)
 
-pub are_less : (b : ℕ) {es fs : List Letter} → Less es fs → AreOf b es → AreOf b fs
-are_less b {es} {fs} l h = less_each (λ e. OfSabm e.said (e.session ≡ b)) (λ e k. tt) l h
+pub are_less : (b : ℕ) {i : ℕ} {es fs : List Letter} → LessAt IsSpoilt i es fs → AreOf b es → AreOf b fs
+are_less b l h = each_less (λ e. OfSabm e.said (e.session ≡ b)) (λ e f is k. rw is tt) l h
 
 -- ---- behind the first UA
 
@@ -142,11 +120,11 @@ after_rest q b e es few h = go (ua_of e.said) refl h
     go zero is k = k
     go (suc n) is k = after_none q b es (omega (arith, few, is))
 
-pub after_less : (q b : ℕ) {es fs : List Letter} → Less es fs → how_many ua_of es ≤ 1 → AfterUa q b es → AfterUa q b fs
-after_less q b (whole xs) few h = h
+pub after_less : (q b : ℕ) {i : ℕ} {es fs : List Letter} → LessAt IsSpoilt i es fs → how_many ua_of es ≤ 1 → AfterUa q b es → AfterUa q b fs
+after_less q b (nothing j) few h = h
 after_less q b (gone e xs) few h = after_rest q b e xs few h
-after_less q b (hurt e xs) few h = after_rest q b e xs few h
-after_less q b (deeper e xs ys l) few h =
+after_less q b (hurt e f xs is) few h = rw is (after_rest q b e xs few h)
+after_less q b (deeper j e xs ys l) few h =
     choose_map (ua_of e.said) (AfterUa q b xs) (Clean q b xs) (AfterUa q b ys) (Clean q b ys) (λ k. after_less q b l (omega (arith, few)) k)
     (λ k. (told_less (Of q) l k.0, are_less b l k.1)) h
 
@@ -214,11 +192,11 @@ asked_push N O b q (x ∷ es) e h t s = (
   asked_push N O b q es e h.1 t s,
 )
 
-pub asked_less : (N O : Type 0) (b q : ℕ) {es fs : List Letter} → Less es fs → AllAsked N O b q es → AllAsked N O b q fs
-asked_less N O b q (whole xs) h = h
+pub asked_less : (N O : Type 0) (b q : ℕ) {i : ℕ} {es fs : List Letter} → LessAt IsSpoilt i es fs → AllAsked N O b q es → AllAsked N O b q fs
+asked_less N O b q (nothing j) h = h
 asked_less N O b q (gone e xs) h = h.1
-asked_less N O b q (hurt e xs) h = (tt, h.1)
-asked_less N O b q (deeper e xs ys l) h = (
+asked_less N O b q (hurt e f xs is) h = rw is (tt, h.1)
+asked_less N O b q (deeper j e xs ys l) h = (
   of_sabm e.said (IsAsked N O b q e ys)
       (λ k. elim k [ inl now ↦ inl (now.0, now.1, told_less Never l now.2) | inr old ↦ inr (old.0, old.1, told_less (Of q) l old.2) ]) h.0,
   asked_less N O b q l h.1,

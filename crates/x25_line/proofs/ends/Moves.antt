@@ -1,12 +1,13 @@
 -- Whatever an end does keeps what holds of two ends over sessions.
-use Rattle.std.proofs.Common.{◌≡◌, ◌≤◌, ◌+◌, ◌⊎◌, inl, inr, ℕ, suc, List, [], ◌∷◌, ◌++◌, map, remove, Option, refl, sym, subst, arith, ap}
+use Rattle.std.proofs.Common.{◌≡◌, ◌≤◌, ◌+◌, ◌⊎◌, inl, inr, ℕ, suc, List, [], ◌∷◌, ◌++◌, map, Option, refl, sym, subst, arith, ap}
 use Rattle.x25_line.specs.{laws.Said.{sabm_of, ua_of, disc_of, Said, Carried, Tells, Sabm, Disc, Ua, Else, Odd}, laws.Sessions.{Meeting, turned}}
 use Rattle.x25_line.specs.laws.SessionClaims.{Each, InStep}
-use Rattle.x25_line.specs.laws.Ends.{Stand, Out, Asking, In, Letter, letter, Two, two_swapped, how_many, OfTells, IsPatient, heard, spoilt, Moves, free, odd}
-use Rattle.x25_line.specs.laws.Ends.{asks, closes, leaves, hears, takes_ua, takes_sabm, waits_on, takes_disc, loses, damages, begin_at}
+use Rattle.x25_line.specs.laws.Ends.{Stand, Out, Asking, In, Letter, letter, Two, two_swapped, how_many, OfTells, IsPatient, heard, Moves, free, odd}
+use Rattle.x25_line.specs.laws.Ends.{asks, closes, leaves, hears, takes_ua, takes_sabm, waits_on, takes_disc, loses, begin_at, IsSpoilt}
 use Rattle.x25_line.proofs.ends.Meetings.{IsPaired, IsBegun, begun_later, paired_anew, above_paired, begun_turned, paired_turned, in_step_turned}
-use Rattle.x25_line.proofs.ends.Lines.{count_push, Less, gone, less_removes, less_spoils, AllTold, told_map, Never, Of, are_none, after_clean, asked_none}
+use Rattle.x25_line.proofs.ends.Lines.{count_push, AllTold, told_map, Never, Of, are_none, after_clean, asked_none}
 use Rattle.x25_line.proofs.ends.Lines.{asked_now, asked_never, asked_begins}
+use Rattle.x25_line.specs.laws.Loss.{LessAt, gone}
 use Rattle.x25_line.proofs.ends.Held.{IsOlder, Side, first_side, near_at, far_at, near_stands, far_stands, less_near, less_far, push_near, push_far, leave_near}
 use Rattle.x25_line.proofs.ends.Held.{leave_far, close_near, ask_near, ask_far, begin_near, begin_far, new_far}
 
@@ -80,7 +81,7 @@ module _ (w : Two) where
   sy = w.far.stand
 
   -- the line to the near end is less
-  abbrev shorter : (rest : List Letter) → Less w.back rest → Held w → Held (record w { back = rest })
+  abbrev shorter : (rest : List Letter) {i : ℕ} → LessAt IsSpoilt i w.back rest → Held w → Held (record w { back = rest })
   shorter rest l h = holds (less_near l h.near) (less_far l h.far) h.meets
 
   -- one more on the line, which sets nothing up
@@ -204,7 +205,7 @@ abbrev pub told_held : (w : Two) (carried : Option Carried) (nr : ℕ) → w.nea
 told_held w carried nr is h = longer w (Tells carried nr) refl refl h ((λ off. off is), h.near.is_in is) (λ _. refl)
 
 -- without its first letter a line has one less
-pub popped : (xs rest : List Letter) (e : Letter) → xs ≡ e ∷ rest → Less xs rest
+pub popped : (xs rest : List Letter) (e : Letter) → xs ≡ e ∷ rest → LessAt IsSpoilt 0 xs rest
 popped xs rest e is = rw is (gone e rest)
 
 abbrev pub come_held : (w : Two) (e : Letter) (rest : List Letter) → w.back ≡ e ∷ rest → Held w
@@ -232,8 +233,7 @@ moves_held {w} (takes_disc s rest is) h =
     let k = shorter w rest (popped w.back rest (letter s Disc) is) h in
     let far = far_at is h.far in
     record { held = longer (record w { back = rest }) Ua refl refl k tt (λ k. absurd (omega (arith, (far.asks_once k).1))); pair = inl (refl, refl) }
-moves_held {w} (loses i) h = record { held = shorter w (remove w.back i) (less_removes w.back i) h; pair = inl (refl, refl) }
-moves_held {w} (damages i) h = record { held = shorter w (spoilt w.back i) (less_spoils w.back i) h; pair = inl (refl, refl) }
+moves_held {w} (loses i es l) h = record { held = shorter w es l h; pair = inl (refl, refl) }
 
 pub first_held : (s : Stand) (b : ℕ) → Held (begin_at s b).two
 first_held s b = holds (first_side s b) (first_side s b) (record { begun = tt; paired = tt; step = tt })

@@ -1,16 +1,17 @@
 -- The session that stands has a line of its own: what of the line has its number. So what holds of a link set up once holds of it.
-use Rattle.std.proofs.Common.{◌≡◌, ◌≤◌, ◌<◌, ◌==◌, ◌⊎◌, inl, inr, ℕ, suc, List, [], ◌∷◌, ◌++◌, map, Bool, true, false, Option, Some, None, refl, sym, ap, ◌∙◌}
+use Rattle.std.proofs.Common.{◌≡◌, ◌≤◌, ◌<◌, ◌==◌, ◌⊎◌, inl, inr, ℕ, suc, List, [], ◌∷◌, ◌++◌, Bool, true, false, Option, Some, None, refl, sym, ap, ◌∙◌}
 use Rattle.std.proofs.Common.{subst, arith, append-nil, length}
 use Rattle.x25_window.specs.code.Modulo.{resolved}
 use Rattle.x25_line.specs.{laws.InWindow.{IsPrefix}, laws.Said.{sabm_of, Said, Carried, Tells, Sabm, Disc, Ua, Else, Odd}, laws.Sessions.{Meeting, turned}}
 use Rattle.x25_line.specs.{laws.SessionClaims.{Each, SomeMet}, laws.Peer.{Peer, fresh_peer, MaySay, MayMake}}
 use Rattle.x25_line.specs.laws.Ends.{Stand, Out, Asking, In, put_for, Letter, letter, Two, how_many, meets, heard, OfTells, AreOf, Moves, free, odd, asks}
-use Rattle.x25_line.specs.laws.Ends.{closes, hears, takes_ua, takes_sabm, waits_on, takes_disc, loses, damages, Ends, ends_swapped, near_now, with_near, begins}
+use Rattle.x25_line.specs.laws.Ends.{closes, hears, takes_ua, takes_sabm, waits_on, takes_disc, loses, Ends, ends_swapped, near_now, with_near, begins}
 use Rattle.x25_line.specs.laws.Ends.{fresh_where, with_packet, Does, sends, listens, moves, begin_at, EndsReached, at_start, set_up, near_handed, far_handed}
 use Rattle.x25_line.specs.{laws.Ends.{near_does, far_does}, laws.EndClaims.{InOrder, MetInOrder, KeepSessions, OfAnyTwoEnds}}
 use Rattle.x25_line.proofs.Order.{Told, told, only, IsApart, only_append, only_quiet, Left, left_front, left_deeper, Hold, starts, hold_turned, handed, says}
 use Rattle.x25_line.proofs.{Order.{left, makes, in_order, valid_front}, ends.Meetings.{IsPaired, near_turned, far_turned, all_meet, some_meets}}
-use Rattle.x25_line.proofs.{ends.Lines.{Less, whole, gone, hurt, deeper, less_removes, less_spoils, AllTags, tags_less}, ends.Held.{Side, near_at, near_stands}}
+use Rattle.x25_line.proofs.{ends.Lines.{AllTags, tags_less}, Losses.{untouched}, ends.Held.{Side, near_at, near_stands}}
+use Rattle.x25_line.specs.{laws.Loss.{LessAt, nothing, gone, hurt, deeper}, laws.Ends.{IsSpoilt}}
 use Rattle.x25_line.proofs.ends.Moves.{Held, held_turned, first_held, moves_held, told_held, come_held, popped}
 use Rattle.x25_line.proofs.{ends.Puts.{same_or_other, put_same, put_other, put_apart, put_alike}, Lists.{each_map, each_over}}
 
@@ -50,7 +51,7 @@ of_none q [] less h = refl
 of_none {b} q (e ∷ es) less h = (ap (λ x. keep x e.said (of q es)) (below e.session q (omega (arith, h.0, less)))) ∙ of_none q es less h.1
 
 kept_front : (b : Bool) (s : Said) (xs : List Told) → Left (keep b s xs) xs
-kept_front false s xs = (None, refl)
+kept_front false s xs = (_, untouched xs)
 kept_front true s xs = left_front s xs
 
 kept_deeper : (b : Bool) (s : Said) {xs ys : List Told} → Left xs ys → Left (keep b s xs) (keep b s ys)
@@ -58,11 +59,11 @@ kept_deeper false s h = h
 kept_deeper true s {xs} {ys} h = left_deeper s h
 
 -- it loses one at most where the line does
-of_less : (q : ℕ) {es fs : List Letter} → Less es fs → Left (of q es) (of q fs)
-of_less q (whole xs) = (None, refl)
+of_less : (q : ℕ) {i : ℕ} {es fs : List Letter} → LessAt IsSpoilt i es fs → Left (of q es) (of q fs)
+of_less q (nothing j) = (0, nothing 0)
 of_less q (gone e xs) = kept_front (e.session == q) e.said (of q xs)
-of_less q (hurt e xs) = rw (keep_quiet (e.session == q) Else (of q xs) tt) (kept_front (e.session == q) e.said (of q xs))
-of_less q (deeper e xs ys l) = kept_deeper (e.session == q) e.said (of_less q l)
+of_less q (hurt e f xs is) = rw (is, keep_quiet (e.session == q) Else (of q xs) tt) (kept_front (e.session == q) e.said (of q xs))
+of_less q (deeper j e xs ys l) = kept_deeper (e.session == q) e.said (of_less q l)
 
 -- ---- what a move does to the lines, and to who met whom
 
@@ -76,15 +77,14 @@ out_same {w} (waits_on s rest is asking) r = of_quiet r w.near.begun w.out Ua tt
 out_same {w} (takes_disc s rest is) r = of_quiet r w.near.begun w.out Ua tt
 out_same m r = refl
 
-back_less : {w v : Two} → Moves w v → Less w.back v.back
-back_less {w} (hears e rest is) = popped w.back rest e is
-back_less {w} (takes_ua s rest is asking) = popped w.back rest (letter s Ua) is
-back_less {w} (takes_sabm s rest is) = popped w.back rest (letter s Sabm) is
-back_less {w} (waits_on s rest is asking) = popped w.back rest (letter s Sabm) is
-back_less {w} (takes_disc s rest is) = popped w.back rest (letter s Disc) is
-back_less {w} (loses i) = less_removes w.back i
-back_less {w} (damages i) = less_spoils w.back i
-back_less {w} m = whole w.back
+back_less : {w v : Two} → Moves w v → (i : ℕ) × LessAt IsSpoilt i w.back v.back
+back_less {w} (hears e rest is) = (0, popped w.back rest e is)
+back_less {w} (takes_ua s rest is asking) = (0, popped w.back rest (letter s Ua) is)
+back_less {w} (takes_sabm s rest is) = (0, popped w.back rest (letter s Sabm) is)
+back_less {w} (waits_on s rest is asking) = (0, popped w.back rest (letter s Sabm) is)
+back_less {w} (takes_disc s rest is) = (0, popped w.back rest (letter s Disc) is)
+back_less {w} (loses i es l) = (i, l)
+back_less {w} m = (_, untouched w.back)
 
 begun_rises : {w v : Two} → Moves w v → w.near.begun ≤ v.near.begun
 begun_rises (takes_ua s rest is asking) = omega arith
@@ -124,9 +124,6 @@ both_orders {p} {q} h = (ordered (in_order p q h.there h.here h.ways.from_near),
     ordered : {p q : Peer} → IsPrefix q.taken p.given × (p.acked ≤ length q.taken) × (p.acked ≡ length p.given → q.taken ≡ p.given) → InOrder p q
     ordered h = record { begins = h.0; acked = h.1; all = h.2 }
 
-order_turned : (near_of far_of : ℕ → Peer) (ms : List Meeting) → Each (MetInOrder near_of far_of) ms → Each (MetInOrder far_of near_of) (map turned ms)
-order_turned near_of far_of = each_over (MetInOrder near_of far_of) (MetInOrder far_of near_of) turned (λ m h. (h.1, h.0))
-
 -- all that holds, as the far end has it
 pub all_turned : {w : Ends} → All w → All (ends_swapped w)
 all_turned {w} h =
@@ -135,7 +132,7 @@ all_turned {w} h =
       near_later = h.far_later;
       far_later = h.near_later;
       line = hold_turned h.line;
-      order = order_turned w.near_of w.far_of w.two.met h.order;
+      order = each_over (MetInOrder w.near_of w.far_of) (MetInOrder w.far_of w.near_of) turned (λ m h. (h.1, h.0)) w.two.met h.order;
       near_unmet = λ n. elim (h.far_unmet n) [ inl none ↦ inl none | inr some ↦ inr (far_turned n w.two.met some) ];
       far_unmet = λ n. elim (h.near_unmet n) [ inl none ↦ inl none | inr some ↦ inr (near_turned n w.two.met some) ];
     }
@@ -179,7 +176,7 @@ moves_all w v m h =
     c = suc w.two.far.begun
 
     same : Hold (w.near_of p) (w.far_of q) (of p v.out) (of q v.back)
-    same = rw (out_same m p) (left (w.near_of p) (w.far_of q) (of p w.two.out) (of q w.two.back) (of_less q (back_less m)) h.line)
+    same = rw (out_same m p) (left (w.near_of p) (w.far_of q) (of p w.two.out) (of q w.two.back) (of_less q (back_less m).1) h.line)
 
     anew : Hold (w.near_of b) (w.far_of c) (of b v.out) (of c v.back)
     anew =
@@ -187,7 +184,7 @@ moves_all w v m h =
           h.near_later b (omega arith),
           h.far_later c (omega arith),
           out_same m b ∙ of_none b w.two.out (omega arith) h.held.far.tags,
-          of_none c v.back (omega arith) (tags_less w.two.far.begun (back_less m) h.held.near.tags),
+          of_none c v.back (omega arith) (tags_less w.two.far.begun (back_less m).1 h.held.near.tags),
         )
         starts
 
@@ -196,10 +193,6 @@ moves_all w v m h =
     go x y (inr e) = rw (e.0, e.1) anew
 
 -- the same, but for functions of the same values
-order_alike : (near_of far_of f : ℕ → Peer) → ((n : ℕ) → f n ≡ near_of n) → (ms : List Meeting) → Each (MetInOrder near_of far_of) ms
-    → Each (MetInOrder f far_of) ms
-order_alike near_of far_of f same = each_map (MetInOrder near_of far_of) (MetInOrder f far_of) (λ m h. rw (same m.near) h)
-
 alike_all : {w : Ends} (f : ℕ → Peer) → ((n : ℕ) → f n ≡ w.near_of n) → All w → All (record w { near_of = f })
 alike_all {w} f same h =
     record {
@@ -207,7 +200,7 @@ alike_all {w} f same h =
       near_later = λ n less. same n ∙ h.near_later n less;
       far_later = h.far_later;
       line = rw (same h.held.p) h.line;
-      order = order_alike w.near_of w.far_of f same w.two.met h.order;
+      order = each_map (MetInOrder w.near_of w.far_of) (MetInOrder f w.far_of) (λ m h. rw (same m.near) h) w.two.met h.order;
       near_unmet = λ n. elim (h.near_unmet n) [ inl none ↦ inl (ap (λ x. x.taken) (same n) ∙ none) | inr some ↦ inr some ];
       far_unmet = h.far_unmet;
     }

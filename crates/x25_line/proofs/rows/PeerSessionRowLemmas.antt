@@ -5,11 +5,12 @@ use Rattle.x25_frame.specs.{Frame.{PlainFrame, sabm, ua}, Spelling.{spelling_of}
 use Rattle.x25_link.specs.Station.{pumped}
 use Rattle.x25_line.specs.{laws.Stations.{Deliver, Connect}, rows.StationRows.{dte}, laws.Sessions.{Entry, acts, from_nothing}}
 use Rattle.x25_line.specs.laws.Peer.{Peer, numbered_to, told_to}
-use Rattle.x25_line.specs.laws.PeerSessions.{PeerSessions, untouched, without, begins, now, with_now, both_ends, with_peer, begin_with, ReachedInSessions}
+use Rattle.x25_line.specs.laws.PeerSessions.{PeerSessions, begins, now, with_now, both_ends, with_peer, begin_with, ReachedInSessions}
 use Rattle.x25_line.specs.{laws.Ends.{Out, Asking, letter, moves, asks, takes_sabm}, laws.Said.{said}, rows.PeerSessionRows.{CrossingPeerMoves}}
 use Rattle.x25_line.specs.rows.PeerRows.{polling_frame}
 use Rattle.x25_line.proofs.{rows.SessionRowLemmas.{taken_as, comes}, rows.StationRowLemmas.{info_reads, bare_reads}, sessions.Letters.{puts_frame}}
-use Rattle.x25_line.proofs.sessions.SessionWith.{tells_does}
+use Rattle.x25_line.specs.laws.Loss.{gone}
+use Rattle.x25_line.proofs.{Losses.{untouched}, sessions.SessionWith.{tells_does}}
 use Rattle.x25_line.specs.laws.PeerSessions as sessions
 
 module _ (reads : ReadsSpelled) where
@@ -32,7 +33,7 @@ module _ (reads : ReadsSpelled) where
       (sessions.Theirs w1 (record {
         does = λ crossing. rw (bare_reads reads Dce (sabm true) tt)
             (moves _ (asks (record { sabm = refl; disc = refl; ua = refl; crossing = crossing })));
-        left = untouched;
+        left = (_, untouched _);
         puts = puts_frame 0 _ (sabm true) (bare_reads reads Dce (sabm true) tt);
       })) in
       let w2 : PeerSessions = with_peer w1.peer (acts dte Connect (both_ends w1)) in
@@ -42,7 +43,7 @@ module _ (reads : ReadsSpelled) where
       (sessions.Theirs w3 (record {
         does = λ crossing. rw (bare_reads reads Dce (ua true) tt)
             (moves _ (takes_sabm 0 [] (ap (λ r. letter 0 (said r) ∷ []) (bare_reads reads Dte (sabm true) tt))));
-        left = without 0;
+        left = (0, gone _ _);
         puts = puts_frame 1 _ (ua true) (bare_reads reads Dce (ua true) tt);
       })) in
       let p4 : Peer = record (now w3.peer) { given = (now w3.peer).given ++ (7 ∷ []) ∷ [] } in
@@ -59,7 +60,7 @@ module _ (reads : ReadsSpelled) where
           record { number = refl; rising = omega arith; taken = omega arith },
           refl,
         ));
-        left = untouched;
+        left = (_, untouched _);
         puts = puts_frame 1 _ polling_frame (info_reads reads Dce true 7);
       })) in
       let w6 : PeerSessions = with_peer w5.peer

@@ -1,12 +1,13 @@
 -- What each act leaves: of its end what each step of a station keeps, the other end as it was, and of the line to it all but one entry at most.
-use Rattle.std.proofs.{Common.{◌≡◌, ℕ, ◌≤◌, List, [], ◌∷◌, length, refl, sym, subst}, lemmas.Bool.{leb-true}}
+use Rattle.std.proofs.{Common.{◌≡◌, ℕ, ◌≤◌, List, [], ◌∷◌, length, refl}, lemmas.Bool.{leb-true}}
 use Rattle.std.specs.Prelude.{nat_le}
 use Rattle.x25_link.specs.Station.{Settings, LinkStation, is_up}
 use Rattle.x25_link.specs.Link.{take_step, put_step, timer_step, connect_step, disconnect_step, abandon_step, put_refusal, timer_refusal, connect_refusal}
 use Rattle.x25_link.specs.Link.{disconnect_refusal}
 use Rattle.x25_line.specs.laws.Stations.{Act, Put, Deliver, T1, Connect, Disconnect, Abandon, Probe, Lose, Damage, is_visible}
 use Rattle.x25_line.specs.laws.Sessions.{Entry, Sessions, delivered, acts}
-use Rattle.x25_line.proofs.{sessions.EntryLines.{Less, whole, gone, less_removes, less_replaces}, Choices.{unless_by, if_by}}
+use Rattle.x25_line.specs.{laws.Loss.{LessAt, gone, Less}, laws.PeerSessions.{IsSeenIn}}
+use Rattle.x25_line.proofs.{Losses.{untouched, removes, replaces_in}, Choices.{unless_by, if_by}}
 
 pub record Keeps (c : Settings) (P : LinkStation → Type 0) : Type 0 where
   pub takes : (o : List ℕ) (s : LinkStation) → P s → P (take_step c o s).side.near
@@ -19,34 +20,37 @@ pub record Keeps (c : Settings) (P : LinkStation → Type 0) : Type 0 where
 pub record Stays (P : LinkStation → Type 0) (w v : Sessions) : Type 0 where
   pub near : P v.near.station
   pub far : v.far ≡ w.far
-  pub less : Less w.back v.back
+  pub less : Less IsSeenIn w.back v.back
 
 module _ (c : Settings) (P : LinkStation → Type 0) (keeps : Keeps c P) (w : Sessions) (h : P w.near.station) where
   abbrev s : LinkStation
   s = w.near.station
 
+  kept : (i : ℕ) × LessAt IsSeenIn i w.back w.back
+  kept = (_, untouched w.back)
+
   as_it_was : Stays P w w
-  as_it_was = record { near = h; far = refl; less = whole w.back }
+  as_it_was = record { near = h; far = refl; less = kept }
 
   delivered_stays : (es : List Entry) → w.back ≡ es → Stays P w (delivered c es w)
   delivered_stays [] is = as_it_was
-  delivered_stays (e ∷ es) is = record { near = keeps.takes e.octets s h; far = refl; less = subst (λ xs. Less xs es) (sym is) (gone e es) }
+  delivered_stays (e ∷ es) is = record { near = keeps.takes e.octets s h; far = refl; less = (0, rw is (gone e es)) }
 
   pub act_stays : (a : Act) → Stays P w (acts c a w)
   act_stays (Put packet) =
       if_by (Stays P w) (nat_le (length packet) c.longest) as_it_was
       (λ short. unless_by (Stays P w) (put_refusal s) as_it_was
-      (λ _. record { near = keeps.puts packet s (leb-true _ _ short) h; far = refl; less = whole w.back }))
+      (λ _. record { near = keeps.puts packet s (leb-true _ _ short) h; far = refl; less = kept }))
   act_stays Deliver = delivered_stays w.back refl
-  act_stays T1 = unless_by (Stays P w) (timer_refusal s) as_it_was (λ _. record { near = keeps.fires s h; far = refl; less = whole w.back })
-  act_stays Connect = unless_by (Stays P w) (connect_refusal s.phase) as_it_was (λ _. record { near = keeps.connects s h; far = refl; less = whole w.back })
+  act_stays T1 = unless_by (Stays P w) (timer_refusal s) as_it_was (λ _. record { near = keeps.fires s h; far = refl; less = kept })
+  act_stays Connect = unless_by (Stays P w) (connect_refusal s.phase) as_it_was (λ _. record { near = keeps.connects s h; far = refl; less = kept })
   act_stays Disconnect = unless_by (Stays P w) (disconnect_refusal s.phase) as_it_was
-      (λ _. record { near = keeps.disconnects s h; far = refl; less = whole w.back })
-  act_stays Abandon = if_by (Stays P w) (is_up s.phase) as_it_was (λ _. record { near = keeps.abandons s h; far = refl; less = whole w.back })
-  act_stays Probe = if_by (Stays P w) (is_up s.phase) as_it_was (λ _. record { near = keeps.fires s h; far = refl; less = whole w.back })
-  act_stays (Lose i) = record { near = h; far = refl; less = less_removes w.back i }
+      (λ _. record { near = keeps.disconnects s h; far = refl; less = kept })
+  act_stays Abandon = if_by (Stays P w) (is_up s.phase) as_it_was (λ _. record { near = keeps.abandons s h; far = refl; less = kept })
+  act_stays Probe = if_by (Stays P w) (is_up s.phase) as_it_was (λ _. record { near = keeps.fires s h; far = refl; less = kept })
+  act_stays (Lose i) = record { near = h; far = refl; less = (i, removes w.back i) }
   act_stays (Damage i octets) = if_by (Stays P w) (is_visible octets) as_it_was
-      (λ visible. record { near = h; far = refl; less = less_replaces octets visible w.back i })
+      (λ visible. record { near = h; far = refl; less = (i, replaces_in octets visible w.back i) })
 
 -- where nothing is asked of the station
 abbrev pub Anything : LinkStation → Type 0

@@ -2,16 +2,16 @@
 use Rattle.std.proofs.Common.{◌≡◌, ◌⊎◌, inl, inr, ℕ, suc, ◌+◌, List, [], ◌∷◌, ◌++◌, refl, sym, subst, arith}
 use Rattle.x25_frame.specs.Reading.{frame_of}
 use Rattle.x25_link.specs.{declared.phase.Phase.{Phase}, declared.phase.Phase.TheVariants.{Waiting, Closed}, Station.{Settings}, Hearing.{other}}
-use Rattle.x25_line.specs.{laws.Stations.{Act}, laws.Sessions.{Entry, acts}, laws.Peer.{Peer}, laws.PeerSessionClaims.{frmr_in}}
+use Rattle.x25_line.specs.{laws.Stations.{Act}, laws.Sessions.{Entry, acts}, laws.Peer.{Peer}}
 use Rattle.x25_line.specs.laws.Said.{Said, Tells, Sabm, Disc, Ua, Else, Odd as OddSaid, said, sabm_of, ua_of, disc_of}
 use Rattle.x25_line.specs.laws.Ends.{Letter, letter, how_many, AreOf, OfSabm, Two, Moves, free, odd, asks, closes, leaves, hears, takes_ua, takes_sabm}
-use Rattle.x25_line.specs.laws.Ends.{waits_on, takes_disc, loses, damages, Ends, ends_swapped, Does, sends, listens, moves, EndsReached, far_handed, far_does}
-use Rattle.x25_line.specs.laws.PeerSessions.{PeerSessions, IsLeft, untouched, without, damaged, Puts, nothing, put, seen_by_peer, now, with_now}
+use Rattle.x25_line.specs.laws.Ends.{waits_on, takes_disc, loses, Ends, ends_swapped, Does, sends, listens, moves, EndsReached, far_handed, far_does}
+use Rattle.x25_line.specs.laws.PeerSessions.{PeerSessions, IsSeenIn, Puts, nothing, put, seen_by_peer, now, with_now}
 use Rattle.x25_line.specs.laws.PeerSessions.{HappensInSessions, Ours, HandsDown, Theirs, IsTimely, stand_of, both_ends, with_peer}
-use Rattle.x25_line.proofs.{Lists.{each_append}, sessions.SessionHeld.{Owes, owes_less}, sessions.Letters.{asked_letters}, sessions.SessionSeen.{Seen}}
-use Rattle.x25_line.proofs.sessions.EntryLines.{Less as LessEntries, whole as all_entries, less_removes as entry_removes, less_replaces as entry_replaces}
-use Rattle.x25_line.proofs.{sessions.EntryLines.{many_less, asked_fewer}, sessions.SessionWith.{NoneOdd, Where, where_map, outs, backs, Kept, at, IsWith}}
-use Rattle.x25_line.proofs.{ends.Lines.{count_push, count_less, Less, less_removes, less_spoils, are_push, are_none}, ends.Moves.{popped}}
+use Rattle.x25_line.proofs.{Lists.{each_append}, sessions.SessionHeld.{Owes, OwesOn, owes_less}, sessions.Letters.{letters_less}, sessions.SessionSeen.{Seen}}
+use Rattle.x25_line.specs.{laws.Loss.{LessAt, Less}, laws.Ends.{IsSpoilt}}
+use Rattle.x25_line.proofs.{sessions.SessionWith.{NoneOdd, no_frmr_less, Where, where_map, outs, backs, Kept, at, IsWith}}
+use Rattle.x25_line.proofs.{Losses.{untouched}, ends.Lines.{count_push, count_less, are_push, are_less, are_none}, ends.Moves.{popped}}
 use Rattle.x25_line.proofs.{ends.Sessions.{All, all_turned, reached_all, ua_present}, ends.Meetings.{twice_turned}}
 
 -- ---- what an end does, beside a station
@@ -33,15 +33,15 @@ module _ {n : ℕ} {p : Phase} {es out : List Letter} (k : Kept n p es out) wher
     present = where_map p _ _ (λ a. are_push n es e a of) k.present;
   }
 
-  fewer : {fs : List Letter} → Less out fs → Kept n p es fs
-  fewer {fs} l =
+  fewer : {i : ℕ} {fs : List Letter} → LessAt IsSpoilt i out fs → Kept n p es fs
+  fewer l =
       let sabms = count_less sabm_of refl l in
       let discs = count_less disc_of refl l in
       record { owes = owes_less p _ _ (omega (arith, sabms)) discs k.owes; present = k.present }
 
   answered : (m s : ℕ) (x : Said) (rest : List Letter) → (sabm_of x ≡ 1) ⊎ (disc_of x ≡ 1) → out ≡ letter s x ∷ rest → Kept m p (es ++ letter m Ua ∷ []) rest
   answered m s x rest which is =
-      let owes = subst (λ l. Owes p (how_many sabm_of l + how_many ua_of es) (how_many disc_of l)) is k.owes in
+      let owes = subst (λ l. OwesOn p l es) is k.owes in
       let both = owes_answered p (AreOf m (es ++ letter m Ua ∷ [])) (sabm_of x) (how_many sabm_of rest) (disc_of x) (how_many disc_of rest) (how_many ua_of es)
       (how_many ua_of (es ++ letter m Ua ∷ [])) which (count_push ua_of es (letter m Ua)) owes in
       record { owes = both.0; present = both.1 }
@@ -62,8 +62,7 @@ keeps_moves {w} {p = p} h (takes_ua s rest is asking) k =
 keeps_moves {w} h (takes_sabm s rest is) k = answered k (suc w.two.near.begun) s Sabm rest (inl refl) is
 keeps_moves {w} h (waits_on s rest is asking) k = answered k w.two.near.begun s Sabm rest (inl refl) is
 keeps_moves {w} h (takes_disc s rest is) k = answered k w.two.near.begun s Disc rest (inr refl) is
-keeps_moves {w} h (loses i) k = fewer k (less_removes w.two.back i)
-keeps_moves {w} h (damages i) k = fewer k (less_spoils w.two.back i)
+keeps_moves {w} h (loses i es l) k = fewer k l
 
 keeps : (w v : Ends) (p : Phase) → All w → Does w v → Kept w.two.near.begun p w.two.out w.two.back → Kept v.two.near.begun p v.two.out v.two.back
 keeps w v p h (sends carried nr q is may) k = puts k (letter w.two.near.begun (Tells carried nr)) refl tt
@@ -78,11 +77,6 @@ beside_any f (moves u m) = moves u m
 
 -- ---- octets
 
-less_left : {es fs : List Entry} → IsLeft es fs → LessEntries es fs
-less_left {es} untouched = all_entries es
-less_left {es} (without i) = entry_removes es i
-less_left {es} (damaged i o visible) = entry_replaces o visible es i
-
 none_odd : {Odd : Type 0} {c : Settings} {es fs : List Entry} → Puts Odd c es fs → (Odd → ⊥) → NoneOdd (other c.role) c.longest es
     → NoneOdd (other c.role) c.longest fs
 none_odd nothing never h = h
@@ -95,19 +89,19 @@ module _ (Odd : Type 0) {c : Settings} (w : PeerSessions) (h : Seen c (IsWith Od
 
   -- the station is as it was
   after : (v : PeerSessions) → EndsReached (ends_swapped (record (seen_by_peer c (record v { near = w.near })) { far_of = h.all }))
-      → Kept v.peer.begun w.near.station.phase (backs c v.back) (outs c v.out) → LessEntries w.out v.out
+      → Kept v.peer.begun w.near.station.phase (backs c v.back) (outs c v.out) → Less IsSeenIn w.out v.out
       → ((Odd → ⊥) → NoneOdd (other c.role) c.longest v.back) → Seen c (IsWith Odd c v.peer) (both_ends (record v { near = w.near }))
   after v reached kept less lapb = record {
     all = h.all;
     reached = record {
       ends = record { reached = rw (sym (twice_turned v.met)) reached; kept = kept };
-      octets = record { frmr = λ ok. omega (arith, h.reached.octets.frmr ok, many_less frmr_in refl refl c.role c.longest less); lapb = lapb };
+      octets = record { frmr = λ ok. no_frmr_less c less.1 (h.reached.octets.frmr ok); lapb = lapb };
     };
     up = h.up;
     given = h.given;
     taken = h.taken;
     later = h.later;
-    tags = asked_fewer c.role c.longest w.near.begun less h.tags;
+    tags = are_less w.near.begun (letters_less c.role c.longest less.1) h.tags;
   }
 
   pub peer_held : {v : PeerSessions} → HappensInSessions Odd c w v
@@ -118,10 +112,10 @@ module _ (Odd : Type 0) {c : Settings} (w : PeerSessions) (h : Seen c (IsWith Od
       let k = h.reached.ends.kept in
       after (record w { peer = with_now (record (now w.peer) { given = (now w.peer).given ++ packet ∷ [] }) w.peer })
       (far_handed before packet h.reached.ends.reached is)
-      (record { owes = k.owes; present = k.present }) (all_entries w.out) h.reached.octets.lapb
+      (record { owes = k.owes; present = k.present }) (_, untouched w.out) h.reached.octets.lapb
   peer_held (Theirs u k) ours =
       let then : Ends = record (seen_by_peer c (record u { near = w.near })) { far_of = h.all } in
-      let m = beside_any h.all (k.does (asked_letters c.role c.longest w.near.begun w.out h.tags)) in
+      let m = beside_any h.all (k.does h.tags) in
       after u (far_does before then h.reached.ends.reached m)
-      (keeps (ends_swapped before) then w.near.station.phase (all_turned (reached_all h.reached.ends.reached)) m h.reached.ends.kept) (less_left k.left)
+      (keeps (ends_swapped before) then w.near.station.phase (all_turned (reached_all h.reached.ends.reached)) m h.reached.ends.kept) k.left
       (λ ok. none_odd k.puts ok (h.reached.octets.lapb ok))

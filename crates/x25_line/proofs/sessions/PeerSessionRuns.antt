@@ -1,8 +1,8 @@
 -- What a station and a peer reach are two ends that keep the rules, and that says the claims.
-use Rattle.std.proofs.{Common.{◌≡◌, inl, inr, ◌≤◌, ℕ, ◌+◌, List, [], ◌∷◌, map, length, true, refl, sym, ap, ◌∙◌}, lemmas.Bool.{and_parts}}
+use Rattle.std.proofs.{Common.{◌≡◌, inl, inr, ◌≤◌, ℕ, List, [], ◌∷◌, map, length, true, refl, sym, ap, ◌∙◌}, lemmas.Bool.{and_parts}}
 use Rattle.x25_frame.specs.laws.ReadingLaw.{ReadsSpelled}
-use Rattle.x25_link.specs.{declared.phase.Phase.{Phase}, declared.phase.Phase.TheVariants.{Down, Up}, Station.{Settings, is_up}, Hearing.{other}}
-use Rattle.x25_line.specs.{laws.Stations.{Act, T1, Connect}, laws.Sessions.{Meeting, turned, acts, start_with, sabm_in, ua_in, disc_in, how_many}}
+use Rattle.x25_link.specs.{declared.phase.Phase.{Phase}, declared.phase.Phase.TheVariants.{Down, Up}, Station.{Settings, is_up}}
+use Rattle.x25_line.specs.{laws.Stations.{Act, T1, Connect}, laws.Sessions.{Meeting, turned, acts, start_with}}
 use Rattle.x25_line.specs.{laws.SessionClaims.{Each, IsInOrder, MeetInStep, MetAreInOrder, UnmetHandNothingUp}, laws.LawsBelow.{SessionLaws}}
 use Rattle.x25_line.specs.laws.Peer.{fresh_peer}
 use Rattle.x25_line.specs.laws.PeerSessions.{Stand, PeerSessions, Out, In, both_ends, as_end, with_peer, begin_with, stand_of, ReachedInSessions, at_start}
@@ -11,8 +11,8 @@ use Rattle.x25_line.specs.laws.EndClaims.{MetInOrder, KeepSessions}
 use Rattle.x25_line.proofs.{StationClaimLemmas.{idle_all}, StationAway.{is_up_phase}, sessions.SessionSeen.{Seen, start_seen}}
 use Rattle.x25_line.proofs.{sessions.SessionMay.{MayAsk, Kind}, sessions.SessionSeenSteps.{IsTimely, station_acts}}
 use Rattle.x25_line.proofs.{sessions.SessionWith.{outs, backs, at, IsWith, station_may}, sessions.PeerMoves.{peer_held}}
-use Rattle.x25_line.proofs.{ends.Sessions.{All, all_turned, reached_all, keep_sessions, latest, some_stands, all_taken}, sessions.SessionHeld.{Owes}}
-use Rattle.x25_line.proofs.{sessions.Letters.{asked_letters, sabms, uas, discs}, Lists.{each_map}}
+use Rattle.x25_line.proofs.{ends.Sessions.{All, all_turned, reached_all, keep_sessions, latest, some_stands, all_taken}, sessions.SessionHeld.{OwesOn}}
+use Rattle.x25_line.proofs.{Lists.{each_map}}
 use Rattle.x25_line.specs.laws.PeerSessions as sessions
 use Rattle.x25_line.specs.laws.Ends as ends
 
@@ -25,12 +25,6 @@ seen_at_start : (Odd : Type 0) (c : Settings) (stand : Stand) (p : Phase) (b : �
     → (IsWith Odd c ((begin_with stand (start_with p b)).peer) [] [] p b (λ n. fresh_peer) []) → SeenWith Odd c (begin_with stand (start_with p b))
 seen_at_start Odd c stand p b reached = start_seen c (IsWith Odd c (begin_with stand (start_with p b)).peer) (as_end (begin_with stand (start_with p b)).peer)
     reached
-
--- what the station owes, counted in octets
-owes_octets : (Odd : Type 0) {c : Settings} {w : PeerSessions} (h : SeenWith Odd c w)
-    → Owes w.near.station.phase (how_many sabm_in c.role c.longest w.out + how_many ua_in (other c.role) c.longest w.back)
-    (how_many disc_in c.role c.longest w.out)
-owes_octets Odd {c} {w} h = rw (sabms c.role c.longest w.out, uas (other c.role) c.longest w.back, discs c.role c.longest w.out) h.reached.ends.kept.owes
 
 module _ (reads : ReadsSpelled) (rests : SessionLaws) where
   abbrev kind : (Odd : Type 0) (c : Settings) → c.window ≤ 7 → PeerSessions → Kind c
@@ -46,7 +40,7 @@ module _ (reads : ReadsSpelled) (rests : SessionLaws) where
   station_timely : (Odd : Type 0) (c : Settings) (high : c.window ≤ 7) (w : PeerSessions) (act : Act) → sessions.IsTimely c act w
       → IsTimely (kind Odd c high w) act (both_ends w)
   station_timely Odd c high w T1 timely = λ waiting.
-      (let due = timely waiting in (due.sabm, due.ua, asked_letters (other c.role) c.longest w.peer.begun w.back due.crossing))
+      (let due = timely waiting in (due.sabm, due.ua, due.crossing))
   station_timely Odd c high w Connect timely = λ _. tt
   station_timely Odd c high w act timely = tt
 
@@ -54,19 +48,19 @@ module _ (reads : ReadsSpelled) (rests : SessionLaws) where
       → SeenWith Odd c (with_peer w.peer (acts c act (both_ends w)))
   station_held Odd c high w h act timely =
       let k = station_acts (kind Odd c high w) act (both_ends w)
-      (station_timely Odd c high w act timely) (owes_octets Odd h) h in
+      (station_timely Odd c high w act timely) h.reached.ends.kept.owes h in
       record { all = k.all; reached = k.reached; up = k.up; given = k.given; taken = k.taken; later = k.later; tags = k.tags }
 
   reached_seen : (Odd : Type 0) {c : Settings} → c.window ≤ 7 → {w : PeerSessions} → ReachedInSessions Odd c w → SeenWith Odd c w
   reached_seen Odd {c} high at_start = seen_at_start Odd c Out Down 0
       (record {
         ends = record { reached = ends.at_start; kept = record { owes = (refl, refl); present = tt } };
-        octets = record { frmr = λ lapb. refl; lapb = λ lapb. tt };
+        octets = record { frmr = λ lapb. tt; lapb = λ lapb. tt };
       })
   reached_seen Odd {c} high set_up = seen_at_start Odd c In Up 1
       (record {
         ends = record { reached = ends.set_up; kept = record { owes = (refl, refl); present = tt } };
-        octets = record { frmr = λ lapb. refl; lapb = λ lapb. tt };
+        octets = record { frmr = λ lapb. tt; lapb = λ lapb. tt };
       })
   reached_seen Odd {c} high {w} (goes_on v u reached event) =
       let h = reached_seen Odd high reached in
@@ -92,9 +86,8 @@ module _ (reads : ReadsSpelled) (rests : SessionLaws) where
     lines = h.reached
 
     -- what a station has asked that isn't answered yet, by the SABMs, UAs and DISCs on the lines
-    pub owes_is : Owes w.near.station.phase (how_many sabm_in c.role c.longest w.out + how_many ua_in (other c.role) c.longest w.back)
-        (how_many disc_in c.role c.longest w.out)
-    owes_is = owes_octets Odd h
+    pub owes_is : OwesOn w.near.station.phase (outs c w.out) (backs c w.back)
+    owes_is = h.reached.ends.kept.owes
 
     in_order : (m : Meeting) → MetInOrder h.all w.peer.of_session m → IsInOrder w.near (as_end w.peer) m
     in_order m k = record {

@@ -9,7 +9,7 @@ use Rattle.x25_link.specs.{declared.phase.Reason.TheVariants.{Retries, Local, Co
 use Rattle.x25_link.specs.{Hearing.{Step, other}, Link.{put_step, timer_step, connect_step, disconnect_step, disconnect_refusal, abandon_step}}
 use Rattle.x25_link.specs.{laws.WindowMachine.{nothing}, laws.NoteLaw.{Tells}, laws.WindowLaw.{IsRunning, IsSound, IsOut, Ends}}
 use Rattle.x25_line.specs.{laws.StationClaims.{AreJoined}, laws.SessionNumbers.{Standing}}
-use Rattle.x25_line.specs.{laws.Sessions.{Entry, Meeting, Sessions, sabm_in, ua_in, how_many, begun_by, after_step}, laws.LawsBelow.{Laws}}
+use Rattle.x25_line.specs.{laws.Sessions.{Entry, Meeting, Sessions, letters, begun_by, after_step}, laws.Said.{sabm_of, ua_of, how_many}, laws.LawsBelow.{Laws}}
 use Rattle.x25_line.proofs.{StationHears.{by_disc, by_reset}, sessions.SessionSeenActs.{by_neither}, StationLines.{AreParting}}
 use Rattle.x25_line.proofs.{StationSteps.{AsUp, up_of, Leaves, ends_joint}, StationRuns.{put_up, timer_by}, sessions.SessionLines.{count}}
 use Rattle.x25_line.proofs.{sessions.SessionHeld.{IsOf, Owes, OnLine, Held, is_out}, sessions.SessionSteps.{waiting_is_closed, stepped, went_by, apart_held}}
@@ -92,14 +92,14 @@ module _ {c d : Settings} (joined : AreJoined c d) (reads : ReadsSpelled) (laws 
   -- an end that is out, to which no UA comes
   out_held : {stand : Standing} (w : Sessions) → Held stand c d w → (near : LinkStation) (frames : List PlainFrame) (ends : Option Reason) (step : Step)
       → Is near frames ends false step → is_up near.phase ≡ false
-      → (near.phase ≡ Waiting → how_many ua_in (other c.role) c.longest w.back ≡ 0) → AreParting frames → count ua_in frames ≡ 0
+      → (near.phase ≡ Waiting → how_many ua_of (letters (other c.role) c.longest w.back) ≡ 0) → AreParting frames → count ua_of frames ≡ 0
       → Held (went_by c step None stand) c d (after_step c w w.back w.met [] step)
   out_held {stand} w h near frames ends step i off none parting no_ua =
       let same : step.side.near.phase ≡ near.phase = ap (λ s. s.phase) i.near in
       quiet_held c d w w.back w.met [] step i.up
       (apart_held joined reads w h w.back w.met w.near.begun step i.packet
       (is_out step.side.near.phase (ap is_up same ∙ off) (λ waiting. none (sym same ∙ waiting)))
-      (subst AreParting (sym i.out) parting) (ap (count ua_in) i.out ∙ no_ua))
+      (subst AreParting (sym i.out) parting) (ap (count ua_of) i.out ∙ no_ua))
 
   closes_held : {stand : Standing} (w : Sessions) → Held stand c d w → (step : Step) → step.side.near.phase ≡ Closed → step.side.out ≡ disc true ∷ []
       → step.packet ≡ None → step.notes.up ≡ false
@@ -108,7 +108,7 @@ module _ {c d : Settings} (joined : AreJoined c d) (reads : ReadsSpelled) (laws 
       quiet_held c d w w.back w.met [] step quiet
       (apart_held joined reads w h w.back w.met w.near.begun step none
       (is_out step.side.near.phase (ap is_up closed) (λ waits. waiting_is_closed step.side.near.phase waits closed))
-      (subst AreParting (sym sent) tt) (ap (count ua_in) sent))
+      (subst AreParting (sym sent) tt) (ap (count ua_of) sent))
 
   pub connect_held : {stand : Standing} (w : Sessions) → Held stand c d w → OnLine c d w → w.near.station.phase ≡ Down
       → Held (went_by c (connect_step c w.near.station) None stand) c d (after_step c w w.back w.met [] (connect_step c w.near.station))
@@ -119,7 +119,7 @@ module _ {c d : Settings} (joined : AreJoined c d) (reads : ReadsSpelled) (laws 
 
   -- timer T1 while UA is awaited: none of the end's SABMs, and no UA to it, is on the line
   pub timer_waiting_held : {stand : Standing} (w : Sessions) → Held stand c d w → w.near.station.phase ≡ Waiting
-      → how_many sabm_in (other d.role) d.longest w.out + how_many ua_in (other c.role) c.longest w.back ≡ 0
+      → how_many sabm_of (letters (other d.role) d.longest w.out) + how_many ua_of (letters (other c.role) c.longest w.back) ≡ 0
       → Held (went_by c (timer_step c w.near.station) None stand) c d (after_step c w w.back w.met [] (timer_step c w.near.station))
   timer_waiting_held {stand} w h waiting none = by (nat_lt w.near.station.tries c.retries) (timer_step c w.near.station)
       (laws.set_up.timer c w.near.station waiting)

@@ -2,17 +2,17 @@
 use Rattle.std.proofs.Common.{◌≡◌, ◌≤◌, ℕ, suc, ◌+◌, List, [], ◌∷◌, ◌++◌, inl, inr, Bool, None, refl, sym, ap, ◌∙◌, subst, arith}
 use Rattle.x25_frame.specs.{Frame.{PlainFrame, ua}, Spelling.{spelling_of}, Reading.{frame_of}, laws.ReadingLaw.{ReadsSpelled}}
 use Rattle.x25_link.specs.{Station.{Settings, fresh, is_up}, Hearing.{Step, other}}
-use Rattle.x25_line.specs.{laws.Stations.{start}, laws.StationClaims.{AreJoined}, laws.Sessions.{Entry, Meeting, Sessions, sabm_in, ua_in, how_many, sent_in}}
-use Rattle.x25_line.specs.{laws.SessionNumbers.{Standing, anew}, laws.SessionClaims.{AllOf}}
+use Rattle.x25_line.specs.{laws.Stations.{start}, laws.StationClaims.{AreJoined}, laws.Sessions.{Entry, Meeting, Sessions, letters, sent_in}}
+use Rattle.x25_line.specs.{laws.SessionNumbers.{Standing, anew}, laws.SessionClaims.{AllOf}, laws.Said.{Said, said, sabm_of, ua_of, how_many}}
 use Rattle.x25_line.proofs.{StationLines.{AreParting, parts_of, no_frmr_append, parting_whole}, StationRuns.{start_machine}}
-use Rattle.x25_line.proofs.sessions.SessionLines.{Read, numbers, behind_ua, behind_last}
+use Rattle.x25_line.proofs.sessions.SessionLines.{numbers, behind_ua, behind_last}
 use Rattle.x25_line.proofs.sessions.SessionHeld.{IsThere, EndIsThere, is_soon, is_out, OnLine, HasLists, SameLists, Held, whole_apart}
 use Rattle.x25_line.proofs.sessions.SessionSteps.{end_after, stepped, nothing_handed, waiting_is_closed, asked_by, many_out}
 
 module _ {c d : Settings} (joined : AreJoined c d) (reads : ReadsSpelled) where
   -- the near end answers UA; the far end asked, so that it is about to be in its session, or it is Closed
   pub begins_held : {stand : Standing} (w : Sessions) (h : Held stand c d w) (line : OnLine c d w) (e : Entry) (es : List Entry) (met : List Meeting) → w.back
-      ≡ e ∷ es → sabm_in (frame_of (other c.role) c.longest e.octets) ≡ 1 → (n : ℕ) (f : Bool) (step : Step)
+      ≡ e ∷ es → sabm_of (said (frame_of (other c.role) c.longest e.octets)) ≡ 1 → (n : ℕ) (f : Bool) (step : Step)
       → step.packet ≡ None → step.side.out ≡ ua f ∷ []
       → IsThere step.side.near.phase (other c.role) c.longest step.side.near n es fresh [] (suc w.near.begun) (suc w.far.begun)
       → Held (anew c d w) c d (stepped c w es met [] n step)
@@ -33,23 +33,23 @@ module _ {c d : Settings} (joined : AreJoined c d) (reads : ReadsSpelled) where
       more : List Entry
       more = sent_in n c.role step.side.out
 
-      all_back : (kind : Read → ℕ) → how_many kind (other c.role) c.longest w.back ≡ kind (frame_of (other c.role) c.longest e.octets)
-          + how_many kind (other c.role) c.longest es
-      all_back kind = ap (how_many kind (other c.role) c.longest) is
+      all_back : (kind : Said → ℕ) → how_many kind (letters (other c.role) c.longest w.back) ≡ kind (said (frame_of (other c.role) c.longest e.octets))
+          + how_many kind (letters (other c.role) c.longest es)
+      all_back kind = ap (λ es. how_many kind (letters (other c.role) c.longest es)) is
 
-      some_back : 1 ≤ how_many sabm_in (other c.role) c.longest w.back
-      some_back = omega (arith, all_back sabm_in, one)
+      some_back : 1 ≤ how_many sabm_of (letters (other c.role) c.longest w.back)
+      some_back = omega (arith, all_back sabm_of, one)
 
-      some : 1 ≤ how_many sabm_in (other c.role) c.longest w.back + how_many ua_in (other d.role) d.longest w.out
+      some : 1 ≤ how_many sabm_of (letters (other c.role) c.longest w.back) + how_many ua_of (letters (other d.role) d.longest w.out)
       some = omega (arith, some_back)
 
-      ua_reads : ua_in (frame_of (other d.role) d.longest (spelling_of c.role (ua f))) ≡ 1
+      ua_reads : ua_of (said (frame_of (other d.role) d.longest (spelling_of c.role (ua f)))) ≡ 1
       ua_reads =
-          let one_ua = many_out joined reads ua_in n [] (ua f ∷ []) (parting_whole d.longest [] (ua f ∷ []) (parts_of (ua f ∷ []) tt)) in
+          let one_ua = many_out joined reads ua_of n [] (ua f ∷ []) (parting_whole d.longest [] (ua f ∷ []) (parts_of (ua f ∷ []) tt)) in
           omega (arith, one_ua)
 
       -- the UA is the last on the line
-      last : how_many sabm_in (other c.role) c.longest w.back + how_many ua_in (other d.role) d.longest w.out ≤ 1
+      last : how_many sabm_of (letters (other c.role) c.longest w.back) + how_many ua_of (letters (other d.role) d.longest w.out) ≤ 1
           → behind_ua (other d.role) d.longest (w.out ++ more) ≡ []
       last few = rw answer (behind_last (other d.role) d.longest w.out (record { session = n; octets = spelling_of c.role (ua f) })
           (omega (arith, few, some_back)) ua_reads)

@@ -4,16 +4,16 @@ use Rattle.x25_bits.specs.declared.role.Role.{Role}
 use Rattle.x25_frame.specs.laws.ReadingLaw.{ReadsSpelled}
 use Rattle.x25_link.specs.{declared.phase.Phase.{Phase}, declared.phase.Phase.TheVariants.{Waiting, Up}, Station.{Settings, is_up, LinkStation}}
 use Rattle.x25_link.specs.Hearing.{other}
-use Rattle.x25_line.specs.{laws.StationClaims.{AreJoined}, laws.WholeNumbers.{given, place_of, taken_out}, laws.Sessions.{Entry, Sessions, ua_in, how_many}}
+use Rattle.x25_line.specs.{laws.StationClaims.{AreJoined}, laws.WholeNumbers.{given, place_of, taken_out}, laws.Sessions.{Entry, Sessions, letters}}
 use Rattle.x25_line.specs.{laws.SessionClaims.{octets_of}, laws.SessionNumbers.{Standing, place_behind_ua, place_to_hear, standing_after}}
-use Rattle.x25_line.specs.laws.LawsBelow.{Laws}
-use Rattle.x25_line.proofs.{StationSteps.{Joint, Leads, counted_fits, left_joint, stands_still}, sessions.EntryLines.{LessAt, less_at, many_less}}
+use Rattle.x25_line.specs.{laws.LawsBelow.{Laws}, laws.Loss.{LessAt}, laws.PeerSessions.{IsSeenIn}, laws.Said.{ua_of, how_many}}
+use Rattle.x25_line.proofs.{StationSteps.{Joint, Leads, counted_fits, left_joint, stands_still}, sessions.Letters.{letters_less}, ends.Lines.{count_less}}
 use Rattle.x25_line.proofs.sessions.SessionLines.{carried, carried_numbers, carried_orderly, Come, come_less, behind_ua, behind_less, behind_none}
 use Rattle.x25_line.proofs.sessions.SessionHeld.{is_there, is_soon, is_out, IsOf, EndIsThere, OnLine, Held, counted_there}
 use Rattle.x25_line.proofs.sessions.SessionActs.{waiting_owes}
 
 module _ {c d : Settings} (joined : AreJoined c d) (reads : ReadsSpelled) (laws : Laws) {stand : Standing} {w : Sessions} (h : Held stand c d w)
-    (line : OnLine c d w) {es : List Entry} {i : ℕ} (less : LessAt i w.back es) where
+    (line : OnLine c d w) {es : List Entry} {i : ℕ} (less : LessAt IsSeenIn i w.back es) where
   -- what is kept where the session alone has these octets on its line
   kept_by : {os : List (List ℕ)} (missing : Option ℕ) → Leads c d stand.machine missing [] (record h.alone { back = os })
       → EndIsThere c w.near es h.alone.near.station os stand.near stand.far
@@ -63,18 +63,18 @@ module _ {c d : Settings} (joined : AreJoined c d) (reads : ReadsSpelled) (laws 
   KeptIn p = Held (standing_after c w.near.station [] (place_to_hear p from n1 (octets_of w.back) i) stand) c d (record w { back = es })
 
   waiting_by : w.near.station.phase ≡ Waiting → KeptIn Waiting
-  waiting_by is = go (how_many ua_in from n1 es) refl
+  waiting_by is = go (how_many ua_of (letters from n1 es)) refl
     where
-      go : (n : ℕ) → how_many ua_in from n1 es ≡ n → KeptIn Waiting
+      go : (n : ℕ) → how_many ua_of (letters from n1 es) ≡ n → KeptIn Waiting
       go zero none = none_by (place_behind_ua from n1 (octets_of w.back) i) (behind_none from n1 less none)
           (is_out w.near.station.phase (ap is_up is) (λ _. none))
       go (suc n) some =
           let owes = waiting_owes is line.near_owes in
-          let few : how_many ua_in from n1 w.back ≤ 1 = omega (arith, owes.0) in
-          let more : 1 ≤ how_many ua_in from n1 es = omega (arith, some) in
+          let few : how_many ua_of (letters from n1 w.back) ≤ 1 = omega (arith, owes.0) in
+          let more : 1 ≤ how_many ua_of (letters from n1 es) = omega (arith, some) in
           let left = come_by (place_behind_ua from n1 (octets_of w.back) i) (behind_ua from n1 es)
           (λ come. behind_less from n1 stand.far less few more stand.machine.back come)
-          (h.near.awaits is (omega (arith, more, many_less ua_in refl refl from n1 (less_at less)))) in
+          (h.near.awaits is (omega (arith, more, count_less ua_of refl (letters_less from n1 less)))) in
           kept_by (place_behind_ua from n1 (octets_of w.back) i) left.0 (is_soon w.near.station.phase is (λ _. left.1))
 
   by : (p : Phase) → w.near.station.phase ≡ p → KeptIn p

@@ -9,7 +9,8 @@ use Rattle.x25_window.specs.laws.Window.{End}
 use Rattle.x25_link.specs.{declared.phase.Phase.{Phase}, declared.phase.Phase.TheVariants.{Waiting, Closed}, Station.{Settings, LinkStation, is_up, fresh}}
 use Rattle.x25_link.specs.Hearing.{other}
 use Rattle.x25_line.specs.{laws.Stations.{StationEnd, Stations}, laws.StationClaims.{NoFrmr, IsWhole, AreWhole, numbered_on}}
-use Rattle.x25_line.specs.{laws.Sessions.{Entry, SessionEnd, Sessions, sabm_in, ua_in, disc_in, how_many, extended}, laws.WholeNumbers.{counted}}
+use Rattle.x25_line.specs.{laws.Sessions.{Entry, SessionEnd, Sessions, letters, extended}, laws.WholeNumbers.{counted}}
+use Rattle.x25_line.specs.laws.Said.{Letter, said, sabm_of, ua_of, disc_of, how_many}
 use Rattle.x25_line.specs.{laws.SessionNumbers.{Standing, standing_after}, laws.SessionClaims.{AllOf, AreWholeIn}}
 use Rattle.x25_line.proofs.{Lists.{each_append}, StationLines.{numbered_append, AreParting, parts_of, whole_more, parting_whole, IsOrderly}}
 use Rattle.x25_line.proofs.StationSteps.{Joint, FitsEnd, machine_is, counted_off, counted_fits, none_put, not_both}
@@ -28,7 +29,7 @@ pub record IsOf (from : Role) (n1 : ℕ) (s : LinkStation) (begun : ℕ) (es : L
 pub record IsThere (phase : Phase) (from : Role) (n1 : ℕ) (s : LinkStation) (begun : ℕ) (es : List Entry) (a : LinkStation) (os : List (List ℕ))
     (p q : ℕ) : Type 0 where
   pub up : is_up phase ≡ true → IsOf from n1 s begun es a os p q
-  pub awaits : phase ≡ Waiting → 1 ≤ how_many ua_in from n1 es → IsOf from n1 fresh (suc begun) (behind_ua from n1 es) a os p q
+  pub awaits : phase ≡ Waiting → 1 ≤ how_many ua_of (letters from n1 es) → IsOf from n1 fresh (suc begun) (behind_ua from n1 es) a os p q
 
 abbrev pub EndIsThere : Settings → SessionEnd → List Entry → LinkStation → List (List ℕ) → ℕ → ℕ → Type 0
 EndIsThere c e es a os p q = IsThere e.station.phase (other c.role) c.longest e.station e.begun es a os p q
@@ -45,14 +46,16 @@ pub owes_less : (p : Phase) {n m : ℕ} (a b : ℕ) → a ≤ n → b ≤ m → 
 owes_less Closed a b f g h = tt
 owes_less p a b f g h = (omega (arith, f, h.0), omega (arith, g, h.1))
 
+-- with these on the line from it, and those on the line to it
+abbrev pub OwesOn : Phase → List Letter → List Letter → Type 0
+OwesOn p out es = Owes p (how_many sabm_of out + how_many ua_of es) (how_many disc_of out)
+
 -- what the rules of both ends say
 pub record OnLine (c d : Settings) (w : Sessions) : Type 0 where
-  pub near_owes : Owes w.near.station.phase (how_many sabm_in (other d.role) d.longest w.out + how_many ua_in (other c.role) c.longest w.back)
-      (how_many disc_in (other d.role) d.longest w.out)
-  pub far_owes : Owes w.far.station.phase (how_many sabm_in (other c.role) c.longest w.back + how_many ua_in (other d.role) d.longest w.out)
-      (how_many disc_in (other c.role) c.longest w.back)
-  pub quiet : (e : Entry) (es : List Entry) → w.back ≡ e ∷ es → sabm_in (frame_of (other c.role) c.longest e.octets) ≡ 1 → numbers (other c.role) c.longest es
-      ≡ []
+  pub near_owes : OwesOn w.near.station.phase (letters (other d.role) d.longest w.out) (letters (other c.role) c.longest w.back)
+  pub far_owes : OwesOn w.far.station.phase (letters (other c.role) c.longest w.back) (letters (other d.role) d.longest w.out)
+  pub quiet : (e : Entry) (es : List Entry) → w.back ≡ e ∷ es → sabm_of (said (frame_of (other c.role) c.longest e.octets)) ≡ 1
+      → numbers (other c.role) c.longest es ≡ []
   pub fine : (e : Entry) (es : List Entry) → w.back ≡ e ∷ es → IsOrderly (frame_of (other c.role) c.longest e.octets)
   -- the next session of each has no lists
   pub near_next : (w.near.down (suc w.near.begun) ≡ []) × (w.near.up (suc w.near.begun) ≡ [])
@@ -159,12 +162,12 @@ module _ {from : Role} {n1 : ℕ} {s : LinkStation} {begun : ℕ} {es : List Ent
   is_there up h = record { up = λ _. h; awaits = λ waits. not_both (is_up phase) up (ap is_up waits) }
 
   -- one that awaits UA is about to be in it, where a UA is on the way
-  pub is_soon : phase ≡ Waiting → (1 ≤ how_many ua_in from n1 es → IsOf from n1 fresh (suc begun) (behind_ua from n1 es) a os p q)
+  pub is_soon : phase ≡ Waiting → (1 ≤ how_many ua_of (letters from n1 es) → IsOf from n1 fresh (suc begun) (behind_ua from n1 es) a os p q)
       → IsThere phase from n1 s begun es a os p q
   is_soon waits h = record { up = λ up. not_both (is_up phase) up (ap is_up waits); awaits = λ _. h }
 
   -- any other is out of it
-  pub is_out : is_up phase ≡ false → (phase ≡ Waiting → how_many ua_in from n1 es ≡ 0) → IsThere phase from n1 s begun es a os p q
+  pub is_out : is_up phase ≡ false → (phase ≡ Waiting → how_many ua_of (letters from n1 es) ≡ 0) → IsThere phase from n1 s begun es a os p q
   is_out off none = record { up = λ up. not_both (is_up phase) up off; awaits = λ waits some. (absurd (omega (arith, some, none waits))) }
 
 -- more goes on the line, with the same numbers on that of the session alone
@@ -181,19 +184,19 @@ of_more {from} {n1} {s} {begun} {es} {a} {os} {p} {q} more xs same of h = record
 
 module _ {phase : Phase} {from : Role} {n1 : ℕ} {s : LinkStation} {begun : ℕ} {es : List Entry} {a : LinkStation} {os : List (List ℕ)} {p q : ℕ} where
   pub there_more : (more : List Entry) (xs : List (List ℕ)) → numbers from n1 more ≡ numbered_on from n1 xs → AllOf from n1 q more
-      → (phase ≡ Waiting → how_many ua_in from n1 more ≡ 0)
+      → (phase ≡ Waiting → how_many ua_of (letters from n1 more) ≡ 0)
       → IsThere phase from n1 s begun es a os p q → IsThere phase from n1 s begun (es ++ more) a (os ++ xs) p q
   there_more more xs same of none h = record {
     up = λ up. of_more more xs same of (h.up up);
-    awaits = λ waits some. (let before : 1 ≤ how_many ua_in from n1 es = omega (arith, many_append from n1 ua_in es more, none waits, some) in
+    awaits = λ waits some. (let before : 1 ≤ how_many ua_of (letters from n1 es) = omega (arith, many_append from n1 ua_of es more, none waits, some) in
         subst (λ zs. IsOf from n1 fresh (suc begun) zs a (os ++ xs) p q) (sym (behind_append from n1 es more before))
         (of_more more xs same of (h.awaits waits before)));
   }
 
   -- what comes to an end that waits on is passed over
-  pub there_passes : (e : Entry) → phase ≡ Waiting → how_many ua_in from n1 (e ∷ es) ≤ 1 → IsThere phase from n1 s begun (e ∷ es) a os p q
+  pub there_passes : (e : Entry) → phase ≡ Waiting → how_many ua_of (letters from n1 (e ∷ es)) ≤ 1 → IsThere phase from n1 s begun (e ∷ es) a os p q
       → IsThere phase from n1 s begun es a os p q
-  there_passes e waits few h = is_soon phase waits (λ some. (let none : ua_in (frame_of from n1 e.octets) ≡ 0 = omega (arith, few, some) in
+  there_passes e waits few h = is_soon phase waits (λ some. (let none : ua_of (said (frame_of from n1 e.octets)) ≡ 0 = omega (arith, few, some) in
       subst (λ n. IsOf from n1 fresh (suc begun) (by_first n (behind_ua from n1 es) es) a os p q) none (h.awaits waits (omega (arith, some)))))
 
 -- the machine stands still where the end isn't in the session

@@ -1,17 +1,18 @@
 -- The line between two stations, with the sessions of its frames: the numbers on it, how many there are of a kind, and what
 -- sending, loss and damage change of these.
-use Rattle.std.proofs.Common.{◌≡◌, ◌≤◌, ℕ, zero, suc, ◌+◌, List, [], ◌∷◌, ◌++◌, inl, inr, map, true, Option, Some, None, Result, Ok, Err, refl, sym, ap, ◌∙◌}
+use Rattle.std.proofs.Common.{◌≡◌, ◌≤◌, ℕ, zero, suc, ◌+◌, List, [], ◌∷◌, ◌++◌, inl, inr, map, Option, Some, None, Result, Ok, Err, refl, sym, ap, ◌∙◌}
 use Rattle.std.proofs.{Common.{subst, arith}, lemmas.Option.{none-some}}
 use Rattle.x25_bits.specs.declared.role.Role.{Role}
 use Rattle.x25_frame.specs.{Frame.{PlainFrame, info, rr, rnr, rej, frmr}, Spelling.{spelling_of}, Reading.{frame_of}, laws.ReadingLaw.{ReadsSpelled}}
 use Rattle.x25_frame.specs.declared.error.FrameError.{FrameError}
 use Rattle.x25_window.specs.laws.Window.{Frame}
 use Rattle.x25_link.specs.laws.WindowMachine.{ShowAll}
-use Rattle.x25_line.specs.{laws.Stations.{is_visible}, laws.StationClaims.{Each, number_in, numbered_on, AreWhole}}
-use Rattle.x25_line.specs.{laws.Sessions.{Entry, sabm_in, ua_in, disc_in, how_many, sent_in}, laws.SessionClaims.{octets_of, AllOf}}
+use Rattle.x25_line.specs.{laws.StationClaims.{Each, number_in, numbered_on, AreWhole}, laws.Said.{Said, said, sabm_of, ua_of, disc_of, how_many}}
+use Rattle.x25_line.specs.{laws.Sessions.{Entry, letters, sent_in}, laws.SessionClaims.{octets_of, AllOf}}
 use Rattle.x25_line.specs.{laws.WholeNumbers.{place_of, taken_out}, laws.SessionNumbers.{by_answers, place_behind_ua}}
-use Rattle.x25_line.proofs.sessions.EntryLines.{each_less, less_at, LessAt, nothing, gone_at, hurt_at, deeper_at}
-use Rattle.x25_line.proofs.StationLines.{IsOrderly, AreOrderly, consed, numbered_append, shows_first, shows_behind, visible_is}
+use Rattle.x25_line.specs.{laws.Loss.{LessAt, nothing, gone, hurt, deeper}, laws.PeerSessions.{IsSeenIn}}
+use Rattle.x25_line.proofs.Losses.{each_less, octets_less}
+use Rattle.x25_line.proofs.StationLines.{IsOrderly, AreOrderly, consed, numbered_append, shows_less, visible_is}
 
 abbrev pub Read : Type 0
 Read = Result PlainFrame FrameError
@@ -32,7 +33,7 @@ pub none_is_some : {A : Type 0} (f : PlainFrame) → None ≡ Some f → A
 none_is_some f e = absurd (none-some f e)
 
 -- a frame with a number is no SABM, no UA and no DISC
-pub number_kinds : (r : Read) (g : PlainFrame) → number_in r ≡ Some g → (sabm_in r ≡ 0) × (ua_in r ≡ 0) × (disc_in r ≡ 0)
+pub number_kinds : (r : Read) (g : PlainFrame) → number_in r ≡ Some g → (sabm_of (said r) ≡ 0) × (ua_of (said r) ≡ 0) × (disc_of (said r) ≡ 0)
 number_kinds (Ok (info ns nr p x)) g e = (refl, refl, refl)
 number_kinds (Ok (rr command nr pf)) g e = (refl, refl, refl)
 number_kinds (Ok (rnr command nr pf)) g e = (refl, refl, refl)
@@ -40,14 +41,14 @@ number_kinds (Ok (rej command nr pf)) g e = (refl, refl, refl)
 number_kinds r g e = none_is_some g e
 
 -- how many frames of a kind are sent
-abbrev pub count : (Read → ℕ) → List PlainFrame → ℕ
+abbrev pub count : (Said → ℕ) → List PlainFrame → ℕ
 count kind [] = 0
-count kind (f ∷ fs) = kind (Ok f) + count kind fs
+count kind (f ∷ fs) = kind (said (Ok f)) + count kind fs
 
 abbrev pub AllNumbered : List PlainFrame → Type 0
 AllNumbered fs = Each (λ f. number_in (Ok f) ≡ Some f) fs
 
-pub numbered_no_ua : (fs : List PlainFrame) → AllNumbered fs → count ua_in fs ≡ 0
+pub numbered_no_ua : (fs : List PlainFrame) → AllNumbered fs → count ua_of fs ≡ 0
 numbered_no_ua [] h = refl
 numbered_no_ua (f ∷ fs) h = omega (arith, (number_kinds (Ok f) f h.0).1, numbered_no_ua fs h.1)
 
@@ -79,7 +80,8 @@ module _ (from : Role) (n1 : ℕ) where
   of_sent role s [] = tt
   of_sent role s (f ∷ fs) = (inr refl, of_sent role s fs)
 
-  pub many_append : (kind : Read → ℕ) (xs ys : List Entry) → how_many kind from n1 (xs ++ ys) ≡ how_many kind from n1 xs + how_many kind from n1 ys
+  pub many_append : (kind : Said → ℕ) (xs ys : List Entry) → how_many kind (letters from n1 (xs ++ ys))
+      ≡ how_many kind (letters from n1 xs) + how_many kind (letters from n1 ys)
   many_append kind [] ys = omega arith
   many_append kind (e ∷ xs) ys = omega (arith, many_append kind xs ys)
 
@@ -120,92 +122,83 @@ module _ (from : Role) (n1 : ℕ) where
 
   -- ---- a frame is lost, or damaged
 
-  damaged_number : (octets : List ℕ) → is_visible octets ≡ true → number_in (frame_of from n1 octets) ≡ None
-  damaged_number octets visible = visible_is (λ r. number_in r ≡ None) from n1 octets visible refl refl
-
   -- those that come by an end that is Up, of which the frame at this place of the line goes
   abbrev pub Come : List (Frame (List ℕ)) → ℕ → List Entry → Type 0
   Come gs s es = ShowAll (numbers es) gs × AllOf from n1 s es
 
-  shows_less : {i : ℕ} {es fs : List Entry} → LessAt i es fs → (gs : List (Frame (List ℕ))) → ShowAll (numbers es) gs
-      → ShowAll (numbers fs) (taken_out (place_of from n1 (octets_of es) i) gs)
-  shows_less (nothing j) gs h = h
-  shows_less (gone_at e xs) gs h = shows_first (number_in (frame_of from n1 e.octets)) (numbers xs) gs h
-  shows_less (hurt_at e xs octets visible) gs h = rw (damaged_number octets visible) (shows_first (number_in (frame_of from n1 e.octets)) (numbers xs) gs h)
-  shows_less (deeper_at j e xs ys l) gs h =
-      shows_behind (number_in (frame_of from n1 e.octets)) (numbers xs) (numbers ys) (place_of from n1 (octets_of xs) j) gs (λ hs k. shows_less l hs k) h
-
-  of_less : (s : ℕ) {i : ℕ} {es fs : List Entry} → LessAt i es fs → AllOf from n1 s es → AllOf from n1 s fs
-  of_less s l h = each_less _ (λ e octets visible. inl (damaged_number octets visible)) (less_at l) h
-
-  pub come_less : (s : ℕ) {i : ℕ} {es fs : List Entry} → LessAt i es fs → (gs : List (Frame (List ℕ))) → Come gs s es
+  pub come_less : (s : ℕ) {i : ℕ} {es fs : List Entry} → LessAt IsSeenIn i es fs → (gs : List (Frame (List ℕ))) → Come gs s es
       → Come (taken_out (place_of from n1 (octets_of es) i) gs) s fs
-  come_less s {i} {es} {fs} l gs h = (shows_less l gs h.0, of_less s l h.1)
+  come_less s l gs h = (
+    shows_less from n1 (octets_less l) gs h.0,
+    each_less _ (λ e f seen _. inl (visible_is (λ r. number_in r ≡ None) from n1 f.octets seen.1 refl refl)) l h.1,
+  )
 
   -- ---- behind the first UA
 
   abbrev pub behind_ua : List Entry → List Entry
   behind_ua [] = []
-  behind_ua (e ∷ es) = by_first (ua_in (frame_of from n1 e.octets)) (behind_ua es) es
+  behind_ua (e ∷ es) = by_first (ua_of (said (frame_of from n1 e.octets))) (behind_ua es) es
 
-  pub behind_append : (es more : List Entry) → 1 ≤ how_many ua_in from n1 es → behind_ua (es ++ more) ≡ behind_ua es ++ more
+  pub behind_append : (es more : List Entry) → 1 ≤ how_many ua_of (letters from n1 es) → behind_ua (es ++ more) ≡ behind_ua es ++ more
   behind_append [] more some = absurd (omega (arith, some))
-  behind_append (e ∷ es) more some = go (ua_in (frame_of from n1 e.octets)) refl (λ k. behind_append es more k)
+  behind_append (e ∷ es) more some = go (ua_of (said (frame_of from n1 e.octets))) refl (λ k. behind_append es more k)
     where
-      go : (n : ℕ) → ua_in (frame_of from n1 e.octets) ≡ n → (1 ≤ how_many ua_in from n1 es → behind_ua (es ++ more) ≡ behind_ua es ++ more)
+      go : (n : ℕ) → ua_of (said (frame_of from n1 e.octets)) ≡ n → (1 ≤ how_many ua_of (letters from n1 es) → behind_ua (es ++ more) ≡ behind_ua es ++ more)
           → by_first n (behind_ua (es ++ more)) (es ++ more) ≡ by_first n (behind_ua es) es ++ more
       go zero is next = next (omega (arith, some, is))
       go (suc n) is next = refl
 
   -- the UA is the last
-  pub behind_last : (es : List Entry) (e : Entry) → how_many ua_in from n1 es ≡ 0 → ua_in (frame_of from n1 e.octets) ≡ 1 → behind_ua (es ++ e ∷ []) ≡ []
+  pub behind_last : (es : List Entry) (e : Entry) → how_many ua_of (letters from n1 es) ≡ 0 → ua_of (said (frame_of from n1 e.octets)) ≡ 1
+      → behind_ua (es ++ e ∷ []) ≡ []
   behind_last [] e none one = ap (λ n. by_first n [] []) one
   behind_last (x ∷ es) e none one =
-      let here : ua_in (frame_of from n1 x.octets) ≡ 0 = omega (arith, none) in
+      let here : ua_of (said (frame_of from n1 x.octets)) ≡ 0 = omega (arith, none) in
       ap (λ n. by_first n (behind_ua (es ++ e ∷ [])) (es ++ e ∷ [])) here ∙ behind_last es e (omega (arith, none)) one
 
   pub behind_quiet : (es : List Entry) → numbers es ≡ [] → numbers (behind_ua es) ≡ []
   behind_quiet [] none = refl
-  behind_quiet (e ∷ es) none = go (ua_in (frame_of from n1 e.octets)) (behind_quiet es (quiet_tail e es none))
+  behind_quiet (e ∷ es) none = go (ua_of (said (frame_of from n1 e.octets))) (behind_quiet es (quiet_tail e es none))
     where
       go : (n : ℕ) → numbers (behind_ua es) ≡ [] → numbers (by_first n (behind_ua es) es) ≡ []
       go zero rest = rest
       go (suc n) rest = quiet_tail e es none
 
   -- and the frame that goes is one of these, or none where the UA goes
-  pub behind_less : (s : ℕ) {i : ℕ} {es fs : List Entry} → LessAt i es fs → how_many ua_in from n1 es ≤ 1 → 1 ≤ how_many ua_in from n1 fs
-      → (gs : List (Frame (List ℕ))) → Come gs s (behind_ua es)
+  pub behind_less : (s : ℕ) {i : ℕ} {es fs : List Entry} → LessAt IsSeenIn i es fs → how_many ua_of (letters from n1 es) ≤ 1
+      → 1 ≤ how_many ua_of (letters from n1 fs) → (gs : List (Frame (List ℕ))) → Come gs s (behind_ua es)
       → Come (taken_out (place_behind_ua from n1 (octets_of es) i) gs) s (behind_ua fs)
   behind_less s (nothing j) few some gs h = h
-  behind_less s (gone_at e xs) few some gs h =
-      (let none : ua_in (frame_of from n1 e.octets) ≡ 0 = omega (arith, few, some) in subst (λ n. Come gs s (by_first n (behind_ua xs) xs)) none h)
-  behind_less s (hurt_at e xs octets visible) few some gs h =
-      let new = (visible_is (λ r. ua_in r ≡ 0) from n1 octets visible refl refl) in
-      let none : ua_in (frame_of from n1 e.octets) ≡ 0 = omega (arith, few, some, new) in
+  behind_less s (gone e xs) few some gs h =
+      (let none : ua_of (said (frame_of from n1 e.octets)) ≡ 0 = omega (arith, few, some) in subst (λ n. Come gs s (by_first n (behind_ua xs) xs)) none h)
+  behind_less s (hurt e f xs seen) few some gs h =
+      let new = (visible_is (λ r. ua_of (said r) ≡ 0) from n1 f.octets seen.1 refl refl) in
+      let none : ua_of (said (frame_of from n1 e.octets)) ≡ 0 = omega (arith, few, some, new) in
       subst (λ n. Come gs s (by_first n (behind_ua xs) xs)) (none ∙ sym new) h
-  behind_less s (deeper_at j e xs ys l) few some gs h = go (ua_in (frame_of from n1 e.octets)) refl (λ fewer more k. behind_less s l fewer more gs k) h
+  behind_less s (deeper j e xs ys l) few some gs h = go (ua_of (said (frame_of from n1 e.octets))) refl (λ fewer more k. behind_less s l fewer more gs k) h
     where
-      go : (n : ℕ) → ua_in (frame_of from n1 e.octets) ≡ n
-          → (how_many ua_in from n1 xs ≤ 1 → 1 ≤ how_many ua_in from n1 ys → Come gs s (behind_ua xs)
+      go : (n : ℕ) → ua_of (said (frame_of from n1 e.octets)) ≡ n
+          → (how_many ua_of (letters from n1 xs) ≤ 1 → 1 ≤ how_many ua_of (letters from n1 ys) → Come gs s (behind_ua xs)
           → Come (taken_out (place_behind_ua from n1 (octets_of xs) j) gs) s (behind_ua ys))
           → Come gs s (by_first n (behind_ua xs) xs)
           → Come (taken_out (by_answers n (place_behind_ua from n1 (octets_of xs) j) (place_of from n1 (octets_of xs) j)) gs) s (by_first n (behind_ua ys) ys)
       go zero is next k = next (omega (arith, few, is)) (omega (arith, some, is)) k
       go (suc n) is next k = come_less s l gs k
 
-  pub behind_none : {i : ℕ} {es fs : List Entry} → LessAt i es fs → how_many ua_in from n1 fs ≡ 0 → place_behind_ua from n1 (octets_of es) i ≡ None
-  behind_none (deeper_at j e xs ys l) none =
-      let here : ua_in (frame_of from n1 e.octets) ≡ 0 = omega (arith, none) in
+  pub behind_none : {i : ℕ} {es fs : List Entry} → LessAt IsSeenIn i es fs → how_many ua_of (letters from n1 fs) ≡ 0
+      → place_behind_ua from n1 (octets_of es) i ≡ None
+  behind_none (deeper j e xs ys l) none =
+      let here : ua_of (said (frame_of from n1 e.octets)) ≡ 0 = omega (arith, none) in
       ap (λ n. by_answers n (place_behind_ua from n1 (octets_of xs) j) (place_of from n1 (octets_of xs) j)) here ∙ behind_none l (omega (arith, none))
   behind_none l none = refl
 
 -- ---- what is sent reads as it was spelled
 
 module _ (reads : ReadsSpelled) (from : Role) (n1 : ℕ) where
-  pub many_sent : (kind : Read → ℕ) (s : ℕ) (given : List (List ℕ)) (fs : List PlainFrame) → AreWhole n1 given fs → how_many kind from n1 (sent_in s from fs)
-      ≡ count kind fs
+  pub many_sent : (kind : Said → ℕ) (s : ℕ) (given : List (List ℕ)) (fs : List PlainFrame) → AreWhole n1 given fs
+      → how_many kind (letters from n1 (sent_in s from fs)) ≡ count kind fs
   many_sent kind s given [] h = refl
   many_sent kind s given (f ∷ fs) h =
       let read = reads from n1 f (spelling_of from f) (record { in_range = h.0.in_range; carries = h.0.carries; within = h.0.within; spelling = refl }) in
-      let here : kind (frame_of from n1 (spelling_of from f)) ≡ kind (Ok f) = ap kind read in
+      let here = ap (λ r. kind (said r)) read in
       omega (arith, here, many_sent kind s given fs h.1)

@@ -1,12 +1,12 @@
 -- What an end over sessions may do, as what is known of it goes on: the rules of a peer, of an end that is in one of our phases.
-use Rattle.std.proofs.Common.{◌≡◌, ◌≤◌, ℕ, suc, List, [], ◌∷◌, ◌++◌, Bool, true, Some, Ok, remove}
+use Rattle.std.proofs.Common.{◌≡◌, ◌≤◌, ℕ, suc, List, [], ◌∷◌, ◌++◌, Bool, true, Some, Ok}
 use Rattle.x25_frame.specs.{Frame.{PlainFrame, sabm, disc, ua, dm, frmr}, Reading.{frame_of}, laws.ReadingLaw.{ReadsSpelled}}
 use Rattle.x25_link.specs.{declared.phase.Phase.{Phase}, declared.phase.Phase.TheVariants.{Down, Waiting, Up, Closed}}
 use Rattle.x25_link.specs.{declared.phase.Reason.TheVariants.{FrmrSent}, Station.{Settings, is_up}, Hearing.{other}, laws.SetUp.{TakesPart}}
 use Rattle.x25_link.specs.laws.WindowLaw.{ending_of}
-use Rattle.x25_line.specs.{laws.Stations.{is_visible}, laws.StationClaims.{number_in}, laws.LawsBelow.{SessionLaws}}
-use Rattle.x25_line.specs.{laws.Sessions.{Entry, Meeting, sabm_in, ua_in, disc_in, how_many, heard, replaced}, laws.Peer.{Peer, fresh_peer, MaySend, MayHear}}
-use Rattle.x25_line.specs.laws.Ends.{put_for}
+use Rattle.x25_line.specs.{laws.Loss.{LessAt}, laws.PeerSessions.{IsSeenIn}, laws.StationClaims.{number_in}, laws.LawsBelow.{SessionLaws}}
+use Rattle.x25_line.specs.{laws.Sessions.{Entry, Meeting, letters, heard}, laws.Peer.{Peer, fresh_peer, MaySend, MayHear}}
+use Rattle.x25_line.specs.{laws.Ends.{put_for}, laws.Said.{sabm_of, ua_of, disc_of, how_many}}
 use Rattle.x25_line.proofs.{StationSays.{machine_of}, sessions.SessionLines.{Read}}
 
 -- what is read of octets that it sends, and of those that come to it
@@ -25,9 +25,9 @@ heard_in d p b e met = heard (is_up p) (number_in (hears_read d e.octets)) (reco
 
 -- no SABM and no DISC of it, and no UA to it, is on the line
 pub record IsClear (d : Settings) (es out : List Entry) : Type 0 where
-  pub sabm : how_many sabm_in d.role d.longest out ≡ 0
-  pub disc : how_many disc_in d.role d.longest out ≡ 0
-  pub ua : how_many ua_in (other d.role) d.longest es ≡ 0
+  pub sabm : how_many sabm_of (letters d.role d.longest out) ≡ 0
+  pub disc : how_many disc_of (letters d.role d.longest out) ≡ 0
+  pub ua : how_many ua_of (letters (other d.role) d.longest es) ≡ 0
 
 -- it asks out of a session, or once more, where more is due of the line to it
 abbrev pub MayAsk : Phase → Type 0 → Type 0
@@ -79,11 +79,8 @@ pub record MayDo (d : Settings) (Due : Phase → List Entry → Type 0) (R : Kno
   pub faults : (e : Entry) (es : List Entry) (met : List Meeting) (b : ℕ) (all : ℕ → Peer) (out : List Entry) (octets : List ℕ) (f : Bool) (why : List ℕ)
       → ending_of (hears_read d e.octets) (machine_of d.window (all b)) ≡ Some FrmrSent
       → sends_read d octets ≡ Ok (frmr f why) → R (e ∷ es) met Up b all out → R es (heard_in d Up b e met) Down b all (out ++ entry b octets ∷ [])
-  pub loses : (es : List Entry) (met : List Meeting) (p : Phase) (b : ℕ) (all : ℕ → Peer) (out : List Entry) (place : ℕ) → R es met p b all out
-      → R (remove es place) met p b all out
-  pub damages : (es : List Entry) (met : List Meeting) (p : Phase) (b : ℕ) (all : ℕ → Peer) (out : List Entry) (place : ℕ) (octets : List ℕ)
-      → is_visible octets ≡ true
-      → R es met p b all out → R (replaced es place octets) met p b all out
+  pub loses : {i : ℕ} {es fs : List Entry} (met : List Meeting) (p : Phase) (b : ℕ) (all : ℕ → Peer) (out : List Entry) → LessAt IsSeenIn i es fs
+      → R es met p b all out → R fs met p b all out
 
 -- a kind of end, with settings d
 pub record Kind (d : Settings) : Type 1 where

@@ -18,7 +18,7 @@ use Rattle.x25_line.specs.laws.SessionClaims.{Throughout, octets_of, AllOf, IsSe
 use Rattle.x25_line.specs.laws.LawsBelow.{SessionLaws}
 use Rattle.x25_line.proofs.{StationSteps.{Holds}, StationAway.{connects_from}, StationRuns.{joined_swapped, joint_swapped, start_machine}}
 use Rattle.x25_line.proofs.{StationClaimLemmas.{is_behind, holds_order, holds_lists, holds_window, holds_whole}, sessions.SessionLines.{octets_sent}}
-use Rattle.x25_line.proofs.{sessions.EntryLines.{removes_at, replaces_at}, Choices.{unless_by, if_by}}
+use Rattle.x25_line.proofs.{Losses.{removes, replaces_in}, Choices.{unless_by, if_by}}
 use Rattle.x25_line.proofs.{sessions.SessionHeld.{is_there, is_out, IsThere, OnLine, Held, counted_there, stays_on}, sessions.SessionSteps.{went_by}}
 use Rattle.x25_line.proofs.sessions.SessionChanges.{change_held}
 use Rattle.x25_line.proofs.sessions.SessionActs.{up_in_session, put_held, timer_up_held, abandon_held, connect_held, timer_waiting_held, disconnect_held}
@@ -135,7 +135,7 @@ module _ {c d : Settings} (joined : AreJoined c d) (reads : ReadsSpelled) (rests
       (λ up. step_now stand w w.back w.met [] step None (timer_up_held joined reads rests_on.laws w h up))
   acts_held {stand} (Lose i) w timely line h =
       let v : Sessions = record w { back = remove w.back i } in
-      still_now stand w (gone_at c w (Some i)) refl (change_held joined reads rests_on.laws h line (removes_at w.back i))
+      still_now stand w (gone_at c w (Some i)) refl (change_held joined reads rests_on.laws h line (removes w.back i))
   acts_held {stand} (Damage i octets) w timely line h = by (is_visible octets) refl
     where
       v : Sessions
@@ -143,7 +143,7 @@ module _ {c d : Settings} (joined : AreJoined c d) (reads : ReadsSpelled) (rests
 
       by : (b : Bool) → is_visible octets ≡ b
           → HeldNow stand c d (gone_at c w (if b then Some i else None)) w (if b then record w { back = replaced w.back i octets } else w)
-      by true visible = still_now stand w (gone_at c w (Some i)) refl (change_held joined reads rests_on.laws h line (replaces_at octets visible w.back i))
+      by true visible = still_now stand w (gone_at c w (Some i)) refl (change_held joined reads rests_on.laws h line (replaces_in octets visible w.back i))
       by false hidden = stays_now c d w h
 
 -- ---- the other end

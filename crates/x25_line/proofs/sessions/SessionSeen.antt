@@ -1,26 +1,15 @@
 -- A station over sessions, and what is known of it as an end that keeps the rules, after each of its steps.
-use Rattle.std.proofs.Common.{◌≡◌, ◌≤◌, ◌<◌, ◌==◌, ℕ, suc, ◌+◌, List, [], ◌∷◌, ◌++◌, inl, inr, length, true, false, Option, None, refl, sym, ap, ◌∙◌, subst}
+use Rattle.std.proofs.Common.{◌≡◌, ◌≤◌, ◌<◌, ◌==◌, ℕ, suc, ◌+◌, List, [], ◌++◌, inl, inr, length, true, false, Option, None, refl, sym, ap, ◌∙◌, subst}
 use Rattle.std.proofs.{Common.{arith}, lemmas.Bool.{eq-eqb}}
 use Rattle.std.specs.Prelude.{option_to_list}
-use Rattle.x25_bits.specs.declared.role.Role.{Role}
-use Rattle.x25_frame.specs.{Frame.{PlainFrame}, Reading.{frame_of}}
 use Rattle.x25_link.specs.{declared.phase.Phase.{Phase}, declared.phase.Phase.TheVariants.{Up}, Station.{Settings, is_up, with_nothing, fresh}, Hearing.{Step}}
 use Rattle.x25_link.specs.{laws.WindowMachine.{Window, Input}, laws.WindowLaw.{window_of, after_input, Stays}}
-use Rattle.x25_line.specs.laws.Sessions.{Entry, SessionEnd, start_with, Meeting, Sessions, sabm_in, how_many, sent_in, begun_by, extended, after_step}
-use Rattle.x25_line.specs.{laws.Peer.{Peer, fresh_peer}, laws.Ends.{put_for}, laws.PeerSessions.{IsAskedIn, AllAskedIn}}
-use Rattle.x25_line.proofs.{Lists.{each_append}, StationSays.{machine_of}, StationHears.{UpFacts}, StationSends.{AllWithin}, StationSteps.{not_both}}
+use Rattle.x25_line.specs.laws.Sessions.{Entry, SessionEnd, start_with, Meeting, Sessions, letters, sent_in, begun_by, extended, after_step}
+use Rattle.x25_line.specs.{laws.Peer.{Peer, fresh_peer}, laws.Ends.{put_for, AreOf}, laws.Said.{sabm_of, how_many}}
+use Rattle.x25_line.proofs.{ends.Lines.{are_none}, sessions.Letters.{are_sent}}
+use Rattle.x25_line.proofs.{StationSays.{machine_of}, StationHears.{UpFacts}, StationSends.{AllWithin}, StationSteps.{not_both}}
 use Rattle.x25_line.proofs.{StationAway.{is_up_phase}, sessions.SessionHeld.{extended_nil, extended_same, extended_other}, sessions.SessionSteps.{stepped}}
 use Rattle.x25_line.proofs.{sessions.SessionMay.{Known, Kind}, sessions.SessionSays.{runs_said}, ends.Puts.{same_or_other, put_same, put_apart}}
-
-asked_sent : (from : Role) (n1 b : ℕ) (role : Role) (fs : List PlainFrame) → AllAskedIn from n1 b (sent_in b role fs)
-asked_sent from n1 b role [] = tt
-asked_sent from n1 b role (f ∷ fs) = (inr refl, asked_sent from n1 b role fs)
-
-asked_never : (from : Role) (n1 b : ℕ) (es : List Entry) → how_many sabm_in from n1 es ≡ 0 → AllAskedIn from n1 b es
-asked_never from n1 b [] h = tt
-asked_never from n1 b (e ∷ es) h =
-    let here : sabm_in (frame_of from n1 e.octets) ≡ 0 = omega (arith, h) in
-    (inl here, asked_never from n1 b es (omega (arith, h)))
 
 -- what was handed down or taken, by sessions, once more of it came in this one
 pub put_packets : (b : ℕ) (r : Peer) (all : ℕ → Peer) (lists : ℕ → List (List ℕ)) (more : List (List ℕ)) (f : Peer → List (List ℕ)) → f r ≡ f (all b) ++ more
@@ -40,7 +29,7 @@ module _ (d : Settings) (R : Known) where
     pub given : (n : ℕ) → (all n).given ≡ w.near.down n
     pub taken : (n : ℕ) → (all n).taken ≡ w.near.up n
     pub later : (n : ℕ) → w.near.begun < n → (w.near.down n ≡ []) × (w.near.up n ≡ [])
-    pub tags : AllAskedIn d.role d.longest w.near.begun w.out
+    pub tags : AreOf w.near.begun (letters d.role d.longest w.out)
 
 fresh_facts : (d : Settings) (p : Phase) → UpFacts d (with_nothing p 0) fresh_peer
 fresh_facts d p = record {
@@ -86,8 +75,7 @@ module _ {d : Settings} (k : Kind d) where
           extended_other w.near.down w.near.begun n down (λ is. omega (arith, is, less)) ∙ old.0,
           extended_other w.near.up w.near.begun n (option_to_list step.packet) (λ is. omega (arith, is, less)) ∙ old.1,
         ));
-        tags = each_append (IsAskedIn d.role d.longest w.near.begun) w.out (sent_in w.near.begun d.role step.side.out) h.tags
-            (asked_sent d.role d.longest w.near.begun d.role step.side.out);
+        tags = are_sent d.role d.longest w.near.begun d.role step.side.out w.out h.tags;
       })
 
   -- nothing is handed down or up
@@ -100,7 +88,7 @@ module _ {d : Settings} (k : Kind d) where
 
   -- LinkUp is noted
   pub build_up : {w : Sessions} (h : Seen d R w) {es : List Entry} (step : Step) → step.notes.up ≡ true → step.side.near ≡ fresh → step.packet ≡ None
-      → how_many sabm_in d.role d.longest w.out ≡ 0
+      → how_many sabm_of (letters d.role d.longest w.out) ≡ 0
       → R es w.met Up (suc w.near.begun) (put_for (suc w.near.begun) fresh_peer h.all) (w.out ++ sent_in (suc w.near.begun) d.role step.side.out)
       → Seen d R (after_step d w es w.met [] step)
   build_up {w} h {es} step up near none unasked reached =
@@ -117,8 +105,8 @@ module _ {d : Settings} (k : Kind d) where
           extended_other w.near.down b n [] (λ is. omega (arith, is, less)) ∙ old.0,
           extended_other w.near.up b n (option_to_list step.packet) (λ is. omega (arith, is, less)) ∙ old.1,
         ));
-        tags = each_append (IsAskedIn d.role d.longest b) w.out (sent_in b d.role step.side.out) (asked_never d.role d.longest b w.out unasked)
-            (asked_sent d.role d.longest b d.role step.side.out);
+        tags = are_sent d.role d.longest b d.role step.side.out w.out
+            (are_none b (letters d.role d.longest w.out) unasked);
       })
     where
       b : ℕ

@@ -8,8 +8,8 @@ use Rattle.x25_link.specs.declared.phase.Reason.TheVariants.{Retries, Disc, Dm, 
 use Rattle.x25_link.specs.{Station.{Settings, LinkStation, is_up, fresh}, Hearing.{Step}, Link.{take_step}}
 use Rattle.x25_link.specs.laws.SetUp.{Is, TakesPart, reset_from, waiting_after, waiting_sends, waiting_up}
 use Rattle.x25_link.specs.laws.WindowLaw.{window_of, brought_by, after_input, ending_of, ends_in, Ends, Follows, AreDeclining, StaysOut}
-use Rattle.x25_line.specs.{laws.StationClaims.{number_in}, laws.Sessions.{Entry, Meeting, Sessions, sabm_in, disc_in, how_many, sent_in, after_step, heard}}
-use Rattle.x25_line.specs.laws.Peer.{Peer}
+use Rattle.x25_line.specs.{laws.StationClaims.{number_in}, laws.Sessions.{Entry, Meeting, Sessions, letters, sent_in, after_step, heard}}
+use Rattle.x25_line.specs.{laws.Peer.{Peer}, laws.Said.{said, sabm_of, disc_of, how_many}}
 use Rattle.x25_line.proofs.{StationLines.{AreParting, parts_of, part_reads}, StationHears.{UpFacts, Hears, stays_hears, by_disc, by_reset, by_local, left_by}}
 use Rattle.x25_line.proofs.{StationSends.{AllWithin}, StationSteps.{not_afresh}, StationAway.{is_up_phase, frmr_three, waits_on}, sessions.SessionLines.{Read}}
 use Rattle.x25_line.proofs.sessions.SessionMay.{entry, sends_read, hears_read, heard_in, IsClear, Known, Kind}
@@ -22,7 +22,7 @@ pub by_neither : (f : Option Reason → ℕ) (x y : Option Reason) → f x ≡ 0
 by_neither f x y one other true = one
 by_neither f x y one other false = other
 
-disc_or_not : (r : Read) → ((p : Bool) × (r ≡ Ok (disc p))) ⊎ (disc_in r ≡ 0)
+disc_or_not : (r : Read) → ((p : Bool) × (r ≡ Ok (disc p))) ⊎ (disc_of (said r) ≡ 0)
 disc_or_not (Ok (disc p)) = inl (p, refl)
 disc_or_not (Err Short) = inr refl
 disc_or_not r = inr refl
@@ -115,7 +115,7 @@ module _ {d : Settings} (k : Kind d) where
 
     -- a SABM sets it up
     pub sets_up_seen : (p : Bool) → r ≡ Ok (sabm p) → TakesPart s.phase → Is fresh (ua p ∷ []) (reset_from s.phase) true step
-        → how_many sabm_in d.role d.longest w.out ≡ 0 → S (after_step d w es met [] step)
+        → how_many sabm_of (letters d.role d.longest w.out) ≡ 0 → S (after_step d w es met [] step)
     sets_up_seen p read part i unasked =
         rw (met_none (ap number_in read)) (build_up k h step i.up i.near i.packet unasked
         (put_one w.out (ua p) step.side.out i.out
@@ -174,7 +174,7 @@ module _ {d : Settings} (k : Kind d) where
       ends_seen Local never ending ends = absurd (omega (arith, (left_by r (window_of d.window s)).2, ap by_local ending))
       ends_seen Counts never ending ends = left_seen never ends (gone step.side.out ends.frames)
 
-      pub up_seen : sabm_in r ≡ 0 → S (after_step d w es met [] step)
+      pub up_seen : sabm_of (said r) ≡ 0 → S (after_step d w es met [] step)
       up_seen no_sabm = go (ending_of r (window_of d.window s)) refl (k.rests.laws.window.take d e.octets s (record { up = up; sound = facts.sound }) r refl)
         where
           go : (o : Option Reason) → ending_of r (window_of d.window s) ≡ o → Follows o d.window (brought_by r) s step → S (after_step d w es met [] step)
@@ -192,7 +192,7 @@ module _ {d : Settings} (k : Kind d) where
         (put_declining w.out step.side.out out.frames (rw same passed))
 
     -- UA, which it awaits
-    pub answer_seen : s.phase ≡ Waiting → r ≡ Ok (ua true) → how_many sabm_in d.role d.longest w.out ≡ 0 → S (after_step d w es met [] step)
+    pub answer_seen : s.phase ≡ Waiting → r ≡ Ok (ua true) → how_many sabm_of (letters d.role d.longest w.out) ≡ 0 → S (after_step d w es met [] step)
     answer_seen waiting read unasked =
         let i = k.rests.laws.set_up.waits d e.octets s waiting r refl in
         subst (λ xs. S (after_step d w es xs [] step)) (sym (met_none (ap number_in read)))

@@ -1,23 +1,25 @@
 -- Each of two stations over sessions is a peer of the other, after each list of events.
-use Rattle.std.proofs.Common.{◌≡◌, ℕ, suc, ◌+◌, List, [], ◌∷◌, ◌++◌, inl, inr, length, map, remove, true, Ok, refl, sym, ap, ◌∙◌, subst, arith}
+use Rattle.std.proofs.Common.{◌≡◌, ℕ, suc, List, [], ◌∷◌, ◌++◌, inl, inr, length, map, true, false, Ok, refl, sym, ap, ◌∙◌, subst, arith}
 use Rattle.std.specs.Prelude.{nat_le}
 use Rattle.x25_frame.specs.{Frame.{PlainFrame, sabm, disc, ua, dm, frmr}, Reading.{frame_of}, laws.ReadingLaw.{ReadsSpelled}}
-use Rattle.x25_link.specs.{declared.phase.Phase.{Phase}, declared.phase.Phase.TheVariants.{Down, Waiting, Up, Closed}, Station.{Settings}, Hearing.{other}}
-use Rattle.x25_link.specs.Link.{put_refusal}
+use Rattle.x25_link.specs.{declared.phase.Phase.{Phase}, declared.phase.Phase.TheVariants.{Down, Waiting, Up, Closed}, Hearing.{other}}
+use Rattle.x25_link.specs.{Station.{Settings, LinkStation}, Link.{put_refusal, alone, hears as takes}}
 use Rattle.x25_line.specs.{laws.Stations.{Act, Put, Deliver, T1, Connect, Lose, Damage, LinkEvent, Near, Far, is_visible}, laws.StationClaims.{AreJoined}}
-use Rattle.x25_line.specs.laws.Said.{said, sabm_of, disc_of, ua_of}
-use Rattle.x25_line.specs.laws.Sessions.{Entry, SessionEnd, Meeting, Sessions, turned, swapped, sabm_in, ua_in, disc_in, how_many, replaced, after_step}
+use Rattle.x25_line.specs.laws.Said.{said, sabm_of, how_many}
+use Rattle.x25_line.specs.laws.Sessions.{Entry, SessionEnd, Meeting, Sessions, turned, swapped, letters, begun_by, after_step}
 use Rattle.x25_line.specs.laws.Sessions.{delivered, acts, happens, run, IsStart, from_nothing, from_set_up, IsTimely, IsTimelyAt, AreTimely}
 use Rattle.x25_line.specs.{laws.SessionClaims.{Throughout}, laws.LawsBelow.{SessionLaws}, laws.Peer.{Peer, fresh_peer}}
-use Rattle.x25_line.specs.laws.PeerSessions.{PeerEnd, PeerSessions, both_ends, with_peer, AllAskedIn, stand_of, letters, IsLeft, untouched, without, damaged}
+use Rattle.x25_line.specs.laws.PeerSessions.{PeerEnd, PeerSessions, both_ends, with_peer, stand_of, IsSeenIn}
 use Rattle.x25_line.specs.laws.PeerSessions.{Puts, nothing, HandsDown, Theirs, ReachedInSessions, goes_on}
 use Rattle.x25_line.specs.laws.Ends.{Letter, letter, AreOf, Ends, Does, listens, moves, free, asks, closes, leaves, hears, takes_ua, takes_sabm, waits_on}
-use Rattle.x25_line.specs.{laws.Ends.{takes_disc, loses, damages}, laws.SessionPeers.{IsPeer, AreBothPeers}}
+use Rattle.x25_line.specs.{laws.Ends.{takes_disc, loses}, laws.SessionPeers.{IsPeer, AreBothPeers}}
 use Rattle.x25_line.proofs.{Choices.{unless_both, if_both, own_both}, StationRuns.{joined_swapped, there, here}, sessions.SessionLines.{Read}}
-use Rattle.x25_line.proofs.{sessions.SessionHeld.{Owes}, sessions.EntryLines.{asked_fewer}, sessions.Acts.{Stays, Anything, acts_still}}
+use Rattle.x25_line.proofs.{sessions.SessionHeld.{OwesOn}, ends.Lines.{are_less}, sessions.Acts.{Stays, Anything, acts_still}}
 use Rattle.x25_line.proofs.{sessions.SessionMay.{sends_read, hears_read, entry, heard_in, MayAsk, MayDo, Kind}, ends.Meetings.{twice_turned}}
 use Rattle.x25_line.proofs.{sessions.SessionSeen.{Seen, start_seen}, sessions.PeerSessionRuns.{owes_is}, sessions.SessionWith.{tells_does}}
-use Rattle.x25_line.proofs.sessions.Letters.{heard_said, letters_push, letters_removed, letters_replaced, many_said, puts_frame}
+use Rattle.x25_line.proofs.sessions.Letters.{heard_said, letters_push, letters_less, puts_frame}
+use Rattle.x25_line.specs.laws.Loss.{gone, Less}
+use Rattle.x25_line.proofs.Losses.{untouched}
 use Rattle.x25_line.specs.laws.PeerSessions as sessions
 use Rattle.x25_line.specs.laws.Ends as ends
 use Rattle.x25_line.proofs.sessions.SessionSeenSteps as own
@@ -35,11 +37,11 @@ module _ {c d : Settings} (joined : AreJoined c d) (far : SessionEnd) where
   abbrev pub IsPeerOf : List Entry → List Meeting → Phase → ℕ → (ℕ → Peer) → List Entry → Type 0
   IsPeerOf es met p b all out = ReachedInSessions ⊥ c (at es met (end p b all) out)
 
-  sent_many : (kind : Read → ℕ) (es : List Entry) → how_many kind d.role d.longest es ≡ how_many kind (other c.role) c.longest es
-  sent_many kind es = ap (λ r. how_many kind r d.longest es) (sym joined.far_role) ∙ ap (λ n1. how_many kind (other c.role) n1 es) (sym joined.longest)
+  sent_there : (es : List Entry) → letters d.role d.longest es ≡ letters (other c.role) c.longest es
+  sent_there es = ap (λ r. letters r d.longest es) (sym joined.far_role) ∙ ap (λ n1. letters (other c.role) n1 es) (sym joined.longest)
 
-  heard_many : (kind : Read → ℕ) (es : List Entry) → how_many kind (other d.role) d.longest es ≡ how_many kind c.role c.longest es
-  heard_many kind es = ap (λ r. how_many kind r d.longest es) joined.near_role ∙ ap (λ n1. how_many kind c.role n1 es) (sym joined.longest)
+  heard_there : (es : List Entry) → letters (other d.role) d.longest es ≡ letters c.role c.longest es
+  heard_there es = ap (λ r. letters r d.longest es) joined.near_role ∙ ap (λ n1. letters c.role n1 es) (sym joined.longest)
 
   abbrev ins : List Entry → List Letter
   ins es = letters c.role c.longest es
@@ -70,76 +72,73 @@ module _ {c d : Settings} (joined : AreJoined c d) (far : SessionEnd) where
   }
 
   module _ (es fs : List Entry) {met now : List Meeting} (p q : Phase) {b m : ℕ} {all those : ℕ → Peer} (out : List Entry) where
-    goes : {more : List Entry} (left from : List Letter) → IsLeft es fs → Puts ⊥ c out more → ins fs ≡ left → outs more ≡ from
-        → (AreOf far.begun (ins es) → Does (view (ins es) met p b all (outs out)) (view left now q m those from))
+    goes : {more : List Entry} (from : List Letter) → Less IsSeenIn es fs → Puts ⊥ c out more → outs more ≡ from
+        → (AreOf far.begun (ins es) → Does (view (ins es) met p b all (outs out)) (view (ins fs) now q m those from))
         → IsPeerOf es met p b all out → IsPeerOf fs now q m those more
-    goes {more} left from less puts back there does h = goes_on _ _ h (Theirs (at fs now (end q m those) more) (record {
-      does = λ crossing. rw (twice_turned met, twice_turned now, back, there) (does crossing);
+    goes {more} from less puts there does h = goes_on _ _ h (Theirs (at fs now (end q m those) more) (record {
+      does = λ crossing. rw (twice_turned met, twice_turned now, there) (does crossing);
       left = less;
       puts = puts;
     }))
 
     -- it puts a frame on the line
-    sent : (n : ℕ) (octets : List ℕ) (f : PlainFrame) → sends_read d octets ≡ Ok f → IsLeft es fs
+    sent : (n : ℕ) (octets : List ℕ) (f : PlainFrame) → sends_read d octets ≡ Ok f → Less IsSeenIn es fs
         → (AreOf far.begun (ins es) → Does (view (ins es) met p b all (outs out)) (view (ins fs) now q m those (outs out ++ letter n (said (Ok f)) ∷ [])))
         → IsPeerOf es met p b all out → IsPeerOf fs now q m those (out ++ entry n octets ∷ [])
     sent n octets f read less does h =
         let is = sym (there joined octets) ∙ read in
-        goes (ins fs) (outs out ++ letter n (said (Ok f)) ∷ []) less (puts_frame n octets f is) refl
+        goes (outs out ++ letter n (said (Ok f)) ∷ []) less (puts_frame n octets f is)
         (letters_push (other c.role) c.longest out n octets (Ok f) is) does h
 
     -- or none
-    stays : IsLeft es fs → (AreOf far.begun (ins es) → Does (view (ins es) met p b all (outs out)) (view (ins fs) now q m those (outs out)))
+    stays : Less IsSeenIn es fs → (AreOf far.begun (ins es) → Does (view (ins es) met p b all (outs out)) (view (ins fs) now q m those (outs out)))
         → IsPeerOf es met p b all out → IsPeerOf fs now q m those out
-    stays less does h = goes (ins fs) (outs out) less nothing refl refl does h
+    stays less does h = goes (outs out) less nothing refl does h
 
   passes : (e : Entry) (es : List Entry) (met : List Meeting) (p : Phase) (b : ℕ) (all : ℕ → Peer) (out : List Entry) → IsPeerOf (e ∷ es) met p b all out
       → IsPeerOf es (heard_in d p b e met) p b all out
-  passes e es met p b all out h = stays (e ∷ es) es p p out (without 0) (λ crossing. rw (same_met p b e met) (moves _ (hears _ (ins es) refl))) h
+  passes e es met p b all out h = stays (e ∷ es) es p p out (0, gone e es) (λ crossing. rw (same_met p b e met) (moves _ (hears _ (ins es) refl))) h
 
   leaves_now : {es : List Entry} (met : List Meeting) (p : Phase) {b : ℕ} {all : ℕ → Peer} {out : List Entry} → IsPeerOf es met p b all out
       → IsPeerOf es met Down b all out
-  leaves_now {es} met p {out = out} h = stays es es p Down out untouched (λ crossing. moves _ leaves) h
+  leaves_now {es} met p {out = out} h = stays es es p Down out (_, untouched es) (λ crossing. moves _ leaves) h
 
   pub peer_may : MayDo d (λ p es. MayAsk p (Unit {0})) IsPeerOf
   peer_may = record {
     handed = λ es met b all out packet h. goes_on _ _ h (HandsDown packet refl);
-    tells = λ es met b all out octets f q read number may h. sent es es Up Up out b octets f read untouched
+    tells = λ es met b all out octets f q read number may h. sent es es Up Up out b octets f read (_, untouched es)
         (λ crossing. tells_does (view (ins es) met Up b all (outs out)) f q refl number may) h;
-    declines = λ es met p b all out octets f read h. sent es es p p out b octets (dm f) read untouched (λ crossing. moves _ free) h;
+    declines = λ es met p b all out octets f read h. sent es es p p out b octets (dm f) read (_, untouched es) (λ crossing. moves _ free) h;
     asks = λ es met p b all out octets pf read due clear h.
-        (sent es es p Waiting out b octets (sabm pf) read untouched (λ crossing. moves _ (asks (record {
-          sabm = omega (arith, clear.sabm, sent_many sabm_in out, many_said (other c.role) c.longest sabm_of out);
-          disc = omega (arith, clear.disc, sent_many disc_in out, many_said (other c.role) c.longest disc_of out);
-          ua = omega (arith, clear.ua, heard_many ua_in es, many_said c.role c.longest ua_of es);
+        (sent es es p Waiting out b octets (sabm pf) read (_, untouched es) (λ crossing. moves _ (asks (record {
+          sabm = rw (sym (sent_there out)) clear.sabm;
+          disc = rw (sym (sent_there out)) clear.disc;
+          ua = rw (sym (heard_there es)) clear.ua;
           crossing = crossing;
         }))) h);
-    closes = λ es met p b all out octets pf read h. sent es es p Closed out b octets (disc pf) read untouched (λ crossing. moves _ closes) h;
+    closes = λ es met p b all out octets pf read h. sent es es p Closed out b octets (disc pf) read (_, untouched es) (λ crossing. moves _ closes) h;
     leaves = λ es met b all out h. leaves_now met Up h;
     gives_up = λ es met b all out due clear h. leaves_now met Waiting h;
     passes = passes;
     hears = λ e es met b all out q may h.
-        stays (e ∷ es) es Up Up out (without 0) (λ crossing. rw (same_met Up b e met) (listens _ (ins es) q refl refl (rw (sym (here joined e.octets)) may))) h;
-    takes_ua = λ e es met b all out read h. stays (e ∷ es) es Waiting Up out (without 0)
+        stays (e ∷ es) es Up Up out (0, gone e es)
+        (λ crossing. rw (same_met Up b e met) (listens _ (ins es) q refl refl (rw (sym (here joined e.octets)) may))) h;
+    takes_ua = λ e es met b all out read h. stays (e ∷ es) es Waiting Up out (0, gone e es)
         (λ crossing. moves _ (takes_ua e.session (ins es) (front e es (Ok (ua true)) read) refl)) h;
     takes_sabm = λ e es met p b all out octets pf f read answer part h.
-        sent (e ∷ es) es p Up out (suc b) octets (ua f) answer (without 0)
+        sent (e ∷ es) es p Up out (suc b) octets (ua f) answer (0, gone e es)
         (λ crossing. moves _ (takes_sabm e.session (ins es) (front e es (Ok (sabm pf)) read))) h;
     waits_on = λ e es met b all out octets pf f read answer h.
-        sent (e ∷ es) es Waiting Waiting out b octets (ua f) answer (without 0)
+        sent (e ∷ es) es Waiting Waiting out b octets (ua f) answer (0, gone e es)
         (λ crossing. moves _ (waits_on e.session (ins es) (front e es (Ok (sabm pf)) read) refl)) h;
     takes_disc = λ e es met b all out octets pf f read answer h.
         leaves_now met Up
-        (sent (e ∷ es) es Up Up out b octets (ua f) answer (without 0) (λ crossing. moves _ (takes_disc e.session (ins es) (front e es (Ok (disc pf)) read)))
+        (sent (e ∷ es) es Up Up out b octets (ua f) answer (0, gone e es) (λ crossing. moves _ (takes_disc e.session (ins es) (front e es (Ok (disc pf)) read)))
         h);
     faults = λ e es met b all out octets f why ending read h.
-        sent es es Down Down out b octets (frmr f why) read untouched (λ crossing. moves _ free)
+        sent es es Down Down out b octets (frmr f why) read (_, untouched es) (λ crossing. moves _ free)
         (leaves_now (heard_in d Up b e met) Up (passes e es met Up b all out h));
-    loses = λ es met p b all out i h. goes es (remove es i) p p out (remove (ins es) i) (outs out) (without i) nothing (letters_removed c.role c.longest es i)
-        refl (λ crossing. moves _ (loses i)) h;
-    damages = λ es met p b all out i octets visible h.
-        goes es (replaced es i octets) p p out (ends.spoilt (ins es) i) (outs out) (damaged i octets visible) nothing
-        (letters_replaced c.role c.longest octets visible es i) refl (λ crossing. moves _ (damages i)) h;
+    loses = λ {i} met p b all out l h. stays _ _ p p out (i, l) (λ crossing. moves _ (loses i _ (letters_less c.role c.longest l))) h;
   }
 
 -- ---- what the other end does
@@ -172,14 +171,14 @@ module _ (c d : Settings) (joined : AreJoined c d) (reads : ReadsSpelled) (rests
 
   -- ---- the other end acts, which sees it as its peer
 
-  pub tags_there : (b : ℕ) (es : List Entry) → AllAskedIn d.role d.longest b es → AllAskedIn (other c.role) c.longest b es
+  pub tags_there : (b : ℕ) (es : List Entry) → AreOf b (letters d.role d.longest es) → AreOf b (letters (other c.role) c.longest es)
   tags_there b es h = rw joined.longest (rw joined.far_role h)
 
-  station_timely : (a : Act) (w : Sessions) (p : PeerEnd) → AllAskedIn d.role d.longest p.begun w.back → IsTimely c d a w
+  station_timely : (a : Act) (w : Sessions) (p : PeerEnd) → AreOf p.begun (letters d.role d.longest w.back) → IsTimely c d a w
       → sessions.IsTimely c a (with_peer p w)
   station_timely T1 w p tags timely = λ waiting.
       (let none = timely waiting in record {
-        sabm = omega (arith, none, heard_many joined w.far sabm_in w.out);
+        sabm = omega (arith, none, ap (how_many sabm_of) (heard_there joined w.far w.out));
         ua = omega (arith, none);
         crossing = tags_there p.begun w.back tags;
       })
@@ -193,7 +192,7 @@ module _ (c d : Settings) (joined : AreJoined c d) (reads : ReadsSpelled) (rests
     given = λ n. h.given n ∙ ap (λ e. e.down n) (sym still.far);
     taken = λ n. h.taken n ∙ ap (λ e. e.up n) (sym still.far);
     later = rw still.far h.later;
-    tags = rw still.far (asked_fewer d.role d.longest w.far.begun still.less h.tags);
+    tags = rw still.far (are_less w.far.begun (letters_less d.role d.longest still.less.1) h.tags);
   }
     where
       v : Sessions
@@ -231,20 +230,32 @@ module _ (c d : Settings) (joined : AreJoined c d) (reads : ReadsSpelled) (rests
   }
 
   own_timely : (a : Act) (w : Sessions) → IsTimely d c a w → own.IsTimely (kind w) a w
-  own_timely T1 w timely = λ waiting. (let none = timely waiting in (omega (arith, none, sent_many joined w.far sabm_in w.out), omega (arith, none), tt))
+  own_timely T1 w timely = λ waiting.
+      (let none = timely waiting in (omega (arith, none, ap (how_many sabm_of) (sent_there joined w.far w.out)), omega (arith, none), tt))
   own_timely Connect w timely = λ _. tt
   own_timely a w timely = tt
 
   own_acts : (a : Act) (w : Sessions) → IsTimely d c a w
-      → Owes w.near.station.phase (how_many sabm_in d.role d.longest w.out + how_many ua_in (other d.role) d.longest w.back)
-      (how_many disc_in d.role d.longest w.out) → S w → S (acts d a w)
+      → OwesOn w.near.station.phase (letters d.role d.longest w.out) (letters (other d.role) d.longest w.back) → S w → S (acts d a w)
   own_acts a w timely owed h = rw (acts_still d a w).far (own.station_acts (kind w) a w (own_timely a w timely) owed h)
 
   -- the other end, which sees it as its peer, with what that has on the line
   pub other_owes : {w : Sessions} → S w
-      → Owes w.far.station.phase (how_many sabm_in c.role c.longest w.back + how_many ua_in (other c.role) c.longest w.out)
-      (how_many disc_in c.role c.longest w.back)
+      → OwesOn w.far.station.phase (letters c.role c.longest w.back) (letters (other c.role) c.longest w.out)
   other_owes {w} h = owes_is reads rests joined.near_high h.reached
+
+-- ---- UA with F=0 comes
+
+no_link_up : (d : Settings) (octets : List ℕ) (s : LinkStation) (p : Phase) → (takes d octets (Ok (ua false)) p (alone s)).notes.up ≡ false
+no_link_up d octets s Down = refl
+no_link_up d octets s Waiting = refl
+no_link_up d octets s Up = refl
+no_link_up d octets s Closed = refl
+
+by_final : (d : Settings) (w : Sessions) (e : Entry) (rest : List Entry) → w.back ≡ e ∷ rest → hears_read d e.octets ≡ Ok (ua false)
+    → (acts d Deliver w).near.begun ≡ w.near.begun
+by_final d w e rest is read =
+    rw (is, read) (ap (λ up. begun_by up w.near.begun) (no_link_up d e.octets w.near.station w.near.station.phase))
 
 -- ---- both ends
 
@@ -301,13 +312,14 @@ module _ (reads : ReadsSpelled) (rests : SessionLaws) where
       → Both c d (run c d events begin)
   throughout_both {c} {d} joined {begin} is events timely = run_both events timely (begin_both joined is)
 
-  is_peer : {c d : Settings} (joined : AreJoined c d) {w : Sessions} → SeenAt c d joined w → IsPeer c w
+  is_peer : {c d : Settings} (joined : AreJoined c d) {w : Sessions} → SeenAt c d joined w → IsPeer c d w
   is_peer {c} {d} joined {w} h = record {
     peer = end joined w.far w.near.station.phase w.near.begun h.all;
     reached = h.reached;
     begun = refl;
     given = h.given;
     taken = h.taken;
+    final = by_final d w;
   }
 
   pub both_peers : Throughout AreBothPeers

@@ -1,5 +1,5 @@
 -- Each event at a station over sessions is what an end that keeps the rules may do.
-use Rattle.std.proofs.Common.{◌≡◌, ◌≤◌, ℕ, suc, ◌+◌, List, [], ◌∷◌, ◌++◌, ◌⊎◌, inl, inr, length, Bool, true, false, not, if◌then◌else◌, Option, Some, None, Ok}
+use Rattle.std.proofs.Common.{◌≡◌, ◌≤◌, ℕ, suc, List, [], ◌∷◌, ◌++◌, ◌⊎◌, inl, inr, length, Bool, true, false, not, if◌then◌else◌, Option, Some, None, Ok}
 use Rattle.std.proofs.{Common.{refl, sym, ap, ◌∙◌, subst, arith, append-nil}, lemmas.Bool.{leb-true}}
 use Rattle.std.specs.Prelude.{nat_le, nat_lt, option_to_list}
 use Rattle.x25_frame.specs.Frame.{PlainFrame, sabm, disc, ua}
@@ -10,13 +10,14 @@ use Rattle.x25_link.specs.{Link.{disconnect_refusal, abandon_step}, laws.SetUp.{
 use Rattle.x25_link.specs.laws.WindowLaw.{window_of, Follows, IsOut}
 use Rattle.x25_window.specs.{laws.Window.{after}, laws.Window.Step.{HandDown}}
 use Rattle.x25_line.specs.laws.Stations.{Act, Put, Deliver, T1, Connect, Disconnect, Abandon, Probe, Lose, Damage, is_visible}
-use Rattle.x25_line.specs.{laws.Sessions.{Entry, Sessions, sabm_in, ua_in, disc_in, how_many, sent_in, after_step, unless, delivered, acts}, laws.Peer.{Peer}}
+use Rattle.x25_line.specs.{laws.Sessions.{Entry, Sessions, letters, sent_in, after_step, unless, delivered, acts}, laws.Peer.{Peer}}
+use Rattle.x25_line.specs.laws.Said.{said, sabm_of, ua_of, how_many}
 use Rattle.x25_line.proofs.{StationHears.{sabm_or_not, sets_none_up}, StationSends.{within_push}, StationSteps.{no_packet_of, not_afresh}}
-use Rattle.x25_line.proofs.{StationAway.{connects_from, closed_takes}, sessions.SessionLines.{Read}, sessions.SessionHeld.{Owes}}
+use Rattle.x25_line.proofs.{StationAway.{connects_from, closed_takes}, sessions.SessionLines.{Read}, sessions.SessionHeld.{OwesOn}}
 use Rattle.x25_line.proofs.sessions.SessionMay.{hears_read, IsClear, Known, Kind}
 use Rattle.x25_line.proofs.sessions.SessionSeen.{Seen, build_quiet, stays_seen, reached_in, unchanged, changed}
 use Rattle.x25_line.proofs.sessions.SessionSeenActs.{put_none, put_asks, put_closes, sets_up_seen, up_seen, out_seen, answer_seen, waiting_seen}
-use Rattle.x25_line.proofs.Choices.{unless_by, if_by}
+use Rattle.x25_line.proofs.{Choices.{unless_by, if_by}, Losses.{removes, replaces_in}}
 use Rattle.x25_link.specs.declared.error.LinkError.TheVariants as error
 
 -- the UA that is awaited, or none such
@@ -44,16 +45,15 @@ module _ {d : Settings} (k : Kind d) where
 
   -- its SABMs and the UAs to it that are on the line, and its DISCs
   abbrev pub OwesAt : Sessions → Type 0
-  OwesAt w = Owes w.near.station.phase (how_many sabm_in d.role d.longest w.out + how_many ua_in (other d.role) d.longest w.back)
-      (how_many disc_in d.role d.longest w.out)
+  OwesAt w = OwesOn w.near.station.phase (letters d.role d.longest w.out) (letters (other d.role) d.longest w.back)
 
   owes_at : (w : Sessions) (p : Phase) → w.near.station.phase ≡ p → OwesAt w
-      → Owes p (how_many sabm_in d.role d.longest w.out + how_many ua_in (other d.role) d.longest w.back) (how_many disc_in d.role d.longest w.out)
+      → OwesOn p (letters d.role d.longest w.out) (letters (other d.role) d.longest w.back)
   owes_at w p is owes = rw (sym is) owes
 
   -- T1 may run out while it awaits UA
   abbrev pub IsOver : Sessions → Type 0
-  IsOver w = (how_many sabm_in d.role d.longest w.out ≡ 0) × (how_many ua_in (other d.role) d.longest w.back ≡ 0) × k.Due Waiting w.back
+  IsOver w = (how_many sabm_of (letters d.role d.longest w.out) ≡ 0) × (how_many ua_of (letters (other d.role) d.longest w.back) ≡ 0) × k.Due Waiting w.back
 
   abbrev pub IsTimely : Act → Sessions → Type 0
   IsTimely T1 w = w.near.station.phase ≡ Waiting → IsOver w
@@ -176,14 +176,15 @@ module _ {d : Settings} (k : Kind d) where
       r : Read
       r = hears_read d e.octets
 
-      sets_up : (p : Bool) → r ≡ Ok (sabm p) → TakesPart w.near.station.phase → how_many sabm_in d.role d.longest w.out ≡ 0 → S (delivered d (e ∷ es) w)
+      sets_up : (p : Bool) → r ≡ Ok (sabm p) → TakesPart w.near.station.phase → how_many sabm_of (letters d.role d.longest w.out) ≡ 0
+          → S (delivered d (e ∷ es) w)
       sets_up p read part unasked = sets_up_seen k w h e es is p read part (k.rests.laws.set_up.sets_up d e.octets w.near.station part p read) unasked
 
       -- the UA comes, so no SABM is on the line
-      answered : w.near.station.phase ≡ Waiting → r ≡ Ok (ua true) → how_many sabm_in d.role d.longest w.out ≡ 0
+      answered : w.near.station.phase ≡ Waiting → r ≡ Ok (ua true) → how_many sabm_of (letters d.role d.longest w.out) ≡ 0
       answered waiting read =
-          let one : ua_in r ≡ 1 = ap ua_in read in
-          omega (arith, (owes_at w Waiting waiting owes).0, ap (how_many ua_in (other d.role) d.longest) is, one)
+          let one : ua_of (said r) ≡ 1 = ap (λ r. ua_of (said r)) read in
+          omega (arith, (owes_at w Waiting waiting owes).0, ap (λ es. how_many ua_of (letters (other d.role) d.longest es)) is, one)
 
       by : (p : Phase) → w.near.station.phase ≡ p → S (delivered d (e ∷ es) w)
       by Down phase = (let owed = owes_at w Down phase owes in elim (sabm_or_not r) [
@@ -223,7 +224,7 @@ module _ {d : Settings} (k : Kind d) where
   station_acts Disconnect w timely owes h = unless_by S (disconnect_refusal w.near.station.phase) h (λ accepted. disconnect_seen w h accepted)
   station_acts Abandon w timely owes h = if_by S (is_up w.near.station.phase) h (λ up. abandon_seen w h up)
   station_acts Probe w timely owes h = if_by S (is_up w.near.station.phase) h (λ up. timer_up w h up)
-  station_acts (Lose i) w timely owes h = line_seen h (k.does.loses w.back w.met w.near.station.phase w.near.begun h.all w.out i h.reached)
+  station_acts (Lose i) w timely owes h = line_seen h (k.does.loses w.met w.near.station.phase w.near.begun h.all w.out (removes w.back i) h.reached)
   station_acts (Damage i octets) w timely owes h =
       if_by S (is_visible octets) h (λ visible. line_seen h
-      (k.does.damages w.back w.met w.near.station.phase w.near.begun h.all w.out i octets visible h.reached))
+      (k.does.loses w.met w.near.station.phase w.near.begun h.all w.out (replaces_in octets visible w.back i) h.reached))

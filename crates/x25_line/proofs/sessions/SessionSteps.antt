@@ -6,12 +6,12 @@ use Rattle.std.specs.{Prelude.{option_to_list}, List.{Contains}}
 use Rattle.x25_frame.specs.{Frame.{PlainFrame, frmr}, Spelling.{spelling_of}, laws.ReadingLaw.{ReadsSpelled}}
 use Rattle.x25_link.specs.{declared.phase.Phase.{Phase}, declared.phase.Phase.TheVariants.{Waiting, Closed}, Station.{Settings, awaits_ua}}
 use Rattle.x25_link.specs.Hearing.{Step, other}
-use Rattle.x25_line.specs.{laws.Stations.{Stations}, laws.StationClaims.{AreJoined, NoFrmr, AreWhole, numbered_on}}
-use Rattle.x25_line.specs.{laws.Sessions.{Entry, SessionEnd, Meeting, Sessions, ua_in, how_many, sent_in, extended}, laws.WholeNumbers.{machine_after}}
+use Rattle.x25_line.specs.{laws.Stations.{Stations}, laws.StationClaims.{AreJoined, NoFrmr, AreWhole, numbered_on}, laws.Said.{Said, ua_of, how_many}}
+use Rattle.x25_line.specs.{laws.Sessions.{Entry, SessionEnd, Meeting, Sessions, letters, sent_in, extended}, laws.WholeNumbers.{machine_after}}
 use Rattle.x25_line.specs.{laws.SessionNumbers.{Standing, standing_after}, laws.SessionClaims.{AllOf}}
 use Rattle.x25_line.proofs.StationLines.{AreParting, parts_of, no_frmr_append, parting_no_frmr, parting_numbered, parting_whole}
 use Rattle.x25_line.proofs.StationSteps.{StepLeads, FitsEnd, not_both}
-use Rattle.x25_line.proofs.sessions.SessionLines.{Read, octets_sent, count, numbers, quiet_of, of_sent, many_sent}
+use Rattle.x25_line.proofs.sessions.SessionLines.{octets_sent, count, numbers, quiet_of, of_sent, many_sent}
 use Rattle.x25_line.proofs.sessions.SessionHeld.{IsThere, Owes, HasLists, SameLists, lists_same, Held, stays_on, extended_nil}
 use Rattle.x25_line.proofs.sessions.SessionHeld.{extended_same, extended_more, whole_on, whole_apart, is_there, is_out, there_more, counted_there}
 use Rattle.x25_line.specs.laws.Stations as one
@@ -70,11 +70,11 @@ asked_by p h g = absurd (omega (arith, h, g.0))
 
 -- UA is sent to an end that is Closed alone, and none is awaited
 abbrev pub Answers : Sessions → Step → Type 0
-Answers w step = ((w.far.station.phase ≡ Closed) ⊎ (count ua_in step.side.out ≡ 0)) × (awaits_ua step.side.near.phase ≡ false)
+Answers w step = ((w.far.station.phase ≡ Closed) ⊎ (count ua_of step.side.out ≡ 0)) × (awaits_ua step.side.near.phase ≡ false)
 
 module _ {c d : Settings} (joined : AreJoined c d) (reads : ReadsSpelled) where
-  pub many_out : (kind : Read → ℕ) (s : ℕ) (given : List (List ℕ)) (fs : List PlainFrame) → AreWhole d.longest given fs
-      → how_many kind (other d.role) d.longest (sent_in s c.role fs) ≡ count kind fs
+  pub many_out : (kind : Said → ℕ) (s : ℕ) (given : List (List ℕ)) (fs : List PlainFrame) → AreWhole d.longest given fs
+      → how_many kind (letters (other d.role) d.longest (sent_in s c.role fs)) ≡ count kind fs
   many_out kind s given fs h = rw joined.near_role (many_sent reads c.role d.longest kind s given fs h)
 
   -- ---- an end that is in the session
@@ -96,11 +96,11 @@ module _ {c d : Settings} (joined : AreJoined c d) (reads : ReadsSpelled) where
       now : Stations
       now = one.after_step c h.alone os down step
 
-      none_to : w.far.station.phase ≡ Waiting → how_many ua_in (other d.role) d.longest more ≡ 0
+      none_to : w.far.station.phase ≡ Waiting → how_many ua_of (letters (other d.role) d.longest more) ≡ 0
       none_to waiting =
           elim answers.0 [
             | inl closed ↦ waiting_is_closed w.far.station.phase waiting closed
-            | inr none ↦ many_out ua_in w.near.begun (now.near.down ++ now.far.down) fs
+            | inr none ↦ many_out ua_of w.near.begun (now.near.down ++ now.far.down) fs
                 (whole_behind d.longest (now.near.down ++ now.far.down) h.alone.sent fs holds.whole) ∙ none
           ]
 
@@ -145,7 +145,7 @@ module _ {c d : Settings} (joined : AreJoined c d) (reads : ReadsSpelled) where
 
   pub apart_held : {stand : Standing} (w : Sessions) (h : Held stand c d w) (es : List Entry) (met : List Meeting) (n : ℕ) (step : Step) → step.packet ≡ None
       → IsThere step.side.near.phase (other c.role) c.longest step.side.near n es h.alone.near.station h.alone.back stand.near stand.far
-      → AreParting step.side.out → count ua_in step.side.out ≡ 0
+      → AreParting step.side.out → count ua_of step.side.out ≡ 0
       → Held (went_by c step None stand) c d (stepped c w es met [] n step)
   apart_held {stand} w h es met n step none there parting no_ua =
       let same = nothing_handed w.near n step none in
@@ -154,7 +154,7 @@ module _ {c d : Settings} (joined : AreJoined c d) (reads : ReadsSpelled) where
         holds = h.holds;
         near = there;
         far = rw (sym (append-nil h.alone.out))
-            (there_more more [] quiet (quiet_of (other d.role) d.longest stand.near more quiet) (λ waiting. many ua_in ∙ no_ua) h.far);
+            (there_more more [] quiet (quiet_of (other d.role) d.longest stand.near more quiet) (λ waiting. many ua_of ∙ no_ua) h.far);
         near_lists = lists_same same h.near_lists;
         far_lists = h.far_lists;
         no_frmr = no_frmr_append w.sent fs h.no_frmr (parting_no_frmr fs (parts_of fs parting));
@@ -173,7 +173,7 @@ module _ {c d : Settings} (joined : AreJoined c d) (reads : ReadsSpelled) where
           ∙ subst (λ r. numbered_on r d.longest (map (spelling_of c.role) step.side.out) ≡ []) (sym joined.near_role)
           (parting_numbered reads c.role d.longest step.side.out (parts_of step.side.out parting))
 
-      many : (kind : Read → ℕ) → how_many kind (other d.role) d.longest more ≡ count kind step.side.out
+      many : (kind : Said → ℕ) → how_many kind (letters (other d.role) d.longest more) ≡ count kind step.side.out
       many kind = many_out kind n [] step.side.out (parting_whole d.longest [] step.side.out (parts_of step.side.out parting))
 
       is_on : stand ≡ went_by c step None stand

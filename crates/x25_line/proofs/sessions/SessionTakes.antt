@@ -6,8 +6,8 @@ use Rattle.x25_link.specs.{declared.phase.Phase.{Phase}, declared.phase.Phase.Th
 use Rattle.x25_link.specs.{laws.SetUp.{Is, TakesPart, waiting_sends, waiting_up}, Station.{Settings, LinkStation, is_up, fresh}, Hearing.{Step, other}}
 use Rattle.x25_link.specs.{Link.{take_step}, laws.WindowMachine.{ShowAll}, laws.WindowLaw.{window_of, brought_by, ending_of, IsOut, AreDeclining, StaysOut}}
 use Rattle.x25_line.specs.{laws.StationClaims.{AreJoined, number_in, numbered_on}, laws.WholeNumbers.{first_of}, laws.SessionClaims.{octets_of}}
-use Rattle.x25_line.specs.laws.SessionNumbers.{Standing, is_sabm, is_set_up, anew, place_to_hear}
-use Rattle.x25_line.specs.{laws.Sessions.{Entry, Meeting, Sessions, sabm_in, ua_in, disc_in, how_many, begun_by, after_step, heard}, laws.LawsBelow.{Laws}}
+use Rattle.x25_line.specs.{laws.SessionNumbers.{Standing, is_sabm, is_set_up, anew, place_to_hear}, laws.Said.{Said, said, sabm_of, ua_of, disc_of, how_many}}
+use Rattle.x25_line.specs.{laws.Sessions.{Entry, Meeting, Sessions, letters, begun_by, after_step, heard}, laws.LawsBelow.{Laws}}
 use Rattle.x25_line.proofs.{StationLines.{consed, AreParting}, StationSteps.{StepLeads, read_joint, declining_parting, out_not_up}}
 use Rattle.x25_line.proofs.StationAway.{closed_takes, waits_on, waiting_parting}
 use Rattle.x25_line.proofs.sessions.SessionLines.{Read, count, numbers, quiet_of, carried, carried_numbers, carried_orderly, by_first, behind_ua, behind_quiet}
@@ -19,16 +19,16 @@ use Rattle.x25_line.proofs.{sessions.SessionSeenSteps.{is_answer}, sessions.Sess
 -- ---- what comes
 
 abbrev IsNoSabm : Read → Type 0
-IsNoSabm r = sabm_in r ≡ 0
+IsNoSabm r = sabm_of (said r) ≡ 0
 
 -- ---- what is sent while UA is awaited
 
-waiting_none : (r : Read) → IsNoSabm r → count ua_in (waiting_sends r) ≡ 0
+waiting_none : (r : Read) → IsNoSabm r → count ua_of (waiting_sends r) ≡ 0
 waiting_none (Ok (sabm p)) no_sabm = absurd (omega (arith, no_sabm))
 waiting_none (Ok (disc p)) no_sabm = refl
 waiting_none r no_sabm = refl
 
-declining_none : (fs : List PlainFrame) → AreDeclining fs → count ua_in fs ≡ 0
+declining_none : (fs : List PlainFrame) → AreDeclining fs → count ua_of fs ≡ 0
 declining_none [] h = refl
 declining_none (dm f ∷ fs) h = omega (arith, declining_none fs h)
 declining_none (frame ∷ fs) h = absurd h
@@ -67,13 +67,14 @@ module _ {c d : Settings} (joined : AreJoined c d) (reads : ReadsSpelled) (laws 
   -- ---- the front is taken off the line
 
   module _ {stand : Standing} {w : Sessions} (h : Held stand c d w) (line : OnLine c d w) (e : Entry) (es : List Entry) (is : w.back ≡ e ∷ es) where
-    all_back : (kind : Read → ℕ) → how_many kind (other c.role) c.longest w.back ≡ kind (read_of c e) + how_many kind (other c.role) c.longest es
-    all_back kind = ap (how_many kind (other c.role) c.longest) is
+    all_back : (kind : Said → ℕ) → how_many kind (letters (other c.role) c.longest w.back)
+        ≡ kind (said (read_of c e)) + how_many kind (letters (other c.role) c.longest es)
+    all_back kind = ap (λ es. how_many kind (letters (other c.role) c.longest es)) is
 
     -- ---- a SABM
 
     quiet_left : (p : Bool) → read_of c e ≡ Ok (sabm p) → numbers (other c.role) c.longest es ≡ []
-    quiet_left p read = line.quiet e es is (ap sabm_in read)
+    quiet_left p read = line.quiet e es is (ap (λ r. sabm_of (said r)) read)
 
     -- an end in a session that begins, to which nothing was told in it
     new_one : (s : LinkStation) (n : ℕ) (zs : List Entry) → fresh ≡ s → n ≡ suc w.near.begun → numbers (other c.role) c.longest zs ≡ []
@@ -91,7 +92,7 @@ module _ {c d : Settings} (joined : AreJoined c d) (reads : ReadsSpelled) (laws 
         let i = laws.set_up.sets_up c e.octets w.near.station part p read in
         let up : is_up (step_of c w e).side.near.phase ≡ true = ap (λ z. is_up z.phase) i.near in
         subst (λ n. Held (anew c d w) c d (stepped c w es (heard_by c w e) [] n (step_of c w e))) (sym (ap (λ b. begun_by b w.near.begun) i.up))
-        (begins_held joined reads w h line e es (heard_by c w e) is (ap sabm_in read) (suc w.near.begun) p (step_of c w e) i.packet i.out
+        (begins_held joined reads w h line e es (heard_by c w e) is (ap (λ r. sabm_of (said r)) read) (suc w.near.begun) p (step_of c w e) i.packet i.out
         (is_there (step_of c w e).side.near.phase up
         (new_one (step_of c w e).side.near (suc w.near.begun) es (sym i.near) refl (quiet_left p read))))
 
@@ -100,7 +101,7 @@ module _ {c d : Settings} (joined : AreJoined c d) (reads : ReadsSpelled) (laws 
     sabm_waiting p read waiting =
         let i : Is w.near.station (ua p ∷ []) None false (step_of c w e) = laws.set_up.waits c e.octets w.near.station waiting (Ok (sabm p)) (sym read) in
         quiet_held c d w es (heard_by c w e) [] (step_of c w e) i.up
-        (begins_held joined reads w h line e es (heard_by c w e) is (ap sabm_in read) w.near.begun p (step_of c w e) i.packet i.out
+        (begins_held joined reads w h line e es (heard_by c w e) is (ap (λ r. sabm_of (said r)) read) w.near.begun p (step_of c w e) i.packet i.out
         (is_soon (step_of c w e).side.near.phase (ap (λ z. z.phase) i.near ∙ waiting)
         (λ _. new_one fresh (suc w.near.begun) (behind_ua (other c.role) c.longest es) refl refl
         (behind_quiet (other c.role) c.longest es (quiet_left p read)))))
@@ -128,13 +129,13 @@ module _ {c d : Settings} (joined : AreJoined c d) (reads : ReadsSpelled) (laws 
         (apart_held joined reads w h es (heard_by c w e) (suc w.near.begun) (step_of c w e) i.packet
         (is_there (step_of c w e).side.near.phase (ap (λ z. is_up z.phase) i.near)
         (record { station = now.station ∙ sym i.near; session = now.session; comes = now.comes; of = now.of }))
-        (subst AreParting (sym i.out) tt) (ap (count ua_in) i.out))
+        (subst AreParting (sym i.out) tt) (ap (count ua_of) i.out))
       where
         i : Is fresh [] None true (step_of c w e)
         i = laws.set_up.waits c e.octets w.near.station waiting (Ok (ua true)) (sym read)
 
-        one_ua : ua_in (read_of c e) ≡ 1
-        one_ua = ap ua_in read
+        one_ua : ua_of (said (read_of c e)) ≡ 1
+        one_ua = ap (λ r. ua_of (said r)) read
 
         now : IsOf (other c.role) c.longest fresh (suc w.near.begun) es h.alone.near.station h.alone.back stand.near stand.far
         now =
@@ -151,8 +152,8 @@ module _ {c d : Settings} (joined : AreJoined c d) (reads : ReadsSpelled) (laws 
         quiet_held c d w es (heard_by c w e) [] (step_of c w e) (i.up ∙ no_answer)
         (apart_held joined reads w h es (heard_by c w e) w.near.begun (step_of c w e) i.packet
         (rw same (there_passes e waiting (let owes = waiting_owes waiting line.near_owes in
-        omega (arith, ap (how_many ua_in (other c.role) c.longest) is, owes.0)) at_front))
-        (subst AreParting (sym i.out) (waiting_parting (read_of c e))) (ap (count ua_in) i.out ∙ waiting_none (read_of c e) no_sabm))
+        omega (arith, ap (λ es. how_many ua_of (letters (other c.role) c.longest es)) is, owes.0)) at_front))
+        (subst AreParting (sym i.out) (waiting_parting (read_of c e))) (ap (count ua_of) i.out ∙ waiting_none (read_of c e) no_sabm))
 
     -- ---- in Up
 
@@ -183,8 +184,8 @@ module _ {c d : Settings} (joined : AreJoined c d) (reads : ReadsSpelled) (laws 
             (laws.window.take c e.octets h.alone.near.station (record { up = i.machine.up; sound = i.machine.sound }) (read_of c e) refl))
 
         -- who sent a DISC is Closed
-        closed : disc_in (read_of c e) ≡ 1 → w.far.station.phase ≡ Closed
-        closed one = closed_by w.far.station.phase _ _ (omega (arith, all_back disc_in, one)) line.far_owes
+        closed : disc_of (said (read_of c e)) ≡ 1 → w.far.station.phase ≡ Closed
+        closed one = closed_by w.far.station.phase _ _ (omega (arith, all_back disc_of, one)) line.far_owes
 
         answers : Answers w (step_of c w e)
         answers =

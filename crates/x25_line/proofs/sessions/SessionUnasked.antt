@@ -1,20 +1,21 @@
 -- Where none asks for set-up, no session begins, until a Connect is accepted; so the link isn't set up anew.
-use Rattle.std.proofs.Common.{◌≡◌, ◌≤◌, ℕ, ◌+◌, List, [], ◌∷◌, ◌++◌, length, inr, Bool, true, false, Ok, refl, sym, ap, ◌∙◌, subst, arith}
-use Rattle.std.specs.Prelude.{◌||◌}
+use Rattle.std.proofs.Common.{◌≡◌, ◌≤◌, ℕ, ◌+◌, List, [], ◌∷◌, ◌++◌, length, suc, inr, Bool, true, false, Ok, refl, sym, ap, ◌∙◌, subst, arith}
+use Rattle.std.specs.Prelude.{nat_lt, ◌||◌}
+use Rattle.std.proofs.lemmas.Bool.{lt-ltb, ltb-false}
 use Rattle.x25_frame.specs.{Frame.{disc, ua, dm, frmr}, laws.ReadingLaw.{ReadsSpelled}}
-use Rattle.x25_link.specs.{declared.phase.Phase.{Phase}, declared.phase.Phase.TheVariants.{Down, Waiting, Up, Closed}, Station.{Settings, is_up}}
-use Rattle.x25_link.specs.{Hearing.{other}, Link.{connect_refusal}}
+use Rattle.x25_link.specs.{declared.phase.Phase.{Phase}, declared.phase.Phase.TheVariants.{Down, Waiting, Up, Closed}, Station.{Settings, is_up, fresh}}
+use Rattle.x25_link.specs.{Hearing.{other}, Link.{connect_refusal, timer_runs}}
 use Rattle.x25_line.specs.{laws.Stations.{StationEnd, Stations, Act, T1, Connect, LinkEvent, Near, Far, stations_swapped, start}, laws.Line.{line_swapped}}
 use Rattle.x25_line.specs.laws.StationClaims.{AreJoined, AcceptsNoConnect, AcceptsNoConnectAt, NoneConnects, OneLinkUnlessConnected}
-use Rattle.x25_line.specs.laws.Sessions.{Entry, SessionEnd, Sessions, sabm_in, how_many, begun_by, acts, swapped, happens, from_set_up}
+use Rattle.x25_line.specs.laws.Sessions.{Entry, SessionEnd, Sessions, letters, begun_by, acts, swapped, happens, from_set_up}
 use Rattle.x25_line.specs.{laws.WholeNumbers.{machine_at_start}, laws.SessionClaims.{Throughout}, laws.SessionEvents.{IsUnasked, BeginNone, NoneBeginUnasked}}
-use Rattle.x25_line.specs.laws.LawsBelow.{SessionLaws}
+use Rattle.x25_line.specs.{laws.LawsBelow.{SessionLaws}, laws.Loss.{LessAt}, laws.PeerSessions.{IsSeenIn}, laws.Said.{said, sabm_of, how_many}}
 use Rattle.x25_line.proofs.{StationSteps.{Holds, not_both}, StationAway.{is_up_phase}, sessions.SessionHeld.{Owes}}
-use Rattle.x25_line.proofs.{sessions.SessionLines.{Read, number_kinds, many_append}, sessions.EntryLines.{Less, many_less, less_removes, less_replaces}}
+use Rattle.x25_line.proofs.{sessions.SessionLines.{Read, number_kinds, many_append}, sessions.Letters.{letters_less}, ends.Lines.{count_less}}
 use Rattle.x25_line.proofs.{sessions.SessionMay.{sends_read, entry, Known, MayDo, Kind}, sessions.Acts.{acts_still}, sessions.SessionSeen.{Seen}}
 use Rattle.x25_line.proofs.sessions.SessionSeenSteps.{IsTimely, station_acts}
 use Rattle.x25_line.proofs.sessions.SessionSeenRuns.{other_owes, Both, both_swapped, event_both, begin_both}
-use Rattle.x25_line.proofs.{StationRuns.{act_joint, few_acts, joint_swapped, start_machine}, StationEvents.{each_hands_one}}
+use Rattle.x25_line.proofs.{StationRuns.{act_joint, few_acts, joint_swapped, start_machine}, StationEvents.{or_false, each_hands_one}}
 use Rattle.x25_line.proofs.{sessions.SessionsForgotten.{Lasts, Alike, happens_alike, turned_alike}, sessions.TwoSessions.{throughout_of}}
 use Rattle.x25_line.specs.laws.Stations as one
 use Rattle.x25_line.specs.laws.Sessions as session
@@ -23,59 +24,53 @@ use Rattle.x25_line.specs.laws.Sessions as session
 
 pub record IsQuiet (d : Settings) (n : ℕ) (es : List Entry) (p : Phase) (b : ℕ) (out : List Entry) : Type 0 where
   pub still : p ≡ Waiting → ⊥
-  pub comes : how_many sabm_in (other d.role) d.longest es ≡ 0
-  pub sent : how_many sabm_in d.role d.longest out ≡ 0
+  pub comes : how_many sabm_of (letters (other d.role) d.longest es) ≡ 0
+  pub sent : how_many sabm_of (letters d.role d.longest out) ≡ 0
   pub begun : b ≡ n
 
 module _ (d : Settings) (n : ℕ) where
   abbrev R : Known
   R es met p b all out = IsQuiet d n es p b out
 
-  push : {es out : List Entry} {p : Phase} {b : ℕ} (q : Phase) (octets : List ℕ) (r : Read) → sends_read d octets ≡ r → sabm_in r ≡ 0 → (q ≡ Waiting → ⊥)
+  push : {es out : List Entry} {p : Phase} {b : ℕ} (q : Phase) (octets : List ℕ) (r : Read) → sends_read d octets ≡ r → sabm_of (said r) ≡ 0 → (q ≡ Waiting → ⊥)
       → IsQuiet d n es p b out
       → IsQuiet d n es q b (out ++ entry b octets ∷ [])
   push {es} {out} {p} {b} q octets r read none still h =
-      let all = many_append d.role d.longest sabm_in out (entry b octets ∷ []) in
-      let one = ap sabm_in read in
+      let all = many_append d.role d.longest sabm_of out (entry b octets ∷ []) in
+      let one = ap (λ r. sabm_of (said r)) read in
       let before = h.sent in
       record { still = still; comes = h.comes; sent = omega (arith, all, one, none, before); begun = h.begun }
 
-  less : {es fs out : List Entry} {p : Phase} {b : ℕ} → Less es fs → IsQuiet d n es p b out → IsQuiet d n fs p b out
-  less {es} {fs} l h =
-      let fewer = many_less sabm_in refl refl (other d.role) d.longest l in
+  less : {i : ℕ} {es fs out : List Entry} {p : Phase} {b : ℕ} → LessAt IsSeenIn i es fs → IsQuiet d n es p b out → IsQuiet d n fs p b out
+  less l h =
+      let fewer = count_less sabm_of refl (letters_less (other d.role) d.longest l) in
       let none = h.comes in
       record { still = h.still; comes = omega (arith, fewer, none); sent = h.sent; begun = h.begun }
 
   front : {e : Entry} {es out : List Entry} {p : Phase} {b : ℕ} → IsQuiet d n (e ∷ es) p b out → IsQuiet d n es p b out
   front h = record { still = h.still; comes = omega (arith, h.comes); sent = h.sent; begun = h.begun }
 
-  not_up : Up ≡ Waiting → ⊥
-  not_up is = cc
-
-  not_down : Down ≡ Waiting → ⊥
-  not_down is = cc
-
-  not_closed : Closed ≡ Waiting → ⊥
-  not_closed is = cc
+  -- an end that awaits UA has a timer that runs
+  never : {q : Phase} → timer_runs q fresh ≡ false → q ≡ Waiting → ⊥
+  never stopped waits = not_both true refl (ap (λ q. timer_runs q fresh) (sym waits) ∙ stopped)
 
   quiet_may : MayDo d (λ p es. ⊥) R
   quiet_may = record {
     handed = λ es met b all out packet h. h;
-    tells = λ es met b all out octets f q read number may h. push Up octets (Ok f) read (number_kinds (Ok f) f number).0 not_up h;
+    tells = λ es met b all out octets f q read number may h. push Up octets (Ok f) read (number_kinds (Ok f) f number).0 (never refl) h;
     declines = λ es met p b all out octets f read h. push p octets (Ok (dm f)) read refl h.still h;
     asks = λ es met p b all out octets pf read due clear h. absurd due;
-    closes = λ es met p b all out octets pf read h. push Closed octets (Ok (disc pf)) read refl not_closed h;
-    leaves = λ es met b all out h. record { still = not_down; comes = h.comes; sent = h.sent; begun = h.begun };
+    closes = λ es met p b all out octets pf read h. push Closed octets (Ok (disc pf)) read refl (never refl) h;
+    leaves = λ es met b all out h. record { still = never refl; comes = h.comes; sent = h.sent; begun = h.begun };
     gives_up = λ es met b all out due clear h. absurd due;
     passes = λ e es met p b all out h. front h;
     hears = λ e es met b all out q may h. front h;
     takes_ua = λ e es met b all out read h. absurd (h.still refl);
-    takes_sabm = λ e es met p b all out octets pf f read answer part h. absurd (omega (arith, ap sabm_in read, h.comes));
+    takes_sabm = λ e es met p b all out octets pf f read answer part h. absurd (omega (arith, ap (λ r. sabm_of (said r)) read, h.comes));
     waits_on = λ e es met b all out octets pf f read answer h. absurd (h.still refl);
-    takes_disc = λ e es met b all out octets pf f read answer h. push Down octets (Ok (ua f)) answer refl not_down (front h);
-    faults = λ e es met b all out octets f why ending read h. push Down octets (Ok (frmr f why)) read refl not_down (front h);
-    loses = λ es met p b all out i h. less (less_removes es i) h;
-    damages = λ es met p b all out i octets visible h. less (less_replaces octets visible es i) h;
+    takes_disc = λ e es met b all out octets pf f read answer h. push Down octets (Ok (ua f)) answer refl (never refl) (front h);
+    faults = λ e es met b all out octets f why ending read h. push Down octets (Ok (frmr f why)) read refl (never refl) (front h);
+    loses = λ met p b all out l h. less l h;
   }
 
 -- ---- an event
@@ -144,21 +139,35 @@ module _ (reads : ReadsSpelled) (rests : SessionLaws) where
 
 -- ---- two stations by themselves, where no Connect is accepted
 
--- an end began a session, and where that is the first, its station by itself didn't note LinkUp
-record IsFirst (e : SessionEnd) (v : StationEnd) : Type 0 where
+-- an end began a session, and its station by itself noted LinkUp where that isn't the first
+pub record IsFirst (e : SessionEnd) (v : StationEnd) : Type 0 where
   pub station : v.station ≡ e.station
   pub low : 1 ≤ e.begun
-  pub once : e.begun ≡ 1 → v.came_up ≡ false
+  pub later : v.came_up ≡ nat_lt 1 e.begun
 
-first_lasts : Lasts IsFirst
+pub first_lasts : Lasts IsFirst
 first_lasts = record {
   station = λ e v h. h.station;
-  steps = λ e v h down step. (let k = goes_on e.begun v.came_up step.notes.up h.low h.once in record { station = refl; low = k.0; once = k.1 });
+  steps = λ e v h down step. (let k = goes_on e.begun v.came_up step.notes.up h.low h.later in record { station = refl; low = k.0; later = k.1 });
 }
   where
-    goes_on : (n : ℕ) (u b : Bool) → 1 ≤ n → (n ≡ 1 → u ≡ false) → (1 ≤ begun_by b n) × (begun_by b n ≡ 1 → (u || b) ≡ false)
-    goes_on n u true low once = (omega arith, λ is. absurd (omega (arith, is, low)))
-    goes_on n u false low once = (low, λ is. ap (λ x. x || false) (once is))
+    goes_on : (n : ℕ) (u b : Bool) → 1 ≤ n → u ≡ nat_lt 1 n → (1 ≤ begun_by b n) × ((u || b) ≡ nat_lt 1 (begun_by b n))
+    goes_on n true true low later = (omega arith, sym (lt-ltb 1 (suc n) (omega (arith, low))))
+    goes_on n false true low later = (omega arith, sym (lt-ltb 1 (suc n) (omega (arith, low))))
+    goes_on n u false low later = (low, or_false u ∙ later)
+
+-- the first session of an end, by what its station noted
+pub begun_once : {e : SessionEnd} {v : StationEnd} → IsFirst e v → v.came_up ≡ false → e.begun ≡ 1
+begun_once {e} h once = omega (arith, h.low, ltb-false 1 e.begun (sym h.later ∙ once))
+
+pub once_begun : {e : SessionEnd} {v : StationEnd} → IsFirst e v → e.begun ≡ 1 → v.came_up ≡ false
+once_begun h is = h.later ∙ ap (nat_lt 1) is
+
+-- a link that was just set up
+pub first_alike : Alike IsFirst ⊥ from_set_up start
+first_alike =
+    let fresh : IsFirst from_set_up.near start.near = record { station = refl; low = omega arith; later = refl } in
+    record { near = fresh; far = fresh; out = refl; back = refl; sent = λ never. refl }
 
 -- such stations, of which each noted one LinkDown at most, and they over sessions
 record OneLink (c d : Settings) (v : Stations) : Type 0 where
@@ -185,9 +194,10 @@ one_turned h = record {
   far_few = h.near_few;
 }
 
-timely_unasked : (c d : Settings) (a : Act) {w : Sessions} → IsUnasked c w → session.IsTimely c d a w
-timely_unasked c d T1 h = λ waiting. absurd (h.near waiting)
-timely_unasked c d a h = tt
+-- timer T1 is timely where no UA is awaited
+pub timely_unasked : (c d : Settings) (a : Act) (w : Sessions) → (w.near.station.phase ≡ Waiting → ⊥) → session.IsTimely c d a w
+timely_unasked c d T1 w still = λ waiting. absurd (still waiting)
+timely_unasked c d a w still = tt
 
 module _ (reads : ReadsSpelled) (rests : SessionLaws) where
   one_act : {c d : Settings} (a : Act) {v : Stations} → OneLink c d v → AcceptsNoConnect a v.near.station → OneLink c d (one.acts c a v)
@@ -195,10 +205,10 @@ module _ (reads : ReadsSpelled) (rests : SessionLaws) where
       let begins = act_begins_none reads rests h.both h.unasked a (subst (AcceptsNoConnect a) h.alike.near.station none) in
       let alike = happens_alike first_lasts c d (Near a) h.alike in
       let near = begins.near ∙ h.near in
-      let once = alike.near.once near in
+      let once = once_begun alike.near near in
       record {
         w = acts c a h.w;
-        both = event_both reads rests (Near a) (timely_unasked c d a h.unasked) h.both;
+        both = event_both reads rests (Near a) (timely_unasked c d a h.w h.unasked.near) h.both;
         unasked = begins.unasked;
         alike = alike;
         near = near;
@@ -216,16 +226,15 @@ module _ (reads : ReadsSpelled) (rests : SessionLaws) where
 
   pub stays_one_link : OneLinkUnlessConnected
   stays_one_link c d joined events none =
-      let fresh : IsFirst from_set_up.near start.near = record { station = refl; low = omega arith; once = λ is. refl } in
       let h = one_run events (record {
         w = from_set_up;
         both = begin_both reads rests joined (inr refl);
-        unasked = record { near = not_up c 1; far = not_up c 1; out = refl; back = refl };
-        alike = record { near = fresh; far = fresh; out = refl; back = refl; sent = λ never. refl };
+        unasked = record { near = never c 1 refl; far = never c 1 refl; out = refl; back = refl };
+        alike = first_alike;
         near = refl;
         far = refl;
         holds = (machine_at_start c d, start_machine joined);
         near_few = omega arith;
         far_few = omega arith;
       }) none in
-      record { once = record { near = h.alike.near.once h.near; far = h.alike.far.once h.far }; near = h.near_few; far = h.far_few }
+      record { once = record { near = once_begun h.alike.near h.near; far = once_begun h.alike.far h.far }; near = h.near_few; far = h.far_few }

@@ -7,7 +7,7 @@ use Rattle.x25_link.specs.{Station.{Settings, LinkStation, awaits_ua}, Hearing.{
 use Rattle.x25_link.specs.laws.WindowMachine.{Window, Input, Runs, rests, goes_on, Shows, ShowAll}
 use Rattle.x25_link.specs.laws.WindowLaw.{brought_by, MayHandUp, InputMayHandUp, Stays, Follows}
 use Rattle.x25_line.specs.{laws.StationClaims.{AreJoined, number_in, numbered_on}, laws.SessionClaims.{AllOf}}
-use Rattle.x25_line.specs.{laws.Sessions.{Entry, Meeting, Sessions, ua_in, begun_by, after_step}, laws.SessionNumbers.{Standing}}
+use Rattle.x25_line.specs.{laws.Sessions.{Entry, Meeting, Sessions, begun_by, after_step}, laws.Said.{ua_of}, laws.SessionNumbers.{Standing}}
 use Rattle.x25_line.proofs.{StationHears.{by_disc, by_reset}, StationSteps.{StepLeads}, StationAway.{is_up_phase, second_false}}
 use Rattle.x25_line.proofs.{sessions.SessionLines.{Read, none_is_some, count, AllNumbered, numbered_no_ua, numbers}, sessions.SessionHeld.{Held}}
 use Rattle.x25_line.proofs.{Lists.{each_append}, sessions.SessionSteps.{went_by, Answers, live_held}}
@@ -41,9 +41,9 @@ pub follows_answers : (w : Sessions) (o : Option Reason) (k : ℕ) (input : Inpu
     → (by_disc o ≡ 1 → w.far.station.phase ≡ Closed) → by_reset o ≡ 0 → Follows o k input s step → Answers w step
 follows_answers w None k input s step closed stays h = stays_answers w h
 follows_answers w (Some Disc) k input s step closed stays h = (inl (closed refl), ap awaits_ua h.phase)
-follows_answers w (Some FrmrSent) k input s step closed stays h = (inr (ap (count ua_in) h.frames.2), ap awaits_ua h.phase)
+follows_answers w (Some FrmrSent) k input s step closed stays h = (inr (ap (count ua_of) h.frames.2), ap awaits_ua h.phase)
 follows_answers w (Some Reset) k input s step closed stays h = absurd (omega (arith, stays))
-follows_answers w (Some reason) k input s step closed stays h = (inr (ap (count ua_in) h.frames), ap awaits_ua h.phase)
+follows_answers w (Some reason) k input s step closed stays h = (inr (ap (count ua_of) h.frames), ap awaits_ua h.phase)
 
 -- ---- a packet is handed up where a frame with a number comes
 

@@ -1,25 +1,26 @@
 -- A station over sessions and a peer are two ends that keep the rules, whatever the station does.
-use Rattle.std.proofs.Common.{◌≡◌, ℕ, suc, ◌+◌, List, [], ◌∷◌, ◌++◌, remove, true, Some, None, Ok, refl, ap, arith}
+use Rattle.std.proofs.Common.{◌≡◌, ℕ, suc, List, [], ◌∷◌, ◌++◌, true, Some, None, Ok, refl, ap, arith}
 use Rattle.x25_bits.specs.declared.role.Role.{Role}
 use Rattle.x25_frame.specs.{Frame.{PlainFrame, info, rr, rnr, rej, sabm, disc, ua, dm, frmr}, Reading.{frame_of}}
 use Rattle.x25_link.specs.{declared.phase.Phase.{Phase}, declared.phase.Phase.TheVariants.{Down, Waiting, Up}, Station.{Settings}, Hearing.{other}}
 use Rattle.x25_link.specs.laws.SetUp.{TakesPart}
-use Rattle.x25_line.specs.{laws.PeerSessions.{PeerEnd, stand_of, letters}, laws.PeerSessionClaims.{frmr_in}}
-use Rattle.x25_line.specs.laws.Ends.{Stand, In, Asking, Letter, letter, how_many, AreOf, free, asks, closes, leaves, hears, takes_ua, takes_sabm, waits_on}
-use Rattle.x25_line.specs.laws.Ends.{takes_disc, loses, damages, Ends, near_now, with_near, Does, sends, listens, moves, EndsReached, near_handed, near_does}
-use Rattle.x25_line.proofs.{Order.{by_frmr, no_fault}, StationSays.{machine_of}, sessions.SessionLines.{Read, none_is_some, number_kinds, many_append}}
-use Rattle.x25_line.proofs.sessions.SessionHeld.{Owes, owes_less}
-use Rattle.x25_line.proofs.sessions.EntryLines.{each_less, Less as LessEntries, less_removes as entry_removes, less_replaces as entry_replaces}
-use Rattle.x25_line.proofs.sessions.Letters.{visible_fine, heard_said, letters_push, letters_removed, letters_replaced, sabms, uas, discs}
+use Rattle.x25_line.specs.{laws.PeerSessions.{PeerEnd, stand_of}, laws.PeerSessionClaims.{ReadsNoFrmr}}
+use Rattle.x25_line.specs.laws.Ends.{Stand, In, Asking, Letter, letter, AreOf, free, asks, closes, leaves, hears, takes_ua, takes_sabm, waits_on}
+use Rattle.x25_line.specs.laws.Ends.{takes_disc, loses, Ends, near_now, with_near, Does, sends, listens, moves, EndsReached, near_handed, near_does}
+use Rattle.x25_line.proofs.{Order.{by_frmr, no_fault}, StationSays.{machine_of}, sessions.SessionLines.{Read, none_is_some, number_kinds}}
+use Rattle.x25_line.proofs.sessions.SessionHeld.{OwesOn, owes_less}
+use Rattle.x25_line.specs.{laws.Loss.{LessAt, gone}, laws.Ends.{IsSpoilt}, laws.PeerSessions.{IsSeenIn}}
+use Rattle.x25_line.proofs.{Losses.{each_less}, Lists.{each_append}, StationLines.{visible_is}}
+use Rattle.x25_line.proofs.sessions.Letters.{visible_fine, heard_said, letters_push, letters_less}
 use Rattle.x25_line.proofs.sessions.SessionMay.{sends_read, hears_read, entry, heard_in, MayAsk, MayDo}
-use Rattle.x25_line.proofs.ends.Lines.{count_push, count_less, Less, gone, less_removes, less_spoils, are_less}
+use Rattle.x25_line.proofs.ends.Lines.{count_push, count_less, are_less}
 use Rattle.x25_line.proofs.ends.Sessions.{reached_all, ua_present, valid}
-use Rattle.x25_line.specs.{laws.Sessions.{Entry, Meeting, ua_in, how_many as count, replaced}, laws.Peer.{Peer, MaySay}}
+use Rattle.x25_line.specs.{laws.Sessions.{Entry, Meeting, letters}, laws.Peer.{Peer, MaySay}}
 use Rattle.x25_line.specs.{laws.StationClaims.{Each, number_in}, laws.Said.{Sabm, Ua, Else, Odd as OddSaid, said, sabm_of, ua_of, disc_of}}
 
-number_frmr : (r : Read) (f : PlainFrame) → number_in r ≡ Some f → frmr_in r ≡ 0
+number_frmr : (r : Read) (f : PlainFrame) → number_in r ≡ Some f → ReadsNoFrmr r
 number_frmr (Ok (frmr g why)) f is = none_is_some f is
-number_frmr r f is = refl
+number_frmr r f is = tt
 
 -- ---- the lines between them
 
@@ -27,9 +28,17 @@ number_frmr r f is = refl
 abbrev pub NoneOdd : Role → ℕ → List Entry → Type 0
 NoneOdd from n1 es = Each (λ e. said (frame_of from n1 e.octets) ≡ OddSaid → ⊥) es
 
-odd_less : (c : Settings) (es fs : List Entry) → LessEntries es fs → NoneOdd (other c.role) c.longest es → NoneOdd (other c.role) c.longest fs
-odd_less c es fs l h = each_less (λ e. said (frame_of (other c.role) c.longest e.octets) ≡ OddSaid → ⊥)
-    (λ e o visible. visible_fine (other c.role) c.longest o visible) l h
+odd_less : (c : Settings) {i : ℕ} {es fs : List Entry} → LessAt IsSeenIn i es fs → NoneOdd (other c.role) c.longest es → NoneOdd (other c.role) c.longest fs
+odd_less c l h = each_less (λ e. said (frame_of (other c.role) c.longest e.octets) ≡ OddSaid → ⊥)
+    (λ e f seen _. visible_fine (other c.role) c.longest f.octets seen.1) l h
+
+-- nor is there a FRMR
+abbrev pub NoFrmrs : Role → ℕ → List Entry → Type 0
+NoFrmrs from n1 es = Each (λ e. ReadsNoFrmr (frame_of from n1 e.octets)) es
+
+pub no_frmr_less : (c : Settings) {i : ℕ} {es fs : List Entry} → LessAt IsSeenIn i es fs → NoFrmrs c.role c.longest es → NoFrmrs c.role c.longest fs
+no_frmr_less c l h = each_less (λ e. ReadsNoFrmr (frame_of c.role c.longest e.octets))
+    (λ e f seen _. visible_is ReadsNoFrmr c.role c.longest f.octets seen.1 tt tt) l h
 
 -- of a station that isn't about to ask once more, nor Closed
 abbrev pub Where : Phase → Type 0 → Type 0
@@ -44,7 +53,7 @@ where_map p P Q f h = tt
 
 -- What is kept of the lines, to a station in this phase and from it, as the rules look at them. The peer began so many sessions.
 pub record Kept (begun : ℕ) (p : Phase) (es out : List Letter) : Type 0 where
-  pub owes : Owes p (how_many sabm_of out + how_many ua_of es) (how_many disc_of out)
+  pub owes : OwesOn p out es
   pub present : Where p (AreOf begun es)
 
 module _ {n : ℕ} {p : Phase} {es out : List Letter} where
@@ -56,8 +65,8 @@ module _ {n : ℕ} {p : Phase} {es out : List Letter} where
       record { owes = owes_less p _ _ (omega (arith, sabms, no_sabm)) (omega (arith, discs, no_disc)) k.owes; present = k.present }
 
   -- less to it
-  kept_less : {fs : List Letter} → Less es fs → Kept n p es out → Kept n p fs out
-  kept_less {fs} l k =
+  kept_less : {i : ℕ} {fs : List Letter} → LessAt IsSpoilt i es fs → Kept n p es out → Kept n p fs out
+  kept_less l k =
       let uas = count_less ua_of refl l in
       record { owes = owes_less p _ _ (omega (arith, uas)) (omega arith) k.owes; present = where_map p _ _ (are_less n l) k.present }
 
@@ -88,7 +97,7 @@ backs c es = letters (other c.role) c.longest es
 
 -- beside a peer that doesn't send what is answered by FRMR, there is none such on the line from it, and no FRMR on the line to it
 pub record AreLapb (Odd : Type 0) (c : Settings) (es out : List Entry) : Type 0 where
-  pub frmr : (Odd → ⊥) → count frmr_in c.role c.longest out ≡ 0
+  pub frmr : (Odd → ⊥) → NoFrmrs c.role c.longest out
   pub lapb : (Odd → ⊥) → NoneOdd (other c.role) c.longest es
 
 behind : {Odd : Type 0} {c : Settings} {e : Entry} {es out : List Entry} → AreLapb Odd c (e ∷ es) out → AreLapb Odd c es out
@@ -115,13 +124,13 @@ module _ (Odd : Type 0) (c : Settings) (peer : PeerEnd) where
 
   module _ {met : List Meeting} {p : Phase} {b : ℕ} {all : ℕ → Peer} where
     -- one more on the line from it, no FRMR
-    sent : {es out : List Entry} (n : ℕ) (bytes : List ℕ) (r : Read) → sends_read c bytes ≡ r → frmr_in r ≡ 0 → AreLapb Odd c es out
+    sent : {es out : List Entry} (n : ℕ) (bytes : List ℕ) (r : Read) → sends_read c bytes ≡ r → ReadsNoFrmr r → AreLapb Odd c es out
         → AreEnds (backs c es) met p b all (outs c out ++ letter n (said r) ∷ [])
         → IsWith es met p b all (out ++ entry n bytes ∷ [])
     sent {out = out} n bytes r read no_frmr h k = record {
       ends = rw (letters_push c.role c.longest out n bytes r read) k;
       octets = record {
-        frmr = λ ok. (let many = many_append c.role c.longest frmr_in out (entry n bytes ∷ []) in omega (arith, many, ap frmr_in read, h.frmr ok, no_frmr));
+        frmr = λ ok. each_append (λ e. ReadsNoFrmr (frame_of c.role c.longest e.octets)) out (entry n bytes ∷ []) (h.frmr ok) (rw read no_frmr, tt);
         lapb = h.lapb;
       };
     }
@@ -156,28 +165,22 @@ module _ (Odd : Type 0) (c : Settings) (peer : PeerEnd) where
           reached = near_does _ _ h.ends.reached (tells_does _ f q refl number may);
           kept = kept_push (letter b (said (Ok f))) (number_kinds (Ok f) f number).0 (number_kinds (Ok f) f number).2 h.ends.kept;
         });
-    declines = λ es met p b all out octets f read h. sent b octets (Ok (dm f)) read refl h.octets
+    declines = λ es met p b all out octets f read h. sent b octets (Ok (dm f)) read tt h.octets
         (record { reached = near_does _ _ h.ends.reached (moves _ free); kept = kept_push (letter b Else) refl refl h.ends.kept });
-    asks = λ es met p b all out octets pf read due clear h.
-        (let no_sabm = clear.sabm in let no_disc = clear.disc in let no_ua = clear.ua in
-        let same_sabms = sabms c.role c.longest out in let same_discs = discs c.role c.longest out in let same_uas = uas (other c.role) c.longest es in
-        sent b octets (Ok (sabm pf)) read refl h.octets (record {
-          reached = near_does _ _ h.ends.reached (moves _ (asks (record {
-            sabm = omega (arith, no_sabm, same_sabms);
-            disc = omega (arith, no_disc, same_discs);
-            ua = omega (arith, no_ua, same_uas);
-            crossing = asked p due h.ends.kept;
-          })));
+    asks = λ es met p b all out octets pf read due clear h. sent b octets (Ok (sabm pf)) read tt h.octets
+        (record {
+          reached = near_does _ _ h.ends.reached
+              (moves _ (asks (record { sabm = clear.sabm; disc = clear.disc; ua = clear.ua; crossing = asked p due h.ends.kept })));
           kept = record {
             owes = (
-              omega (arith, no_sabm, no_ua, same_sabms, same_uas, count_push sabm_of (outs c out) (letter b Sabm)),
-              omega (arith, no_disc, same_discs, count_push disc_of (outs c out) (letter b Sabm)),
+              omega (arith, clear.sabm, clear.ua, count_push sabm_of (outs c out) (letter b Sabm)),
+              omega (arith, clear.disc, count_push disc_of (outs c out) (letter b Sabm)),
             );
             present = tt;
           };
-        }));
+        });
     closes = λ es met p b all out octets pf read h.
-        sent b octets (Ok (disc pf)) read refl h.octets
+        sent b octets (Ok (disc pf)) read tt h.octets
         (record { reached = near_does _ _ h.ends.reached (moves _ closes); kept = record { owes = tt; present = tt } });
     leaves = λ es met b all out h. record {
       ends = record { reached = near_does _ _ h.ends.reached (moves _ leaves); kept = kept_left h.ends.kept };
@@ -188,10 +191,7 @@ module _ (Odd : Type 0) (c : Settings) (peer : PeerEnd) where
           ends = record {
             reached = near_does _ _ h.ends.reached (moves _ leaves);
             kept = record {
-              owes = (
-                omega (arith, clear.sabm, clear.ua, sabms c.role c.longest out, uas (other c.role) c.longest es),
-                omega (arith, clear.disc, discs c.role c.longest out),
-              );
+              owes = (omega (arith, clear.sabm, clear.ua), clear.disc);
               present = due;
             };
           };
@@ -214,7 +214,7 @@ module _ (Odd : Type 0) (c : Settings) (peer : PeerEnd) where
         let is = front e es (Ok (ua true)) read in
         let before = at (backs c (e ∷ es)) met Asking b all (outs c out) in
         let clear = ua_present (reached_all h.ends.reached) e.session (backs c es) refl is in
-        let one : ua_in (hears_read c e.octets) ≡ 1 = ap ua_in read in
+        let one : ua_of (said (hears_read c e.octets)) ≡ 1 = ap (λ r. ua_of (said r)) read in
         record {
           ends = record {
             reached = near_does _ _ h.ends.reached (moves _ (takes_ua e.session (backs c es) is refl));
@@ -222,17 +222,17 @@ module _ (Odd : Type 0) (c : Settings) (peer : PeerEnd) where
           };
           octets = behind h.octets;
         });
-    takes_sabm = λ e es met p b all out octets pf f read answer part h. sent (suc b) octets (Ok (ua f)) answer refl (behind h.octets)
+    takes_sabm = λ e es met p b all out octets pf f read answer part h. sent (suc b) octets (Ok (ua f)) answer tt (behind h.octets)
         (record {
           reached = near_does _ _ h.ends.reached (moves _ (takes_sabm e.session (backs c es) (front e es (Ok (sabm pf)) read)));
           kept = takes_part p part (came (suc b) h.ends.kept);
         });
-    waits_on = λ e es met b all out octets pf f read answer h. sent b octets (Ok (ua f)) answer refl (behind h.octets)
+    waits_on = λ e es met b all out octets pf f read answer h. sent b octets (Ok (ua f)) answer tt (behind h.octets)
         (record {
           reached = near_does _ _ h.ends.reached (moves _ (waits_on e.session (backs c es) (front e es (Ok (sabm pf)) read) refl));
           kept = came b h.ends.kept;
         });
-    takes_disc = λ e es met b all out octets pf f read answer h. sent b octets (Ok (ua f)) answer refl (behind h.octets)
+    takes_disc = λ e es met b all out octets pf f read answer h. sent b octets (Ok (ua f)) answer tt (behind h.octets)
         (record {
           reached = near_does _ _ (near_does _ _ h.ends.reached (moves _ (takes_disc e.session (backs c es) (front e es (Ok (disc pf)) read))))
               (moves _ leaves);
@@ -250,14 +250,8 @@ module _ (Odd : Type 0) (c : Settings) (peer : PeerEnd) where
         lapb = (behind h.octets).lapb;
       };
     };
-    loses = λ es met p b all out i h. record {
-      ends = rw (letters_removed (other c.role) c.longest es i)
-          (record { reached = near_does _ _ h.ends.reached (moves _ (loses i)); kept = kept_less (less_removes (backs c es) i) h.ends.kept });
-      octets = record { frmr = h.octets.frmr; lapb = λ ok. odd_less c es (remove es i) (entry_removes es i) (h.octets.lapb ok) };
-    };
-    damages = λ es met p b all out i octets visible h. record {
-      ends = rw (letters_replaced (other c.role) c.longest octets visible es i)
-          (record { reached = near_does _ _ h.ends.reached (moves _ (damages i)); kept = kept_less (less_spoils (backs c es) i) h.ends.kept });
-      octets = record { frmr = h.octets.frmr; lapb = λ ok. odd_less c es (replaced es i octets) (entry_replaces octets visible es i) (h.octets.lapb ok) };
-    };
+    loses = λ {i} met p b all out l h. (let less = letters_less (other c.role) c.longest l in record {
+      ends = record { reached = near_does _ _ h.ends.reached (moves _ (loses i _ less)); kept = kept_less less h.ends.kept };
+      octets = record { frmr = h.octets.frmr; lapb = λ ok. odd_less c l (h.octets.lapb ok) };
+    });
   }

@@ -1,17 +1,17 @@
 -- Two stations over sessions, of which each has the other as its peer: what is claimed of who meets whom, and of order.
-use Rattle.std.proofs.Common.{◌≡◌, ◌≤◌, ◌+◌, ℕ, List, [], ◌∷◌, ◌⊎◌, inl, inr, true, None, Ok, Err, refl, sym, ap, ◌∙◌, subst, arith, suc}
+use Rattle.std.proofs.Common.{◌≡◌, ◌≤◌, ℕ, List, [], ◌∷◌, ◌⊎◌, inl, inr, true, None, Ok, Err, refl, sym, ap, ◌∙◌, subst, arith, suc}
 use Rattle.x25_bits.specs.declared.role.Role.{Role}
 use Rattle.x25_frame.specs.{Frame.{PlainFrame, info, rr, rnr, rej, sabm, frmr}, Reading.{frame_of}, laws.ReadingLaw.{ReadsSpelled}}
 use Rattle.x25_frame.specs.declared.error.FrameError.TheVariants.{Undefined, NoInfoAllowed, TooLong, Short}
 use Rattle.x25_link.specs.{Station.{Settings, is_up}, Hearing.{other}, Link.{is_idle}, laws.WindowLaw.{IsRunning}}
-use Rattle.x25_line.specs.{laws.InWindow.{IsPrefix}, laws.StationClaims.{number_in}, laws.Said.{said, Odd}}
-use Rattle.x25_line.specs.laws.Sessions.{Entry, Meeting, Sessions, swapped, sabm_in, ua_in, disc_in, how_many, run}
+use Rattle.x25_line.specs.{laws.InWindow.{IsPrefix}, laws.StationClaims.{number_in}, laws.Said.{said, Odd, sabm_of}}
+use Rattle.x25_line.specs.laws.Sessions.{Entry, Meeting, Sessions, swapped, letters, run}
 use Rattle.x25_line.specs.laws.SessionClaims.{Throughout, AllOf, Each, SomeMet, IsInOrder, MeetInStep, MetAreInOrder, UnmetHandNothingUp, OnlyBegunHaveLists}
 use Rattle.x25_line.specs.{laws.SessionClaims.{EachHearsLatest, EachMeetsLatest, IdleHasArrived}, laws.LawsBelow.{SessionLaws}}
-use Rattle.x25_line.specs.laws.PeerSessions.{PeerEnd, as_end, with_peer, AllAskedIn, stand_of, letters, ReachedInSessions}
-use Rattle.x25_line.specs.{laws.Ends.{letter, OfSabm, OfTells}, laws.PeerSessionClaims.{frmr_in}}
-use Rattle.x25_line.proofs.{sessions.SessionWith.{NoneOdd}, StationAway.{is_up_phase}, StationLines.{consed, IsOrderly}, sessions.SessionLines.{Read, numbers}}
-use Rattle.x25_line.proofs.sessions.SessionHeld.{Owes, OnLine}
+use Rattle.x25_line.specs.laws.PeerSessions.{PeerEnd, as_end, with_peer, stand_of, ReachedInSessions}
+use Rattle.x25_line.specs.{laws.Ends.{letter, AreOf, OfSabm, OfTells}, laws.PeerSessionClaims.{ReadsNoFrmr}}
+use Rattle.x25_line.proofs.{sessions.SessionWith.{NoneOdd, NoFrmrs}, StationLines.{consed, IsOrderly}, sessions.SessionLines.{Read, numbers}}
+use Rattle.x25_line.proofs.{sessions.SessionHeld.{OwesOn, OnLine}, StationAway.{is_up_phase}}
 use Rattle.x25_line.proofs.sessions.PeerSessionRuns.{two, all_of, lines, owes_is, up_in, step_is, order_is, unmet_is, idle_is, latest_is}
 use Rattle.x25_line.proofs.{sessions.SessionSeenRuns.{end, tags_there, Both, both_swapped, throughout_both}, ends.Meetings.{twice_turned, far_turned}}
 use Rattle.x25_line.proofs.{ends.Lines.{AllTold, Never, Of, AllTags, IsAsked, AllAsked}, ends.Sessions.{far_high}, Lists.{each_map}}
@@ -27,16 +27,14 @@ hears from n1 q {begun} high (e ∷ es) told tags = (one (frame_of from n1 e.oct
     one (Ok (rr command nr pf)) is = inr (omega (arith, is, high, tags.0))
     one (Ok (rnr command nr pf)) is = inr (omega (arith, is, high, tags.0))
     one (Ok (rej command nr pf)) is = inr (omega (arith, is, high, tags.0))
-    one (Ok f) is = inl refl
-    one (Err x) is = inl refl
+    one r is = inl refl
 
 none_here : (r : Read) (fs : List PlainFrame) → OfTells (said r) ⊥ → fs ≡ [] → consed (number_in r) fs ≡ []
 none_here (Ok (info ns nr p x)) fs k is = absurd k
 none_here (Ok (rr command nr pf)) fs k is = absurd k
 none_here (Ok (rnr command nr pf)) fs k is = absurd k
 none_here (Ok (rej command nr pf)) fs k is = absurd k
-none_here (Ok f) fs k is = is
-none_here (Err x) fs k is = is
+none_here r fs k is = is
 
 none_told : (from : Role) (n1 : ℕ) (es : List Entry) → AllTold Never (letters from n1 es) → numbers from n1 es ≡ []
 none_told from n1 [] h = refl
@@ -44,26 +42,26 @@ none_told from n1 (e ∷ es) h = none_here (frame_of from n1 e.octets) (numbers 
 
 -- an end told nothing behind a SABM of its present session
 quiet_behind : (N O : Type 0) (from : Role) (n1 b q : ℕ) (all : List Entry) (e : Entry) (es : List Entry) → all ≡ e ∷ es
-    → AllAsked N O b q (letters from n1 all) → AllAskedIn from n1 b all → sabm_in (frame_of from n1 e.octets) ≡ 1
+    → AllAsked N O b q (letters from n1 all) → AreOf b (letters from n1 all) → sabm_of (said (frame_of from n1 e.octets)) ≡ 1
     → numbers from n1 es ≡ []
 quiet_behind N O from n1 b q all e es is asked tags one =
-    go (frame_of from n1 e.octets) (subst (λ xs. AllAsked N O b q (letters from n1 xs)) is asked).0 (subst (AllAskedIn from n1 b) is tags).0 one
+    go (frame_of from n1 e.octets) (subst (λ xs. AllAsked N O b q (letters from n1 xs)) is asked).0 (subst (λ xs. AreOf b (letters from n1 xs)) is tags).0 one
   where
-    go : (r : Read) → OfSabm (said r) (IsAsked N O b q (letter e.session (said r)) (letters from n1 es)) → (sabm_in r ≡ 0) ⊎ (e.session ≡ b) → sabm_in r ≡ 1
-        → numbers from n1 es ≡ []
+    go : (r : Read) → OfSabm (said r) (IsAsked N O b q (letter e.session (said r)) (letters from n1 es)) → OfSabm (said r) (e.session ≡ b)
+        → sabm_of (said r) ≡ 1 → numbers from n1 es ≡ []
     go (Ok (sabm p)) a t one = none_told from n1 es (elim a [
       | inl now ↦ now.2
-      | inr old ↦ (elim t [ inl none ↦ absurd (omega (arith, none)) | inr is ↦ absurd (omega (arith, is, old.1)) ])
+      | inr old ↦ absurd (omega (arith, t, old.1))
     ])
     go (Ok f) a t one = absurd (never f one)
       where
-        never : (g : PlainFrame) → sabm_in (Ok g) ≡ 1 → ⊥
+        never : (g : PlainFrame) → sabm_of (said (Ok g)) ≡ 1 → ⊥
         never g k = cc
     go (Err Short) a t one = absurd (omega (arith, one))
     go (Err x) a t one = absurd (omega (arith, one))
 
-orderly : (r : Read) → (said r ≡ Odd → ⊥) → frmr_in r ≡ 0 → IsOrderly r
-orderly (Ok (frmr f why)) odd none = absurd (omega (arith, none))
+orderly : (r : Read) → (said r ≡ Odd → ⊥) → ReadsNoFrmr r → IsOrderly r
+orderly (Ok (frmr f why)) odd none = absurd none
 orderly (Err (Undefined control)) odd none = absurd (odd refl)
 orderly (Err (NoInfoAllowed control)) odd none = absurd (odd refl)
 orderly (Err TooLong) odd none = absurd (odd refl)
@@ -113,22 +111,20 @@ module _ (reads : ReadsSpelled) (rests : SessionLaws) where
     pub running : is_up w.near.station.phase ≡ true → IsRunning c.window w.near.station
     running up = record { up = up; sound = (h.near.up up).sound }
 
-    near_owes : Owes w.near.station.phase (how_many sabm_in (other d.role) d.longest w.out + how_many ua_in (other c.role) c.longest w.back)
-        (how_many disc_in (other d.role) d.longest w.out)
+    near_owes : OwesOn w.near.station.phase (letters (other d.role) d.longest w.out) (letters (other c.role) c.longest w.back)
     near_owes =
-        subst (λ n1. Owes w.near.station.phase (how_many sabm_in (other d.role) n1 w.out + how_many ua_in (other c.role) c.longest w.back)
-        (how_many disc_in (other d.role) n1 w.out)) h.joined.longest
+        subst (λ n1. OwesOn w.near.station.phase (letters (other d.role) n1 w.out) (letters (other c.role) c.longest w.back)) h.joined.longest
         (rw h.joined.near_role (owes_is reads rests h.joined.near_high reached))
 
-    quiet : (e : Entry) (es : List Entry) → w.back ≡ e ∷ es → sabm_in (frame_of (other c.role) c.longest e.octets) ≡ 1 → numbers (other c.role) c.longest es
-        ≡ []
+    quiet : (e : Entry) (es : List Entry) → w.back ≡ e ∷ es → sabm_of (said (frame_of (other c.role) c.longest e.octets)) ≡ 1
+        → numbers (other c.role) c.longest es ≡ []
     quiet e es is one =
         let all = all_of reads rests h.joined.near_high reached in
         quiet_behind _ _ (other c.role) c.longest w.far.begun all.held.q w.back e es is all.held.near.asked
         (tags_there c d h.joined reads rests w.far.begun w.back h.far.tags) one
 
     -- no FRMR is on the line from it, and nothing on that to it is answered by FRMR
-    no_frmr : how_many frmr_in c.role c.longest w.out ≡ 0
+    no_frmr : NoFrmrs c.role c.longest w.out
     no_frmr = (lines reads rests h.joined.near_high reached).octets.frmr (λ never. never)
 
     none_odd : NoneOdd (other c.role) c.longest w.back
@@ -153,11 +149,10 @@ module _ (reads : ReadsSpelled) (rests : SessionLaws) where
 
   fine : (c d : Settings) (w : Sessions) → Both c d w → (e : Entry) (es : List Entry) → w.back ≡ e ∷ es → IsOrderly (frame_of (other c.role) c.longest e.octets)
   fine c d w h e es is =
-      let far : how_many frmr_in d.role d.longest w.back ≡ 0 = no_frmr d c (swapped w) (both_swapped h) in
-      let none : how_many frmr_in (other c.role) c.longest w.back ≡ 0 = rw h.joined.longest (rw h.joined.far_role far)
-      in
+      let far : NoFrmrs d.role d.longest w.back = no_frmr d c (swapped w) (both_swapped h) in
+      let none : NoFrmrs (other c.role) c.longest w.back = rw h.joined.longest (rw h.joined.far_role far) in
       let odd = subst (NoneOdd (other c.role) c.longest) is (none_odd c d w h) in
-      orderly (frame_of (other c.role) c.longest e.octets) odd.0 (omega (arith, none, ap (how_many frmr_in (other c.role) c.longest) is))
+      orderly (frame_of (other c.role) c.longest e.octets) odd.0 (subst (NoFrmrs (other c.role) c.longest) is none).0
 
   -- what the rules of both say of the line
   pub on_line : {c d : Settings} {w : Sessions} → Both c d w → OnLine c d w

@@ -1,9 +1,10 @@
 -- Two ends of any kind, set up and set up again by either at any moment: the rules of docs/PEER.md, the same for both.
--- A letter on the line is what the rules look at in a frame, and the session in which it was sent, which no end reads.
 -- Each move is of the near end, or of the line to it. The far end's moves are those of the two swapped.
-use Rattle.std.specs.Prelude.{◌≡◌, ◌+◌, ◌==◌, ℕ, zero, suc, Bool, true, false, if◌then◌else◌, List, [], ◌∷◌, ◌++◌, map}
-use Rattle.std.specs.Prelude.{remove, Option}
+use Rattle.std.specs.Prelude.{◌≡◌, ◌==◌, ℕ, suc, Bool, true, false, if◌then◌else◌, List, [], ◌∷◌, ◌++◌, map}
+use Rattle.std.specs.Prelude.{Option}
+use Rattle.x25_line.specs.laws.Loss.{LessAt}
 use Rattle.x25_line.specs.laws.Said.{Said, Carried, Tells, Sabm, Disc, Ua, Else, Odd, sabm_of, ua_of, disc_of}
+pub use Rattle.x25_line.specs.laws.Said.{Letter, letter, how_many}
 use Rattle.x25_line.specs.{laws.Sessions.{Meeting, turned}, laws.StationClaims.{Each}}
 use Rattle.x25_line.specs.laws.Peer.{Peer, fresh_peer, MaySay, MayMake}
 
@@ -18,13 +19,6 @@ pub record Stander : Type 0 where
   pub stand : Stand
   pub begun : ℕ
 
-pub record Letter : Type 0 where
-  pub session : ℕ
-  pub said : Said
-
-abbrev pub letter : ℕ → Said → Letter
-letter session said = record { session = session; said = said }
-
 -- The ends; the line from the near end and the line to it, front first; and who heard whom, the latest first.
 pub record Two : Type 0 where
   pub near : Stander
@@ -37,10 +31,6 @@ abbrev pub two_swapped : Two → Two
 two_swapped w = record { near = w.far; far = w.near; out = w.back; back = w.out; met = map turned w.met }
 
 -- ---- what is on a line
-
-abbrev pub how_many : (Said → ℕ) → List Letter → ℕ
-how_many kind [] = 0
-how_many kind (e ∷ es) = kind e.said + how_many kind es
 
 abbrev pub OfSabm : Said → Type 0 → Type 0
 OfSabm Sabm P = P
@@ -64,10 +54,8 @@ heard In begun e met = meets e.said (record { near = begun; far = e.session }) m
 heard stand begun e met = met
 
 -- octets that read as no frame come in the place of others
-abbrev pub spoilt : List Letter → ℕ → List Letter
-spoilt [] i = []
-spoilt (e ∷ es) zero = letter e.session Else ∷ es
-spoilt (e ∷ es) (suc i) = e ∷ spoilt es i
+abbrev pub IsSpoilt : Letter → Letter → Type 0
+IsSpoilt e f = f ≡ letter e.session Else
 
 -- ---- set-up
 
@@ -108,8 +96,7 @@ pub data Moves (w : Two) : Two → Type 0 where
       → Moves w (record w { out = w.out ++ letter w.near.begun Ua ∷ []; back = rest })
   takes_disc : (s : ℕ) (rest : List Letter) → w.back ≡ letter s Disc ∷ rest
       → Moves w (record w { out = w.out ++ letter w.near.begun Ua ∷ []; back = rest })
-  loses : (place : ℕ) → Moves w (record w { back = remove w.back place })
-  damages : (place : ℕ) → Moves w (record w { back = spoilt w.back place })
+  loses : (place : ℕ) (es : List Letter) → LessAt IsSpoilt place w.back es → Moves w (record w { back = es })
 
 -- the near end begins a session by it, with all numbers 0 and all lists empty
 abbrev pub begins : {w v : Two} → Moves w v → Bool

@@ -1,9 +1,10 @@
 -- A station and a peer, joined by a line of octets that keeps order and may lose or visibly damage any frame
 -- (profile: the line).
-use Rattle.std.specs.Prelude.{◌≡◌, ℕ, true, List, [], ◌∷◌, ◌++◌, remove}
+use Rattle.std.specs.Prelude.{◌≡◌, ℕ, List, [], ◌∷◌, ◌++◌}
 use Rattle.x25_frame.specs.Reading.{frame_of}
 use Rattle.x25_link.specs.{Station.{Settings}, Hearing.{other}}
-use Rattle.x25_line.specs.laws.Stations.{StationEnd, Stations, Act, acts, fresh_station, is_visible, replaced}
+use Rattle.x25_line.specs.laws.Stations.{StationEnd, Stations, Act, acts, fresh_station}
+use Rattle.x25_line.specs.laws.Loss.{LessAt, IsSeen}
 use Rattle.x25_line.specs.laws.Peer.{Peer, fresh_peer, MaySend, MayHear}
 
 -- The station, the peer, and the octets on the line from the station and on the line to it, front first.
@@ -38,10 +39,8 @@ pub data HappensOnce (Odd : Type 0) (c : Settings) (w : JoinedOnce) : JoinedOnce
   -- the front octets come to the peer
   Hears : (octets : List ℕ) (rest : List (List ℕ)) (q : Peer) → w.out ≡ octets ∷ rest
       → MayHear w.peer (frame_of c.role c.longest octets) q → HappensOnce Odd c w (record w { peer = q; out = rest })
-  -- the octets at this place of the line to the peer are lost, or others come in their place
-  Loses : (place : ℕ) → HappensOnce Odd c w (record w { out = remove w.out place })
-  Damages : (place : ℕ) (octets : List ℕ) → is_visible octets ≡ true
-      → HappensOnce Odd c w (record w { out = replaced w.out place octets })
+  -- octets on the line to the peer are lost, or others come in their place
+  Loses : (place : ℕ) (os : List (List ℕ)) → LessAt IsSeen place w.out os → HappensOnce Odd c w (record w { out = os })
 
 -- what is reached, event by event
 pub data ReachedOnce (Odd : Type 0) (c : Settings) : JoinedOnce → Type 0 where

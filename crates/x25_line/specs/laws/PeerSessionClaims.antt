@@ -1,9 +1,9 @@
 -- What holds of a station and any peer over set-up and re-set-up at any moment.
-use Rattle.std.specs.Prelude.{◌≡◌, ◌≤◌, ◌⊎◌, ℕ, true, Result, Ok, Err}
-use Rattle.x25_frame.specs.{Frame.{PlainFrame, frmr}, declared.error.FrameError.{FrameError}}
+use Rattle.std.specs.Prelude.{◌≡◌, ◌≤◌, ◌⊎◌, true, Result, Ok}
+use Rattle.x25_frame.specs.{Frame.{PlainFrame, frmr}, Reading.{frame_of}, declared.error.FrameError.{FrameError}}
 use Rattle.x25_link.specs.{Station.{Settings, is_up}, Link.{is_idle}}
-use Rattle.x25_line.specs.{laws.Sessions.{Meeting, Sessions, how_many}, laws.SessionClaims.{Each, SomeMet}}
-use Rattle.x25_line.specs.laws.PeerSessions.{PeerSessions, ReachedInSessions, In, now, both_ends, letters}
+use Rattle.x25_line.specs.{laws.Sessions.{Entry, Meeting, Sessions, letters}, laws.SessionClaims.{Each, SomeMet}}
+use Rattle.x25_line.specs.laws.PeerSessions.{PeerSessions, ReachedInSessions, In, now, both_ends}
 use Rattle.x25_line.specs.{laws.Ends.{AreOf}}
 
 -- whatever happens, with any peer that keeps the rules of `Peer` and of set-up
@@ -37,11 +37,10 @@ pub record EachMeetsLatest (c : Settings) (w : PeerSessions) : Type 0 where
 abbrev pub AsksInLatest : Settings → PeerSessions → Type 0
 AsksInLatest c w = AreOf w.near.begun (letters c.role c.longest w.out)
 
-abbrev pub frmr_in : Result PlainFrame FrameError → ℕ
-frmr_in (Ok (frmr f why)) = 1
-frmr_in (Ok frame) = 0
-frmr_in (Err e) = 0
+abbrev pub ReadsNoFrmr : Result PlainFrame FrameError → Type 0
+ReadsNoFrmr (Ok (frmr f why)) = ⊥
+ReadsNoFrmr read = Unit {0}
 
 -- No FRMR is ever on the line to the peer, so that the station sends none.
 abbrev pub SendsNoFrmr : Settings → PeerSessions → Type 0
-SendsNoFrmr c w = how_many frmr_in c.role c.longest w.out ≡ 0
+SendsNoFrmr c w = Each (λ (e : Entry). ReadsNoFrmr (frame_of c.role c.longest e.octets)) w.out

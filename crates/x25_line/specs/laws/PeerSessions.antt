@@ -2,16 +2,16 @@
 -- and may lose or visibly damage any frame (profile: the line). A session of an end begins as it comes to be set up:
 -- the station's as it notes LinkUp, the peer's by the rules of `Ends`. ITU-T X.25 (10/96), sections 2.4.4 and 2.4.8.1;
 -- docs/PEER.md has the rules in words.
-use Rattle.std.specs.Prelude.{◌≡◌, ◌⊎◌, ℕ, suc, List, [], ◌∷◌, ◌++◌, map, remove, true}
-use Rattle.x25_bits.specs.declared.role.Role.{Role}
+use Rattle.std.specs.Prelude.{◌≡◌, ℕ, suc, List, [], ◌∷◌, ◌++◌, map, true}
 use Rattle.x25_frame.specs.Reading.{frame_of}
 use Rattle.x25_link.specs.{declared.phase.Phase.{Phase}, declared.phase.Phase.TheVariants.{Down, Waiting, Up}}
 use Rattle.x25_link.specs.{Station.{Settings, with_nothing}, Hearing.{other}}
-use Rattle.x25_line.specs.{laws.Stations.{Act, T1, is_visible}, laws.Said.{Odd as OddSaid, said}}
-use Rattle.x25_line.specs.laws.Peer.{Peer, fresh_peer}
-use Rattle.x25_line.specs.laws.Sessions.{Entry, SessionEnd, Meeting, Sessions, turned, acts, replaced, from_nothing}
-use Rattle.x25_line.specs.{laws.Sessions.{from_set_up, sabm_in, ua_in, how_many}, laws.SessionClaims.{Each}}
-use Rattle.x25_line.specs.laws.Ends.{Letter, letter, AreOf, Ends, Does, put_for}
+use Rattle.x25_line.specs.{laws.Stations.{Act, T1, is_visible}}
+use Rattle.x25_line.specs.{laws.Peer.{Peer, fresh_peer}, laws.Said.{Odd as OddSaid, said, sabm_of, ua_of, how_many}}
+use Rattle.x25_line.specs.laws.Sessions.{Entry, SessionEnd, Meeting, Sessions, turned, letters, acts, from_nothing}
+use Rattle.x25_line.specs.laws.Loss.{Less}
+use Rattle.x25_line.specs.{laws.Sessions.{from_set_up}}
+use Rattle.x25_line.specs.laws.Ends.{AreOf, Ends, Does, put_for}
 pub use Rattle.x25_line.specs.laws.Ends.{Stand, Out, Asking, In}
 
 -- where it stands, how many sessions it began, and what is known of it in each, by its number
@@ -57,19 +57,12 @@ with_peer p v = record { near = v.near; peer = p; out = v.out; back = v.back; me
 
 -- ---- timer T1 of the station while it awaits UA
 
--- each SABM was sent in this session, or since it ended
-abbrev pub IsAskedIn : Role → ℕ → ℕ → Entry → Type 0
-IsAskedIn from n1 session e = (sabm_in (frame_of from n1 e.octets) ≡ 0) ⊎ (e.session ≡ session)
-
-abbrev pub AllAskedIn : Role → ℕ → ℕ → List Entry → Type 0
-AllAskedIn from n1 session es = Each (IsAskedIn from n1 session) es
-
 -- T1 is longer than SABM and its UA are on the line, so that the line has brought too what the peer sent before it
 -- answered: none of its SABMs is of an earlier session.
 pub record IsDue (c : Settings) (w : PeerSessions) : Type 0 where
-  pub sabm : how_many sabm_in c.role c.longest w.out ≡ 0
-  pub ua : how_many ua_in (other c.role) c.longest w.back ≡ 0
-  pub crossing : AllAskedIn (other c.role) c.longest w.peer.begun w.back
+  pub sabm : how_many sabm_of (letters c.role c.longest w.out) ≡ 0
+  pub ua : how_many ua_of (letters (other c.role) c.longest w.back) ≡ 0
+  pub crossing : AreOf w.peer.begun (letters (other c.role) c.longest w.back)
 
 abbrev pub IsTimely : Settings → Act → PeerSessions → Type 0
 IsTimely c T1 w = w.near.station.phase ≡ Waiting → IsDue c w
@@ -82,11 +75,6 @@ abbrev pub stand_of : Phase → Stand
 stand_of Waiting = Asking
 stand_of Up = In
 stand_of phase = Out
-
--- what the rules look at in the octets on a line, from an end in this role
-abbrev pub letters : Role → ℕ → List Entry → List Letter
-letters from n1 [] = []
-letters from n1 (e ∷ es) = letter e.session (said (frame_of from n1 e.octets)) ∷ letters from n1 es
 
 -- As the peer sees it, whose end is the near one here. Of what the station was handed down and took nothing is known.
 abbrev pub seen_by_peer : Settings → PeerSessions → Ends
@@ -102,11 +90,9 @@ seen_by_peer c w = record {
   far_of = λ n. fresh_peer;
 }
 
--- the line to it is as it was, or lacks the octets at one place, or has others there
-pub data IsLeft (es : List Entry) : List Entry → Type 0 where
-  untouched : IsLeft es es
-  without : (place : ℕ) → IsLeft es (remove es place)
-  damaged : (place : ℕ) (octets : List ℕ) → is_visible octets ≡ true → IsLeft es (replaced es place octets)
+-- others come in the place of octets on the line, and that is seen
+abbrev pub IsSeenIn : Entry → Entry → Type 0
+IsSeenIn e f = (f.session ≡ e.session) × (is_visible f.octets ≡ true)
 
 -- It puts octets behind the line from it, or none. `Odd` holds where it may send what is answered by FRMR.
 pub data Puts (Odd : Type 0) (c : Settings) (es : List Entry) : List Entry → Type 0 where
@@ -119,7 +105,7 @@ pub data Puts (Odd : Type 0) (c : Settings) (es : List Entry) : List Entry → T
 pub record PeerHappens (Odd : Type 0) (c : Settings) (w v : PeerSessions) : Type 0 where
   pub does : AreOf w.near.begun (letters c.role c.longest w.out)
       → Does (seen_by_peer c w) (seen_by_peer c (record v { near = w.near }))
-  pub left : IsLeft w.out v.out
+  pub left : Less IsSeenIn w.out v.out
   pub puts : Puts Odd c w.back v.back
 
 pub data HappensInSessions (Odd : Type 0) (c : Settings) (w : PeerSessions) : PeerSessions → Type 0 where

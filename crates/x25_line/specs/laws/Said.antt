@@ -1,6 +1,6 @@
 -- What the rules of a peer look at in a frame: one kind for all frames with an N(R), and one for all of which no rule
 -- speaks.
-use Rattle.std.specs.Prelude.{ℕ, List, Option, Some, None, Result, Ok, Err}
+use Rattle.std.specs.Prelude.{ℕ, ◌+◌, List, [], ◌∷◌, Option, Some, None, Result, Ok, Err}
 use Rattle.x25_frame.specs.Frame.{PlainFrame, info, rr, rnr, rej, sabm, disc, ua}
 use Rattle.x25_frame.specs.declared.error.FrameError.{FrameError}
 use Rattle.x25_frame.specs.declared.error.FrameError.TheVariants.{Short, BadFcs, BadAddress}
@@ -48,3 +48,16 @@ ua_of said = 0
 abbrev pub disc_of : Said → ℕ
 disc_of Disc = 1
 disc_of said = 0
+
+-- what the rules look at in a frame on the line, and the session in which it was sent, which no end reads
+pub record Letter : Type 0 where
+  pub session : ℕ
+  pub said : Said
+
+abbrev pub letter : ℕ → Said → Letter
+letter session said = record { session = session; said = said }
+
+-- how many of a kind are on a line
+abbrev pub how_many : (Said → ℕ) → List Letter → ℕ
+how_many kind [] = 0
+how_many kind (e ∷ es) = kind e.said + how_many kind es

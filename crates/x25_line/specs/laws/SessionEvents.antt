@@ -2,9 +2,9 @@
 -- which meet.
 use Rattle.std.specs.Prelude.{◌≡◌, ◌⊎◌, ℕ, suc, Bool, true, if◌then◌else◌, List, [], ◌∷◌, ◌++◌, Option, option_to_list}
 use Rattle.x25_link.specs.{declared.phase.Phase.TheVariants.{Waiting}, Station.{Settings, is_up}, Hearing.{other}}
-use Rattle.x25_line.specs.laws.Stations.{Act, Put, Deliver, LinkEvent, Near, Far}
+use Rattle.x25_line.specs.{laws.Stations.{Act, Put, Deliver, LinkEvent, Near, Far}, laws.Said.{sabm_of, how_many}}
 use Rattle.x25_line.specs.laws.StationClaims.{AcceptsNoConnectAt}
-use Rattle.x25_line.specs.laws.Sessions.{SessionEnd, Meeting, Sessions, sabm_in, how_many, happens}
+use Rattle.x25_line.specs.{laws.Sessions.{SessionEnd, Meeting, Sessions, letters, happens}}
 
 -- ---- what is handed down and up at an end, before and after
 
@@ -81,8 +81,8 @@ EachEventMeetsLatest c d w = (event : LinkEvent) → MeetsOneAt event w (happens
 pub record IsUnasked (c : Settings) (w : Sessions) : Type 0 where
   pub near : w.near.station.phase ≡ Waiting → ⊥
   pub far : w.far.station.phase ≡ Waiting → ⊥
-  pub out : how_many sabm_in c.role c.longest w.out ≡ 0
-  pub back : how_many sabm_in (other c.role) c.longest w.back ≡ 0
+  pub out : how_many sabm_of (letters c.role c.longest w.out) ≡ 0
+  pub back : how_many sabm_of (letters (other c.role) c.longest w.back) ≡ 0
 
 -- it stays so, and no session begins
 pub record BeginNone (c : Settings) (w v : Sessions) : Type 0 where

@@ -8,9 +8,9 @@ use Rattle.x25_frame.specs.{Frame.{PlainFrame, sabm}, Reading.{frame_of}, declar
 use Rattle.x25_link.specs.{declared.phase.Phase.{Phase}, declared.phase.Phase.TheVariants.{Waiting, Up, Closed}}
 use Rattle.x25_link.specs.{Station.{Settings, LinkStation, is_up}, Hearing.{other}}
 use Rattle.x25_line.specs.{laws.Line.{Line, line_swapped}, laws.Stations.{Act, Deliver, LinkEvent, Near, Far}}
-use Rattle.x25_line.specs.laws.StationClaims.{AreJoined, IsBehind}
+use Rattle.x25_line.specs.{laws.StationClaims.{AreJoined, IsBehind}, laws.Said.{said, ua_of}}
 use Rattle.x25_line.specs.laws.WholeNumbers.{place_of, place_taken, machine_after, machine_at_start}
-use Rattle.x25_line.specs.laws.Sessions.{Entry, Sessions, ua_in, acts, happens, run, swapped, IsStart}
+use Rattle.x25_line.specs.{laws.Sessions.{Entry, Sessions, acts, happens, run, swapped, IsStart}}
 use Rattle.x25_line.specs.{laws.Sessions.{AreTimely}, laws.SessionClaims.{octets_of, Stands}}
 
 -- a session of each end, and the window machine behind the two
@@ -57,7 +57,7 @@ by_answers (suc n) before behind = behind
 abbrev pub place_behind_ua : Role → ℕ → List (List ℕ) → ℕ → Option ℕ
 place_behind_ua from n1 [] i = None
 place_behind_ua from n1 (octets ∷ line) zero = None
-place_behind_ua from n1 (octets ∷ line) (suc i) = by_answers (ua_in (frame_of from n1 octets))
+place_behind_ua from n1 (octets ∷ line) (suc i) = by_answers (ua_of (said (frame_of from n1 octets)))
     (place_behind_ua from n1 line i) (place_of from n1 line i)
 
 -- Which of the frames for the session that stands is at this place of the line, where one is: they are all where the

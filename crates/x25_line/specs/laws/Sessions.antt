@@ -2,17 +2,16 @@
 -- notes LinkUp. Each act is of the near end, or of the line to it. The far end's acts are those of the two ends
 -- swapped.
 use Rattle.std.specs.Prelude.{◌≡◌, ◌⊎◌, ℕ, zero, suc, ◌+◌, ◌==◌, nat_le, Bool, true, false, if◌then◌else◌, List, []}
-use Rattle.std.specs.Prelude.{◌∷◌, ◌++◌, length, map, remove, Option, Some, None, option_to_list, Result}
+use Rattle.std.specs.Prelude.{◌∷◌, ◌++◌, length, map, remove, Option, Some, None, option_to_list}
 use Rattle.x25_bits.specs.declared.role.Role.{Role}
 use Rattle.x25_frame.specs.{Frame.{PlainFrame}, Spelling.{spelling_of}, Reading.{frame_of}}
-use Rattle.x25_frame.specs.declared.error.FrameError.{FrameError}
 use Rattle.x25_link.specs.{declared.phase.Phase.{Phase}}
 use Rattle.x25_link.specs.declared.phase.Phase.TheVariants.{Down, Up, Waiting}
 use Rattle.x25_link.specs.{Station.{Settings, LinkStation, is_up, with_nothing}, Hearing.{Step, other}}
 use Rattle.x25_link.specs.Link.{take_step, put_step, put_refusal}
 use Rattle.x25_line.specs.laws.Stations.{Act, Put, Deliver, T1, Lose, Damage, own_act, LinkEvent, Near, Far, is_visible}
 pub use Rattle.x25_line.specs.laws.Stations.{unless}
-use Rattle.x25_line.specs.{laws.StationClaims.{number_in}, laws.Said.{said, sabm_of, ua_of, disc_of}}
+use Rattle.x25_line.specs.{laws.StationClaims.{number_in}, laws.Said.{Letter, letter, said, sabm_of, ua_of, how_many}}
 
 -- octets on the line, and the session in which they were sent
 pub record Entry : Type 0 where
@@ -140,23 +139,15 @@ IsStart w = (w ≡ from_nothing) ⊎ (w ≡ from_set_up)
 
 -- ---- timer T1 while UA is awaited
 
-abbrev pub sabm_in : Result PlainFrame FrameError → ℕ
-sabm_in read = sabm_of (said read)
-
-abbrev pub ua_in : Result PlainFrame FrameError → ℕ
-ua_in read = ua_of (said read)
-
-abbrev pub disc_in : Result PlainFrame FrameError → ℕ
-disc_in read = disc_of (said read)
-
--- how many frames of a kind are among the octets from an end in this role
-abbrev pub how_many : (Result PlainFrame FrameError → ℕ) → Role → ℕ → List Entry → ℕ
-how_many kind from n1 [] = 0
-how_many kind from n1 (e ∷ es) = kind (frame_of from n1 e.octets) + how_many kind from n1 es
+-- what the rules look at in the octets on a line, from an end in this role
+abbrev pub letters : Role → ℕ → List Entry → List Letter
+letters from n1 [] = []
+letters from n1 (e ∷ es) = letter e.session (said (frame_of from n1 e.octets)) ∷ letters from n1 es
 
 -- the SABMs of the near end and the UAs to it that are on the line
 abbrev pub asked : Settings → Settings → Sessions → ℕ
-asked c d w = how_many sabm_in (other d.role) d.longest w.out + how_many ua_in (other c.role) c.longest w.back
+asked c d w = how_many sabm_of (letters (other d.role) d.longest w.out)
+    + how_many ua_of (letters (other c.role) c.longest w.back)
 
 -- T1 is longer than SABM and its UA are on the line: while UA is awaited it doesn't run out before
 abbrev pub IsTimely : Settings → Settings → Act → Sessions → Type 0

@@ -1,20 +1,16 @@
 -- All that happens to a station and a peer over sessions, and what holds of it.
 use Rattle.std.proofs.{Common.{◌≡◌, ◌⊎◌, inl, inr, ℕ, ◌≤◌, [], ◌++◌, length, drop, true, refl, sym, ap, subst, ◌∙◌, arith}, lemmas.Bool.{and_parts}}
 use Rattle.x25_link.specs.Station.{is_up}
-use Rattle.x25_line.specs.{laws.Sessions.{Meeting}, laws.SessionClaims.{SomeMet}, laws.PeerSessions.{PeerSessions, In, now, at_start}}
+use Rattle.x25_line.specs.{laws.Sessions.{Meeting}, laws.SessionClaims.{SomeMet}, laws.PeerSessions.{In, now, at_start}}
 use Rattle.x25_handshakes.specs.{laws.Handshake.{At}, laws.PeerLayer.{PeerChannels}}
 use Rattle.x25_layer.specs.{Layer.{goes_up}, laws.Transcript.{name_of}, laws.Quiet.{AreNoFaults}, laws.TwoLayers.{End, started}}
 use Rattle.x25_layer.specs.laws.PeerClaims.{peer_call, peer_stretch, peer_name, of_call, StretchIsInOrder, CallIsInOrder, OpenHaveArrived}
 use Rattle.x25_station.specs.{Config.{Settings, link_settings, layer_settings}, Entry.{layer_entries}, laws.ReadLaw.{IsReachedByOctets}}
-use Rattle.x25_peer.specs.laws.BesideSessions.{ReadAs, Own, BesideSessions, their_now, their_layer, start, HappensBeside, Asks, AsksWith, Connects, Disconnects}
-use Rattle.x25_peer.specs.laws.BesideSessions.{Probes, Relinks, Fires, Receives, Abandons, Loses, Damages, Links, LayerDoes, LayerHears, LayerHearsChannel}
-use Rattle.x25_peer.specs.laws.BesideSessions.{ReachedBeside}
+use Rattle.x25_peer.specs.laws.BesideSessions.{ReadAs, Own, BesideSessions, their_now, their_layer, links, start, ReachedBeside}
 use Rattle.x25_peer.specs.laws.BesideSessionClaims.{WithAnyPeer, MeetInStep, IsInOrder, MetAreInOrder, UnmetAreToldNothing, EachMeetsLatest, UpIsLatest}
 use Rattle.x25_peer.specs.laws.BesideSessionClaims.{IdleHasArrived, FindsNoError}
-use Rattle.x25_peer.proofs.{ReadLemmas.{none_left}, sessions.Meetings.{CanMeet, all_both, met_can_meet, could_meet_some}, sessions.SessionLinks.{links_with}}
-use Rattle.x25_peer.proofs.sessions.Standing.{Below, Known, Stands}
-use Rattle.x25_peer.proofs.sessions.StationActs.{asks, asks_with, connects, disconnects, probes, relinks, fires, abandons_it, comes}
-use Rattle.x25_peer.proofs.sessions.PeerActs.{loses, damages, theirs, layer_does, layer_hears, layer_hears_channel}
+use Rattle.x25_peer.proofs.{ReadLemmas.{none_left}, sessions.Meetings.{CanMeet, all_both, met_can_meet, could_meet_some}}
+use Rattle.x25_peer.proofs.sessions.{Standing.{Below, Stands}, StationActs.{station_does}, PeerActs.{is_elsewhere}}
 use Rattle.x25_line.proofs.ends.Meetings.{all_map, all_some}
 use Rattle.x25_layer.specs.laws.PeerJoined as layer_peer
 use Rattle.x25_layer.specs.laws.PeerClaims as layer_claims
@@ -27,49 +23,26 @@ forget c reached.at_start = layer_peer.at_start
 forget c (reached.goes_on u v h e octets) = layer_peer.goes_on u v (forget c h) e
 
 -- what is known of the layers alone, by the names of the station's session
-in_order_as : (k : ℕ) (own : Own) (e : End) (y : At PeerChannels) → e.layer ≡ own.layer → e.entries ≡ layer_entries own.entries
+in_order_as : (k : ℕ) (own : Own) (e : End) (y : At PeerChannels) → e.layer ≡ own.station.layer → e.entries ≡ layer_entries own.entries
     → (of_call (name_of e.layer k) ≡ of_call (peer_name y k) → CallIsInOrder k (name_of e.layer k) e.entries (peer_call y k))
     → (name_of e.layer k ≡ peer_name y k → StretchIsInOrder k (name_of e.layer k) e.entries (e.layer.circuits k) (peer_stretch y k)) → IsInOrder k own y
 in_order_as k own e y layer entries calls stretch = record {
-  calls = subst (λ es. of_call (name_of own.layer k) ≡ of_call (peer_name y k) → CallIsInOrder k (name_of own.layer k) es (peer_call y k)) entries
-      (subst (λ l. of_call (name_of l k) ≡ of_call (peer_name y k) → CallIsInOrder k (name_of l k) e.entries (peer_call y k)) layer calls);
-  stretch = subst (λ es. name_of own.layer k ≡ peer_name y k → StretchIsInOrder k (name_of own.layer k) es (own.layer.circuits k) (peer_stretch y k)) entries
+  calls = subst (λ es. of_call (name_of own.station.layer k) ≡ of_call (peer_name y k) → CallIsInOrder k (name_of own.station.layer k) es (peer_call y k))
+      entries (subst (λ l. of_call (name_of l k) ≡ of_call (peer_name y k) → CallIsInOrder k (name_of l k) e.entries (peer_call y k)) layer calls);
+  stretch = subst (λ es. name_of own.station.layer k ≡ peer_name y k
+      → StretchIsInOrder k (name_of own.station.layer k) es (own.station.layer.circuits k) (peer_stretch y k)) entries
       (subst (λ l. name_of l k ≡ peer_name y k → StretchIsInOrder k (name_of l k) e.entries (l.circuits k) (peer_stretch y k)) layer stretch);
 }
 
 module _ (below : Below) (c : Settings) (low : 1 ≤ c.window) (high : c.window ≤ 7) (few : c.channels.count ≤ 4095) where
-  step_on : {w v : BesideSessions} → Stands c w → HappensBeside c w v → Stands c v
-  step_on {w} h (Asks request step octets is) = asks below c low high few w h request step octets is
-  step_on {w} h (AsksWith given request step of_given octets is) = asks_with below c low high few w h given request step of_given octets is
-  step_on {w} h (Connects none) = connects below c low high few w h none
-  step_on {w} h (Disconnects none) = disconnects below c low high few w h none
-  step_on {w} h (Probes none) = probes below c low high few w h none
-  step_on {w} h (Relinks none) = relinks below c low high few w h none
-  step_on {w} h (Fires none due) = fires below c low high few w h none due
-  step_on {w} h (Receives e rest front not_full) = comes below c low high few w h e rest front not_full
-  step_on {w} h (Abandons e rest front full) = abandons_it below c low high few w h e rest front full
-  step_on {w} h (Loses place) = loses below c low high w h place
-  step_on {w} h (Damages place octets visible) = damages below c low high w h place octets visible
-  step_on {w} h (Links links happens) = theirs below c low high w h happens
-  step_on {w} h (LayerDoes deed p octets stand may is configured reads) = layer_does below c low high w h deed p octets stand may is configured reads
-  step_on {w} h (LayerHears p read behind packets all stand reads waits answered read_all) =
-      layer_hears below c low high w h p read behind packets all stand reads waits answered read_all
-  step_on {w} h (LayerHearsChannel y p read passed behind packets all stand live has apart reads waits answered read_all) =
-      layer_hears_channel below c low high w h y p read passed behind packets all stand live has apart reads waits answered read_all
-
-  -- ---- the beginning
-
-  abbrev first : Known
-  first = record { end = started (goes_up (layer_settings c)); down = []; up = [] }
-
   stands_first : Stands c (start c)
   stands_first = record {
-    known = λ n. first;
+    ends = λ n. started (goes_up (layer_settings c));
     puts = λ m. [];
-    link = record { downs = λ n. []; ups = λ n. []; reached = at_start; is_down = λ n. refl; is_up = λ n. refl };
+    link = at_start;
     now = λ up. absurd (cc);
     each = λ n. record { layer = refl; out = refl; entries = refl; told = refl; begins = tt; alone = λ _. refl };
-    later = λ n over. record { end = refl; down = refl; up = refl };
+    later = λ n over. record { end = refl; known = refl };
     peers = λ m. record { reads = tt; heard = omega (arith) };
     anew = λ m over. (refl, refl);
     pairs = λ n m can. reached.at_start;
@@ -78,19 +51,17 @@ module _ (below : Below) (c : Settings) (low : 1 ≤ c.window) (high : c.window 
 
   pub along : {w : BesideSessions} → ReachedBeside c w → Stands c w
   along beside.at_start = stands_first
-  along (beside.goes_on u v h e) = step_on (along h) e
-
-  abbrev linked : (w : BesideSessions) → Stands c w → PeerSessions
-  linked w h = links_with w.near.link w.begun h.link.downs h.link.ups w.peer w.out w.back w.met
+  along (beside.here w v reached does) = station_does below c low high few w (along reached) does
+  along (beside.elsewhere w v reached happens) = is_elsewhere below c low high w (along reached) happens
 
   in_step : {w : BesideSessions} (h : Stands c w) → MeetInStep w
-  in_step {w} h = below.step (link_settings c) low high (linked w h) h.link.reached
+  in_step {w} h = below.step (link_settings c) low high (links w) h.link
 
   -- the latest sessions of both ends met each other, or none
   latest_can_meet : (w : BesideSessions) (h : Stands c w) → is_up w.near.link.phase ≡ true → (w.peer.stand ≡ In)
       ⊎ SomeMet (λ (m : Meeting). m.near ≡ w.begun) w.met → CanMeet w.begun w.peer.begun w.met
   latest_can_meet w h up which =
-      let agree = below.agree (link_settings c) low high (linked w h) h.link.reached in
+      let agree = below.agree (link_settings c) low high (links w) h.link in
       elim which [
         | inl stand ↦ all_both (λ m. m.near ≡ w.begun → m.far ≡ w.peer.begun) (λ m. m.far ≡ w.peer.begun → m.near ≡ w.begun) w.met (agree.near up)
             (agree.peer stand)
@@ -111,15 +82,15 @@ met_in_order below law c low high few w r =
     (λ (p : Meeting) can k. (
     let is = h.each p.near in
     let x = law c.role c.long_data c.channels _ (forget c (h.pairs p.near p.far can)) k in
-    in_order_as k (w.own p.near) (h.known p.near).end (w.theirs p.far).layer is.layer is.entries x.calls x.stretch))
+    in_order_as k (w.own p.near) (h.ends p.near) (w.theirs p.far).layer is.layer is.entries x.calls x.stretch))
     w.met (met_can_meet w.met (in_step below c low high few h))
 
 pub unmet_are_told_nothing : Below → WithAnyPeer UnmetAreToldNothing
 unmet_are_told_nothing below c low high few w r =
     let h = along below c low high few r in
-    let unmet = below.unmet (link_settings c) low high (linked below c low high few w h) h.link.reached in
+    let unmet = below.unmet (link_settings c) low high (links w) h.link in
     record {
-      near = λ n. elim (unmet.near n) [ inl none ↦ inl (sym (h.each n).told ∙ (h.each n).alone (sym (h.link.is_up n) ∙ none)) | inr some ↦ inr some ];
+      near = λ n. elim (unmet.near n) [ inl none ↦ inl (sym (h.each n).told ∙ (h.each n).alone none) | inr some ↦ inr some ];
       peer = λ m. elim (unmet.far m) [
         | inl none ↦ inl (let some : (w.theirs m).heard ≤ length (w.peer.of_session m).taken = (h.peers m).heard in
             let long : length (w.peer.of_session m).taken ≡ 0 = ap length none in
@@ -131,27 +102,27 @@ unmet_are_told_nothing below c low high few w r =
 pub each_meets_latest : Below → WithAnyPeer EachMeetsLatest
 each_meets_latest below c low high few w r =
     let h = along below c low high few r in
-    let agree = below.agree (link_settings c) low high (linked below c low high few w h) h.link.reached in
+    let agree = below.agree (link_settings c) low high (links w) h.link in
     record { near = agree.near; peer = agree.peer }
 
 pub up_is_latest : Below → WithAnyPeer UpIsLatest
 up_is_latest below c low high few w r up =
     let h = along below c low high few r in
-    sym (h.each w.begun).layer ∙ (h.now up).layer
+    (h.now up).station
 
 pub idle_has_arrived : Below → layer_claims.WithAnyPeer layer_claims.AllHaveArrived → WithAnyPeer IdleHasArrived
 idle_has_arrived below law c low high few w r idle which took =
     let h = along below c low high few r in
     let up : is_up w.near.link.phase ≡ true = (and_parts _ _ idle).0 in
-    let k = h.known w.begun in
+    let e = h.ends w.begun in
     let can = latest_can_meet below c low high few w h up which in
-    let taken = below.idle (link_settings c) low high (linked below c low high few w h) h.link.reached idle which ∙ h.link.is_down w.begun in
-    let read : ReadAs c (now w.peer).taken k.end.given = subst (λ os. ReadAs c os k.end.given) (sym taken) (h.now up).handed in
-    let none = ap (λ l. l ++ drop (their_now w).heard k.end.given) took.passed
-    ∙ none_left c (their_now w).heard (now w.peer).taken k.end.given took.heard read in
+    let taken = below.idle (link_settings c) low high (links w) h.link idle which in
+    let read : ReadAs c (now w.peer).taken e.given = subst (λ os. ReadAs c os e.given) (sym taken) (h.now up).handed in
+    let none = ap (λ l. l ++ drop (their_now w).heard e.given) took.passed
+    ∙ none_left c (their_now w).heard (now w.peer).taken e.given took.heard read in
     let all = law c.role c.long_data c.channels _ (forget c (h.pairs w.begun w.peer.begun can)) none in
     subst (λ es. OpenHaveArrived w.near.layer es (their_layer w)) (h.each w.begun).entries
-    (subst (λ l. OpenHaveArrived l k.end.entries (their_layer w)) (h.now up).layer all)
+    (subst (λ l. OpenHaveArrived l e.entries (their_layer w)) ((h.each w.begun).layer ∙ ap (λ s. s.layer) (h.now up).station) all)
 
 pub finds_no_error : Below → layer_claims.WithAnyPeer layer_claims.FindsNoError → WithAnyPeer FindsNoError
 finds_no_error below law c low high few w r n =

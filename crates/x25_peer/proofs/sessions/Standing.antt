@@ -3,21 +3,22 @@
 use Rattle.std.proofs.Common.{◌≡◌, ℕ, ◌==◌, ◌≤◌, ◌<◌, inl, inr, List, [], ◌++◌, length, drop, Bool, true, false, if◌then◌else◌, refl, sym, ap, subst, ◌∙◌}
 use Rattle.std.proofs.{Common.{append_assoc, eq-eqb, arith}, lemmas.Bool.{eqb-true, ne_eqb}, lemmas.List.{drop-append-le}}
 use Rattle.x25_packet.specs.Packet.{PlainPacket}
-use Rattle.x25_link.specs.Station.{Settings as LinkSettings, LinkStation, is_up}
+use Rattle.x25_link.specs.Station.{Settings as LinkSettings, is_up}
 use Rattle.x25_link.specs.laws.NoteLaw.{TakeTells, TakeHandsUp, TimerTells, PutTells, ConnectTells, DisconnectTells, AbandonTells, RelinkTells}
 use Rattle.x25_link.specs.laws.SetUp.{RelinkIsTwoSteps}
-use Rattle.x25_line.specs.{laws.InWindow.{IsPrefix}, laws.Peer.{Peer}, laws.Sessions.{Entry, Meeting, extended}}
-use Rattle.x25_line.specs.{laws.SessionClaims.{MeetInStep, MetAreInOrder, UnmetHandNothingUp, IsInOrder}, laws.PeerSessions.{PeerEnd, PeerSessions, as_end}}
+use Rattle.x25_line.specs.{laws.InWindow.{IsPrefix}, laws.Peer.{Peer}, laws.Sessions.{Meeting, extended}}
+use Rattle.x25_line.specs.laws.SessionClaims.{MeetInStep, MetAreInOrder, UnmetHandNothingUp, IsInOrder}
+use Rattle.x25_line.specs.laws.PeerSessions.{PeerEnd, PeerSessions, ReachedInSessions, as_end}
 use Rattle.x25_line.specs.laws.PeerSessionClaims.{WithAnyPeer, OfBothEnds, EachMeetsLatest, IdleHasArrived, AsksInLatest}
-use Rattle.x25_layer.specs.{Layer.{Layer, goes_up}, laws.TwoLayers.{End, started}}
-use Rattle.x25_station.specs.{Config.{Settings, link_settings, layer_settings}, Entry.{layer_entries, layer_notices}}
+use Rattle.x25_layer.specs.{Layer.{goes_up}, laws.TwoLayers.{End, started}}
+use Rattle.x25_station.specs.{Config.{Settings, link_settings, layer_settings}, Entry.{layer_entries, layer_notices}, Station.{Station}}
 use Rattle.x25_station.specs.laws.GivenLaw.{GivenIsJoined, GivenIsRead}
 use Rattle.x25_station.specs.laws.JoinLaw.{RequestIsJoined, ReceiveIsJoined, QuietIsJoined, DownIsJoined, UpIsJoined}
 use Rattle.x25_station.specs.laws.KeepLaw.{IsKept, CommandKeeps, TimerKeeps, RequestKeeps, GivenKeeps, ReceiveKeeps}
 use Rattle.x25_station.specs.laws.ReadLaw.{IsReachedByOctets, PutsBesidePeersAreReadable}
-use Rattle.x25_peer.specs.laws.BesideSessions.{ReadAs, Own, Theirs, BesideSessions, in_session}
+use Rattle.x25_peer.specs.laws.BesideSessions.{ReadAs, Own, Theirs, BesideSessions, own_anew, in_session, links}
 use Rattle.x25_peer.proofs.{ReadLemmas.{ReadFirst, read_first, first_front, first_length}, sessions.Meetings.{CanMeet, true_false, all_both}}
-use Rattle.x25_peer.proofs.sessions.SessionLinks.{links_with, LinkReached}
+use Rattle.x25_peer.proofs.sessions.SessionLinks.{ListsStand}
 use Rattle.x25_line.proofs.ends.Meetings.{all_some}
 
 pub record Below : Type 0 where
@@ -27,6 +28,7 @@ pub record Below : Type 0 where
   pub agree : WithAnyPeer EachMeetsLatest
   pub idle : WithAnyPeer IdleHasArrived
   pub asks : WithAnyPeer AsksInLatest
+  pub lists : WithAnyPeer (λ c w. ListsStand w)
   pub readable : PutsBesidePeersAreReadable
   pub request : RequestIsJoined
   pub given : GivenIsJoined
@@ -81,31 +83,31 @@ both_cases {A} {B} P s x all y each here others n = by (n == s) refl
 
 -- ---- a session of the station
 
--- its layer's end, and the octets that its link was handed down and handed up in it
-pub record Known : Type 0 where
-  pub end : End
-  pub down : List (List ℕ)
-  pub up : List (List ℕ)
+-- the octets that its link was handed down and handed up in it
+abbrev pub down_in : Own → List (List ℕ)
+down_in own = own.station.link.outgoing.given
 
--- the session that stands: what its link was handed down is read as what its layer put
-pub record IsStanding (c : Settings) (k : Known) (now : Layer) : Type 0 where
-  pub layer : k.end.layer ≡ now
-  pub handed : ReadAs c k.down k.end.given
+abbrev pub up_in : Own → List (List ℕ)
+up_in own = own.station.link.taken
+
+-- the session that stands, where this is its layer's end: what its link was handed down is read as what its layer put
+pub record IsStanding (c : Settings) (e : End) (own : Own) (near : Station) : Type 0 where
+  pub station : own.station ≡ near
+  pub handed : ReadAs c (down_in own) e.given
 
 -- what is known of each session is what the world has of it, and where nothing was handed up the user was told nothing
-pub record IsKnown (c : Settings) (n : ℕ) (k : Known) (own : Own) : Type 0 where
-  pub layer : k.end.layer ≡ own.layer
-  pub out : k.end.is_out ≡ false
-  pub entries : k.end.entries ≡ layer_entries own.entries
-  pub told : k.end.told ≡ layer_notices own.entries
-  pub begins : ReadFirst c k.down k.end.given
-  pub alone : k.up ≡ [] → k.end.told ≡ []
+pub record IsKnown (c : Settings) (e : End) (own : Own) : Type 0 where
+  pub layer : e.layer ≡ own.station.layer
+  pub out : e.is_out ≡ false
+  pub entries : e.entries ≡ layer_entries own.entries
+  pub told : e.told ≡ layer_notices own.entries
+  pub begins : ReadFirst c (down_in own) e.given
+  pub alone : up_in own ≡ [] → e.told ≡ []
 
 -- a session that isn't begun
-pub record IsNotBegun (c : Settings) (k : Known) : Type 0 where
-  pub end : k.end ≡ started (goes_up (layer_settings c))
-  pub down : k.down ≡ []
-  pub up : k.up ≡ []
+pub record IsNotBegun (c : Settings) (e : End) (own : Own) : Type 0 where
+  pub end : e ≡ started (goes_up (layer_settings c))
+  pub known : own ≡ own_anew c
 
 -- on the way to the peer's layer, of what our layer put
 abbrev pub way : Theirs → List PlainPacket → List PlainPacket
@@ -114,10 +116,10 @@ way t given = t.passed ++ drop t.heard given
 pub way_more : (t : Theirs) (given more : List PlainPacket) → t.heard ≤ length given → way t given ++ more ≡ way t (given ++ more)
 way_more t given more few = append_assoc t.passed (drop t.heard given) more ∙ ap (λ l. t.passed ++ l) (sym (drop-append-le t.heard given more few))
 
--- a session of the station and one of the peer, whose layer put these packets, as they are read
-abbrev pub PairReached : Settings → Known → Theirs → List PlainPacket → Type 0
-PairReached c k t puts = IsReachedByOctets c.wide c.role c.long_data c.channels
-    (record { near = k.end; peer = t.layer; out = way t k.end.given; back = drop (length k.up) puts })
+-- a session of the station, to which this was handed up, and one of the peer, whose layer put these packets, as they are read
+abbrev pub PairReached : Settings → End → List (List ℕ) → Theirs → List PlainPacket → Type 0
+PairReached c e up t puts = IsReachedByOctets c.wide c.role c.long_data c.channels
+    (record { near = e; peer = t.layer; out = way t e.given; back = drop (length up) puts })
 
 -- of the peer's sessions
 pub record IsRead (c : Settings) (p : Peer) (t : Theirs) (puts : List PlainPacket) : Type 0 where
@@ -127,32 +129,26 @@ pub record IsRead (c : Settings) (p : Peer) (t : Theirs) (puts : List PlainPacke
 abbrev pub AreAnew : PeerEnd → Type 0
 AreAnew p = (m : ℕ) → p.begun < m → ((p.of_session m).given ≡ []) × ((p.of_session m).taken ≡ [])
 
-abbrev pub downs_of : (ℕ → Known) → ℕ → List (List ℕ)
-downs_of known n = (known n).down
-
-abbrev pub ups_of : (ℕ → Known) → ℕ → List (List ℕ)
-ups_of known n = (known n).up
-
 pub record Stands (c : Settings) (w : BesideSessions) : Type 0 where
-  pub known : ℕ → Known
+  pub ends : ℕ → End
   pub puts : ℕ → List PlainPacket
-  pub link : LinkReached (link_settings c) w.near.link w.begun (downs_of known) (ups_of known) w.peer w.out w.back w.met
-  pub now : is_up w.near.link.phase ≡ true → IsStanding c (known w.begun) w.near.layer
-  pub each : (n : ℕ) → IsKnown c n (known n) (w.own n)
-  pub later : (n : ℕ) → w.begun < n → IsNotBegun c (known n)
+  pub link : ReachedInSessions (Unit {0}) (link_settings c) (links w)
+  pub now : is_up w.near.link.phase ≡ true → IsStanding c (ends w.begun) (w.own w.begun) w.near
+  pub each : (n : ℕ) → IsKnown c (ends n) (w.own n)
+  pub later : (n : ℕ) → w.begun < n → IsNotBegun c (ends n) (w.own n)
   pub peers : (m : ℕ) → IsRead c (w.peer.of_session m) (w.theirs m) (puts m)
   pub anew : AreAnew w.peer
-  pub pairs : (n m : ℕ) → CanMeet n m w.met → PairReached c (known n) (w.theirs m) (puts m)
+  pub pairs : (n m : ℕ) → CanMeet n m w.met → PairReached c (ends n) (up_in (w.own n)) (w.theirs m) (puts m)
   pub kept : IsKept w.near
 
 -- ---- the lists of what is known
 
-pub into : (list : Known → List (List ℕ)) (known : ℕ → Known) (s : ℕ) (k : Known) (more : List (List ℕ)) → list k ≡ list (known s) ++ more → (n : ℕ)
-    → extended (λ i. list (known i)) s more n ≡ list (in_session s k known n)
-into list known s k more same n = by (n == s) refl
+pub into : (list : Own → List (List ℕ)) (all : ℕ → Own) (s : ℕ) (own : Own) (more : List (List ℕ)) → list own ≡ list (all s) ++ more → (n : ℕ)
+    → extended (λ i. list (all i)) s more n ≡ list (in_session s own all n)
+into list all s own more same n = by (n == s) refl
   where
-    by : (b : Bool) → (n == s) ≡ b → (if b then list (known n) ++ more else list (known n)) ≡ list (if b then k else known n)
-    by true is = ap (λ i. list (known i) ++ more) (eqb-true n s is) ∙ sym same
+    by : (b : Bool) → (n == s) ≡ b → (if b then list (all n) ++ more else list (all n)) ≡ list (if b then own else all n)
+    by true is = ap (λ i. list (all i) ++ more) (eqb-true n s is) ∙ sym same
     by false is = refl
 
 -- ---- what the laws of the links say
@@ -162,57 +158,53 @@ pub record BothBegin (down up : List (List ℕ)) (p : Peer) : Type 0 where
   pub there : IsPrefix p.taken down
   pub back : IsPrefix up p.given
 
-module _ (below : Below) (c : LinkSettings) (low : 1 ≤ c.window) (high : c.window ≤ 7) where
-  module _ (link : LinkStation) (begun : ℕ) (down up : ℕ → List (List ℕ)) (peer : PeerEnd) (out back : List Entry) (met : List Meeting)
-      (l : LinkReached c link begun down up peer out back met) where
-    abbrev links : PeerSessions
-    links = links_with link begun l.downs l.ups peer out back met
+module _ (below : Below) (c : LinkSettings) (low : 1 ≤ c.window) (high : c.window ≤ 7) (v : PeerSessions) (r : ReachedInSessions (Unit {0}) c v) where
+  abbrev IsOne : ℕ → ℕ → Meeting → Type 0
+  IsOne n m p = (p.near ≡ n → p.far ≡ m) × (p.far ≡ m → p.near ≡ n)
 
-    abbrev IsOne : ℕ → ℕ → Meeting → Type 0
-    IsOne n m p = (p.near ≡ n → p.far ≡ m) × (p.far ≡ m → p.near ≡ n)
+  abbrev IsOrdered : Meeting → Type 0
+  IsOrdered p = IsInOrder v.near (as_end v.peer) p
 
-    pub both_begin : {n m : ℕ} → CanMeet n m met → BothBegin (down n) (up n) (peer.of_session m)
-    both_begin {n} {m} can =
-        let order = below.order c low high links l.reached in
-        let unmet = below.unmet c low high links l.reached in
-        let both = all_both (IsInOrder links.near (as_end peer)) (IsOne n m) met order can in
-        record {
-          there = elim (unmet.far m) [
-            | inl none ↦ subst (λ t. IsPrefix t (down n)) (sym none) (down n, refl)
-            | inr some ↦ all_some (λ p. IsInOrder links.near (as_end peer) p × IsOne n m p) (λ p. p.far ≡ m) (IsPrefix (peer.of_session m).taken (down n))
-                (λ (p : Meeting) h is. subst (λ d. IsPrefix (peer.of_session m).taken d) (l.is_down n)
-                (subst (λ i. IsPrefix (peer.of_session m).taken (l.downs i)) (h.1.1 is)
-                (subst (λ i. IsPrefix (peer.of_session i).taken (l.downs p.near)) is h.0.there))) met both some
-          ];
-          back = elim (unmet.near n) [
-            | inl none ↦ subst (λ u. IsPrefix u (peer.of_session m).given) (sym none ∙ l.is_up n) ((peer.of_session m).given, refl)
-            | inr some ↦ all_some (λ p. IsInOrder links.near (as_end peer) p × IsOne n m p) (λ p. p.near ≡ n) (IsPrefix (up n) (peer.of_session m).given)
-                (λ (p : Meeting) h is. subst (λ u. IsPrefix u (peer.of_session m).given) (l.is_up n)
-                (subst (λ i. IsPrefix (l.ups n) (peer.of_session i).given) (h.1.0 is)
-                (subst (λ i. IsPrefix (l.ups i) (peer.of_session p.far).given) is h.0.back))) met both some
-          ];
-        }
+  pub both_begin : {n m : ℕ} → CanMeet n m v.met → BothBegin (v.near.down n) (v.near.up n) (v.peer.of_session m)
+  both_begin {n} {m} can =
+      let unmet = below.unmet c low high v r in
+      let both = all_both IsOrdered (IsOne n m) v.met (below.order c low high v r) can in
+      record {
+        there = elim (unmet.far m) [
+          | inl none ↦ subst (λ t. IsPrefix t (v.near.down n)) (sym none) (v.near.down n, refl)
+          | inr some ↦ all_some (λ p. IsOrdered p × IsOne n m p) (λ p. p.far ≡ m) (IsPrefix (v.peer.of_session m).taken (v.near.down n))
+              (λ (p : Meeting) h is. subst (λ i. IsPrefix (v.peer.of_session m).taken (v.near.down i)) (h.1.1 is)
+              (subst (λ i. IsPrefix (v.peer.of_session i).taken (v.near.down p.near)) is h.0.there)) v.met both some
+        ];
+        back = elim (unmet.near n) [
+          | inl none ↦ subst (λ u. IsPrefix u (v.peer.of_session m).given) (sym none) ((v.peer.of_session m).given, refl)
+          | inr some ↦ all_some (λ p. IsOrdered p × IsOne n m p) (λ p. p.near ≡ n) (IsPrefix (v.near.up n) (v.peer.of_session m).given)
+              (λ (p : Meeting) h is. subst (λ i. IsPrefix (v.near.up n) (v.peer.of_session i).given) (h.1.0 is)
+              (subst (λ i. IsPrefix (v.near.up i) (v.peer.of_session p.far).given) is h.0.back)) v.met both some
+        ];
+      }
 
 -- ---- of two sessions that met, or may meet yet
 
 module _ (below : Below) (c : Settings) (low : 1 ≤ c.window) (high : c.window ≤ 7) (w : BesideSessions) (h : Stands c w) (n m : ℕ) (can : CanMeet n m w.met)
   where
-    pub pair_begins : BothBegin (h.known n).down (h.known n).up (w.peer.of_session m)
-    pair_begins = both_begin below (link_settings c) low high w.near.link w.begun (downs_of h.known) (ups_of h.known) w.peer w.out w.back w.met h.link can
+    pub pair_begins : BothBegin (down_in (w.own n)) (up_in (w.own n)) (w.peer.of_session m)
+    pair_begins = both_begin below (link_settings c) low high (links w) h.link can
 
     -- what the peer's link took is read as the first of what our layer put
-    pub taken_begins : ReadFirst c (w.peer.of_session m).taken (h.known n).end.given
+    pub taken_begins : ReadFirst c (w.peer.of_session m).taken (h.ends n).given
     taken_begins =
-        first_front c (w.peer.of_session m).taken pair_begins.there.0 (h.known n).end.given
-        (subst (λ d. ReadFirst c d (h.known n).end.given) (sym pair_begins.there.1) (h.each n).begins)
+        first_front c (w.peer.of_session m).taken pair_begins.there.0 (h.ends n).given
+        (subst (λ d. ReadFirst c d (h.ends n).given) (sym pair_begins.there.1) (h.each n).begins)
 
-    pub heard_few : (w.theirs m).heard ≤ length (h.known n).end.given
+    pub heard_few : (w.theirs m).heard ≤ length (h.ends n).given
     heard_few =
         let some : (w.theirs m).heard ≤ length (w.peer.of_session m).taken = (h.peers m).heard in
-        omega (arith, some, first_length c (w.peer.of_session m).taken (h.known n).end.given taken_begins)
+        omega (arith, some, first_length c (w.peer.of_session m).taken (h.ends n).given taken_begins)
 
-    pub up_few : length (h.known n).up ≤ length (h.puts m)
+    pub up_few : length (up_in (w.own n)) ≤ length (h.puts m)
     up_few =
         let prefix = pair_begins.back in
         let whole = read_first c (w.peer.of_session m).given (h.puts m) (h.peers m).reads in
-        first_length c (h.known n).up (h.puts m) (first_front c (h.known n).up prefix.0 (h.puts m) (subst (λ g. ReadFirst c g (h.puts m)) (sym prefix.1) whole))
+        first_length c (up_in (w.own n)) (h.puts m)
+        (first_front c (up_in (w.own n)) prefix.0 (h.puts m) (subst (λ g. ReadFirst c g (h.puts m)) (sym prefix.1) whole))

@@ -1,18 +1,17 @@
--- A step of the station beside a peer over sessions: in the session that stands, at rest, or as a session begins.
+-- A step of the station beside a peer over sessions: what stands goes on with what its layer moves by.
 use Rattle.std.proofs.Common.{◌≡◌, ℕ, suc, ◌≤◌, List, [], ◌∷◌, ◌++◌, Bool, true, false, if◌then◌else◌, Option, Some, None, refl, sym, ap, ap₂, subst, ◌∙◌}
-use Rattle.std.proofs.Common.{append-nil, arith}
+use Rattle.std.proofs.Common.{append-nil, eq-eqb, arith}
 use Rattle.x25_frame.specs.Frame.{PlainFrame}
 use Rattle.x25_packet.specs.Packet.{PlainPacket, restart}
-use Rattle.x25_line.specs.{laws.Sessions.{Entry, Meeting, Sessions, begun_by}, laws.PeerSessions.{PeerSessions, both_ends}}
-use Rattle.x25_layer.specs.{Layer.{Layer, rested, restart_cause}, laws.TwoLayers.{End, TwoLayers}}
-use Rattle.x25_station.specs.{Config.{Settings, link_settings}, Entry.{StationEntry, link_down, entries_noted, layer_entries, layer_notices}}
+use Rattle.x25_line.specs.{laws.Sessions.{Entry, Meeting, Sessions, begun_by, extended}, laws.PeerSessions.{both_ends, with_peer}}
+use Rattle.x25_layer.specs.{Layer.{rested, restart_cause}, laws.TwoLayers.{End, TwoLayers}}
+use Rattle.x25_station.specs.{Config.{Settings, link_settings}, Entry.{StationEntry, link_down, entries_noted, layer_entries, layer_notices}, Station.{Station}}
 use Rattle.x25_station.specs.{Step.{Step, led_by, follows}, laws.JoinLaw.{station_with, MovesAs}, laws.KeepLaw.{IsKept}, laws.ReadLaw.{at_start}}
-use Rattle.x25_peer.specs.laws.BesideSessions.{ReadAs, BesideSessions, in_session, stepped, followed}
+use Rattle.x25_peer.specs.laws.BesideSessions.{ReadAs, Own, BesideSessions, in_session, links, own_after, stepped}
 use Rattle.x25_peer.proofs.{ReadLemmas.{ReadFirst, layer_append, notices_append, read_append, back_reads, read_first}, sessions.Meetings.{CanMeet, true_false}}
 use Rattle.x25_peer.proofs.sessions.LinkSteps.{SessionGoes, StepGoes, step_as, spelled, PutsRead, puts_spelled, puts_up, puts_of, all_act, puts_go, puts_last}
-use Rattle.x25_peer.proofs.sessions.SessionLinks.{links_with, Reach, acts_reach, goes_reached}
-use Rattle.x25_peer.proofs.sessions.Standing.{Below, in_here, in_other, in_cases, both_cases, Known, IsStanding, IsKnown, IsNotBegun, PairReached, downs_of}
-use Rattle.x25_peer.proofs.sessions.Standing.{ups_of, Stands, into}
+use Rattle.x25_peer.proofs.sessions.SessionLinks.{Reach, acts_reach, goes_reached}
+use Rattle.x25_peer.proofs.sessions.Standing.{Below, in_here, in_other, both_cases, down_in, up_in, IsStanding, IsKnown, PairReached, Stands, into}
 use Rattle.x25_link.specs.{declared.phase.Reason.{Reason}, Station.{Settings as LinkSettings, LinkStation, Side, is_up}}
 use Rattle.x25_link.specs.{Hearing.{Step as LinkStep}, laws.NoteLaw.{IsQuiet, Tells}}
 use Rattle.x25_line.specs.laws.Stations as line
@@ -35,82 +34,122 @@ noted_silent None false = record { entries = refl; told = refl }
 noted_silent (Some reason) true = record { entries = refl; told = refl }
 noted_silent (Some reason) false = record { entries = refl; told = refl }
 
-module _ (below : Below) (c : Settings) (few : c.channels.count ≤ 4095) (w : BesideSessions) (h : Stands c w) where
+-- its link has stepped, and then its layer, by a command that has these entries; by LinkUp a session begins
+abbrev pub followed : Settings → BesideSessions → List StationEntry → List Entry → List Meeting → LinkStep → BesideSessions
+followed c w asked back met k = stepped c w (begun_by k.notes.up w.begun) back met (led_by asked (follows c w.near.layer k))
+
+-- there is more in this session
+pub extended_here : (lists : ℕ → List (List ℕ)) (session : ℕ) (more : List (List ℕ)) → extended lists session more session ≡ lists session ++ more
+extended_here lists session more = ap (λ b. if b then lists session ++ more else lists session) (eq-eqb session session refl)
+
+-- what is known of a session is of the station as it is where that is up, and else as it was
+after_up : (own : Own) (step : Step) → is_up step.near.link.phase ≡ true → own_after own step
+    ≡ record { station = step.near; entries = own.entries ++ step.entries }
+after_up own step up = ap (λ b. record { station = if b then step.near else own.station; entries = own.entries ++ step.entries }) up
+
+after_out : (own : Own) (step : Step) → is_up step.near.link.phase ≡ false → own_after own step
+    ≡ record { station = own.station; entries = own.entries ++ step.entries }
+after_out own step out = ap (λ b. record { station = if b then step.near else own.station; entries = own.entries ++ step.entries }) out
+
+module _ (below : Below) (c : Settings) (low : 1 ≤ c.window) (high : c.window ≤ 7) (few : c.channels.count ≤ 4095) (w : BesideSessions) (h : Stands c w) where
   abbrev pub lc : LinkSettings
   lc = link_settings c
 
-  abbrev pub linked : PeerSessions
-  linked = links_with w.near.link w.begun h.link.downs h.link.ups w.peer w.out w.back w.met
-
   -- from these links the station's goes so to what is reached
   abbrev pub GoesTo : Sessions → ℕ → LinkStation → List PlainFrame → List (List ℕ) → List (List ℕ) → List Entry → List Meeting → Type 0
-  GoesTo v session link frames handed lifted left met = Reach lc w.peer v × SessionGoes lc (both_ends linked) v session link frames handed lifted left met
+  GoesTo v session link frames handed lifted left met = Reach lc w.peer v × SessionGoes lc (both_ends (links w)) v session link frames handed lifted left met
+
+  -- then it holds what it was handed down and up in this session
+  module _ {session : ℕ} {link : LinkStation} {frames : List PlainFrame} {handed lifted : List (List ℕ)} {left : List Entry} {met : List Meeting}
+      {v : Sessions} (g : GoesTo v session link frames handed lifted left met) (up : is_up link.phase ≡ true) where
+    there : is_up v.near.station.phase ≡ true
+    there = ap (λ s. is_up s.phase) g.1.station ∙ up
+
+    more_down : link.outgoing.given ≡ down_in (w.own session) ++ handed
+    more_down =
+        ap (λ s. s.outgoing.given) (sym g.1.station) ∙ sym ((below.lists lc low high (with_peer w.peer v) g.0).down there)
+        ∙ ap v.near.down g.1.begun ∙ g.1.down session ∙ extended_here (λ n. down_in (w.own n)) session handed
+
+    more_up : link.taken ≡ up_in (w.own session) ++ lifted
+    more_up =
+        ap (λ s. s.taken) (sym g.1.station) ∙ sym ((below.lists lc low high (with_peer w.peer v) g.0).up there)
+        ∙ ap v.near.up g.1.begun ∙ g.1.up session ∙ extended_here (λ n. up_in (w.own n)) session lifted
 
   -- The station has stepped in this session, of which this is known then.
-  steps : {session : ℕ} {k : Known} (step : Step) {handed lifted : List (List ℕ)} {left : List Entry} {met : List Meeting} {v : Sessions}
-      → GoesTo v session step.near.link step.out handed lifted left met
-      → k.down ≡ (h.known session).down ++ handed → k.up ≡ (h.known session).up ++ lifted → (is_up step.near.link.phase ≡ true → IsStanding c k step.near.layer)
-      → IsKnown c session k (record {
-        layer = if is_up step.near.link.phase then step.near.layer else (w.own session).layer;
-        entries = (w.own session).entries
-            ++ step.entries;
-      })
-      → w.begun ≤ session → ((n m : ℕ) → CanMeet n m met → CanMeet n m w.met) → ((m : ℕ) → CanMeet session m met → PairReached c k (w.theirs m) (h.puts m))
-      → IsKept step.near
+  steps : {session : ℕ} (e : End) (own : Own) (step : Step) {handed lifted : List (List ℕ)} {left : List Entry} {met : List Meeting} {v : Sessions}
+      → GoesTo v session step.near.link step.out handed lifted left met → own_after (w.own session) step ≡ own
+      → down_in own ≡ down_in (w.own session) ++ handed → up_in own ≡ up_in (w.own session) ++ lifted
+      → (is_up step.near.link.phase ≡ true → IsStanding c e own step.near) → IsKnown c e own
+      → w.begun ≤ session → ((n m : ℕ) → CanMeet n m met → CanMeet n m w.met)
+      → ((m : ℕ) → CanMeet session m met → PairReached c e (up_in own) (w.theirs m) (h.puts m)) → IsKept step.near
       → Stands c (stepped c w session left met step)
-  steps {session} {k} step {handed} {lifted} {left} {met} {v} g down up now known low could pairs kept = record {
-    known = in_session session k h.known;
-    puts = h.puts;
-    link = goes_reached linked (downs_of h.known) (ups_of h.known) (downs_of (in_session session k h.known)) (ups_of (in_session session k h.known))
-        g.0 g.1 h.link.is_down h.link.is_up (into (λ x. x.down) h.known session k handed down) (into (λ x. x.up) h.known session k lifted up);
-    now = λ up. rw (in_here session k h.known) (now up);
-    each = both_cases (IsKnown c) session k h.known
-        (record { layer = if is_up step.near.link.phase then step.near.layer else (w.own session).layer; entries = (w.own session).entries ++ step.entries })
-        w.own known
-        (λ n differs. h.each n);
-    later = λ n over. subst (IsNotBegun c) (sym (in_other session n k h.known (λ is. omega (arith, over, is)))) (h.later n (omega (arith, low, over)));
-    peers = h.peers;
-    anew = h.anew;
-    pairs = λ n m can. in_cases (λ i x. CanMeet i m met → PairReached c x (w.theirs m) (h.puts m)) session k h.known (λ yes. pairs m yes)
-        (λ i differs yes. h.pairs i m (could i m yes)) n can;
-    kept = kept;
-  }
+  steps {session} e own step {handed} {lifted} {left} {met} {v} g is down up now known over could pairs kept =
+      subst (λ o. Stands c (record (stepped c w session left met step) { own = in_session session o w.own })) (sym is)
+      (record {
+        ends = in_session session e h.ends;
+        puts = h.puts;
+        link = goes_reached (links w) (λ n. down_in (in_session session own w.own n)) (λ n. up_in (in_session session own w.own n)) g.0 g.1
+            (into down_in w.own session own handed down) (into up_in w.own session own lifted up);
+        now = λ on. rw (in_here session e h.ends, in_here session own w.own) (now on);
+        each = both_cases (λ n x o. IsKnown c x o) session e h.ends own w.own known (λ n differs. h.each n);
+        later = λ n above. (let differs : (n ≡ session → ⊥) = λ is. (omega (arith, above, is)) in
+            let before = h.later n (omega (arith, over, above)) in
+            record { end = in_other session n e h.ends differs ∙ before.end; known = in_other session n own w.own differs ∙ before.known });
+        peers = h.peers;
+        anew = h.anew;
+        pairs = λ n m can. both_cases (λ i x o. CanMeet i m met → PairReached c x (up_in o) (w.theirs m) (h.puts m)) session e h.ends own w.own
+            (λ yes. pairs m yes) (λ i differs yes. h.pairs i m (could i m yes)) n can;
+        kept = kept;
+      })
 
-  -- entries that aren't the layer's leave what is known of a session
-  silently : (n : ℕ) (l : Layer) {es : List StationEntry} {down : List (List ℕ)} → AreSilent es → (h.known n).end.layer ≡ l
-      → ReadFirst c down (h.known n).end.given
-      → IsKnown c n (record { end = (h.known n).end; down = down; up = (h.known n).up }) (record { layer = l; entries = (w.own n).entries ++ es })
-  silently n l {es} silent layer begins =
-      let is = h.each n in
-      let own = w.own n in
-      record {
+  -- What its layer tells and takes is what it was: this is the station that is known of the session then.
+  quietly : (session : ℕ) (x : Station) (step : Step) {handed : List (List ℕ)} {left : List Entry} {met : List Meeting} {v : Sessions}
+      → GoesTo v session step.near.link step.out handed [] left met
+      → own_after (w.own session) step ≡ record { station = x; entries = (w.own session).entries ++ step.entries }
+      → x.link.outgoing.given ≡ down_in (w.own session) ++ handed → x.link.taken ≡ up_in (w.own session) ++ []
+      → (is_up step.near.link.phase ≡ true → (x ≡ step.near) × ReadAs c x.link.outgoing.given (h.ends session).given)
+      → (h.ends session).layer ≡ x.layer → ReadFirst c x.link.outgoing.given (h.ends session).given → AreSilent step.entries
+      → w.begun ≤ session → ((n m : ℕ) → CanMeet n m met → CanMeet n m w.met) → IsKept step.near
+      → Stands c (stepped c w session left met step)
+  quietly session x step {handed} {left} {met} {v} g is down up now layer begins silent over could kept =
+      let e = h.ends session in
+      let known = h.each session in
+      let own = w.own session in
+      let same = up ∙ append-nil (up_in own) in
+      steps e (record { station = x; entries = own.entries ++ step.entries }) step g is down up
+      (λ on. record { station = (now on).0; handed = (now on).1 })
+      (record {
         layer = layer;
-        out = is.out;
-        entries = is.entries ∙ sym (append-nil (layer_entries own.entries)) ∙ ap (λ l. layer_entries own.entries ++ l) (sym silent.entries)
-            ∙ sym (layer_append own.entries es);
-        told = is.told ∙ sym (append-nil (layer_notices own.entries)) ∙ ap (λ l. layer_notices own.entries ++ l) (sym silent.told)
-            ∙ sym (notices_append own.entries es);
+        out = known.out;
+        entries = known.entries ∙ sym (append-nil (layer_entries own.entries)) ∙ ap (λ l. layer_entries own.entries ++ l) (sym silent.entries)
+            ∙ sym (layer_append own.entries step.entries);
+        told = known.told ∙ sym (append-nil (layer_notices own.entries)) ∙ ap (λ l. layer_notices own.entries ++ l) (sym silent.told)
+            ∙ sym (notices_append own.entries step.entries);
         begins = begins;
-        alone = is.alone;
-      }
+        alone = λ none. known.alone (sym same ∙ none);
+      })
+      over could (λ m yes. subst (λ u. PairReached c e u (w.theirs m) (h.puts m)) (sym same) (h.pairs session m (could session m yes))) kept
 
   -- ---- nothing is asked of the layer
 
   rests : (step : Step) {left : List Entry} {met : List Meeting} {v : Sessions} → GoesTo v w.begun step.near.link step.out [] [] left met
       → (is_up step.near.link.phase ≡ true → (is_up w.near.link.phase ≡ true) × (step.near.layer ≡ w.near.layer)) → AreSilent step.entries
       → ((n m : ℕ) → CanMeet n m met → CanMeet n m w.met) → IsKept step.near → Stands c (stepped c w w.begun left met step)
-  rests step {left} {met} {v} g stays silent could kept =
-      let b = w.begun in
-      let k = h.known b in
-      steps step g (sym (append-nil k.down)) (sym (append-nil k.up))
-      (λ up. rw (stays up).1 (h.now (stays up).0))
-      (silently b (if is_up step.near.link.phase then step.near.layer else (w.own b).layer) silent (by_phase (is_up step.near.link.phase) refl)
-      (h.each b).begins)
-      (omega (arith)) could (λ m yes. h.pairs b m (could b m yes)) kept
+  rests step {left} {met} {v} g stays silent could kept = by (is_up step.near.link.phase) refl
     where
-      by_phase : (up : Bool) → is_up step.near.link.phase ≡ up → (h.known w.begun).end.layer ≡ (if up then step.near.layer else (w.own w.begun).layer)
-      by_phase true up = (h.now (stays up).0).layer ∙ sym (stays up).1
-      by_phase false up = (h.each w.begun).layer
+      by : (up : Bool) → is_up step.near.link.phase ≡ up → Stands c (stepped c w w.begun left met step)
+      by true up =
+          let was = h.now (stays up).0 in
+          let down = more_down g up in
+          let same : step.near.link.outgoing.given ≡ down_in (w.own w.begun) = down ∙ append-nil (down_in (w.own w.begun)) in
+          quietly w.begun step.near step g (after_up (w.own w.begun) step up) down (more_up g up)
+          (λ _. (refl, subst (λ d. ReadAs c d (h.ends w.begun).given) (sym same) was.handed))
+          ((h.each w.begun).layer ∙ ap (λ s. s.layer) was.station ∙ sym (stays up).1)
+          (subst (λ d. ReadFirst c d (h.ends w.begun).given) (sym same) (h.each w.begun).begins) silent (omega (arith)) could kept
+      by false out =
+          quietly w.begun (w.own w.begun).station step g (after_out (w.own w.begun) step out) (sym (append-nil (down_in (w.own w.begun))))
+          (sym (append-nil (up_in (w.own w.begun)))) (λ up. true_false (sym up ∙ out)) (h.each w.begun).layer (h.each w.begun).begins silent
+          (omega (arith)) could kept
 
   -- ---- the layer moves, and what it puts goes down to the link, behind the link's own step to this side
 
@@ -122,42 +161,45 @@ module _ (below : Below) (c : Settings) (few : c.channels.count ≤ 4095) (w : B
       → GoesTo v b t.near t.out [] lifted left met → GoesTo (links_on os v) b step.near.link step.out os lifted left met
   put_on {b} {packets} {os} {t} {step} {lifted} {left} {met} {v} p g = (
     puts_last lc (Reach lc w.peer) (λ o x reach. acts_reach (line.Put o) x tt reach) os g.0,
-    puts_go c (both_ends linked) v b packets os t step lifted left met g.1 p,
+    puts_go c (both_ends (links w)) v b packets os t step lifted left met g.1 p,
   )
 
   pub goes : (far : End) (o r : List PlainPacket) {ps : List PlainPacket} {os : List (List ℕ)} {x : TwoLayers} {t : Side} {step : Step} {lifted : List
       (List ℕ)} {left : List Entry} {met : List Meeting} {v : Sessions} → is_up w.near.link.phase ≡ true → is_up t.near.phase ≡ true
-      → MovesAs (record { near = (h.known w.begun).end; far = far; out = o; back = r }) x ps step → PutsRead c t ps os step
+      → MovesAs (record { near = h.ends w.begun; far = far; out = o; back = r }) x ps step → PutsRead c t ps os step
       → GoesTo v w.begun t.near t.out [] lifted left met
-      → ((h.known w.begun).up ++ lifted ≡ [] → x.near.told ≡ []) → ((n m : ℕ) → CanMeet n m met → CanMeet n m w.met)
-      → ((m : ℕ) → CanMeet w.begun m met → PairReached c (record { end = x.near; down = []; up = (h.known w.begun).up ++ lifted }) (w.theirs m) (h.puts m))
+      → (up_in (w.own w.begun) ++ lifted ≡ [] → x.near.told ≡ []) → ((n m : ℕ) → CanMeet n m met → CanMeet n m w.met)
+      → ((m : ℕ) → CanMeet w.begun m met → PairReached c x.near (up_in (w.own w.begun) ++ lifted) (w.theirs m) (h.puts m))
       → IsKept step.near
       → Stands c (stepped c w w.begun left met step)
   goes far o r {ps} {os} {x} {t} {step} {lifted} {left} {met} {v} was_up up m put g alone could pairs kept =
-      let b = w.begun in
-      let old = h.known b in
-      let is = h.each b in
-      let own = w.own b in
-      let k : Known = record { end = x.near; down = old.down ++ os; up = old.up ++ lifted } in
-      let handed : ReadAs c k.down k.end.given =
-      subst (λ xs. ReadAs c k.down xs) (sym m.given) (read_append c old.down os old.end.given ps (h.now was_up).handed (back_reads c os ps put.readable)) in
-      steps step (put_on put g) refl refl
-      (λ _. record { layer = m.layer; handed = handed })
+      let own = w.own w.begun in
+      let old = h.ends w.begun in
+      let known = h.each w.begun in
+      let on = put_on put g in
+      let still = puts_up below.put_tells put up in
+      let down : step.near.link.outgoing.given ≡ down_in own ++ os = more_down on still in
+      let ups : step.near.link.taken ≡ up_in own ++ lifted = more_up on still in
+      let handed : ReadAs c step.near.link.outgoing.given x.near.given =
+      subst (λ ds. ReadAs c ds x.near.given) (sym down) (subst (λ xs. ReadAs c (down_in own ++ os) xs) (sym m.given)
+      (read_append c (down_in own) os old.given ps (h.now was_up).handed (back_reads c os ps put.readable))) in
+      steps x.near (record { station = step.near; entries = own.entries ++ step.entries }) step on (after_up own step still) down ups
+      (λ _. record { station = refl; handed = handed })
       (record {
-        layer = m.layer ∙ ap (λ up. if up then step.near.layer else own.layer) (sym (puts_up below.put_tells put up));
+        layer = m.layer;
         out = m.up;
-        entries = m.entries ∙ ap (λ l. l ++ layer_entries step.entries) is.entries ∙ sym (layer_append own.entries step.entries);
-        told = m.told ∙ ap (λ l. l ++ layer_notices step.entries) is.told ∙ sym (notices_append own.entries step.entries);
-        begins = read_first c k.down k.end.given handed;
-        alone = alone;
+        entries = m.entries ∙ ap (λ l. l ++ layer_entries step.entries) known.entries ∙ sym (layer_append own.entries step.entries);
+        told = m.told ∙ ap (λ l. l ++ layer_notices step.entries) known.told ∙ sym (notices_append own.entries step.entries);
+        begins = read_first c step.near.link.outgoing.given x.near.given handed;
+        alone = λ none. alone (sym ups ∙ none);
       })
-      (omega (arith)) could pairs kept
+      (omega (arith)) could (λ m yes. subst (λ u. PairReached c x.near u (w.theirs m) (h.puts m)) (sym ups) (pairs m yes)) kept
 
   -- ---- the link has stepped, and hands nothing up
 
   module _ (asked : List StationEntry) (silent : AreSilent asked) (left : List Entry) (met : List Meeting) (k : LinkStep) (tells : Tells w.near.link k)
       (none : k.packet ≡ None) (v : Sessions) (reach : Reach lc w.peer v)
-      (g : StepGoes lc (both_ends linked) v k left met) (could : (n m : ℕ) → CanMeet n m met → CanMeet n m w.met)
+      (g : StepGoes lc (both_ends (links w)) v k left met) (could : (n m : ℕ) → CanMeet n m met → CanMeet n m w.met)
       (kept : IsKept (follows c w.near.layer k).near) where
     abbrev whole : Step
     whole = led_by asked (follows c w.near.layer k)
@@ -187,25 +229,22 @@ module _ (below : Below) (c : Settings) (few : c.channels.count ≤ 4095) (w : B
     up_step : k.notes.up ≡ true → Stands c (stepped c w (suc w.begun) left met whole)
     up_step up =
         let b = suc w.begun in
+        let e = h.ends b in
         let u = below.up c w.near.layer k up (tells.fresh_up up) in
         let ps = restart (restart_cause c.role) 0 ∷ [] in
         let before = h.later b (omega (arith)) in
-        let old = h.known b in
-        let given : old.end.given ≡ ps = ap (λ e. e.given) before.end ∙ refl in
+        let given : e.given ≡ ps = ap (λ x. x.given) before.end ∙ refl in
         let readable = below.readable c.wide c.role c.long_data c.channels few (layer_peer.start c.role c.long_data c.channels) at_start in
         let put = puts_spelled {packets = ps} {step = whole} (record { accepted = u.link.accepted; link = u.link.link; out = u.link.out }) readable in
-        let os = spelled ps in
         let still = puts_up below.put_tells put (ap (λ s. is_up s.phase) (tells.fresh_up up)) in
-        let n : Known = record { end = old.end; down = old.down ++ os; up = old.up } in
-        let handed : ReadAs c n.down n.end.given =
-        subst (λ d. ReadAs c (d ++ os) old.end.given) (sym before.down) (rw given (back_reads c os ps put.readable)) in
-        let layer : old.end.layer ≡ whole.near.layer = ap (λ e. e.layer) before.end ∙ sym u.layer in
-        let quiet = silent_append silent (subst AreSilent (sym u.entries) (noted_silent k.notes.down k.notes.up)) in
-        steps whole (put_on put (link_at true up)) refl (sym (append-nil old.up))
-        (λ _. record { layer = layer; handed = handed })
-        (silently b (if is_up whole.near.link.phase then whole.near.layer else (w.own b).layer) quiet
-        (layer ∙ ap (λ x. if x then whole.near.layer else (w.own b).layer) (sym still)) (read_first c n.down n.end.given handed))
-        (omega (arith)) could (λ m yes. h.pairs b m (could b m yes)) kept
+        let on = put_on put (link_at true up) in
+        let down = more_down on still in
+        let spelling : whole.near.link.outgoing.given ≡ spelled ps = down ∙ ap (λ o. down_in o ++ spelled ps) before.known in
+        let handed : ReadAs c whole.near.link.outgoing.given e.given =
+        subst (λ d. ReadAs c d e.given) (sym spelling) (rw given (back_reads c (spelled ps) ps put.readable)) in
+        quietly b whole.near whole on (after_up (w.own b) whole still) down (more_up on still) (λ _. (refl, handed))
+        (ap (λ x. x.layer) before.end ∙ sym u.layer) (read_first c whole.near.link.outgoing.given e.given handed)
+        (silent_append silent (subst AreSilent (sym u.entries) (noted_silent k.notes.down k.notes.up))) (omega (arith)) could kept
 
     pub follows_on : Stands c (followed c w asked left met k)
     follows_on = by k.notes.up k.notes.down refl refl

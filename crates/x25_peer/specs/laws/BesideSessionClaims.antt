@@ -23,10 +23,10 @@ MeetInStep w = InStep w.met
 -- Of a session of the station and one of the peer, on a channel, where both ends count alike there: of a call where
 -- that is so of restarts and clears, and of a stretch where it is so of resets too.
 pub record IsInOrder (k : ℕ) (own : Own) (layer : At PeerChannels) : Type 0 where
-  pub calls : of_call (name_of own.layer k) ≡ of_call (peer_name layer k)
-      → CallIsInOrder k (name_of own.layer k) (layer_entries own.entries) (peer_call layer k)
-  pub stretch : name_of own.layer k ≡ peer_name layer k
-      → StretchIsInOrder k (name_of own.layer k) (layer_entries own.entries) (own.layer.circuits k)
+  pub calls : of_call (name_of own.station.layer k) ≡ of_call (peer_name layer k)
+      → CallIsInOrder k (name_of own.station.layer k) (layer_entries own.entries) (peer_call layer k)
+  pub stretch : name_of own.station.layer k ≡ peer_name layer k
+      → StretchIsInOrder k (name_of own.station.layer k) (layer_entries own.entries) (own.station.layer.circuits k)
       (peer_stretch layer k)
 
 -- so of each two sessions that meet, on each channel
@@ -56,9 +56,9 @@ pub record EachMeetsLatest (w : BesideSessions) : Type 0 where
       → Each (λ (m : Meeting). m.near ≡ w.begun → m.far ≡ w.peer.begun) w.met
   pub peer : w.peer.stand ≡ In → Each (λ (m : Meeting). m.far ≡ w.peer.begun → m.near ≡ w.begun) w.met
 
--- where the link is up, what is known of the latest session of the station is of the station as it is
+-- where the link is up, what is known of the latest session of the station is the station as it is
 abbrev pub UpIsLatest : BesideSessions → Type 0
-UpIsLatest w = is_up w.near.link.phase ≡ true → (w.own w.begun).layer ≡ w.near.layer
+UpIsLatest w = is_up w.near.link.phase ≡ true → (w.own w.begun).station ≡ w.near
 
 -- the station reports no error of procedure, in no session
 abbrev pub FindsNoError : BesideSessions → Type 0

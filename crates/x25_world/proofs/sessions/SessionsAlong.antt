@@ -1,11 +1,11 @@
 -- The window over set-up and re-set-up, along a run: two links with the links and the lines of a world go on as the end of each event asks,
 -- with the machine behind the sessions that stand.
-use Rattle.std.proofs.Common.{◌≡◌, ℕ, ◌+◌, inl, List, [], ◌∷◌, ◌++◌, false, Result, refl, sym, ap, ap₂, ◌∙◌, subst}
+use Rattle.std.proofs.Common.{◌≡◌, ℕ, ◌+◌, inl, List, [], ◌∷◌, ◌++◌, false, refl, sym, ap, ap₂, ◌∙◌, subst}
 use Rattle.x25_bits.specs.{declared.role.Role.{Role}, declared.role.Role.TheVariants.{Dte, Dce}}
-use Rattle.x25_frame.specs.{Frame.{PlainFrame}, Reading.{frame_of}, declared.error.FrameError.{FrameError}}
+use Rattle.x25_frame.specs.Reading.{frame_of}
 use Rattle.x25_line.specs.laws.Stations.{StationEnd}
-use Rattle.x25_line.specs.laws.Sessions.{SessionEnd, Sessions, from_nothing, sabm_in, ua_in, how_many, asked, IsTimely, IsTimelyAt, AreTimely}
-use Rattle.x25_line.specs.laws.SessionClaims.{octets_of}
+use Rattle.x25_line.specs.laws.Sessions.{SessionEnd, Sessions, from_nothing, letters, asked, IsTimely, IsTimelyAt, AreTimely}
+use Rattle.x25_line.specs.{laws.SessionClaims.{octets_of}, laws.Said.{Said, said, sabm_of, ua_of, how_many}}
 use Rattle.x25_line.specs.laws.SessionNumbers.{Standing, standing_happens, standing_run, standing_at, EachUpStandsWith, StandingGoesAlong}
 use Rattle.x25_station.specs.{declared.config.Cfg.{Cfg}, laws.KeepLaw.{ConnectKeeps}}
 use Rattle.x25_world.specs.{World.{World, Event, happens, after, run}, laws.Claims.{AreInOctets, link_of}}
@@ -66,23 +66,23 @@ seen_in w = record { near = end_in w.near.link; far = end_in w.far.link; out = w
 -- ---- and timer T1 is as timely
 
 -- how many frames of a kind are among octets
-abbrev many_in : (Result PlainFrame FrameError → ℕ) → Role → ℕ → List (List ℕ) → ℕ
+abbrev many_in : (Said → ℕ) → Role → ℕ → List (List ℕ) → ℕ
 many_in kind from n1 [] = 0
-many_in kind from n1 (octets ∷ line) = kind (frame_of from n1 octets) + many_in kind from n1 line
+many_in kind from n1 (octets ∷ line) = kind (said (frame_of from n1 octets)) + many_in kind from n1 line
 
-many_is : (kind : Result PlainFrame FrameError → ℕ) (from : Role) (n1 : ℕ) (es : List links.Entry) → how_many kind from n1 es
+many_is : (kind : Said → ℕ) (from : Role) (n1 : ℕ) (es : List links.Entry) → how_many kind (letters from n1 es)
     ≡ many_in kind from n1 (octets_of es)
 many_is kind from n1 [] = refl
-many_is kind from n1 (e ∷ es) = ap (λ n. kind (frame_of from n1 e.octets) + n) (many_is kind from n1 es)
+many_is kind from n1 (e ∷ es) = ap (λ n. kind (said (frame_of from n1 e.octets)) + n) (many_is kind from n1 es)
 
-many_same : (kind : Result PlainFrame FrameError → ℕ) (from : Role) (n1 : ℕ) (es fs : List links.Entry) → octets_of fs ≡ octets_of es
-    → how_many kind from n1 fs ≡ how_many kind from n1 es
+many_same : (kind : Said → ℕ) (from : Role) (n1 : ℕ) (es fs : List links.Entry) → octets_of fs ≡ octets_of es
+    → how_many kind (letters from n1 fs) ≡ how_many kind (letters from n1 es)
 many_same kind from n1 es fs is = many_is kind from n1 fs ∙ ap (many_in kind from n1) is ∙ sym (many_is kind from n1 es)
 
 asked_same : (c d : LinkSettings) {v x : Sessions} {s : line.Stations} → AreOf v s → AreOf x s → asked c d x ≡ asked c d v
 asked_same c d {v} {x} f g =
-    ap₂ (λ n m. n + m) (many_same sabm_in (other d.role) d.longest v.out x.out (sym g.out ∙ f.out))
-    (many_same ua_in (other c.role) c.longest v.back x.back (sym g.back ∙ f.back))
+    ap₂ (λ n m. n + m) (many_same sabm_of (other d.role) d.longest v.out x.out (sym g.out ∙ f.out))
+    (many_same ua_of (other c.role) c.longest v.back x.back (sym g.back ∙ f.back))
 
 timely_same : (c d : LinkSettings) (act : line.Act) {v x : Sessions} {s : line.Stations} → AreOf v s → AreOf x s → IsTimely c d act v → IsTimely c d act x
 timely_same c d line.T1 {v} {x} {s} f g timely = λ waiting. asked_same c d f g ∙ timely (ap (λ t. t.phase) (sym f.near ∙ g.near) ∙ waiting)

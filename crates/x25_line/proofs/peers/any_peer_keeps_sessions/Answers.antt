@@ -1,4 +1,4 @@
-use Rattle.x25_line.proofs.{sessions.PeerSessionRuns.{h, lines, step_is, order_is, unmet_is, latest_is, idle_is}, sessions.Letters.{asked_letters}}
+use Rattle.x25_line.proofs.sessions.PeerSessionRuns.{h, lines, step_is, order_is, unmet_is, latest_is, idle_is}
 use Rattle.x25_line.proofs.peers.any_peer_keeps_sessions.Goals as goal
 
 pub returns : goal.returns
@@ -12,5 +12,5 @@ returns c =
       agree = λ s low high w r. latest_is reads rests high r;
       idle = λ s low high w r. idle_is reads rests high r;
       no_frmr = λ s low high w r. (lines reads rests high r).octets.frmr (λ never. never);
-      asks = λ s low high w r. asked_letters s.role s.longest w.near.begun w.out (h reads rests high r).tags;
+      asks = λ s low high w r. (h reads rests high r).tags;
     }

@@ -1,7 +1,31 @@
-use Rattle.x25_peer.proofs.sessions.Standing.{Below}
+use Rattle.x25_line.specs.laws.LawsBelow.{Laws}
+use Rattle.x25_peer.proofs.sessions.{Standing.{Below}, SessionLinks.{lists_stand}}
 use Rattle.x25_peer.proofs.sessions.BesideSessionRuns.{meet_in_step, met_in_order, unmet_are_told_nothing, each_meets_latest, up_is_latest, idle_has_arrived}
 use Rattle.x25_peer.proofs.sessions.BesideSessionRuns.{finds_no_error}
 use Rattle.x25_peer.proofs.law.any_peer_keeps_stations_over_sessions.Goals as goal
+
+-- of links, as `x25_line` asks it
+links_below : goal.After-notes_what_changes → Laws
+links_below c =
+    let law = c.follows_the_window.ensures in
+    let rows = c.sets_up_by_rows.ensures in
+    let notes = c.notes_what_changes.ensures in
+    record {
+      window = record {
+        take = law.take;
+        put = law.put;
+        timer = law.timer;
+        disconnect = law.disconnect;
+        abandon = law.abandon;
+        take_out = law.take_out;
+        disconnect_out = law.disconnect_out;
+      };
+      set_up = record { waits = rows.waits; sets_up = rows.sets_up; connects = rows.connects; timer = rows.timer; disconnects = rows.disconnects };
+      take_tells = notes.take;
+      timer_tells = notes.timer;
+      disconnect_tells = notes.disconnect;
+      abandon_tells = notes.abandon;
+    }
 
 known : goal.After-notes_what_changes → Below
 known c = record {
@@ -11,6 +35,8 @@ known c = record {
   agree = c.any_peer_keeps_sessions.ensures.agree;
   idle = c.any_peer_keeps_sessions.ensures.idle;
   asks = c.any_peer_keeps_sessions.ensures.asks;
+  lists = lists_stand c.reads_what_is_spelled.ensures.reads
+      (record { laws = links_below c; continues = c.notes_what_changes.ensures.take_continues });
   readable = c.puts_beside_peers_are_readable.ensures;
   request = c.steps_are_joined.ensures.request;
   given = c.steps_are_joined.ensures.given;

@@ -9,7 +9,8 @@ use Rattle.x25_frame.specs.declared.error.FrameError.TheVariants.{Short}
 use Rattle.x25_link.specs.laws.NoteLaw.{Tells}
 use Rattle.x25_link.specs.Link.{timer_refusal, timer_step, connect_refusal, connect_step, disconnect_refusal, disconnect_step, probe_refusal, relink_refusal}
 use Rattle.x25_link.specs.Link.{relink_step}
-use Rattle.x25_line.specs.{laws.Sessions.{begun_by, sabm_in, ua_in, how_many, IsTimely}, laws.SessionClaims.{octets_of}, laws.Stations.{is_visible}}
+use Rattle.x25_line.specs.{laws.Sessions.{begun_by, letters, IsTimely}, laws.SessionClaims.{octets_of}, laws.Stations.{is_visible}}
+use Rattle.x25_line.specs.laws.Said.{Said, said, sabm_of, ua_of, how_many}
 use Rattle.x25_station.specs.{declared.config.Cfg.{Cfg}, Config.{Settings, settings_from, longest_packet}, Command.{Connects, Disconnects, Probes, Relinks}}
 use Rattle.x25_station.specs.Entry.{relink_asked}
 use Rattle.x25_station.specs.Step.{Step, follows, led_by, fires, connects, connects_asked, disconnects, probes, relinks, unless}
@@ -67,19 +68,19 @@ damaged_joined {within} laws cfg fine end w h place octets is_at =
 
 -- ---- frames of a set-up on the line
 
-not_sabm : (read : Result PlainFrame FrameError) → is_a Sabm read ≡ false → sabm_in read ≡ 0
+not_sabm : (read : Result PlainFrame FrameError) → is_a Sabm read ≡ false → sabm_of (said read) ≡ 0
 not_sabm (Ok (sabm p)) e = true_false e
 not_sabm (Err Short) e = refl
 not_sabm read e = refl
 
-not_ua : (read : Result PlainFrame FrameError) → is_a Ua read ≡ false → ua_in read ≡ 0
+not_ua : (read : Result PlainFrame FrameError) → is_a Ua read ≡ false → ua_of (said read) ≡ 0
 not_ua (Ok (ua f)) e = true_false e
 not_ua (Err Short) e = refl
 not_ua read e = refl
 
-none_of : (frame : SetUpFrame) (count : Result PlainFrame FrameError → ℕ) → ((read : Result PlainFrame FrameError) → is_a frame read ≡ false → count read ≡ 0)
+none_of : (frame : SetUpFrame) (count : Said → ℕ) → ((read : Result PlainFrame FrameError) → is_a frame read ≡ false → count (said read) ≡ 0)
     → (from : Role) (es : List links.Entry)
-    → carries frame from (octets_of es) ≡ false → how_many count from longest_packet es ≡ 0
+    → carries frame from (octets_of es) ≡ false → how_many count (letters from longest_packet es) ≡ 0
 none_of frame count none from [] e = refl
 none_of frame count none from (x ∷ es) e =
     let here = none (frame_of from longest_packet x.octets) (or_parts (reads_as frame from x.octets) (list_any (reads_as frame from) (octets_of es)) e).0 in
@@ -136,10 +137,10 @@ module _ {within : Within} (laws : SessionLaws) {cfg : Cfg} (fine : IsConfigured
       let sabms : carries Sabm end (octets_of h.links.out) ≡ false = ap (λ os. carries Sabm end os) h.out ∙ (or_parts (carries Sabm end w.out) _ clear).0 in
       let uas : carries Ua (bits.other end) (octets_of h.links.back) ≡ false =
       ap (λ os. carries Ua (bits.other end) os) h.back ∙ (or_parts (carries Sabm end w.out) _ clear).1 in
-      by end (omega (arith, none_of Sabm sabm_in not_sabm end h.links.out sabms, none_of Ua ua_in not_ua (bits.other end) h.links.back uas))
+      by end (omega (arith, none_of Sabm sabm_of not_sabm end h.links.out sabms, none_of Ua ua_of not_ua (bits.other end) h.links.back uas))
     where
-      by : (e : Role) → how_many sabm_in e longest_packet h.links.out + how_many ua_in (bits.other e) longest_packet h.links.back ≡ 0
-          → how_many sabm_in (other (other e)) longest_packet h.links.out + how_many ua_in (other e) longest_packet h.links.back ≡ 0
+      by : (e : Role) → how_many sabm_of (letters e longest_packet h.links.out) + how_many ua_of (letters (bits.other e) longest_packet h.links.back) ≡ 0
+          → how_many sabm_of (letters (other (other e)) longest_packet h.links.out) + how_many ua_of (letters (other e) longest_packet h.links.back) ≡ 0
       by Dte none = none
       by Dce none = none
 
