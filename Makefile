@@ -7,7 +7,7 @@
 # make test          an hour          rt, cc              the gate: all proofs, the must-fail edits, all tests
 # make golden        a second         build/x25           runs the stored cases of tests/golden
 # make check-tools   a minute                             runs the tests of tools/; those for which something isn't there are left out
-# make judge-runs    8 minutes        build/x25           judges random runs: of two stations, as captures have them too, of one end beside an odd one, and with one frame changed
+# make judge-runs    8 minutes        build/x25           judges random runs: of two stations, as captures have them too, of one end beside an odd one, with one frame changed, and short tapes
 # make with-runs     20 seconds       build/x25           gives facilities, user data and D by 100,000 random lines, and reads them again
 # make refused       30 minutes       rt, cc, build/x25   refuses each allocation of stored cases and of scripts in turn
 # make wrong-bodies  minutes a crate  rt                  tries wrong bodies that the gate leaves out; CRATE="NAME .." of these crates
@@ -101,6 +101,7 @@ judge-runs: build/x25
 	python3 tests/link_runs.py --program build/x25
 	python3 tests/again_runs.py --program build/x25
 	python3 tests/order_runs.py --program build/x25
+	python3 tests/rules_runs.py --program build/x25
 
 with-runs: build/x25
 	python3 tests/with_runs.py --program build/x25

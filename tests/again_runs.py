@@ -2,9 +2,10 @@
 
     again_runs.py [--program PROGRAM] [--from SEED] [RUNS]
 
-Both ends keep the rules of docs/PEER.md on two channels, over a link that is set up once and loses nothing, but that they send RESTART,
-CLEAR and RESET again at any moment while the answer is due, as timers T20, T22 and T23 have it. Packets wait on their way as long as chance
-has it, so one that is sent again often crosses the answer. `make judge-runs` plays 10,000.
+Both ends keep the rules of docs/PEER.md on two channels, over a link that loses nothing, but that they send RESTART, CLEAR and RESET again
+at any moment while the answer is due, as timers T20, T22 and T23 have it, and take CLEAR and RESTART before they answer what these end.
+Packets wait on their way as long as chance has it, so one that is sent again often crosses the answer. Some links are set up by a SABM that
+goes again while its UA is on the way, and then anew. `make judge-runs` plays 10,000.
 
 Exit status: 0; 1 where a rule or manners were told, with the seed of that run; 2 for bad words, or where there is no program.
 """
@@ -47,12 +48,13 @@ class End:
     # ---- what comes
 
     def take(self):
-        """Takes the front packet that came, where it need not answer first; that is looked at channel by channel."""
+        """Takes the front packet that came, where it need not answer first, or that ends what it has to answer; that is looked at channel by
+        channel."""
         if not self.way or self.restart == WAS_ASKED:
             return
         number, kind, ps, pr = self.way[0]
         channel = self.channels.get(number)
-        if channel is not None and kind != RESTART and WAS_ASKED in (channel.clear, channel.reset):
+        if channel is not None and kind not in (RESTART, CLEAR) and WAS_ASKED in (channel.clear, channel.reset):
             return
         self.way.pop(0)
         if self.restart == ASKS:
@@ -161,12 +163,28 @@ def line(mark, is_command, control, information=b""):
     return f"{mark} {runs.frame(mark, is_command, control, information).hex()}\n"
 
 
+def information(mark, number, acknowledged, *packet):
+    return line(mark, True, acknowledged % 8 << 5 | number % 8 << 1, octets(*packet))
+
+
+def asked_twice(dice):
+    """SABM goes again, and the DCE restarts between its two UAs: the DTE confirms that, or its own RESTART crosses it, at the first UA."""
+    restart = (0, RESTART, None, None)
+    yield from (line(">", True, 0x3F), line(">", True, 0x3F), line("<", False, 0x73), information("<", 0, 0, *restart), line("<", False, 0x73))
+    if dice.chance(0.5):
+        yield information(">", 0, 1, 0, RESTART_CONFIRMATION, None, None)
+    else:
+        yield from (information(">", 0, 1, *restart), information(">", 1, 1, 1, CALL, None, None))
+
+
 def trace(seed):
     """The lines of a run: SABM and UA, and each packet in an I frame that is acknowledged at once."""
     dice = losses.Dice(seed)
     ends = {">": End(False), "<": End(True)}
     counts = {">": 0, "<": 0}
     eager = dice.one_of((0.3, 0.5, 0.7))
+    if dice.chance(0.3):
+        yield from asked_twice(dice)
     yield line(">", True, 0x3F)
     yield line("<", False, 0x73)
     packets = [(">", (0, RESTART, None, None)), ("<", (0, RESTART_CONFIRMATION, None, None))]
@@ -181,7 +199,7 @@ def trace(seed):
             packets.append((mark, packet))
     for mark, packet in packets:
         other = OTHERS[mark]
-        yield line(mark, True, counts[other] % 8 << 5 | counts[mark] % 8 << 1, octets(*packet))
+        yield information(mark, counts[mark], counts[other], *packet)
         counts[mark] += 1
         yield line(other, False, counts[mark] % 8 << 5 | RR)
 

@@ -3,7 +3,7 @@
     judge_runs.py [--program PROGRAM] [--from SEED] [RUNS]
 
 Each run is a script of losses.py with its own losses, damage, early firings of T1, window and N2, some of them from both links down
-and with set-ups anew in their midst, and most with more calls, resets and restarts and with packet sizes and windows; what `sim --tap`
+and with set-ups anew in their midst, some with little but set-ups whose frames wait on their way, and most with more calls, resets and restarts and with packet sizes and windows; what `sim --tap`
 puts on the line goes through `judge`, whole, and again from a frame in its midst on. `make judge-runs` plays 10,000. A note tells of nothing broken.
 
 Exit status: 0; 1 where a rule was told, with the seed of that run; 2 for bad words, or where there is no program.
@@ -54,6 +54,20 @@ def with_calls(dice, lines, channels):
         yield line
 
 
+def slow_set_ups(dice, count):
+    """From both links down: set-ups, firings of T1, RESTARTs and calls, while frames wait on their way."""
+    yield f"{dice.one_of(losses.ENDS)} connect"
+    direction, most = dice.one_of(losses.DIRECTIONS), dice.one_of((0.5, 0.7, 0.9))
+    for _ in range(count):
+        end = dice.one_of(losses.ENDS)
+        if dice.chance(0.1):
+            direction = dice.one_of(losses.DIRECTIONS)
+        if dice.chance(most):
+            yield f"deliver {direction if dice.chance(0.7) else dice.one_of(losses.DIRECTIONS)}"
+        else:
+            yield dice.one_of((f"t1 {end}", f"t1 {end}", f"{end} connect", f"{end} call 1 2 -", f"{end} accept 1", f"{end} restart"))
+
+
 def sizes(dice):
     """Packet sizes and windows of a call or of its acceptance."""
     return f"{4 + dice.below(5)} {4 + dice.below(5)} {1 + dice.below(7)} {1 + dice.below(7)}"
@@ -72,6 +86,9 @@ def run(seed):
     words = ["--tap", "--k", window, "--n2", str(dice.one_of((1, 2, 3, 10))), "--channels", str(channels)]
     if dice.chance(0.3):
         lines = [f"{dice.one_of(losses.ENDS)} connect", f"{dice.one_of(losses.ENDS)} connect", *lines]
+        words.append("--down")
+    elif dice.chance(0.15):
+        lines = slow_set_ups(dice, LINES)
         words.append("--down")
     return words, ["--k", window], "".join(line + "\n" for line in lines)
 

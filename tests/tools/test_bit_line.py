@@ -93,6 +93,11 @@ class BitLine(unittest.TestCase):
         frame = b"> " + b"ff" * 4103 + b"\n"
         self.answer(["frame"], frame * 1000, preexec_fn=few_megabytes)
 
+    def test_lines_that_are_left_out_are_said(self):
+        for given, said in ((b"> 013febdf\n> 0\n\n", b"left out: lines that are no frame\n"), (b"# a comment\n> ..\n", b"")):
+            done = subprocess.run([support.PROGRAM, "frame"], input=given, capture_output=True, timeout=60)
+            self.assertEqual((done.returncode, done.stderr), (1 if said else 0, said))
+
     def test_a_read_and_a_write_that_fail(self):
         for words in ["deframe", "dte"], ["frame"]:
             with self.subTest(words), open("/dev/full", "wb") as full:

@@ -60,11 +60,12 @@ class Lemmas(unittest.TestCase):
     CITED = {
         ("x25_given", "x25_packet"): {"AddressLaws", "AgainLaws", "FacilityLemmas"},
         ("x25_line", "x25_link"): {"EndLemmas"},
-        ("x25_peer", "x25_line"): {"Meetings", "SessionSays", "SessionSeenRuns"},
+        ("x25_peer", "x25_line"): {"Meetings", "PeerSessionRuns", "SessionSays", "SessionSeenRuns"},
         ("x25_world", "x25_peer"): {"Granted", "LinkSteps", "ReadLemmas", "SessionLayers"},
         ("x25_world", "x25_line"): {"HealingSteps", "Lists", "Meetings", "SessionLines", "SessionsForgotten"},
         ("x25_sim", "x25_world"): {"Established", "WorldLemmas"},
         ("x25_joined", "x25_world"): {"Growing", "SessionRequests", "WorldLemmas"},
+        ("x25_joined", "x25_peer"): {"Granted"},
         ("x25_judge", "x25_line"): {"StationLines", "StationPeers", "StationRuns", "StationSays", "StationSends"},
         ("x25_judge", "x25_possible_links"): {"Alike", "Covering", "Covers", "Leads", "Sends", "SetLemmas", "Stands", "StepLemmas"},
         ("any", "x25_io"): {"LineLemmas", "LooseLemmas", "RunLemmas", "TakerLemmas", "ToldLemmas"},

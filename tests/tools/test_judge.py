@@ -16,13 +16,17 @@ import judge_runs
 import link_runs
 import odd_runs
 import order_runs
+import rules
+import rules_runs
+import runs
 from x25tools.x25lines import fcs, is_sealed
 
-# In the gate, RUNS also of ends that ask again; `make judge-runs` plays 10,000 of each, 10,000, 5,000 and 3,600.
+# In the gate, RUNS also of ends that ask again; `make judge-runs` plays 10,000 of each, 10,000, 5,000, 3,600 and 2,500.
 RUNS = 300
 LINK_RUNS = 200
 ODD_RUNS = 100
 ORDER_RUNS = 20
+RULES_RUNS = 75
 
 
 def in_another_form(packet):
@@ -197,25 +201,12 @@ class Odd(support.ToolCase):
 
 @support.needs_program
 class Order(support.ToolCase):
-    """The rules of order, told apart from `judge`."""
-
     def test_no_break_is_missed_and_no_innocent_accused(self):
-        played = [order_runs.play(PROGRAM, seed) for seed in range(ORDER_RUNS)]
-        self.assertEqual([line for run in played for line in run.wrong], [])
-        self.assertGreater(sum(run.broken for run in played), 5 * ORDER_RUNS)
-
-    def test_a_judge_that_is_silent_or_accuses_is_seen(self):
-        rule = "dte: N(R) falls (2.3.4.9): at least 2"
-        none, own, other = ({}, {">": (3, "window")}, {"<": (2, "window")})
-        self.assertEqual(order_runs.faults([], order_runs.Found(own, {2, 3}, set())), "missed")
-        for first in (none, own, other):
-            self.assertEqual(order_runs.faults([order_runs.Told(2, ">", rule, False)], order_runs.Found(first, {2, 3}, set())), f"accused at 2, {rule}")
-        self.assertIsNone(order_runs.faults([order_runs.Told(3, ">", rule, False)], order_runs.Found(own, {2, 3}, set())))
-
-    def test_manners_tell_of_a_number_out_of_order_alone(self):
-        told = [order_runs.Told(2, ">", "dte: N(S) skips (2.4.5.1): it should be 1", True)]
-        for rule, fault in ((order_runs.NOT_NEXT, None), ("window", "missed")):
-            self.assertEqual(order_runs.faults(told, order_runs.Found({">": (3, rule)}, {2, 3}, set())), fault)
+        """By an oracle of the rules, where one frame of a trace is changed, and of short tapes."""
+        for count, play in ((ORDER_RUNS, order_runs.play), (RULES_RUNS, rules_runs.play)):
+            played = [play(PROGRAM, seed) for seed in range(count)]
+            self.assertEqual([line for run in played for line in run.wrong], [])
+            self.assertGreater(sum(run.broken for run in played), sum(run.tapes for run in played) / 3)
 
 
 @support.needs_program
@@ -224,7 +215,7 @@ class Recorded(support.ToolCase):
         """Linux 6.1 as the DTE and a station as the DCE, no frame lost: all rows of interop/play.py, 1,641 frames."""
         trace = gzip.decompress(support.read("tests", "traces", "linux.trace.gz"))
         done = subprocess.run([PROGRAM, "judge"], input=trace, stdout=subprocess.PIPE, timeout=60)
-        self.assertEqual([line for line in done.stdout.decode().splitlines() if order_runs.runs.TOLD.search(line) or line == "? 60"], [])
+        self.assertEqual([line for line in done.stdout.decode().splitlines() if runs.TOLD.search(line) or line == "? 60"], [])
         self.assertEqual(len([line for line in done.stdout.splitlines() if not line.startswith(b"# ")]), 1641)
         self.assertEqual(done.returncode, 0)
 
@@ -233,14 +224,14 @@ class Recorded(support.ToolCase):
         trace = gzip.decompress(support.read("tests", "traces", "soak.trace.gz"))
         done = subprocess.run([PROGRAM, "judge", "--wide"], input=trace, stdout=subprocess.PIPE, timeout=60)
         lines = [line for line in done.stdout.decode().splitlines() if not line.startswith("# ")]
-        told = collections.Counter(told[1].split(" (")[0] for line in lines if (told := order_runs.runs.TOLD.search(line)))
+        told = collections.Counter(told[1].split(" (")[0] for line in lines if (told := runs.TOLD.search(line)))
         clears = {"dte: CLEAR CONFIRMATION of no CLEAR": 6, "dte: nothing but CLEAR goes before its confirmation": 1}
         order = {"dte: P(R) falls": 1, "dte: an I frame sent again has other octets": 1}
         self.assertEqual(told, {**clears, **order, "dte: N(S) repeats without REJ or a poll": 3})
-        frames = [order_runs.Frame(chr(line[0]), bytes.fromhex(line[2:].decode())[:-2]) for line in trace.splitlines()]
-        found = order_runs.breaks(frames)
-        self.assertEqual((len(frames), len(lines), found.first), (10_498, 10_498, {">": (10_454, "other octets")}))
-        self.assertEqual((len(found.links), len(found.calls)), (10_398, 1_923))
+        ends = rules.Ends()
+        for line in trace.splitlines():
+            ends.passes(rules.frame_of(chr(line[0]), bytes.fromhex(line[2:].decode())[:-2]))
+        self.assertEqual((ends.places, len(lines), ends.links), (10_498, 10_498, {">": 10_454}))
 
 
 if __name__ == "__main__":

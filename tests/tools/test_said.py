@@ -1,10 +1,11 @@
-"""What README.md and docs/PROOFS.md say: each sentence has a pair in tests/said.txt, and what carries it is there.
+"""What README.md, docs/PROOFS.md and docs/PEER.md say: each sentence has a pair in tests/said.txt, and what carries it is there.
 
-A sentence is carried by clauses of a function's contract, by a file of the repository, or `means` what a word does or what comes below, or it
+A sentence is carried by clauses of a function's contract, by a file of the repository, or lines of it, or `means` what a word does or what comes below, or it
 says what is left `open`. tests/said.py lists them.
 """
 
 import os
+import re
 import unittest
 
 import support
@@ -43,8 +44,21 @@ class Said(unittest.TestCase):
                         self.assertEqual({*filter(None, clauses.split(", "))} - self.contracts.clauses(crate, name), set())
                         count += 1
                     elif line not in OTHERS:
-                        self.assertTrue(os.path.isfile(os.path.join(support.ROOT, line)), "no such file")
-        self.assertGreater(count, 60)
+                        path, _, names = line.partition(": ")
+                        self.assertTrue(os.path.isfile(os.path.join(support.ROOT, path)), "no such file")
+                        self.assertEqual({*filter(None, names.split(", "))} - {*said.text_of(path).splitlines()}, set())
+        self.assertGreater(count, 120)
+
+    def test_each_rule_of_a_peer_names_its_definitions(self):
+        """Each stands in a file that carries the rule, and beside these is a wrong definition that drops it."""
+        rules = [(names.split(", "), sentence) for _, sentence in said.sentences() for names in said.DEFINED.findall(sentence)]
+        self.assertEqual(len(rules), 25)
+        for names, sentence in rules:
+            paths = [line.partition(": ")[0] for _, words, lines in said.pairs() if sentence.startswith(words) for line in lines]
+            carried = "".join(said.text_of(path) for path in paths)
+            with self.subTest(sentence):
+                self.assertTrue([path for path in paths if path.endswith((".edit", ".edits"))])
+                self.assertEqual({*names} - {*re.findall(r"^(?:abbrev pub|pub record|pub data|  pub| ) (\w+)", carried, re.MULTILINE)}, set())
 
 
 if __name__ == "__main__":

@@ -63,6 +63,9 @@ fn run<E: Eprint + AllocGlobal, R: Source, W: Write>(
     ensures { Ends task result (R.remaining reader.old) (W.contents writer.old.writer) (W.contents writer.new.writer) }
 {
     let result = perform(rt.alloc(), task, Explainer::new(rt), reader, writer);
+    if matches!((task, &result), (Task::Frame { .. }, Ok(1))) {
+        eprintln!(rt; "left out: lines that are no frame").ok();
+    }
     conclude(rt, result, writer.is_closed())
 }
 

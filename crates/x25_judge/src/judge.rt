@@ -1,7 +1,6 @@
 //! What answers a line.
 ghost use Rattle.std.specs.Prelude.{◌≡◌, ◌+◌, ◌≤◌, ◌++◌, ℕ, List, Option, true, length, codes, is_some, IfOk, OnOk};
-ghost use Rattle.std.specs.Prelude.{Err, false, if◌then◌else◌};
-ghost use Rattle.std.specs.Prelude.{OnErr, MatchResult};
+ghost use Rattle.std.specs.Prelude.{Err, false, if◌then◌else◌, OnErr, MatchResult};
 ghost use Rattle.x25_io.specs.code.Written.{AppendsPrefix, Tells, TellsMore};
 ghost use Rattle.x25_decode.specs.Decoding.{mark_of, n1};
 ghost use Rattle.x25_frame.specs.Error.{IsFirstError};
@@ -12,13 +11,11 @@ ghost use Rattle.x25_frame.specs.Frame.{plain};
 ghost use Rattle.x25_packet_judge.specs.Book.{IsRead};
 ghost use Rattle.x25_judge.specs.Doubt.{explains_told};
 ghost use Rattle.x25_judge.specs.Links.{passes as passes_by, quiet};
-ghost use Rattle.x25_judge.specs.Judge.{answer_to, begins_at, behind, broken_text};
-ghost use Rattle.x25_judge.specs.Judge.{counts_carried, doubt_text, is_nothing, is_settled, lack_of, last_line};
-ghost use Rattle.x25_judge.specs.Judge.{counts_frame, end_of, forgotten, gap_of};
-ghost use Rattle.x25_judge.specs.Judge.{book_of, counts_by, counts_text, covers, missed_by};
-ghost use Rattle.x25_judge.specs.Judge.{next_by, next_missed, no_frame, read_of, remark_by, remark_missed, remark_of};
-ghost use Rattle.x25_judge.specs.Judge.{other_of, own_of};
-ghost use Rattle.x25_judge.specs.Judge.{noted_text, remark_text, seen_by, sign_of, tallies};
+ghost use Rattle.x25_judge.specs.Judge.{answer_to, begins_at, behind, book_of, broken_text, counts_by, counts_carried};
+ghost use Rattle.x25_judge.specs.Judge.{counts_frame, counts_text, covers, doubt_text, end_of, forgotten, gap_of};
+ghost use Rattle.x25_judge.specs.Judge.{is_nothing, is_settled, lack_of, last_line, missed_by, next_by, next_missed};
+ghost use Rattle.x25_judge.specs.Judge.{no_frame, noted_text, other_of, own_of, read_of, remark_by, remark_missed};
+ghost use Rattle.x25_judge.specs.Judge.{remark_of, remark_text, seen_by, sign_of, tallies};
 
 use crate::counts::{Count, Counts, Line, Tally, tell_end, tell_line};
 use crate::doubt::{At, Lack};

@@ -1,5 +1,5 @@
 -- What a packet makes of a book, and what is told of it.
-use Rattle.x25_packet_judge.proofs.Names.{or_parts, ◌≡◌, ◌∙◌, ℕ, Bool, true, false, Some, None, refl, sym, ap, arith, ◌%◌, ◌==◌, ◌&&◌, ◌||◌, not, if◌then◌else◌, unwrap_or, Role, Dte, Dce, PlainPacket, is_of_all, is_restart, any_channel, rule_of, sent, Channels, all_happens, channel_of, put, item_of, Book, Channel, RestartAwaited, asked_of, awaits, behind_item, end_of, is_quiet, refuses, seen_by, set_of, BooksFollowTapes, is_known, sends_to, Packet, Elsewhere, Set, Nothing}
+use Rattle.x25_packet_judge.proofs.Names.{or_parts, ◌≡◌, ◌∙◌, ℕ, Bool, true, false, Some, None, refl, sym, ap, arith, ◌%◌, ◌==◌, ◌&&◌, ◌||◌, not, if◌then◌else◌, unwrap_or, Role, Dte, Dce, PlainPacket, is_of_all, is_restart, any_channel, rule_of, sent, Channels, channel_of, put, item_of, Book, Channel, RestartAwaited, asked_of, awaits, behind_item, end_of, is_quiet, refuses, seen_by, set_of, BooksFollowTapes, is_known, sends_to, Packet, Elsewhere, Set, Nothing}
 use Rattle.std.specs.Prelude.{slice_index_or}
 use Rattle.std.proofs.lemmas.Bool.Decides.{nat_tests}
 use Rattle.x25_packet_judge.specs.declared.book.Verdict.{Verdict}
@@ -28,16 +28,13 @@ one_set role from channel of x cs true is =
     ∙ ap (λ (n : ℕ). behind_item (seen_by role from x) (end_of role (unwrap_or (slice_index_or cs.seen n None) cs.usual))) (sym same)
 one_set role from channel of x cs false is = ap (end_of role) (put_other of channel _ cs (λ same. absurd (grind (arith, is, same, nat_tests))))
 
-each_set : (role from : Role) (channel : ℕ) (x : Packet) (cs : Channels)
-    → end_of role (channel_of channel (all_happens (Sends from x) cs)) ≡ behind_item (seen_by role from x) (end_of role (channel_of channel cs))
-each_set role from channel x cs = ap (end_of role) (happens_on (Sends from x) channel cs) ∙ ends_move role from x (channel_of channel cs)
-
 sets_follow : (b : Book) (role from : Role) (channel of : ℕ) (packet : PlainPacket) (all : Bool) → is_of_all packet ≡ all → set_of role channel (book.takes from of packet b).book
     ≡ (if all || (channel % 4096 == of % 4096) then behind_item (seen_by role from (item_of packet)) (set_of role channel b)
     else set_of role channel b)
 sets_follow b role from channel of packet true is =
     ap (λ (s : book.Seen). end_of role (channel_of channel s.book.channels)) (takes_is from of packet b true is)
-    ∙ each_set role from channel (item_of packet) b.channels
+    ∙ ap (end_of role) (happens_on (Sends from (item_of packet)) channel b.channels)
+    ∙ ends_move role from (item_of packet) (channel_of channel b.channels)
 sets_follow b role from channel of packet false is =
     ap (λ (s : book.Seen). end_of role (channel_of channel s.book.channels)) (takes_is from of packet b false is)
     ∙ one_set role from channel of (item_of packet) b.channels (channel % 4096 == of % 4096) refl

@@ -201,9 +201,15 @@ unfoldable pub begins : Role → Layers → Book → Book
 begins from t b =
     keeps from t (record b { restarts = channels.begun_channel; channels = all_alike channels.ready_channel })
 
--- UA; behind frames of the other end, which is up, it comes again
+unfoldable pub asks : Role → Layers → Book → Book
+asks from t b = if layers.is_asked_again t then keeps from (layers.asks t) b else begins from (layers.asks t) b
+
+-- UA, behind which what was sent before may come yet
 unfoldable pub accepts : Role → Layers → Book → Book
-accepts from t b = if t.other.is_fresh then begins from (layers.accepts t) b else keeps from (layers.accepts t) b
+accepts from t b =
+    if layers.is_late t then keeps from (layers.accepts t) b
+    else if layers.is_under_way t.own then keeps from (layers.accepts t) (forgets b)
+    else begins from (layers.accepts t) b
 
 unfoldable pub accepts_if : Role → Bool → Layers → Book → Book
 accepts_if from is_broken t b = if is_broken && t.own.asked == 0 then b else accepts from t b
@@ -214,7 +220,7 @@ sees from reading (info ns nr p octets) is_broken b = sends_info from reading ns
 sees from reading (rr command nr pf) is_broken b = quiet (hears from nr b)
 sees from reading (rnr command nr pf) is_broken b = quiet (hears from nr b)
 sees from reading (rej command nr pf) is_broken b = quiet (hears from nr b)
-sees from reading (sabm p) is_broken b = quiet (begins from (layers.asks (layers_of from b)) b)
+sees from reading (sabm p) is_broken b = quiet (asks from (layers_of from b) b)
 sees from reading (ua f) is_broken b = quiet (accepts_if from is_broken (layers_of from b) b)
 sees from reading (dm f) is_broken b = quiet (keeps from (layers.answers (layers_of from b)) b)
 sees from reading (disc p) is_broken b = quiet (keeps from (layers.asks_more (layers_of from b)) b)

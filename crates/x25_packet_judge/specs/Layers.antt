@@ -33,26 +33,29 @@ begun asked = record unseen { track = Followed; is_fresh = true; asked = asked; 
 
 -- packets are followed from an N(R) of the other end on: it has taken none from there on
 abbrev pub found_at : ℕ → Layer → Layer
-found_at number l = record unseen { track = Followed; next = number; acked = number; asked = l.asked }
+found_at number l = record l { track = Followed; is_fresh = false; next = number; acked = number; is_quiet = false }
 
 -- not all packets were seen
 abbrev pub lost : Layer → Layer
 lost l = record l { track = Unseen; is_fresh = false }
 
+-- what it sent since its set-up may be on its way
+abbrev pub is_under_way : Layer → Bool
+is_under_way l = is_followed l.track && not l.is_fresh
+
 -- Behind a set-up of the other end: what this end sent before it is dropped.
 abbrev pub set_up_again : Layer → Layer
-set_up_again l = if l.is_fresh then begun l.asked else record l { track = Dropped }
+set_up_again l = if is_followed l.track && l.is_fresh then begun l.asked else record l { track = Dropped }
 
 abbrev pub behind_ua : Track → Track
 behind_ua Unseen = Unseen
 behind_ua Dropped = Dropped
 behind_ua Followed = Dropped
 
--- UA again, behind frames that the other end sent since it is up: it changes nothing where the first end sent nothing
--- since the first one. Else its numbers begin anew, and the other end may take those of before or these.
+-- UA again: it changes nothing where the first end sent nothing since the first one. Else its numbers begin anew, and
+-- the other end may take those of before or these.
 abbrev pub late : Layer → Layer
-late l = if l.is_fresh then record l { asked = less l.asked }
-    else record l { track = behind_ua l.track; asked = less l.asked }
+late l = record l { track = if l.is_fresh then l.track else behind_ua l.track; asked = less l.asked }
 
 -- ---- both
 
@@ -102,11 +105,24 @@ abbrev pub moves : ℕ → Layers → Layers
 moves number t =
     if is_next number t then record t { own = record t.own { next = min (t.own.next + 1) 255 % 8 } } else t
 
+-- SABM once more: the other end may have answered the first one, and its packets come behind that
+abbrev pub is_asked_again : Layers → Bool
+is_asked_again t = t.own.is_fresh && (is_dropped t.own.track || is_followed t.other.track)
+
+-- what is on its way comes before SABM: until the other end is set up it may send by either
 abbrev pub asks : Layers → Layers
-asks t = begins t.own.asked (asks_more t)
+asks t =
+    if is_asked_again t then asks_more t
+    else if is_under_way t.own
+    then begins t.own.asked (record t { other = record (asks_more t).other { track = Dropped } })
+    else begins t.own.asked (asks_more t)
+
+-- UA again, before which nothing was sent since the first one, or behind frames of the other end
+abbrev pub is_late : Layers → Bool
+is_late t = not t.other.is_fresh || (is_followed t.own.track && t.own.is_fresh)
 
 abbrev pub accepts : Layers → Layers
-accepts t = if t.other.is_fresh then begins (less t.own.asked) t else record t { own = late t.own }
+accepts t = if is_late t then record t { own = late t.own } else begins (less t.own.asked) t
 
 -- octets that spell none may have been UA, where one was asked for
 abbrev pub misses : Layers → Layers

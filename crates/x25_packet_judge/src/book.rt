@@ -112,17 +112,6 @@ impl Book {
         }
     }
 
-    /// The end sends a packet; whether that is the first one since the set-up.
-    fn speaks(&mut self, from: Role) -> bool
-        ensures book { self.new ≡ definition.spoken from self.old }
-        ensures first { result ≡ (definition.layers_of from self.old).own.is_quiet }
-    {
-        match from {
-            Role::Dte => self.dte.speaks(),
-            Role::Dce => self.dce.speaks(),
-        }
-    }
-
     /// A packet of a channel, before which RESTART may have to be answered.
     fn judges(&mut self, from: Role, channel: u16, item: &Item) -> Verdict
         ensures book { self.new ≡ (definition.judges from channel item.now self.old).book }
@@ -158,7 +147,10 @@ impl Book {
         ensures book { self.new ≡ (definition.takes from channel (plain packet.now) self.old).book }
         ensures verdict { result ≡ (definition.takes from channel (plain packet.now) self.old).verdict }
     {
-        let is_first = self.speaks(from);
+        let mut layers = self.layers(from);
+        let is_first = layers.own.is_quiet;
+        layers.own.is_quiet = false;
+        self.keep(from, layers);
         match packet {
             Packet::Restart { .. } => self.restarts(from, Item::Restart, true),
             Packet::RestartConf => self.restarts(from, Item::RestartConf, false),
@@ -277,7 +269,20 @@ impl Book {
         self.keep(from, layers);
     }
 
-    /// UA, which the other end may have had before, and which breaks a rule of the link layer where `is_broken`.
+    /// SABM, which may come again.
+    #[tactic(auto, unfolding(crate::specs::Book::asks))]
+    fn asks(&mut self, from: Role)
+        ensures { self.new ≡ definition.asks from (definition.layers_of from self.old) self.old }
+    {
+        let layers = self.layers(from);
+        if layers.is_asked_again() {
+            self.keep(from, layers.asks());
+        } else {
+            self.begins(from, layers.asks());
+        }
+    }
+
+    /// UA, which may come again, and which breaks a rule of the link layer where `is_broken`.
     #[tactic(auto, unfolding(crate::specs::Book::accepts, crate::specs::Book::accepts_if))]
     fn accepts_if(&mut self, from: Role, is_broken: bool)
         ensures { self.new ≡ definition.accepts_if from is_broken (definition.layers_of from self.old) self.old }
@@ -286,10 +291,13 @@ impl Book {
         if is_broken && layers.own.asked == 0 {
             return;
         }
-        if layers.other.is_fresh {
-            self.begins(from, layers.accepts());
-        } else {
+        if layers.is_late() {
             self.keep(from, layers.accepts());
+        } else if layers.own.is_under_way() {
+            self.forget();
+            self.keep(from, layers.accepts());
+        } else {
+            self.begins(from, layers.accepts());
         }
     }
 
@@ -357,7 +365,7 @@ impl Book {
                 passed(None)
             }
             Frame::Sabm { .. } => {
-                self.begins(from, self.layers(from).asks());
+                self.asks(from);
                 passed(None)
             }
             Frame::Ua { .. } => {

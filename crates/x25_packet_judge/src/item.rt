@@ -3,7 +3,7 @@ ghost use Rattle.std.specs.Prelude.{◌≡◌, length};
 ghost use Rattle.x25_packet.specs.Packet.{plain};
 ghost use Rattle.x25_packet_judge.specs.Item as definition;
 
-use x25_packet::{Directions, Facilities, Packet};
+use x25_packet::{Directions, Facilities, Packet, facility_field};
 use x25_possible::{Packet as Item, Said, Sizes, Terms, Windows};
 
 /// The octets that a packet size stands for, 0 where it stands for none.
@@ -101,8 +101,10 @@ pub(crate) fn item_of(packet: &Packet) -> Item
     ensures { result ≡ definition.item_of (plain packet.now) }
 {
     match packet {
-        Packet::Call { facilities, .. } => Item::Call(proposed(said(facilities.as_slice()))),
-        Packet::Accept { facilities, .. } => Item::Accept(said(facilities.as_slice())),
+        Packet::Call { a, body, .. } => {
+            Item::Call(proposed(said(facility_field(*a, body).as_slice())))
+        }
+        Packet::Accept { a, body, .. } => Item::Accept(said(facility_field(*a, body).as_slice())),
         Packet::Clear { .. } => Item::Clear,
         Packet::ClearConf { .. } => Item::ClearConf,
         Packet::Data {

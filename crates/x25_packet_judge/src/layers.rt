@@ -57,29 +57,6 @@ impl Layer {
         }
     }
 
-    /// Its packets are followed from an N(R) of the other end on.
-    pub(crate) fn found_at(self, number: u8) -> Layer
-        ensures { result ≡ definition.found_at number self }
-    {
-        Layer {
-            track: Track::Followed,
-            next: number,
-            acked: number,
-            asked: self.asked,
-            ..Layer::unseen()
-        }
-    }
-
-    /// It sends a packet; whether that is the first one since the set-up.
-    pub(crate) fn speaks(&mut self) -> bool
-        ensures layer { self.new ≡ record self.old { is_quiet = false } }
-        ensures first { result ≡ self.old.is_quiet }
-    {
-        let was_quiet = self.is_quiet;
-        self.is_quiet = false;
-        was_quiet
-    }
-
     /// Not all of its packets were seen.
     pub(crate) fn lost(mut self) -> Layer
         ensures { result ≡ definition.lost self }
@@ -89,21 +66,14 @@ impl Layer {
         self
     }
 
-    /// Behind a set-up of the other end, where it goes on from before.
-    pub(crate) fn set_up_again(self) -> Layer
-        ensures { result ≡ definition.set_up_again self }
+    /// What it sent since its set-up may be on its way.
+    pub(crate) fn is_under_way(&self) -> bool
+        ensures { result ≡ definition.is_under_way self.now }
     {
-        if self.is_fresh {
-            Layer::begun(self.asked)
-        } else {
-            Layer {
-                track: Track::Dropped,
-                ..self
-            }
-        }
+        matches!(self.track, Track::Followed) && !self.is_fresh
     }
 
-    /// Behind a UA of it that comes again, where the other end sent frames since the first one.
+    /// Behind a UA of it that comes again.
     pub(crate) fn late(mut self) -> Layer
         ensures { result ≡ definition.late self }
     {
@@ -137,13 +107,19 @@ impl Layers {
         }
     }
 
-    /// The link is set up for the end that sends.
+    /// The link is set up for the end that sends: what the other one sent before is dropped.
     fn begins(self, asked: u8) -> Layers
         ensures { result ≡ definition.begins asked self }
     {
+        let mut other = self.other;
+        if matches!(other.track, Track::Followed) && other.is_fresh {
+            other = Layer::begun(other.asked);
+        } else {
+            other.track = Track::Dropped;
+        }
         Layers {
             own: Layer::begun(asked),
-            other: self.other.set_up_again(),
+            other,
         }
     }
 
@@ -163,24 +139,47 @@ impl Layers {
         self
     }
 
-    /// The end sends SABM.
+    /// SABM once more: the other end may have answered the first one, and its packets come behind that.
+    pub(crate) fn is_asked_again(&self) -> bool
+        ensures { result ≡ definition.is_asked_again self.now }
+    {
+        self.own.is_fresh
+            && (matches!(self.own.track, Track::Dropped)
+                || matches!(self.other.track, Track::Followed))
+    }
+
+    /// The end sends SABM: what of it is on its way comes first, so that the other end may send by either.
     pub(crate) fn asks(self) -> Layers
         ensures { result ≡ definition.asks self }
     {
-        self.asks_more().begins(self.own.asked)
+        let mut next = self.asks_more();
+        if self.is_asked_again() {
+            return next;
+        }
+        if self.own.is_under_way() {
+            next.other.track = Track::Dropped;
+        }
+        next.begins(self.own.asked)
     }
 
-    /// The end sends UA, which comes again behind frames that the other end sent since it is up.
+    /// UA again, before which nothing was sent since the first one, or behind frames of the other end.
+    pub(crate) fn is_late(&self) -> bool
+        ensures { result ≡ definition.is_late self.now }
+    {
+        !self.other.is_fresh || (matches!(self.own.track, Track::Followed) && self.own.is_fresh)
+    }
+
+    /// The end sends UA, which may come again.
     pub(crate) fn accepts(self) -> Layers
         ensures { result ≡ definition.accepts self }
     {
-        if self.other.is_fresh {
-            self.begins(less(self.own.asked))
-        } else {
+        if self.is_late() {
             Layers {
                 own: self.own.late(),
                 ..self
             }
+        } else {
+            self.begins(less(self.own.asked))
         }
     }
 
@@ -212,7 +211,11 @@ pub(crate) fn hear(own: &mut Layer, other: &mut Layer, number: u8) -> bool
     }
     let is_ahead = apart(other.next, other.acked) < apart(number, other.acked);
     if matches!(other.track, Track::Unseen) || is_ahead {
-        *other = other.found_at(number);
+        other.track = Track::Followed;
+        other.is_fresh = false;
+        other.next = number;
+        other.acked = number;
+        other.is_quiet = false;
         return true;
     }
     other.acked = number;

@@ -250,19 +250,19 @@ restarts_takes Restart = Idle
 restarts_takes RestartConf = Idle
 restarts_takes x = Restarts
 
--- RESET, CLEAR and RESTART are answered before it takes what comes behind them; but one that is sent again may have the
--- same answer.
-abbrev pub reset_takes : Limits → Packet → Option Phase
-reset_takes limits Reset = Some (WasReset limits)
-reset_takes limits x = None
-
-abbrev pub cleared_takes : Packet → Option Phase
-cleared_takes Clear = Some WasCleared
-cleared_takes x = None
-
+-- RESET, CLEAR and RESTART are answered before it takes what comes behind them. But one that is sent again may have the
+-- same answer, and what CLEAR or RESTART ends needs none (4.1.7, 3.3.1).
 abbrev pub restarted_takes : Packet → Option Phase
 restarted_takes Restart = Some WasRestarted
 restarted_takes x = None
+
+abbrev pub cleared_takes : Packet → Option Phase
+cleared_takes Clear = Some WasCleared
+cleared_takes x = restarted_takes x
+
+abbrev pub reset_takes : Limits → Packet → Option Phase
+reset_takes limits Reset = Some (WasReset limits)
+reset_takes limits x = cleared_takes x
 
 abbrev pub takes : Role → Phase → Packet → Option Phase
 takes role Idle x = Some (idle_takes x)

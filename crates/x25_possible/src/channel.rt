@@ -422,11 +422,11 @@ fn restarts_takes(packet: Packet) -> Phase
     }
 }
 
-fn reset_takes(limits: Limits, packet: Packet) -> Option<Phase>
-    ensures { result ≡ definition.reset_takes limits packet }
+fn restarted_takes(packet: Packet) -> Option<Phase>
+    ensures { result ≡ definition.restarted_takes packet }
 {
     match packet {
-        Packet::Reset => Some(Phase::WasReset(limits)),
+        Packet::Restart => Some(Phase::WasRestarted),
         _ => None,
     }
 }
@@ -436,16 +436,16 @@ fn cleared_takes(packet: Packet) -> Option<Phase>
 {
     match packet {
         Packet::Clear => Some(Phase::WasCleared),
-        _ => None,
+        _ => restarted_takes(packet),
     }
 }
 
-fn restarted_takes(packet: Packet) -> Option<Phase>
-    ensures { result ≡ definition.restarted_takes packet }
+fn reset_takes(limits: Limits, packet: Packet) -> Option<Phase>
+    ensures { result ≡ definition.reset_takes limits packet }
 {
     match packet {
-        Packet::Restart => Some(Phase::WasRestarted),
-        _ => None,
+        Packet::Reset => Some(Phase::WasReset(limits)),
+        _ => cleared_takes(packet),
     }
 }
 

@@ -28,10 +28,10 @@ use Rattle.x25_possible.specs.Channel.{may_ack, may_follow, is_one_message, talk
 use Rattle.x25_possible.specs.declared.phase.Phase.TheVariants as phase
 use Rattle.x25_possible.specs.declared.packet.Packet.TheVariants as item
 use Rattle.x25_possible_peers.specs.laws.Peers.{talk_of, item_of, data_of, transfer_phase, stage_phase, sizes_by, sizes_in, said_of, terms_of, limits}
-use Rattle.x25_possible_peers.specs.laws.Peers.{DeedsAreSends, PacketsAreTaken, IsTakenSo, IsNextAt, IsNext, IsOfRole}
+use Rattle.x25_possible_peers.specs.laws.Peers.{DeedsAreSends, PacketsAreTaken, IsTakenSo, IsOfRole}
 use Rattle.x25_handshakes.specs.laws.Calls.{Stage, Unused, Waiting, Offered, Crossed, Talking}
 
-joining_push : (j : Partial) (ps : List Piece) (p : Piece) → joining j (ps ++ p ∷ []) ≡ joined (joining j ps) p
+pub joining_push : (j : Partial) (ps : List Piece) (p : Piece) → joining j (ps ++ p ∷ []) ≡ joined (joining j ps) p
 joining_push j [] p = refl
 joining_push j (q ∷ qs) p = joining_push (joined j q) qs p
 
@@ -40,7 +40,7 @@ record Fitting (size n : ℕ) (begun : Option Bool) (q : Bool) : Type 0 where
   small : nat_le n size ≡ true
   same : may_have_q begun q ≡ true
 
-abbrev grounds : Bool → Bool → Bool → Option ℕ
+abbrev pub grounds : Bool → Bool → Bool → Option ℕ
 grounds a b c = if a then (if b then (if c then None else Some 83) else Some 39) else Some 39
 
 fitting : (longest size n m : ℕ) (begun : Option Bool) (q : Bool)
@@ -173,69 +173,62 @@ NotClear theirs.Clear = ⊥
 NotClear p = Unit {0}
 
 -- one is taken where P(S) is the next
-taken_next : (ns n : ℕ) → ns ≡ n % 8 → (if ns == n % 8 then n + 1 else n) ≡ n + 1
-taken_next ns n e = ap (λ b. if b then n + 1 else n) (eq-eqb ns (n % 8) e)
+taken_next : (b : Bool) (ps : List Piece) (p : Piece) → (if b then length ps + 1 else length ps) ≡ length (if b then ps ++ p ∷ [] else ps)
+taken_next true ps p = sym (length_push ps p)
+taken_next false ps p = refl
 
-takes_data : (size : ℕ) (y : PeerStretch) (ns nr : ℕ) (piece : Piece) (role : Role) → ns ≡ length y.taken % 8
+takes_data : (size : ℕ) (y : PeerStretch) (ns nr : ℕ) (piece : Piece) (role : Role)
     → takes role (phase.Talks (talk_of size y)) (data_of ns nr piece) ≡ Some (phase.Talks (talk_of size (stretch.taking y (theirs.Data ns nr piece))))
-takes_data size y ns nr (More q user) role next =
+takes_data size y ns nr (More q user) role =
     ap (λ n. Some (phase.Talks (record (talk_of size y) { acked = nth y.acked nr; taken = n })))
-    (taken_next ns (length y.taken) next ∙ sym (length_push y.taken (More q user)))
-takes_data size y ns nr (Last q user) role next =
+    (taken_next (ns == length y.taken % 8) y.taken (More q user))
+takes_data size y ns nr (Last q user) role =
     ap (λ n. Some (phase.Talks (record (talk_of size y) { acked = nth y.acked nr; taken = n })))
-    (taken_next ns (length y.taken) next ∙ sym (length_push y.taken (Last q user)))
+    (taken_next (ns == length y.taken % 8) y.taken (Last q user))
 
-IsNextHere : theirs.Packet → Side PeerStretch → Type 0
-IsNextHere (theirs.Data ns nr piece) y = IsNextAt ns y
-IsNextHere p y = Unit {0}
-
-transfer_takes : (role : Role) (size e : ℕ) (y : Side PeerStretch) (p : theirs.Packet) → NotClear p → IsNextHere p y
+transfer_takes : (role : Role) (size e : ℕ) (y : Side PeerStretch) (p : theirs.Packet) → NotClear p
     → IsTakenSo role (transfer_phase size y) (item_of p) (transfer_taking e y p).out (transfer_phase size (transfer_taking e y p).next.side)
-unfolding NotClear IsNextHere
-transfer_takes role size e (Live y) theirs.Clear clear next = absurd clear
-transfer_takes role size e (Live y) theirs.Reset clear next = (phase.WasReset (limits size), refl, refl)
-transfer_takes role size e (Live y) (theirs.Data ns nr piece) clear next = takes_data size y ns nr piece role next
-transfer_takes role size e (Live y) p clear next = refl
-transfer_takes role size e (Left y) theirs.Clear clear next = absurd clear
-transfer_takes role size e (Left y) (theirs.Data ns nr (More q user)) clear next = refl
-transfer_takes role size e (Left y) (theirs.Data ns nr (Last q user)) clear next = refl
-transfer_takes role size e (Left y) p clear next = refl
+unfolding NotClear
+transfer_takes role size e (Live y) theirs.Clear clear = absurd clear
+transfer_takes role size e (Live y) theirs.Reset clear = (phase.WasReset (limits size), refl, refl)
+transfer_takes role size e (Live y) (theirs.Data ns nr piece) clear = takes_data size y ns nr piece role
+transfer_takes role size e (Live y) p clear = refl
+transfer_takes role size e (Left y) theirs.Clear clear = absurd clear
+transfer_takes role size e (Left y) (theirs.Data ns nr (More q user)) clear = refl
+transfer_takes role size e (Left y) (theirs.Data ns nr (Last q user)) clear = refl
+transfer_takes role size e (Left y) p clear = refl
 
 calls_accept : (known : Params) (field : List ℕ) (most : ℕ) (role : Role)
     → takes role (phase.Calls (terms_of known)) (item.Accept (said_of (facilities_of field))) ≡ Some (stage_phase (calling_in_data most (said_in known field)))
 calls_accept known field most role = ap (λ n. Some (fresh (limits n))) (calling_most known (facilities_of field))
 
 call_takes : (r : Role) (stage : Stage (At PeerStretch)) (m i : List CallRequest) (p : theirs.Packet) → NotClear p
-    → IsOfRole r (Live (stands stage m i)) → IsNext p (Live (stands stage m i))
+    → IsOfRole r (Live (stands stage m i))
     → IsTakenSo r (stage_phase stage) (item_of p) (call_taking r stage m i p).out (stage_phase (call_taking r stage m i p).next.stage)
-unfolding NotClear IsNextHere
-call_takes r Unused m i theirs.Clear clear of next = absurd clear
-call_takes r Unused m i (theirs.Data ns nr (More q user)) clear of next = refl
-call_takes r Unused m i (theirs.Data ns nr (Last q user)) clear of next = refl
-call_takes r Unused m i p clear of next = refl
-call_takes r (Waiting mine) m i theirs.Clear clear of next = absurd clear
-call_takes Dte (Waiting mine) m i (theirs.Call n) clear of next = refl
-call_takes Dce (Waiting mine) m i (theirs.Call n) clear of next = refl
-call_takes r (Waiting mine) m i (theirs.Accept field most) clear of next = calls_accept mine field most r
-call_takes r (Waiting mine) m i (theirs.Data ns nr (More q user)) clear of next = refl
-call_takes r (Waiting mine) m i (theirs.Data ns nr (Last q user)) clear of next = refl
-call_takes r (Waiting mine) m i p clear of next = refl
-call_takes r (Offered their) m i theirs.Clear clear of next = absurd clear
-call_takes r (Offered their) m i (theirs.Data ns nr (More q user)) clear of next = refl
-call_takes r (Offered their) m i (theirs.Data ns nr (Last q user)) clear of next = refl
-call_takes r (Offered their) m i p clear of next = refl
-call_takes r (Crossed mine) m i theirs.Clear clear of next = absurd clear
-call_takes Dte (Crossed mine) m i (theirs.Call n) clear of next = refl
-call_takes Dce (Crossed mine) m i (theirs.Call n) clear of next = absurd of
-call_takes r (Crossed mine) m i (theirs.Accept field most) clear of next = calls_accept mine field most r
-call_takes r (Crossed mine) m i (theirs.Data ns nr (More q user)) clear of next = refl
-call_takes r (Crossed mine) m i (theirs.Data ns nr (Last q user)) clear of next = refl
-call_takes r (Crossed mine) m i p clear of next = refl
-call_takes r (Talking t b at) m i p clear of next = transfer_takes r t.size at.epoch at.side p clear (here p next)
-  where
-    here : (p : theirs.Packet) → IsNext p (Live (stands (Talking t b at) m i)) → IsNextHere p at.side
-    here (theirs.Data ns nr piece) h = h
-    here p h = tt
+unfolding NotClear
+call_takes r Unused m i theirs.Clear clear of = absurd clear
+call_takes r Unused m i (theirs.Data ns nr (More q user)) clear of = refl
+call_takes r Unused m i (theirs.Data ns nr (Last q user)) clear of = refl
+call_takes r Unused m i p clear of = refl
+call_takes r (Waiting mine) m i theirs.Clear clear of = absurd clear
+call_takes Dte (Waiting mine) m i (theirs.Call n) clear of = refl
+call_takes Dce (Waiting mine) m i (theirs.Call n) clear of = refl
+call_takes r (Waiting mine) m i (theirs.Accept field most) clear of = calls_accept mine field most r
+call_takes r (Waiting mine) m i (theirs.Data ns nr (More q user)) clear of = refl
+call_takes r (Waiting mine) m i (theirs.Data ns nr (Last q user)) clear of = refl
+call_takes r (Waiting mine) m i p clear of = refl
+call_takes r (Offered their) m i theirs.Clear clear of = absurd clear
+call_takes r (Offered their) m i (theirs.Data ns nr (More q user)) clear of = refl
+call_takes r (Offered their) m i (theirs.Data ns nr (Last q user)) clear of = refl
+call_takes r (Offered their) m i p clear of = refl
+call_takes r (Crossed mine) m i theirs.Clear clear of = absurd clear
+call_takes Dte (Crossed mine) m i (theirs.Call n) clear of = refl
+call_takes Dce (Crossed mine) m i (theirs.Call n) clear of = absurd of
+call_takes r (Crossed mine) m i (theirs.Accept field most) clear of = calls_accept mine field most r
+call_takes r (Crossed mine) m i (theirs.Data ns nr (More q user)) clear of = refl
+call_takes r (Crossed mine) m i (theirs.Data ns nr (Last q user)) clear of = refl
+call_takes r (Crossed mine) m i p clear of = refl
+call_takes r (Talking t b at) m i p clear of = transfer_takes r t.size at.epoch at.side p clear
 
 transfer_cleared : (role : Role) (size : ℕ) (y : Side PeerStretch) → takes role (transfer_phase size y) item.Clear ≡ Some phase.WasCleared
 transfer_cleared role size (Live y) = refl
@@ -250,8 +243,8 @@ stage_cleared role (Crossed mine) = refl
 
 pub channel_takes : PacketsAreTaken
 unfolding NotClear
-channel_takes r e (Live c) theirs.Clear of next = (phase.WasCleared, stage_cleared r c.stage, refl)
-channel_takes r e (Live c) p of next = call_takes r c.stage c.made c.indicated p tt of next
-channel_takes r e (Left c) (theirs.Data ns nr (More q user)) of next = refl
-channel_takes r e (Left c) (theirs.Data ns nr (Last q user)) of next = refl
-channel_takes r e (Left c) p of next = refl
+channel_takes r e (Live c) theirs.Clear of = (phase.WasCleared, stage_cleared r c.stage, refl)
+channel_takes r e (Live c) p of = call_takes r c.stage c.made c.indicated p tt of
+channel_takes r e (Left c) (theirs.Data ns nr (More q user)) of = refl
+channel_takes r e (Left c) (theirs.Data ns nr (Last q user)) of = refl
+channel_takes r e (Left c) p of = refl

@@ -32,7 +32,7 @@ call_of_role (Crossed mine) m i d h = absurd h
 call_of_role (Talking t b at) m i (InTransfer d) h = tt
 call_of_role (Talking t b at) m i d h = tt
 
-does_of_role : (r : Role) (e : ℕ) (y : Side PeerCall) (d : ChannelDeed) → IsOfRole r y → IsOfRole r (does_channel e y d).side
+pub does_of_role : (r : Role) (e : ℕ) (y : Side PeerCall) (d : ChannelDeed) → IsOfRole r y → IsOfRole r (does_channel e y d).side
 does_of_role Dte e y d h = tt
 does_of_role Dce e (Live c) (InCall d) h = call_of_role c.stage c.made c.indicated d h
 does_of_role Dce e (Live c) Clears h = tt
@@ -49,7 +49,7 @@ call_taken_of_role (Offered their) m i p h = tt
 call_taken_of_role (Crossed mine) m i p h = absurd h
 call_taken_of_role (Talking t b at) m i p h = tt
 
-takes_of_role : (r : Role) (e : ℕ) (y : Side PeerCall) (p : theirs.Packet) → IsOfRole r y → IsOfRole r (channel_taking r e y p).next.side
+pub takes_of_role : (r : Role) (e : ℕ) (y : Side PeerCall) (p : theirs.Packet) → IsOfRole r y → IsOfRole r (channel_taking r e y p).next.side
 takes_of_role Dte e y p h = tt
 takes_of_role Dce e (Live c) theirs.Clear h = tt
 takes_of_role Dce e (Live c) p h = call_taken_of_role c.stage c.made c.indicated p h
@@ -57,7 +57,7 @@ takes_of_role Dce e (Left c) theirs.Clear h = tt
 takes_of_role Dce e (Left c) theirs.ClearConf h = tt
 takes_of_role Dce e (Left c) p h = tt
 
-fresh_of_role : (r : Role) → IsOfRole r (Live (record { stage = Unused; made = []; indicated = [] }))
+pub fresh_of_role : (r : Role) → IsOfRole r (Live (record { stage = Unused; made = []; indicated = [] }))
 fresh_of_role Dte = tt
 fresh_of_role Dce = tt
 
@@ -65,11 +65,11 @@ of_role : (r : Role) (tape : List (Item Packet)) (y : At PeerCall) (way : List t
 of_role r _ _ _ Begins = fresh_of_role r
 of_role r _ _ _ (Does tape y way d may h) = does_of_role r y.epoch y.side d (of_role r tape y way h)
 of_role r _ _ _ (Shown tape y way p h) = of_role r tape y way h
-of_role r _ _ _ (Hears tape y way p next h) = takes_of_role r y.epoch y.side p (of_role r tape y (p ∷ way) h)
+of_role r _ _ _ (Hears tape y way p h) = takes_of_role r y.epoch y.side p (of_role r tape y (p ∷ way) h)
 
 -- ---- its tape
 
-taken_so : (role : Role) (tape : List (Item Packet)) (s r : Phase) (x : Packet) (way : List Packet) (out : List theirs.Packet)
+pub taken_so : (role : Role) (tape : List (Item Packet)) (s r : Phase) (x : Packet) (way : List Packet) (out : List theirs.Packet)
     → IsTakenSo role s x out r → Stands (channel_rules role (Idle ∷ [])) tape s (x ∷ way) → Stands (channel_rules role (Idle ∷ [])) (confirmed out tape) r way
 taken_so role tape s r x way [] h st = RunTakes tape s r way x h st
 taken_so role tape s r x way (p ∷ []) h st = RunSends tape h.0 r way (item_of p) (0, h.2) (RunTakes tape s h.0 way x h.1 st)
@@ -88,7 +88,7 @@ explained r _ _ _ (Does tape y way d may h) =
 explained r _ _ _ (Shown tape y way p h) =
     subst (λ w. Stands (channel_rules r (Idle ∷ [])) (Other (item_of p) ∷ tape) (phase_of y.side) w) (sym (map_push way p))
     (RunShows tape (phase_of y.side) (map item_of way) (item_of p) (explained r tape y way h))
-explained r _ _ _ (Hears tape y way p next h) =
+explained r _ _ _ (Hears tape y way p h) =
     taken_so r tape (phase_of y.side) (phase_of (channel_taking r y.epoch y.side p).next.side) (item_of p) (map item_of way)
-    (channel_taking r y.epoch y.side p).out (channel_takes r y.epoch y.side p (of_role r tape y (p ∷ way) h) next)
+    (channel_taking r y.epoch y.side p).out (channel_takes r y.epoch y.side p (of_role r tape y (p ∷ way) h))
     (explained r tape y (p ∷ way) h)

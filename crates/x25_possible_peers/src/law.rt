@@ -1,18 +1,56 @@
-//! A peer of the packet layer keeps the rules of a channel: each law is the contract of a function that does nothing.
+//! The peers of docs/PEER.md keep the rules of a channel and of a link: each law is the contract of a function that
+//! does nothing.
+ghost use Rattle.x25_possible_peers.specs.laws.LayerPeers.{NoLayerPeerIsTold};
+ghost use Rattle.x25_possible_peers.specs.laws.LinkPeers.{LinkStepsAreAllowed, NoLinkPeerIsTold};
+ghost use Rattle.x25_possible_peers.specs.laws.LinkPeers.{SessionSendsArePeers, SessionTakesArePeers};
 ghost use Rattle.x25_possible_peers.specs.laws.Peers.{DeedsAreSends, NoPeerIsTold, PacketsAreTaken};
-
-use x25_possible::innocents_stay_untold;
+ghost use Rattle.x25_possible_peers.specs.laws.Peers.{StretchSendsArePeers};
 
 /// What a peer does by itself on a channel between two restarts, and what it makes of each packet that comes, is what
-/// an end may send and take by the rules of a channel, where P(S) of what comes is in order.
+/// an end may send and take by the rules of a channel.
 pub fn peers_keep_the_rules()
     ensures deeds { DeedsAreSends }
     ensures takes { PacketsAreTaken }
 {}
 
-/// From a restart on no rule is told of such a peer, whatever the other end sends whose P(S) are in order as they come.
+/// In d1 what the rules of a channel allow an end to send of a stretch is what a peer may do, in a call whose packet
+/// size is known.
+pub fn stretch_rules_are_those_of_peers()
+    ensures { StretchSendsArePeers }
+{}
+
+/// From a restart on no rule is told of such a peer, whatever the other end sends.
 pub fn peers_stay_untold()
     ensures { NoPeerIsTold }
 {
-    innocents_stay_untold();
+    x25_possible::innocents_stay_untold();
 }
+
+/// The same of a whole packet layer, on each channel: over restarts, and whatever it does on the others.
+pub fn layer_peers_stay_untold()
+    ensures { NoLayerPeerIsTold }
+{
+    x25_possible::innocents_stay_untold();
+}
+
+/// Each step of a peer on the link, over any number of set-ups, is what an end may send and take by the rules of a
+/// link. It is in no session as it sends DM, and out as it sends FRMR and as it answers DISC, and its numbers go one by
+/// one when they go for the first time.
+pub fn link_peers_keep_the_rules()
+    ensures { LinkStepsAreAllowed }
+{}
+
+/// No rule of order is told of such a peer, nor that numbers are left out, whatever the other end sends, with room on
+/// the way, or where nothing comes behind which 64 frames were sent.
+pub fn link_peers_stay_untold()
+    ensures { NoLinkPeerIsTold }
+{
+    x25_possible_links::innocents_stay_untold();
+}
+
+/// In a session what the rules of a link allow of a frame with an N(R), sent or come, is what a peer may do, where an I
+/// frame with the next new N(S) carries the next packet that it was handed down.
+pub fn session_rules_are_those_of_peers()
+    ensures sends { SessionSendsArePeers }
+    ensures takes { SessionTakesArePeers }
+{}

@@ -1,7 +1,5 @@
 -- SABM and UA begin a session of both ends.
-use Rattle.x25_judge.proofs.verdicts.Names.{◌≡◌, ◌==◌, ◌⊎◌, inl, inr, ℕ, arith, Bool, true, false, zero, suc, List, [], ◌∷◌, ◌++◌, length, drop, Option, Some, None, Result, Ok, Err, refl, sym, ap, ◌∙◌, subst, nat_le, not, ◌&&◌, ◌||◌, nat_lt, both_ways, cond_both, or_parts, and_parts, and_from, Role, Dte, Dce, gap_in, n1, sent_in, Reading, PlainFrame, sabm, ua, frame_of, FrameError, other, Held, no_octets, differs, all_told, answer_to, book_of, gap_of, missed_by, other_of, own_of, past_gap, read_of, seen_by, sent_of, Judge, Strictness, End, Rule, come, comes, has_answer, has_number, is_new, is_number, is_of_order, IsBegun, rule_of, Shows, after, IsClear, SetUpsBegin, PacketRule, IsIn, Place, at, At, Owes, State, fresh, has_ua, heard, is_asking, may_answer, owes, passes, sends, is_plain, onward, settled, upward, hastened, is_below, numbers_below, sends_to, set_as, shows_to, spot_at, trimmed, Frame, Before, Disc, Info, Ready, Sabm, Ua, Unread, LinkSet, Told, Broken, Nothing, Spot, Numbers, Stand, Asking, Free, Out, Up, AllAre, sent_all, shown_all, AreBelow, Below, below_on, below_self, HoldsAt, Leads, Stays, Steps, Has, HasIn, blind_sends, blind_shows, has_less, has_sent, has_shown, has_taken, shows_by, trim_has, is_of_manners, NoPoll, RejectAgain, OverWindow, Repeats, Packet}
-use Rattle.std.specs.Prelude.{if◌then◌else◌}
-use Rattle.std.proofs.lemmas.Bool.{eq-eqb, le-leb}
+use Rattle.x25_judge.proofs.verdicts.Names.{◌≡◌, ◌==◌, ◌⊎◌, inl, inr, ℕ, arith, Bool, true, false, zero, suc, List, [], ◌∷◌, ◌++◌, length, drop, Option, Some, None, Result, Ok, Err, refl, sym, ap, ◌∙◌, subst, nat_le, not, ◌&&◌, ◌||◌, nat_lt, both_ways, cond_both, or_parts, and_parts, and_from, Role, Dte, Dce, gap_in, n1, sent_in, Reading, PlainFrame, sabm, ua, frame_of, FrameError, other, Held, no_octets, differs, all_told, answer_to, book_of, gap_of, missed_by, other_of, own_of, past_gap, read_of, seen_by, sent_of, Judge, Strictness, End, Rule, come, comes, has_answer, has_number, is_new, is_number, is_of_order, IsBegun, rule_of, Shows, after, IsClear, SetUpsBegin, PacketRule, IsIn, Place, at, At, Owes, State, fresh, has_ua, heard, is_asking, may_answer, owes, passes, sends, is_plain, onward, settled, upward, hastened, is_below, numbers_below, sends_to, set_as, shows_to, spot_at, trimmed, Frame, Before, Disc, Info, Ready, Sabm, Ua, Unread, LinkSet, Told, Broken, Nothing, Spot, Numbers, Stand, Asking, Free, Out, Up, AllAre, sent_all, shown_all, AreBelow, Below, below_on, below_self, HoldsAt, Leads, Stays, Steps, Has, HasIn, blind_sends, blind_shows, has_less, has_sent, has_shown, has_taken, shows_by, trim_has, is_of_manners, NoPoll, RejectAgain, OverWindow, Repeats, Packet, if◌then◌else◌, eq-eqb, le-leb}
 use Rattle.x25_judge.specs.Judge.{begins as judge_begins}
 use Rattle.x25_possible_links.specs.{laws.Link.{asks, answers, begins}, laws.Places.{first}}
 use Rattle.x25_possible_links.specs.declared.set.Told.TheVariants.{Skips as SkipsOf}
@@ -26,16 +24,10 @@ step_comes Asking x way b =
     cond_both (may_answer x) fresh Asking (λ (u : Stand). Below fresh (comes way u)) (λ _. up_below way no_numbers) (λ _. b)
 step_comes u x way b = b
 
-at_same : (s g : Stand) → At s ≡ At g → s ≡ g
-at_same s g e = cc
-
-owes_not : (r g : Stand) → Owes r ≡ At g → ⊥
-owes_not r g e = cc
-
 covers_come : (u : Stand) (way : List Frame) (s : State) (end : List Frame) → Covers u way s end → (g : Stand) → s ≡ At g → end ≡ [] → Below fresh g → Below fresh (comes way u)
 covers_come _ _ _ _ (Here s u way below) g e none b =
-    subst (λ w. Below fresh (comes w u)) (sym none) (below_on fresh s u (subst (λ r. Below fresh r) (sym (at_same s g e)) b) below)
-covers_come _ _ _ _ (Asked s u r x way below is) g e none b = absurd (owes_not r g e)
+    subst (λ w. Below fresh (comes w u)) (sym none) (below_on fresh s u (subst (λ r. Below fresh r) (sym cc) b) below)
+covers_come _ _ _ _ (Asked s u r x way below is) g e none b = absurd cc
 covers_come _ _ _ _ (Later u x way s end c) g e none b = step_comes u x way (covers_come (onward u x) way s end c g e none b)
 covers_come _ _ _ _ (Begins x way s end may c) g e none b =
     subst (λ b. Below fresh (comes way (if b then fresh else Asking))) (sym may) (up_below way no_numbers)
@@ -65,15 +57,16 @@ below_is s b = absurd b
 
 -- ---- a set of any places
 
-holds_self : (s : Stand) (way : List Frame) → HoldsAt s way (At s) way
-holds_self s way = record { good = s; below = below_self s; stand = s; end = way; leads = Stays s way; covers = Here s s way (below_self s) }
-
 passes_all : (qs : List Spot) (way : List Frame) (s : Stand) (end : List Frame) → HasIn qs way (At s) end → HasIn qs way (At s) []
 passes_all qs way s [] g = g
 passes_all qs way s (x ∷ end) g = passes_all qs way s end (has_taken qs way (At s) (At s) x end g (passes s x))
 
 first_in : (q : Spot) (qs : List Spot) (way : List Frame) → HasIn (q ∷ qs) way (At q.stand) []
-first_in q qs way = passes_all (q ∷ qs) way q.stand (drop q.at way) (q, inl refl, holds_self q.stand (drop q.at way))
+first_in q qs way =
+    let s = q.stand in
+    let w = drop q.at way in
+    passes_all (q ∷ qs) way s w
+    (q, inl refl, record { good = s; below = below_self s; stand = s; end = w; leads = Stays s w; covers = Here s s w (below_self s) })
 
 covers_free : (way : List Frame) → Covers Free way (At Free) []
 covers_free [] = Here Free Free [] tt
@@ -112,9 +105,6 @@ asker s =
 
 -- ---- the end that answers
 
-none_answers : (s : LinkSet) → s.spots.items ≡ [] → (sends_to Ua s).told ≡ Broken Free
-none_answers s none = subst (λ (qs : List Spot). (sends_to Ua (set_in s.way.items qs s.is_blind)).told ≡ Broken Free) (sym none) refl
-
 something : (s : Stand) → Broken s ≡ Nothing → ⊥
 something s e = cc
 
@@ -133,7 +123,10 @@ abbrev Answers : LinkSet → Type 0
 Answers s = (sends_to Ua (shows_to Sabm s)).told ≡ Nothing → Has (sends_to Ua (shows_to Sabm s)).set (At fresh) []
 
 answers_in : (way : List Frame) (qs : List Spot) (b : Bool) → Answers (set_in way qs b)
-answers_in way [] b untold = absurd (something Free (sym (none_answers (shows_to Sabm (set_in way [] b)) (none_shown way b)) ∙ untold))
+answers_in way [] b untold =
+    let mid = shows_to Sabm (set_in way [] b) in
+    absurd (something Free (sym (subst (λ (qs : List Spot). (sends_to Ua (set_in mid.way.items qs mid.is_blind)).told ≡ Broken Free)
+    (sym (none_shown way b)) refl) ∙ untold))
 answers_in way (q ∷ qs) b untold =
     let mid = shows_to Sabm (set_in way (q ∷ qs) b) in
     let shown = has_shown Sabm (At q.stand) [] (set_in way (q ∷ qs) b) (λ full. omega arith) (first_in q qs way) in

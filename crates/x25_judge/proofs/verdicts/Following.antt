@@ -1,7 +1,5 @@
 -- An end that keeps the rules of docs/PEER.md, beside the places in which the judge has it.
-use Rattle.x25_judge.proofs.verdicts.Names.{◌≡◌, ◌⊎◌, inl, inr, ℕ, ◌+◌, ◌%◌, ◌≤◌, ◌==◌, arith, max, Bool, true, false, List, [], ◌∷◌, ◌++◌, length, suc, Option, Some, None, refl, sym, ap, ◌∙◌, subst, not, ◌&&◌, ◌||◌, nat_le, nat_lt, and_from, both_ways, cond-true, eqb-true, lt-ltb, PlainFrame, info, rr, rnr, rej, sabm, disc, ua, Peer, fresh_peer, MayAcknowledge, MayNumber, Said, Tells, In, shown, Way, MaySay, MaySend, HaveNoUa, IsUa, declined, numbered, asks_again, closes, declines, rejects, takes_disc, takes_sabm, waits_on, IsIn, State, At, Owes, owes, fresh, has_ua, is_asking, is_ua, may_acknowledge, may_number, sends_as, Frame, Ready, Sabm, Disc, Ua, Dm, Frmr, Unread, LinkSet, Numbers, Stand, Out, Asking, Up, Free, Has, has_taken}
-use Rattle.std.specs.Prelude.{if◌then◌else◌}
-use Rattle.std.proofs.lemmas.Bool.{eq-eqb, le-leb}
+use Rattle.x25_judge.proofs.verdicts.Names.{◌≡◌, ◌⊎◌, inl, inr, ℕ, ◌+◌, ◌%◌, ◌≤◌, ◌==◌, arith, max, Bool, true, false, List, [], ◌∷◌, ◌++◌, length, suc, Option, Some, None, refl, sym, ap, ◌∙◌, subst, not, ◌&&◌, ◌||◌, nat_le, nat_lt, and_from, both_ways, cond-true, eqb-true, lt-ltb, PlainFrame, info, rr, rnr, rej, sabm, disc, ua, Peer, fresh_peer, MayAcknowledge, MayNumber, Said, Tells, In, shown, Way, MaySay, MaySend, HaveNoUa, IsUa, declined, numbered, asks_again, closes, declines, rejects, takes_disc, takes_sabm, waits_on, IsIn, State, At, Owes, owes, fresh, has_ua, is_asking, is_ua, may_acknowledge, may_number, sends_as, Frame, Ready, Sabm, Disc, Ua, Dm, Frmr, Unread, LinkSet, Numbers, Stand, Out, Asking, Up, Free, Has, has_taken, if◌then◌else◌, eq-eqb, le-leb}
 use Rattle.x25_judge.specs.laws.Sessions.{asks}
 use Rattle.x25_line.specs.laws.Peer as peer
 use Rattle.x25_line.specs.laws.PeerSessions as session

@@ -1,7 +1,5 @@
 -- No rule of order is told of an end that keeps the rules.
-use Rattle.x25_judge.proofs.verdicts.Names.{◌≡◌, ◌⊎◌, inl, inr, ℕ, ◌+◌, ◌%◌, ◌<◌, ◌≤◌, ◌==◌, arith, max, Bool, true, false, suc, List, [], ◌∷◌, ◌++◌, length, drop, refl, sym, ap, ◌∙◌, subst, not, ◌&&◌, ◌||◌, both_ways, cases_eq, Role, Dte, Dce, PlainFrame, info, rr, rnr, rej, ua, Peer, fresh_peer, hearing, taking, MayHear, MayNumber, In, other, Held, differs, keeps, no_octets, none_held, comes, IsBegun, IsDamaged, IsTimely, Shows, Way, is_of_order, answer_to, own_of, seen_by, forgets_each, held_by, shown, breaks_order, Judge, End, MaySay, MaySend, MayStand, declined, numbered, declines, takes_sabm, NoSessionIsAccused, nth, IsIn, is_below, sends_to, shows_to, unknown, State, At, Owes, passes, fresh, heard, may_answer, onward, upward, Frame, Info, Ready, Unread, Before, LinkSet, Nothing, Spot, Numbers, Stand, Out, Asking, Up, Free, AreBelow, Below, below_self, Leads, Stays, Steps, stays_at, below_is, Has, has_taken, has_less, has_sent, has_shown, is_untold}
-use Rattle.std.specs.Prelude.{if◌then◌else◌, Ok, Option, Some, None}
-use Rattle.std.proofs.lemmas.Bool.{eq-eqb}
+use Rattle.x25_judge.proofs.verdicts.Names.{◌≡◌, ◌⊎◌, inl, inr, ℕ, ◌+◌, ◌%◌, ◌<◌, ◌≤◌, ◌==◌, arith, max, Bool, true, false, suc, List, [], ◌∷◌, ◌++◌, length, drop, refl, sym, ap, ◌∙◌, subst, not, ◌&&◌, ◌||◌, both_ways, cases_eq, Role, Dte, Dce, PlainFrame, info, rr, rnr, rej, ua, Peer, fresh_peer, hearing, taking, MayHear, MayNumber, In, other, Held, differs, keeps, no_octets, none_held, comes, IsBegun, IsDamaged, IsTimely, Shows, Way, is_of_order, answer_to, own_of, seen_by, forgets_each, held_by, shown, breaks_order, Judge, End, MaySay, MaySend, MayStand, declined, numbered, declines, takes_sabm, NoSessionIsAccused, nth, IsIn, is_below, sends_to, shows_to, unknown, State, At, Owes, passes, fresh, heard, may_answer, onward, upward, Frame, Info, Ready, Unread, Before, LinkSet, Nothing, Spot, Numbers, Stand, Out, Asking, Up, Free, AreBelow, Below, below_self, Leads, Stays, Steps, stays_at, below_is, Has, has_taken, has_less, has_sent, has_shown, is_untold, if◌then◌else◌, Ok, Option, Some, None, eq-eqb}
 use Rattle.x25_judge.specs.laws.Session.{rule_of as told_rule}
 use Rattle.x25_judge.specs.Links.{rule_of}
 use Rattle.x25_possible_links.specs.laws.Link.{hears, begins}

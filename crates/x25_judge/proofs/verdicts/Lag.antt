@@ -1,8 +1,9 @@
 -- An end that keeps the rules, ahead of the trace: what it did since its last octets that the trace has seen.
-use Rattle.x25_judge.proofs.verdicts.Names.{◌≡◌, inl, inr, ℕ, ◌≤◌, le_trans, arith, length, length-append, zero, suc, List, [], ◌∷◌, ◌++◌, true, false, Option, Some, None, Result, Ok, Err, refl, sym, ap, ◌∙◌, subst, remove, Role, n1, PlainFrame, info, rr, rnr, rej, frame_of, FrameError, Short, other, Peer, MayHear, number_in, is_visible, replaced, visible_reads, Judge, MaySend, MayStand, In, IsNumbered, Way}
+use Rattle.x25_judge.proofs.verdicts.Names.{◌≡◌, inl, inr, ℕ, ◌≤◌, le_trans, arith, length, length-append, List, [], ◌∷◌, ◌++◌, true, false, Option, Some, None, Result, Ok, Err, refl, sym, ap, ◌∙◌, subst, Role, n1, PlainFrame, info, rr, rnr, rej, frame_of, FrameError, Short, other, Peer, MayHear, number_in, is_visible, visible_reads, Judge, MaySend, MayStand, In, IsNumbered, Way}
 use Rattle.std.proofs.Common.{append_assoc}
 use Rattle.std.proofs.lemmas.List.{append-nil}
 use Rattle.x25_judge.specs.laws.Sessions as sessions
+use Rattle.x25_line.specs.laws.Loss.{LessAt, nothing as none_lost, gone, hurt, deeper, IsSeen}
 
 -- it sends such octets: a frame with a number, or what has none
 pub data Sends (from : Role) (p : Peer) (octets : List ℕ) (q : Peer) : Type 0 where
@@ -15,9 +16,6 @@ none_numbered (rr command nr pf) is e = cc
 none_numbered (rnr command nr pf) is e = cc
 none_numbered (rej command nr pf) is e = cc
 none_numbered frame is e = is
-
-ok_is : (f g : PlainFrame) (r : Result PlainFrame FrameError) → r ≡ Ok f → r ≡ Ok g → f ≡ g
-ok_is f g r e h = cc
 
 -- anything may be passed over
 passes : (p : Peer) (r : Result PlainFrame FrameError) → MayHear p r p
@@ -45,9 +43,6 @@ module _ (from : Role) where
 
   heard : (p q : Peer) (frame : PlainFrame) → MayHear p (Ok frame) q → Quiet p (Some frame ∷ []) q []
   heard p q frame hears = record { on = λ j more may. sessions.Comes j p q frame more hears may; few = omega arith }
-
-  faded : (p : Peer) (what : Option PlainFrame) → Quiet p (what ∷ []) p []
-  faded p what = record { on = λ j more may. sessions.Passes j In p what more may; few = omega arith }
 
   -- one frame more is on the way to it
   one_comes : {p q : Peer} {way left : Way} (what : Option PlainFrame) → Quiet p way q left → Quiet p (way ++ what ∷ []) q (left ++ what ∷ [])
@@ -94,7 +89,8 @@ module _ (from : Role) where
 
   -- a frame with a number is at the front
   pub numbered_front : (p q : Peer) (octets : List ℕ) (frame : PlainFrame) → frame_of from n1 octets ≡ Ok frame → IsNumbered frame → Sends from p octets q → MaySend p frame q
-  numbered_front p q octets frame reads is (said f read may) = subst (λ (x : PlainFrame). MaySend p x q) (ok_is f frame (frame_of from n1 octets) read reads) may
+  numbered_front p q octets frame reads is (said f read may) =
+      let same : f ≡ frame = cc in subst (λ (x : PlainFrame). MaySend p x q) same may
   numbered_front p q octets frame reads is (freed none same) = absurd (none_numbered frame is (sym (ap number_in reads) ∙ none))
 
   -- ---- the octets on the line to it
@@ -130,23 +126,20 @@ module _ (from : Role) where
 
   pub one_more_damaged : (way : Way) (back : List (List ℕ)) (octets : List ℕ) → is_visible octets ≡ true → OnLine way back → OnLine (way ++ None ∷ []) (back ++ octets ∷ [])
   one_more_damaged way back octets visible h =
-      one_behind way back octets None (λ p q may. subst (λ (r : Peer). Quiet p (None ∷ []) r []) (sym (says_nothing octets visible p q may)) (faded p None)) h
+      one_behind way back octets None
+      (λ p q may. subst (λ (r : Peer). Quiet p (None ∷ []) r []) (sym (says_nothing octets visible p q may))
+      (record { on = λ j more m. sessions.Passes j In p None more m; few = omega arith })) h
 
   passed : (way left : Way) (back : List (List ℕ)) → ((p : Peer) → Quiet p way p left) → OnLine left back → OnLine way back
   passed way left [] none h = λ p. both (none p) (h p)
   passed way left (o ∷ back) none h = record { left = h.left; did = λ p q may. both (none p) (h.did p q may); line = h.line }
 
-  pub one_lost : (way : Way) (back : List (List ℕ)) (i : ℕ) → OnLine way back → OnLine way (remove back i)
-  one_lost way [] zero h = h
-  one_lost way [] (suc i) h = h
-  one_lost way (o ∷ back) zero h = passed way h.left back (λ p. h.did p p (passes p (frame_of (other from) n1 o))) h.line
-  one_lost way (o ∷ back) (suc i) h = record { left = h.left; did = h.did; line = one_lost h.left back i h.line }
-
-  pub one_damaged : (way : Way) (back : List (List ℕ)) (i : ℕ) (octets : List ℕ) → is_visible octets ≡ true → OnLine way back → OnLine way (replaced back i octets)
-  one_damaged way [] i octets visible h = h
-  one_damaged way (o ∷ back) zero octets visible h = record {
+  pub one_less : (way : Way) {i : ℕ} {back now : List (List ℕ)} → LessAt IsSeen i back now → OnLine way back → OnLine way now
+  one_less way (none_lost j) h = h
+  one_less way (gone o back) h = passed way h.left back (λ p. h.did p p (passes p (frame_of (other from) n1 o))) h.line
+  one_less way (hurt o octets back visible) h = record {
     left = h.left;
     did = λ p q may. subst (λ (r : Peer). Quiet p way r h.left) (sym (says_nothing octets visible p q may)) (h.did p p (passes p (frame_of (other from) n1 o)));
     line = h.line;
   }
-  one_damaged way (o ∷ back) (suc i) octets visible h = record { left = h.left; did = h.did; line = one_damaged h.left back i octets visible h.line }
+  one_less way (deeper j o back now l) h = record { left = h.left; did = h.did; line = one_less h.left l h.line }

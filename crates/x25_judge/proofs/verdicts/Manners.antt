@@ -1,6 +1,5 @@
 -- Manners tell no rule of order, and nothing of what is told of the link.
-use Rattle.x25_judge.proofs.verdicts.Names.{◌≡◌, ℕ, ◌<◌, ◌≤◌, ◌%◌, ◌==◌, Bool, true, false, Option, Some, None, refl, arith, is_some, not, nat_lt, nat_le, ◌&&◌, ◌||◌, and_parts, cond_both, leb-true, ltb-true, PlainFrame, info, rr, rnr, rej, sabm, disc, ua, dm, frmr, accepts, answers, asks, bits, by_other, by_own, counts_in, hears, minded_as, minds, ready_minded, place_in, reject_minded, skipped_by, first, is_of_manners, Minding, Sent, Manners, Minded, Rule, OverWindow, is_of_order, LinkSet, Told, Nothing, Skips, Broken, Numbers, Stand, Up}
-use Rattle.std.specs.Prelude.{if◌then◌else◌}
+use Rattle.x25_judge.proofs.verdicts.Names.{◌≡◌, ℕ, ◌<◌, ◌≤◌, ◌%◌, ◌==◌, Bool, true, false, Option, Some, None, refl, arith, is_some, not, nat_lt, nat_le, ◌&&◌, ◌||◌, and_parts, cond_both, leb-true, ltb-true, PlainFrame, info, rr, rnr, rej, sabm, disc, ua, dm, frmr, answers, asks, bits, by_own, counts_in, hears, minded_as, minds, ready_minded, place_in, skipped_by, first, is_of_manners, Minding, Sent, Manners, Minded, Rule, OverWindow, is_of_order, LinkSet, Told, Nothing, Skips, Broken, Numbers, Stand, Up, if◌then◌else◌}
 use Rattle.x25_judge.specs.{Links.{begins}, declared.manners.Place.{Place}}
 use Rattle.x25_judge.specs.Manners as manners
 
@@ -36,15 +35,12 @@ new_fair window at m = go (nat_lt window 7 && nat_le window at.pending) refl
     go true e = small_window window (and_parts (nat_lt window 7) (nat_le window at.pending) e).0
     go false e = refl
 
-again_fair : (at : Place) (next : ℕ) (is_poll : Bool) (back : ℕ) (m : Manners) → IsFair (manners.sent_again at next is_poll back m).rule
-again_fair at next is_poll back m =
-    either (manners.goes_on at back m) _ _ refl
-    (either (manners.may_go_back at is_poll back m) _ _ refl (either (nat_lt back m.behind) _ _ refl refl))
-
 from_fair : (window : ℕ) (at : Place) (back next : ℕ) (is_poll skips : Bool) (m : Manners) → IsFair (manners.sends_from window at back next is_poll skips m).rule
 from_fair window at back next is_poll skips m =
     either skips _ _ refl
-    (either (nat_lt 0 back) _ _ (again_fair at next is_poll back m)
+    (either (nat_lt 0 back) _ _
+    (either (manners.goes_on at back m) _ _ refl
+    (either (manners.may_go_back at is_poll back m) _ _ refl (either (nat_lt back m.behind) _ _ refl refl)))
     (either (m.behind == 0 || at.pending == 0) _ _ (new_fair window at m) refl))
 
 pub sends_fair : (window : ℕ) (at : Place) (number : ℕ) (is_poll skips : Bool) (m : Manners) → IsFair (manners.sends window at number is_poll skips m).rule
@@ -73,15 +69,13 @@ module _ (P : Option Rule → Bool → Type 0)
   own_has : (m : Minded) (b : Minding) → IsFair m.rule → Has b → Has (by_own m b)
   own_has m b fair h = on b.seen.rule m.rule b.seen.is_judged fair h
 
-  other_has : (m : Minded) (b : Minding) → IsFair m.rule → Has b → Has (by_other m b)
-  other_has m b fair h = on b.seen.rule m.rule b.seen.is_judged fair h
-
   asks_has : (p : Bool) (b : Minding) → Has b → Has (asks p b)
   asks_has p b h = has_if p _ _ (own_has (manners.asks b.own) b (either b.own.is_polling _ _ refl refl) h) h
 
   answers_has : (f is_shown : Bool) (b : Minding) → Has b → Has (answers f is_shown b)
   answers_has f is_shown b h =
-      has_if f _ _ (other_has (manners.answered is_shown b.other) b (either (not (b.other.polls == 0)) _ _ refl (either is_shown _ _ refl refl)) h) h
+      has_if f _ _ (on b.seen.rule (manners.answered is_shown b.other).rule b.seen.is_judged
+      (either (not (b.other.polls == 0)) _ _ refl (either is_shown _ _ refl refl)) h) h
 
   bits_has : (command pf is_shown : Bool) (b : Minding) → Has b → Has (bits command pf is_shown b)
   bits_has command pf is_shown b h = has_if command _ _ (asks_has pf b h) (answers_has pf is_shown b h)
@@ -99,24 +93,18 @@ module _ (P : Option Rule → Bool → Type 0)
   ready_has t to command nr pf b h =
       let said = bits_has command pf t.facts.is_known b h in has_if (pf && not command) _ _ said said
 
-  accepts_has : (f is_shown : Bool) (b : Minding) → Has b → Has (accepts f is_shown b)
-  accepts_has f is_shown b h = has_if (is_some b.seen.rule) _ _ h (answers_has f is_shown (begins b) h)
-
-  reject_has : (t : Sent) (to : LinkSet) (command : Bool) (nr : ℕ) (pf : Bool) (b : Minding) → Has b → Has (reject_minded t to command nr pf b)
-  reject_has t to command nr pf b h =
-      let c = hears t to nr (bits command pf t.facts.is_known b) in
-      own_has (manners.rejects t.facts.is_sure c.own) c (either (t.facts.is_sure && c.own.is_rejecting) _ _ refl refl)
-      (bits_has command pf t.facts.is_known b h)
-
   pub minds_has : (window : ℕ) (t : Sent) (to : LinkSet) (frame : PlainFrame) (b : Minding) → Has b → Has (minds window t to frame b)
   unfolding minds
   minds_has window t to (info ns nr p octets) b h = counts_has t.facts.stand window t ns p (asks p b) (asks_has p b h)
   minds_has window t to (rr command nr pf) b h = ready_has t to command nr pf b h
   minds_has window t to (rnr command nr pf) b h = ready_has t to command nr pf b h
-  minds_has window t to (rej command nr pf) b h = reject_has t to command nr pf b h
+  minds_has window t to (rej command nr pf) b h =
+      let c = hears t to nr (bits command pf t.facts.is_known b) in
+      own_has (manners.rejects t.facts.is_sure c.own) c (either (t.facts.is_sure && c.own.is_rejecting) _ _ refl refl)
+      (bits_has command pf t.facts.is_known b h)
   minds_has window t to (sabm p) b h = asks_has p (begins b) h
   minds_has window t to (disc p) b h = asks_has p b h
-  minds_has window t to (ua f) b h = accepts_has f t.facts.is_shown b h
+  minds_has window t to (ua f) b h = has_if (is_some b.seen.rule) _ _ h (answers_has f t.facts.is_shown (begins b) h)
   minds_has window t to (dm f) b h = answers_has f t.facts.is_shown b h
   minds_has window t to (frmr f why) b h = answers_has f t.facts.is_shown b h
 

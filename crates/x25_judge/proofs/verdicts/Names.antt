@@ -17,7 +17,7 @@ pub use Rattle.x25_judge.specs.Held.{Held, none_held, forgets, forgets_all, is_h
 unfoldable pub use Rattle.x25_judge.specs.Held.{no_octets, differs, keeps}
 pub use Rattle.x25_judge.specs.Judge.{all_told, book_of, gap_of, missed_by, next_missed, no_frame, other_of, own_of, past_gap, read_of, seen_by, sent_of, tallies, Answer, counts_packet, is_open, told_frame, remark_of, next_by, begins}
 unfoldable pub use Rattle.x25_judge.specs.Judge.{answer_to, counts_carried}
-pub use Rattle.x25_judge.specs.Links.{forgets_each, held_by, Both, accepts, answers, asks, bits, by_other, by_own, counts_in, hears, minded_as, ready_minded, place_in, reject_minded, skipped_by, forgets_in}
+pub use Rattle.x25_judge.specs.Links.{forgets_each, held_by, Both, accepts, answers, asks, bits, by_own, counts_in, hears, minded_as, ready_minded, place_in, skipped_by, forgets_in}
 unfoldable pub use Rattle.x25_judge.specs.Links.{shown, minds}
 pub use Rattle.x25_judge.specs.Rule.{is_of_manners, breaks_order, first}
 pub use Rattle.x25_judge.specs.declared.judge.Judge.{Judge}
@@ -38,7 +38,7 @@ pub use Rattle.x25_line.specs.laws.Peer.{Peer, fresh_peer, MayAcknowledge, MayNu
 pub use Rattle.x25_line.specs.laws.PeerSessions.{In}
 pub use Rattle.x25_line.specs.laws.Said.{Said, Tells, said, Odd}
 pub use Rattle.x25_line.specs.laws.StationClaims.{number_in, EachEventHandsOne, HandsOne}
-pub use Rattle.x25_line.specs.laws.Stations.{is_visible, replaced, Near, acts}
+pub use Rattle.x25_line.specs.laws.Stations.{is_visible, Near, acts}
 pub use Rattle.x25_line.specs.laws.Tape.{notes, same_octets, is_item, judges_ack, then_ack, judges_item, judges, notes_said}
 pub use Rattle.x25_link.specs.Hearing.{other}
 pub use Rattle.x25_link.specs.Station.{Settings}

@@ -1,7 +1,6 @@
 -- The lines of an end of which nothing is told are those of an end that keeps the rules, and each number carries one
 -- packet, whatever is told of the other end.
-use Rattle.x25_judge.proofs.verdicts.Names.{◌≡◌, ◌⊎◌, inl, inr, ℕ, ◌%◌, ◌≤◌, ◌+◌, ◌==◌, Bool, true, false, List, [], ◌∷◌, ◌++◌, if◌then◌else◌, arith, length, refl, sym, ap, ◌∙◌, subst, slice_get, eqb-true, length_push, Role, PlainFrame, info, rr, rnr, rej, ReadsWhatIsSpelled, Peer, fresh_peer, MayHear, IsWanted, said, notes, other, own_of, Judge, Shows, IsDamaged, IsNumbered, SilenceMeansNumbers, SilenceMeansRules, more, Unread}
-use Rattle.std.specs.Prelude.{Some, Ok}
+use Rattle.x25_judge.proofs.verdicts.Names.{◌≡◌, ◌⊎◌, inl, inr, ℕ, ◌%◌, ◌≤◌, ◌+◌, ◌==◌, Bool, true, false, List, [], ◌∷◌, ◌++◌, if◌then◌else◌, arith, length, refl, sym, ap, ◌∙◌, subst, slice_get, eqb-true, length_push, Role, PlainFrame, info, rr, rnr, rej, ReadsWhatIsSpelled, Peer, fresh_peer, MayHear, IsWanted, said, notes, other, own_of, Judge, Shows, IsDamaged, IsNumbered, SilenceMeansNumbers, SilenceMeansRules, more, Unread, Some, Ok}
 use Rattle.x25_judge.specs.laws.Explaining.{IsUntold, Begins, Says, Comes, Fails, IsKept, Fresh, HandsDown, Sends, Hears, Carries, Nothing, Next, Again, Beside, Passes}
 use Rattle.x25_judge.proofs.verdicts.Innocents.{lost_end}
 use Rattle.x25_judge.proofs.verdicts.Silences.{Explains, Given, begun_knows, noted_line, notes_given, other_by, other_line, own_line, passes_line}

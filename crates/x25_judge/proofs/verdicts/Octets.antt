@@ -1,7 +1,5 @@
 -- The octets that the judge holds of an end's last eight numbers.
-use Rattle.x25_judge.proofs.verdicts.Names.{◌≡◌, ◌⊎◌, inl, inr, ℕ, ◌+◌, ◌%◌, ◌<◌, ◌≤◌, arith, max, Bool, true, zero, suc, List, [], ◌∷◌, ◌++◌, length, Some, refl, sym, ap, ◌∙◌, subst, slice_get, slice_index_or, slice_set, nat_le, not, ◌&&◌, replicate, both_ways, cases_eq, cond-true, get_or-set_same, get_or-set_other, get_or-replicate, length-set, PlainFrame, info, rr, ROOM, Held, differs, forgets, forgets_all, is_held, kept, keeps, forgets_each, forgets_in, IsIn, Spot, Stand, Up}
-use Rattle.std.specs.Prelude.{false}
-use Rattle.std.proofs.lemmas.Bool.{le-leb}
+use Rattle.x25_judge.proofs.verdicts.Names.{◌≡◌, ◌⊎◌, inl, inr, ℕ, ◌+◌, ◌%◌, ◌<◌, ◌≤◌, arith, max, Bool, true, zero, suc, List, [], ◌∷◌, ◌++◌, length, Some, refl, sym, ap, ◌∙◌, subst, slice_get, slice_index_or, slice_set, nat_le, not, ◌&&◌, replicate, both_ways, cases_eq, cond-true, get_or-set_same, get_or-set_other, get_or-replicate, length-set, PlainFrame, info, rr, ROOM, Held, differs, forgets, forgets_all, is_held, kept, keeps, forgets_each, forgets_in, IsIn, Spot, Stand, Up, false, le-leb}
 use Rattle.std.specs.Str.{bytes_eq}
 use Rattle.std.proofs.lemmas.Slice.Eq.{bytes_eq-Decides}
 

@@ -1,7 +1,6 @@
 -- Behind a set-up the places of an end are within one session. So what it sends is what an end sends that keeps the
 -- rules, and a trace of which nothing is told is a silent tape of `x25_line`.
-use Rattle.x25_judge.proofs.verdicts.Names.{◌≡◌, ◌==◌, ◌⊎◌, inl, inr, ℕ, ◌+◌, ◌-◌, ◌%◌, ◌<◌, ◌≤◌, arith, max, Bool, true, false, if◌then◌else◌, List, [], ◌∷◌, ◌++◌, length, Some, None, Ok, refl, sym, ap, ◌∙◌, subst, slice_get, nat_lt, nat_le, not, ◌&&◌, ◌||◌, both_ways, eqb-true, ne_eqb, lt-ltb, and_from, and_parts, cond-true, cond-false, length_push, Role, n1, PlainFrame, info, rr, rnr, rej, frame_of, ReadsWhatIsSpelled, Peer, fresh_peer, MayAcknowledge, numbered_to, told_to, hearing, taking, Said, Tells, said, same_octets, is_item, judges_ack, then_ack, judges_item, judges, notes, notes_said, other, Settings, ROOM, Held, differs, keeps, own_of, answer_to, held_by, shown, Judge, End, MaySend, come, is_new, IsBegun, Shows, IsNumbered, Watched, more, IsSilent, Begins, Acts, Rests, Says, Comes, Fails, SilenceMeansOrder, nth, sends_to, shows_to, fresh, heard, may_acknowledge, may_count, may_number, least_of, number_of, Frame, Info, Ready, LinkSet, Nothing, Numbers, Stand, Out, Asking, Up, Free, AllAre, sent_all, shown_all, blind_sends, blind_shows, counted_at, Acknowledges, acknowledges, is_numbered, below_is}
-use Rattle.std.proofs.lemmas.Bool.{eq-eqb, le-leb}
+use Rattle.x25_judge.proofs.verdicts.Names.{◌≡◌, ◌==◌, ◌⊎◌, inl, inr, ℕ, ◌+◌, ◌-◌, ◌%◌, ◌<◌, ◌≤◌, arith, max, Bool, true, false, if◌then◌else◌, List, [], ◌∷◌, ◌++◌, length, Some, None, Ok, refl, sym, ap, ◌∙◌, subst, slice_get, nat_lt, nat_le, not, ◌&&◌, ◌||◌, both_ways, eqb-true, ne_eqb, lt-ltb, and_from, and_parts, cond-true, cond-false, length_push, Role, n1, PlainFrame, info, rr, rnr, rej, frame_of, ReadsWhatIsSpelled, Peer, fresh_peer, MayAcknowledge, numbered_to, told_to, hearing, taking, Said, Tells, said, same_octets, is_item, judges_ack, then_ack, judges_item, judges, notes, notes_said, other, Settings, ROOM, Held, differs, keeps, own_of, answer_to, held_by, shown, Judge, End, MaySend, come, is_new, IsBegun, Shows, IsNumbered, Watched, more, IsSilent, Begins, Acts, Rests, Says, Comes, Fails, SilenceMeansOrder, nth, sends_to, shows_to, fresh, heard, may_acknowledge, may_count, may_number, least_of, number_of, Frame, Info, Ready, LinkSet, Nothing, Numbers, Stand, Out, Asking, Up, Free, AllAre, sent_all, shown_all, blind_sends, blind_shows, counted_at, Acknowledges, acknowledges, is_numbered, below_is, eq-eqb, le-leb}
 use Rattle.x25_possible_links.proofs.Stands.{IsNumbered as MayBeNumbered}
 use Rattle.x25_frame.specs.Spelling.{IsWithin as IsWithinLine, information_of}
 use Rattle.x25_line.specs.laws.InWindow.{IsPrefix}

@@ -1,8 +1,7 @@
 -- Places of an end each of which stands no better than one session, in which all is heard and taken as it is shown: what
 -- it sends with a number is what the session allows.
-use Rattle.x25_judge.proofs.verdicts.Names.{◌≡◌, inl, inr, arith, Bool, true, false, List, [], ◌∷◌, ◌++◌, Some, None, Option, refl, sym, ap, ◌∙◌, subst, both_ways, cond_both, cond-true, none-some, cond_some, comes, IsIn, Place, at, counts, fresh, heard, may_answer, may_count, goes, is_plain, least_of, number_of, onward, settle, settled, upward, Frame, Info, Ready, Ua, Unread, Numbers, Stand, Out, Asking, Up, Free, IsPassed, counted_at, swaps, AreBelow, Below, below_on, below_self, counts_more, heard_below, onward_up}
+use Rattle.x25_judge.proofs.verdicts.Names.{◌≡◌, inl, inr, arith, Bool, true, false, List, [], ◌∷◌, ◌++◌, Some, None, Option, refl, sym, ap, ◌∙◌, subst, both_ways, cond_both, cond-true, none-some, cond_some, comes, IsIn, Place, at, counts, fresh, heard, may_answer, may_count, goes, is_plain, least_of, number_of, onward, settle, settled, upward, Frame, Info, Ready, Ua, Unread, Numbers, Stand, Out, Asking, Up, Free, IsPassed, counted_at, swaps, AreBelow, Below, below_on, below_self, counts_more, heard_below, onward_up, if◌then◌else◌}
 use Rattle.x25_possible_links.specs.laws.Places.{first, sends}
-use Rattle.std.specs.Prelude.{if◌then◌else◌}
 use Rattle.x25_possible_links.specs.laws.Places as place
 
 -- ---- a session

@@ -1,12 +1,12 @@
 -- A station of ours keeps the rules, whatever the other end and the line do.
-use Rattle.x25_judge.proofs.verdicts.Names.{◌≡◌, ℕ, ◌+◌, ◌<◌, ◌≤◌, le_trans, remove, replaced, List, [], ◌∷◌, ◌++◌, inl, length, false, Option, Some, None, Result, Ok, Err, refl, sym, ap, ◌∙◌, subst, arith, length-append, same_Some, slice_get_within, n1, PlainFrame, info, rr, rnr, rej, frame_of, ReadsSpelled, FrameError, Short, BadFcs, BadAddress, Settings, other, Peer, fresh_peer, MayHear, Said, Tells, Odd, number_in, EachEventHandsOne, HandsOne, Near, acts, Judge, MayStand, numbered, In, Way, NoSessionIsAccused, NoStationIsAccused, Watched, our_end, IsAny, Begins, Acts, Rests, Says, Comes, Fails}
+use Rattle.x25_judge.proofs.verdicts.Names.{◌≡◌, ℕ, ◌+◌, ◌<◌, ◌≤◌, le_trans, List, [], ◌∷◌, ◌++◌, inl, length, false, Option, Some, None, Result, Ok, Err, refl, sym, ap, ◌∙◌, subst, arith, length-append, same_Some, slice_get_within, n1, PlainFrame, info, rr, rnr, rej, frame_of, ReadsSpelled, FrameError, Short, BadFcs, BadAddress, Settings, other, Peer, fresh_peer, MayHear, Said, Tells, Odd, number_in, EachEventHandsOne, HandsOne, Near, acts, Judge, MayStand, numbered, In, Way, NoSessionIsAccused, NoStationIsAccused, Watched, our_end, IsAny, Begins, Acts, Rests, Says, Comes, Fails}
 use Rattle.x25_line.specs.laws.Said.{said as read_as}
 use Rattle.std.specs.List.{slice_get}
 use Rattle.x25_line.specs.laws.LawsBelow.{Laws}
 use Rattle.x25_line.proofs.{StationPeers.{Seen, peer_acts}, StationRuns.{noted_before}}
 use Rattle.x25_line.proofs.{StationSays.{MayDo}, StationSends.{AllWithin, within_push, item_at}}
 use Rattle.x25_judge.proofs.verdicts.Following.{heard_keeps}
-use Rattle.x25_judge.proofs.verdicts.Lag.{Did, Front, Sends, at_front, both, comes_behind, did_more, did_send, freed, nothing, numbered_front, said, was_given, OnLine, one_more, one_more_damaged, one_lost, one_damaged}
+use Rattle.x25_judge.proofs.verdicts.Lag.{Did, Front, Sends, at_front, both, comes_behind, did_more, did_send, freed, nothing, numbered_front, said, was_given, OnLine, one_more, one_more_damaged, one_less}
 use Rattle.x25_line.specs.laws.Peer as once
 use Rattle.x25_judge.specs.laws.Sessions as sessions
 
@@ -74,8 +74,7 @@ module _ (c : Settings) (longest : c.longest ≡ n1) (j : Judge) (since : ℕ) w
       within = heard_keeps (λ given sent. AllWithin c.longest given) p q (read_as (frame_of (other c.role) c.longest o)) may h.within;
       few = h.few;
     };
-    loses = λ os p out i h. goes_on os (remove os i) p p out out h h.did (one_lost c.role h.left os i h.line) h.within;
-    damages = λ os p out i octets visible h. goes_on os (replaced os i octets) p p out out h h.did (one_damaged c.role h.left os i octets visible h.line) h.within;
+    loses = λ p out l h. goes_on _ _ p p out out h h.did (one_less c.role h.left l h.line) h.within;
     faultless = λ o os p out ending h never. never;
   }
 

@@ -70,6 +70,10 @@ pub record RowsAreUntold : Type 0 where
   pub collision : is_told Dce (Own (Accept as_proposed) ∷ Other (Call usual) ∷ Own (Call usual) ∷ []) ≡ false
   -- on other channels while its CLEAR waits
   pub elsewhere : is_told Dte (Own Elsewhere ∷ Own Clear ∷ Own Elsewhere ∷ calling) ≡ false
+  -- CLEAR behind a RESET, and RESTART behind either, of which the last alone is answered
+  pub cleared_over_reset : is_told Dce (Own ClearConf ∷ Other Clear ∷ Other Reset ∷ called) ≡ false
+  pub restarted_over_reset : is_told Dte (Own RestartConf ∷ Other Restart ∷ Other Reset ∷ calling) ≡ false
+  pub restarted_over_clear : is_told Dte (Own RestartConf ∷ Other Restart ∷ Other Clear ∷ calling) ≡ false
   -- two resets on the way, of which it has taken one
   pub resets : is_told Dte (Own (Rr 0) ∷ Own ResetConf ∷ Other Reset ∷ Other Reset ∷ calling) ≡ false
 

@@ -1,6 +1,6 @@
 -- A peer of the packet layer, on one channel, as an end of which a judge knows the state. ITU-T X.25 (10/96), sections
 -- 4.1, 4.3 and 4.4.
-use Rattle.std.specs.Prelude.{◌≡◌, ℕ, ◌%◌, ◌^◌, List, [], ◌∷◌, ◌++◌, length, Option, Some, None, true, false}
+use Rattle.std.specs.Prelude.{◌≡◌, ℕ, ◌≤◌, ◌^◌, List, [], ◌∷◌, ◌++◌, length, Option, Some, None, true, false}
 use Rattle.std.specs.Prelude.{Result, Ok, Err}
 use Rattle.x25_bits.specs.declared.role.Role.{Role}
 use Rattle.x25_bits.specs.declared.role.Role.TheVariants.{Dce}
@@ -12,7 +12,7 @@ use Rattle.x25_circuit.specs.Message.{Piece, More, Last, no_part, joining}
 use Rattle.x25_circuit.specs.declared.params.Params.{Params}
 use Rattle.x25_handshakes.specs.laws.Handshake.{Side, Live, Left, At}
 use Rattle.x25_handshakes.specs.laws.Stretch as theirs
-use Rattle.x25_handshakes.specs.laws.PeerStretch.{PeerStretch}
+use Rattle.x25_handshakes.specs.laws.PeerStretch.{PeerStretch, Deed, MayDo, does, packet_of}
 use Rattle.x25_handshakes.specs.laws.PeerCalls.{PeerCall}
 use Rattle.x25_handshakes.specs.laws.PeerChannel.{ChannelDeed, fresh_peer_channel, MayDoChannel, does_channel}
 use Rattle.x25_handshakes.specs.laws.PeerChannel.{channel_packet_of}
@@ -127,24 +127,32 @@ abbrev pub IsOfRole : Role → Side PeerCall → Type 0
 IsOfRole Dce (Live c) = NotCollided c.stage
 IsOfRole r y = Unit {0}
 
--- P(S) of a data packet that comes in d1 is the next one: then this peer, which takes any, takes those that the rules
--- of a channel have it take
-abbrev pub IsNextAt : ℕ → Side PeerStretch → Type 0
-IsNextAt ns (Live y) = ns ≡ length y.taken % 8
-IsNextAt ns (Left y) = Unit {0}
-
-abbrev pub IsNextIn : ℕ → Stage (At PeerStretch) → Type 0
-IsNextIn ns (Talking t b at) = IsNextAt ns at.side
-IsNextIn ns stage = Unit {0}
-
-abbrev pub IsNext : theirs.Packet → Side PeerCall → Type 0
-IsNext (theirs.Data ns nr piece) (Live c) = IsNextIn ns c.stage
-IsNext p y = Unit {0}
-
 abbrev pub PacketsAreTaken : Type 0
 PacketsAreTaken =
-    (r : Role) (e : ℕ) (y : Side PeerCall) (p : theirs.Packet) → IsOfRole r y → IsNext p y
+    (r : Role) (e : ℕ) (y : Side PeerCall) (p : theirs.Packet) → IsOfRole r y
     → IsTakenSo r (phase_of y) (item_of p) (channel_taking r e y p).out (phase_of (channel_taking r e y p).next.side)
+
+-- ---- and back: what the rules of a channel allow in d1 a peer may do, where a message may get as long as it does
+
+abbrev pub IsInStretch : theirs.Packet → Type 0
+IsInStretch (theirs.Data ns nr piece) = Unit {0}
+IsInStretch (theirs.Rr nr) = Unit {0}
+IsInStretch (theirs.Rnr nr) = Unit {0}
+IsInStretch (theirs.Int user) = Unit {0}
+IsInStretch theirs.IntConf = Unit {0}
+IsInStretch p = ⊥
+
+pub record MayDoIt (size : ℕ) (y : PeerStretch) (p : theirs.Packet) (r : Phase) : Type 0 where
+  pub longest : ℕ
+  pub deed : Deed
+  pub may : MayDo longest size y deed
+  pub packet : packet_of y deed ≡ p
+  pub stands : r ≡ phase.Talks (talk_of size (does y deed))
+
+abbrev pub StretchSendsArePeers : Type 0
+StretchSendsArePeers =
+    (size t : ℕ) (y : PeerStretch) (p : theirs.Packet) (r : Phase) → 1 ≤ size → IsInStretch p
+    → sends_as t (phase.Talks (talk_of size y)) (item_of p) ≡ Some r → MayDoIt size y p r
 
 -- ---- over a whole tape
 
@@ -163,7 +171,7 @@ pub data PeerStands (r : Role) : List (Item Packet) → At PeerCall → List the
       → PeerStands r (Own (item_of (channel_packet_of y.side d)) ∷ tape) (does_channel y.epoch y.side d) way
   Shown : (tape : List (Item Packet)) (y : At PeerCall) (way : List theirs.Packet) (p : theirs.Packet)
       → PeerStands r tape y way → PeerStands r (Other (item_of p) ∷ tape) y (way ++ p ∷ [])
-  Hears : (tape : List (Item Packet)) (y : At PeerCall) (way : List theirs.Packet) (p : theirs.Packet) → IsNext p y.side
+  Hears : (tape : List (Item Packet)) (y : At PeerCall) (way : List theirs.Packet) (p : theirs.Packet)
       → PeerStands r tape y (p ∷ way)
       → PeerStands r (confirmed (channel_taking r y.epoch y.side p).out tape)
       (channel_taking r y.epoch y.side p).next way

@@ -12,6 +12,9 @@ returns c = record {
     answered_twice = refl;
     collision = refl;
     elsewhere = refl;
+    cleared_over_reset = refl;
+    restarted_over_reset = refl;
+    restarted_over_clear = refl;
     resets = refl;
   };
   known = record {

@@ -1,0 +1,213 @@
+"""Random short tapes of ends that keep the rules, and of ends that break some, judged beside an oracle.
+
+    rules_runs.py [--program PROGRAM] [--from SEED] [RUNS]
+
+A tape begins with a set-up, a RESTART and its confirmation. Then come frames that their ends may send by rules.py, and at times any: I frames
+with packets on two channels, RR, RNR and REJ, and in half of the tapes SABM, UA, DISC, DM and FRMR. In copies of it a frame is left out, comes
+twice, or changes places with the next one. An end is accused where `judge` tells a rule of it, and by rules.py it has broken none of that layer
+up to there. It is missed where it breaks its first rule of a layer, and `judge` tells nothing of it up to there but counts that as judged.
+
+Exit status: 0; 1 where one was missed or accused, with the seed; 2 for bad words, or where there is no program.
+"""
+
+import re
+import subprocess
+import sys
+from typing import NamedTuple
+
+import rules
+import runs
+from link_runs import NAMES, ORDER
+from rules import DATA, INFO, KINDS, Frame
+from runs import ACCEPTED, CALL, CLEAR, CLEAR_CONFIRMATION, DISC, DM, FRMR, INTERRUPT, OTHERS, P_OR_F
+from runs import REJ, RESET, RESET_CONFIRMATION, RESTART, RESTART_CONFIRMATION, RNR, RR, SABM, UA
+
+from x25tools import losses  # where runs finds it
+
+LENGTH, COPIES = 16, 3
+# What a frame and a packet is, the kinds that come most several times; the last is none of X.25.
+UNNUMBERED = (SABM,) * 4 + (UA,) * 6 + (DISC, DM, FRMR)
+PACKETS = (DATA,) * 10 + (RR, RNR) * 2 + KINDS * 2 + (CALL, ACCEPTED, CLEAR_CONFIRMATION, RESET_CONFIRMATION, RESTART_CONFIRMATION, 0x33)
+BODIES = {RESTART: b"\0\0", CLEAR: b"\0\0", RESET: b"\0\0", INTERRUPT: b"\1", CALL: b"\0\0"}
+# What a call says of packet sizes, 16 octets.
+SMALL = b"\0\3\x42\4\4"
+UNDEFINED = 0x0D
+
+
+def packet(channel, kind, more=None, q=False):
+    return bytes((0x90 if q else 0x10, channel, kind)) + (BODIES.get(kind, b"") if more is None else more)
+
+
+BEGINNING = (
+    Frame(">", SABM),
+    Frame("<", UA),
+    Frame(">", INFO, 0, 0, packet(0, RESTART)),
+    Frame("<", INFO, 1, 0, packet(0, RESTART_CONFIRMATION)),
+    Frame(">", RR, 1),
+)
+
+
+def line(frame, bit):
+    """The line of a frame with this P or F bit."""
+    control = UNDEFINED if frame.kind is None else frame.kind | (frame.ns or 0) << 1 | (frame.nr or 0) << 5
+    is_command = frame.kind in (SABM, DISC, INFO)
+    information = bytes(3) if frame.kind == FRMR else frame.information
+    return f"{frame.end} {runs.frame(frame.end, is_command, control | bit, information).hex()}\n"
+
+
+class Tape:
+    """A tape, and where its ends may stand while it is made."""
+
+    def __init__(self, seed):
+        self.dice, self.ends, self.frames = losses.Dice(seed), rules.Ends(), []
+        self.honest, self.set_ups = self.dice.one_of((0.8, 0.93, 1)), self.dice.one_of((0, 0.12))
+        for frame in BEGINNING:
+            self.add(frame)
+        for _ in range(LENGTH):
+            self.add(self.next())
+
+    def add(self, frame):
+        self.frames.append(frame)
+        self.ends.passes(frame)
+
+    def next(self):
+        """A frame that its end may send, where one is found soon, or at times any."""
+        for _ in range(20 if self.dice.chance(self.honest) else 1):
+            frame = self.any_of(self.dice.one_of("<>"))
+            if frame.end not in self.ends.links and self.ends.allowed(frame)[1]:
+                break
+        return frame
+
+    def right(self, low, high):
+        """A number modulo 8: one of these, or at times any."""
+        return self.dice.below(8) if self.dice.chance(0.04) else (low + self.dice.below(high - low + 1)) % 8
+
+    def any_of(self, end):
+        link, chance = self.dice.one_of(self.ends.onward(end) or [rules.Link()]), self.dice.fraction()
+        nr = self.right(link.told, link.taken)
+        if chance < self.set_ups or link.stand != rules.IN:
+            return Frame(end, self.dice.one_of(UNNUMBERED))
+        if chance < 0.22:
+            return Frame(end, self.dice.one_of((RR, RNR, REJ)), nr)
+        if chance < 0.28 and link.given:
+            back = 1 + self.dice.below(len(link.given))
+            return Frame(end, INFO, nr, (link.sent - back) % 8, link.given[-back])
+        if chance < 0.3:
+            return Frame(end, None)
+        number = 1 + self.dice.chance(0.3)
+        layer = self.dice.one_of([*(link.layer or rules.Layer()).onward(end == "<", number)])
+        return Frame(end, INFO, nr, self.right(link.sent, link.sent), self.packet(number, layer.channel(number)))
+
+    def packet(self, number, channel):
+        kind, pr = self.dice.one_of(PACKETS), self.right(channel.told, channel.taken) << 5
+        if kind in (RESTART, RESTART_CONFIRMATION):
+            return packet(0, kind)
+        if kind in (CALL, ACCEPTED) and self.dice.chance(0.3):
+            return packet(number, kind, SMALL)
+        if kind == DATA:
+            size = channel.most + self.dice.below(2) if self.dice.chance(0.1) else 1
+            more = P_OR_F if self.dice.chance(0.3) else 0
+            return packet(number, pr | more | self.right(channel.sent, channel.sent) << 1, b"a" * size, self.dice.chance(0.2))
+        return packet(number, kind | pr if kind in (RR, RNR) else kind)
+
+    def copies(self):
+        """The tape, and some in which a frame after its beginning is left out, comes twice, or changes places with the next one."""
+        yield self.frames
+        for _ in range(COPIES):
+            place = len(BEGINNING) + self.dice.below(LENGTH - 1)
+            one, two = self.frames[place : place + 2]
+            yield [*self.frames[:place], *self.dice.one_of(([two], [one, one, two], [two, one], [one, two, one])), *self.frames[place + 2 :]]
+
+    def lines(self, frames):
+        return [line(frame, P_OR_F if self.dice.chance(0.3) else 0) for frame in frames]
+
+
+class Told(NamedTuple):
+    """What `judge` tells of a frame: its place, its end, whether it is a rule and of packets. Else it is that a number is left out, of manners."""
+
+    place: int
+    end: str
+    is_rule: bool
+    is_of_packets: bool
+
+
+def told_of(texts):
+    """What is told in the answers to lines."""
+    for place, text in enumerate(texts):
+        found = runs.TOLD.search(text)
+        if found and (" ! " in text or "N(S) skips" in text):
+            yield Told(place, text[0], " ! " in text, not found[1][len("dte: ") :].startswith((*ORDER, "N(S)")))
+
+
+def judged(program, lines):
+    return subprocess.run([program, "judge"], input="".join(lines), stdout=subprocess.PIPE, text=True).stdout.splitlines()
+
+
+def counts_as_judged(program, lines, frame, is_of_packets):
+    """Whether the last frame, or the packet in it, is counted as judged, in the line of its end or of its channel."""
+    name = NAMES[frame.end] + (f" channel {int.from_bytes(frame.information[:2], 'big') & 0xFFF}" if is_of_packets else "")
+    before, now = (re.search(rf"^# {name}: .* (\d+) judged", "\n".join(judged(program, some)), re.MULTILINE) for some in (lines[:-1], lines))
+    return now is not None and int(now[1]) > int(before[1] if before else 0)
+
+
+class Fault(NamedTuple):
+    what: str
+    place: int
+    end: str
+    is_of_packets: bool
+
+
+def faults(ends, told):
+    """Of whom a rule is told that it hasn't broken, and of whom nothing is told where it has broken one."""
+    for end in OTHERS:
+        for is_of_packets, broken in ((False, ends.links), (True, ends.packets)):
+            first = broken.get(end, ends.places)
+            # What is told of packets after a broken rule of the link isn't compared.
+            last = first if ends.known is None or not is_of_packets else min(first, ends.known + 1)
+            accused = [rule.place for rule in told if rule.end == end and rule.is_rule and rule.is_of_packets == is_of_packets]
+            if accused and accused[0] < last:
+                yield Fault("accused", accused[0], end, is_of_packets)
+            elif end in broken and not any(rule.end == end and (rule.place == first or rule.is_rule and rule.place < first) for rule in told):
+                yield Fault("missed", first, end, is_of_packets)
+
+
+def compare(program, frames, lines):
+    """Whether the frames break a rule, and what is wrong with what is told of their lines."""
+    ends, wrong = rules.Ends(), []
+    for frame in frames:
+        ends.passes(frame)
+    for what, place, end, is_of_packets in faults(ends, [*told_of(judged(program, lines))]):
+        if what == "accused" or counts_as_judged(program, lines[: place + 1], frames[place], is_of_packets):
+            wrong.append(f"{NAMES[end]} is {what} at line {place + 1} of\n{''.join(lines[: place + 1])}")
+    return bool(ends.links or ends.packets), wrong
+
+
+class Played(NamedTuple):
+    """What came of the tapes of a run: how many there are, in how many a rule is broken, and what is wrong with what was told."""
+
+    tapes: int
+    broken: int
+    wrong: list
+
+
+def play(program, seed):
+    tape = Tape(seed)
+    played = [compare(program, frames, tape.lines(frames)) for frames in tape.copies()]
+    return Played(len(played), sum(broken for broken, _ in played), [f"seed {seed}: {text}" for _, wrong in played for text in wrong])
+
+
+def main(play, about, count):
+    """Plays the runs of some words, and says of each what is wrong with it; answers the exit status."""
+    options = runs.options_of(runs.words(about, count))
+    tapes = broken = wrong = 0
+    for seed in options.seeds:
+        played = play(options.program, seed)
+        tapes, broken, wrong = tapes + played.tapes, broken + played.broken, wrong + len(played.wrong)
+        for text in played.wrong:
+            print(text)
+    print(f"{options.runs} runs, {tapes} tapes, {broken} with a broken rule, {wrong} wrong")
+    return 1 if wrong else 0
+
+
+if __name__ == "__main__":
+    sys.exit(main(play, __doc__, 2_500))
