@@ -17,7 +17,7 @@ use Rattle.x25_judge.specs.Doubt.{explains_told, lack}
 use Rattle.x25_judge.specs.Held.{forgets_all}
 use Rattle.x25_judge.specs.Manners.{none as no_manners}
 use Rattle.x25_judge.specs.Links.{Both, Missed, no_end, sees, misses}
-use Rattle.x25_judge.specs.Note.{first_note, note_text, unjudged_note}
+use Rattle.x25_judge.specs.Note.{first_note, note_text, packet_note}
 use Rattle.x25_judge.specs.Rule.{breaks_manners, breaks_order, first, is_of_manners}
 use Rattle.x25_judge.specs.RuleText.{rule_text}
 use Rattle.x25_packet.specs.Reading.{channel_in}
@@ -188,7 +188,7 @@ told_of j from octets r next = told_as j from octets (explains_told (lack_of j f
 abbrev pub remark_by : PlainFrame → Seen → Verdict → Seen
 remark_by frame t v = record t {
   rule = all_told t.rule v.rule;
-  note = first_note (unjudged_note v.unjudged) t.note;
+  note = first_note (packet_note v.noted) t.note;
   is_judged = t.is_judged && covers frame t.is_again v.is_judged;
 }
 

@@ -4,20 +4,25 @@ use Rattle.std.specs.Prelude.{ℕ, ◌==◌, ◌++◌, List, Option, Some, None,
 use Rattle.x25_judge.specs.declared.note.Note.{Note}
 use Rattle.x25_judge.specs.declared.note.Note.TheVariants.{Unjudged, NoneJudged, SentAgain, SentBehindDamage}
 use Rattle.x25_judge.specs.declared.note.Note.TheVariants.{HeardBehindDamage, PollAgain, PollUnseen, NumbersUnjudged}
+use Rattle.x25_judge.specs.declared.note.Note.TheVariants.{RequestAgain}
+use Rattle.x25_packet_judge.specs.declared.book.Noted.{Noted}
+use Rattle.x25_packet_judge.specs.declared.book.Noted.TheVariants as noted
 
 abbrev pub first_note : Option Note → Option Note → Option Note
 first_note (Some note) next = Some note
 first_note None next = next
 
--- of a channel that isn't judged; 0 stands for all
-abbrev pub unjudged_note : Option ℕ → Option Note
-unjudged_note None = None
-unjudged_note (Some channel) = if channel == 0 then Some NoneJudged else Some (Unjudged channel)
+-- of a packet; channel 0 stands for all
+abbrev pub packet_note : Option Noted → Option Note
+packet_note None = None
+packet_note (Some noted.Again) = Some RequestAgain
+packet_note (Some (noted.Unjudged channel)) = if channel == 0 then Some NoneJudged else Some (Unjudged channel)
 
 abbrev pub note_text : Note → List ℕ
 note_text (Unjudged channel) = codes "not judged before a RESTART, a CLEAR or a CALL is answered (4.1): channel "
     ++ decimal channel
 note_text NoneJudged = codes "no channel is judged before a RESTART is answered (3.3.1)"
+note_text RequestAgain = codes "RESTART, CLEAR or RESET goes again before its answer (3.3.1, 4.1.7, 4.4.3)"
 note_text SentAgain = codes "an I frame is sent again (2.4.5.9)"
 note_text SentBehindDamage = codes "N(S) is out of order behind a damaged frame (2.4.5.1)"
 note_text HeardBehindDamage = codes "N(R) is out of range behind a damaged frame (2.3.4.9)"

@@ -21,7 +21,7 @@ use crate::counts::{Count, Counts, Line, Tally, tell_end, tell_line};
 use crate::doubt::{At, Lack};
 use crate::links::{End, Seen, misses, passes, sees};
 use crate::manners::Manners;
-use crate::note::{MOST_NOTE, Note, first_note, push_note, unjudged_note};
+use crate::note::{MOST_NOTE, Note, first_note, packet_note, push_note};
 use crate::rule::{Rule, breaks_order, first};
 use crate::rule_text::{MOST_RULE, push_rule};
 use std::alloc::{AllocError, Global};
@@ -396,7 +396,7 @@ impl Judge {
                 Some(rule) => first(seen.rule, Some(Rule::Packet { rule })),
                 None => seen.rule,
             },
-            note: first_note(unjudged_note(verdict.unjudged), seen.note),
+            note: first_note(packet_note(verdict.noted), seen.note),
             is_judged: seen.is_judged && covers(frame, seen.is_again, verdict.is_judged),
             ..seen
         }

@@ -2,6 +2,7 @@
 ghost use Rattle.std.specs.Prelude.{◌≡◌, ◌+◌, ◌≤◌, ◌++◌, length};
 ghost use Rattle.x25_judge.specs.Note as definition;
 
+use x25_packet_judge::Noted;
 use x25_text::{ROOM, Text};
 
 /// What isn't judged, and what a loss, damage or a trace that begins in the middle explains. ITU-T X.25 (10/96); the
@@ -10,6 +11,7 @@ use x25_text::{ROOM, Text};
 pub(crate) enum Note {
     Unjudged { channel: u16 },
     NoneJudged,
+    RequestAgain,
     SentAgain,
     SentBehindDamage,
     HeardBehindDamage,
@@ -31,17 +33,15 @@ pub(crate) fn first_note(note: Option<Note>, next: Option<Note>) -> Option<Note>
     }
 }
 
-/// The note of a channel that isn't judged; 0 stands for all.
-pub(crate) fn unjudged_note(channel: Option<u16>) -> Option<Note>
-    ensures { result ≡ definition.unjudged_note channel }
+/// The note of a packet; channel 0 stands for all.
+pub(crate) fn packet_note(noted: Option<Noted>) -> Option<Note>
+    ensures { result ≡ definition.packet_note noted }
 {
-    match channel {
+    match noted {
         None => None,
-        Some(channel) => if channel == 0 {
-            Some(Note::NoneJudged)
-        } else {
-            Some(Note::Unjudged { channel })
-        },
+        Some(Noted::Again) => Some(Note::RequestAgain),
+        Some(Noted::Unjudged(0)) => Some(Note::NoneJudged),
+        Some(Noted::Unjudged(channel)) => Some(Note::Unjudged { channel }),
     }
 }
 
@@ -57,6 +57,9 @@ pub(crate) fn push_note(note: Note, text: &mut Text)
             channel,
         ),
         Note::NoneJudged => text.push(b"no channel is judged before a RESTART is answered (3.3.1)"),
+        Note::RequestAgain => text.push(
+            b"RESTART, CLEAR or RESET goes again before its answer (3.3.1, 4.1.7, 4.4.3)",
+        ),
         Note::SentAgain => text.push(b"an I frame is sent again (2.4.5.9)"),
         Note::SentBehindDamage => text.push(
             b"N(S) is out of order behind a damaged frame (2.4.5.1)",

@@ -88,7 +88,7 @@ AreUnknown = (s : Set) (x : Packet) → is_known s ≡ false → (sends_to x s).
 
 -- of a packet of a channel, where RESTART is to be answered first or not
 abbrev of_one : Bool → Role → ℕ → Packet → Channel → Verdict
-of_one e from of x c = if e then record { rule = Some RestartAwaited; unjudged = None; is_judged = true }
+of_one e from of x c = if e then record { rule = Some RestartAwaited; noted = None; is_judged = true }
     else (channels.judges of from x c).verdict
 
 one_rule : AreUnknown → (from : Role) (of : ℕ) (x : Packet) (c : Channel) (e : Bool)

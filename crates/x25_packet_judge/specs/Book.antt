@@ -16,8 +16,8 @@ use Rattle.x25_packet_judge.specs.Channels.{all_alike, all_happens, channel_of, 
 use Rattle.x25_packet_judge.specs.Item.{item_of}
 use Rattle.x25_packet_judge.specs.Layers.{unseen}
 use Rattle.x25_packet_judge.specs.Layers as layers
-use Rattle.x25_packet_judge.specs.declared.book.Book.{Book}
-use Rattle.x25_packet_judge.specs.declared.book.Verdict.{Verdict}
+use Rattle.x25_packet_judge.specs.declared.book.{Book.{Book}, Noted.{Noted}, Verdict.{Verdict}}
+use Rattle.x25_packet_judge.specs.declared.book.Noted.TheVariants.{Unjudged}
 use Rattle.x25_packet_judge.specs.declared.channel.Channel.{Channel}
 use Rattle.x25_packet_judge.specs.declared.channel.Event.TheVariants.{Sends, Loss}
 use Rattle.x25_packet_judge.specs.declared.layers.Layers.{Layers}
@@ -64,9 +64,9 @@ pub record Seen : Type 0 where
 abbrev pub seen : Book → Verdict → Seen
 seen b v = record { book = b; verdict = v }
 
--- the packet wasn't judged: a channel that isn't from there on may be noted, of which 0 stands for all
-abbrev pub passed : Book → Option ℕ → Seen
-passed b unjudged = seen b (record { rule = None; unjudged = unjudged; is_judged = false })
+-- the packet wasn't judged, which may be noted
+abbrev pub passed : Book → Option Noted → Seen
+passed b noted = seen b (record { rule = None; noted = noted; is_judged = false })
 
 abbrev pub quiet : Book → Seen
 quiet b = passed b None
@@ -77,7 +77,7 @@ puts channel f b = seen (record b { channels = put channel f.channel b.channels 
 -- a packet of a channel, before which RESTART may have to be answered
 abbrev pub told_early : Bool → Seen → Seen
 told_early is_early s = seen s.book
-    (if is_early then record { rule = Some RestartAwaited; unjudged = None; is_judged = true } else s.verdict)
+    (if is_early then record { rule = Some RestartAwaited; noted = None; is_judged = true } else s.verdict)
 
 abbrev pub with_restarts : Channel → Book → Book
 with_restarts c b = record b { restarts = c }
@@ -96,7 +96,7 @@ follows from channel x is_first b =
 abbrev pub restarts : Role → Item → Bool → Book → Seen
 restarts from x is_judged b = let f = channels.takes from x b.restarts in
     seen (record b { restarts = f.channel; channels = all_happens (Sends from x) b.channels })
-    (record { rule = f.verdict.rule; unjudged = None; is_judged = is_judged || f.verdict.is_judged })
+    (record { rule = f.verdict.rule; noted = f.verdict.noted; is_judged = is_judged || f.verdict.is_judged })
 
 abbrev pub spoken : Role → Book → Book
 spoken from b = keeps from (layers.speaks (layers_of from b)) b
@@ -120,7 +120,7 @@ takes from channel packet b =
 -- octets that spell none: nothing may be said of any channel where they name none
 abbrev pub misses_on : ℕ → Book → Seen
 misses_on channel b =
-    if channel == 0 then passed (forgets b) (Some 0)
+    if channel == 0 then passed (forgets b) (Some (Unjudged 0))
     else puts channel (channels.misses channel (channel_of channel b.channels)) b
 
 -- DIAGNOSTIC changes nothing of calls and restarts
@@ -140,7 +140,7 @@ is_modulo_8 (first ∷ octets) = first / 16 % 4 == 1
 
 abbrev pub tells_no_packet : ℕ → Book → Seen
 tells_no_packet channel b =
-    seen (misses_on channel b).book (record { rule = Some NoPacket; unjudged = None; is_judged = true })
+    seen (misses_on channel b).book (record { rule = Some NoPacket; noted = None; is_judged = true })
 
 -- which no station takes: DIAGNOSTIC, another packet, or of that format none in any form
 abbrev pub untaken : ℕ → List ℕ → Result PlainForm PacketError → Book → Seen

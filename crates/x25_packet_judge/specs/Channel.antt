@@ -7,13 +7,12 @@ use Rattle.x25_packet_judge.specs.Reason.{manners, reason}
 use Rattle.x25_packet_judge.specs.declared.channel.Channel.{Channel}
 use Rattle.x25_packet_judge.specs.declared.channel.Event.{Event}
 use Rattle.x25_packet_judge.specs.declared.channel.Event.TheVariants.{Sends, Loss}
+use Rattle.x25_packet_judge.specs.declared.book.Noted.TheVariants.{Again, Unjudged}
 use Rattle.x25_packet_judge.specs.declared.book.Verdict.{Verdict}
 use Rattle.x25_packet_judge.specs.declared.packet_rule.PacketRule.{PacketRule}
 use Rattle.x25_possible.specs.code.Steps as sets
-use Rattle.x25_possible.specs.declared.packet.Packet.{Packet}
 use Rattle.x25_possible.specs.declared.packet.Packet.TheVariants.{Elsewhere}
-use Rattle.x25_possible.specs.declared.set.Set.{Set}
-use Rattle.x25_possible.specs.declared.set.Told.{Told}
+use Rattle.x25_possible.specs.declared.{packet.Packet.{Packet}, set.Set.{Set}, set.Told.{Told}}
 use Rattle.x25_possible.specs.declared.set.Told.TheVariants.{Nothing, Rude, Broken}
 
 -- nothing is known; or both have restarted
@@ -48,17 +47,19 @@ pub record Sent : Type 0 where
   pub verdict : Verdict
 
 -- it is judged where the set was known, and is, or a rule is told
-abbrev pub found_by : Option PacketRule → Bool → Verdict
-found_by rule is_judged = record { rule = rule; unjudged = None; is_judged = is_judged }
+abbrev pub found_by : Option PacketRule → Bool → Bool → Verdict
+found_by rule is_again is_judged =
+    record { rule = rule; noted = if is_again then Some Again else None; is_judged = is_judged }
 
-abbrev pub sent_as : Packet → Bool → sets.Stepped → Sent
-sent_as x was_known s = record {
+abbrev pub sent_as : Packet → Set → sets.Stepped → Sent
+sent_as x was s = record {
   set = s.set;
-  verdict = found_by (rule_of s.told x) (was_known && (is_some (rule_of s.told x) || sets.is_known s.set));
+  verdict = found_by (rule_of s.told x) (sets.repeats x was)
+      (sets.is_known was && (is_some (rule_of s.told x) || sets.is_known s.set));
 }
 
 abbrev pub sent : Packet → Set → Sent
-sent x s = sent_as x (sets.is_known s) (sets.sends_to x s)
+sent x s = sent_as x s (sets.sends_to x s)
 
 -- behind a packet, and what is told of it
 pub record Found : Type 0 where
@@ -90,7 +91,7 @@ noted is_noted c = record c { is_noted = is_noted }
 abbrev pub passed : ℕ → Channel → Found
 passed n c = record {
   channel = noted true c;
-  verdict = record { rule = None; unjudged = if c.is_noted then None else Some n; is_judged = false };
+  verdict = record { rule = None; noted = if c.is_noted then None else Some (Unjudged n); is_judged = false };
 }
 
 abbrev pub marked : ℕ → Verdict → Channel → Found

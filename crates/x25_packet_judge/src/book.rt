@@ -27,32 +27,39 @@ pub struct Book {
     pub(crate) channels: Channels,
 }
 
-/// What is told of a packet: the rule that it breaks, a channel that isn't judged from there on, of which 0 stands for
-/// all, and whether the packet was judged.
+/// What is noted of a packet: the end's RESTART, CLEAR or RESET goes again before its answer; or a channel isn't judged
+/// from there on, of which 0 stands for all.
+#[derive(Clone, Copy)]
+pub enum Noted {
+    Again,
+    Unjudged(u16),
+}
+
+/// What is told of a packet: the rule that it breaks, what is noted of it, and whether it was judged.
 #[derive(Clone, Copy)]
 pub struct Verdict {
     pub rule: Option<PacketRule>,
-    pub unjudged: Option<u16>,
+    pub noted: Option<Noted>,
     pub is_judged: bool,
 }
 
 fn told(rule: PacketRule) -> Verdict
-    ensures { result ≡ record { rule = Some rule; unjudged = None; is_judged = true } }
+    ensures { result ≡ record { rule = Some rule; noted = None; is_judged = true } }
 {
     Verdict {
         rule: Some(rule),
-        unjudged: None,
+        noted: None,
         is_judged: true,
     }
 }
 
 /// Of a packet that wasn't judged.
-pub(crate) fn passed(unjudged: Option<u16>) -> Verdict
-    ensures { result ≡ record { rule = None; unjudged = unjudged; is_judged = false } }
+pub(crate) fn passed(noted: Option<Noted>) -> Verdict
+    ensures { result ≡ record { rule = None; noted = noted; is_judged = false } }
 {
     Verdict {
         rule: None,
-        unjudged,
+        noted,
         is_judged: false,
     }
 }
@@ -131,11 +138,11 @@ impl Book {
         ensures book { self.new ≡ (definition.restarts from item is_judged self.old).book }
         ensures verdict { result ≡ (definition.restarts from item is_judged self.old).verdict }
     {
-        let verdict = self.restarts.sends(from, &item);
+        let verdict = self.restarts.takes(from, &item);
         self.channels.sends(from, item);
         Verdict {
             rule: verdict.rule,
-            unjudged: None,
+            noted: verdict.noted,
             is_judged: is_judged || verdict.is_judged,
         }
     }
@@ -187,7 +194,7 @@ impl Book {
     {
         if channel == 0 {
             self.forget();
-            return passed(Some(0));
+            return passed(Some(Noted::Unjudged(0)));
         }
         self.channels.misses(channel)
     }

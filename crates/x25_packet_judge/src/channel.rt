@@ -4,7 +4,7 @@ ghost use Rattle.x25_packet_judge.specs.Channel as definition;
 ghost use Rattle.x25_possible.specs.code.Steps.{begun};
 ghost use Rattle.x25_possible.specs.declared.packet.Packet.TheVariants.{Elsewhere};
 
-use crate::book::{Verdict, passed};
+use crate::book::{Noted, Verdict, passed};
 use crate::packet_rule::{PacketRule, is_order};
 use crate::reason::{manners, reason};
 use x25_bits::Role;
@@ -55,10 +55,11 @@ fn sent(own: &mut Set, packet: &Packet) -> Verdict
     ensures verdict { result ≡ (definition.sent packet.now own.old).verdict }
 {
     let was_known = own.is_known();
+    let is_again = own.repeats(packet);
     let rule = rule_of(own.sends(packet), *packet);
     Verdict {
         rule,
-        unjudged: None,
+        noted: if is_again { Some(Noted::Again) } else { None },
         is_judged: was_known && (rule.is_some() || own.is_known()),
     }
 }
@@ -135,20 +136,12 @@ impl Channel {
         }
     }
 
-    /// The same as `takes`.
-    pub(crate) fn sends(&mut self, from: Role, packet: &Packet) -> Verdict
-        ensures channel { self.new ≡ (definition.takes from packet.now self.old).channel }
-        ensures verdict { result ≡ (definition.takes from packet.now self.old).verdict }
-    {
-        self.takes(from, packet)
-    }
-
     pub(crate) fn happens(&mut self, event: Event)
         ensures { self.new ≡ definition.happens event self.old }
     {
         match event {
             Event::Sends(from, packet) => {
-                self.sends(from, &packet);
+                self.takes(from, &packet);
             }
             Event::Loss => self.lose(),
         }
@@ -179,9 +172,11 @@ impl Channel {
         ensures channel { self.new ≡ (definition.passed number self.old).channel }
         ensures verdict { result ≡ (definition.passed number self.old).verdict }
     {
-        let unjudged = if self.is_noted { None } else { Some(number) };
+        if self.is_noted {
+            return passed(None);
+        }
         self.is_noted = true;
-        passed(unjudged)
+        passed(Some(Noted::Unjudged(number)))
     }
 
     /// What isn't judged is noted once, until both ends are known.

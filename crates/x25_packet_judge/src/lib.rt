@@ -14,7 +14,7 @@ mod packet_rule;
 mod packet_rule_text;
 mod reason;
 
-pub use book::{Book, Verdict};
+pub use book::{Book, Noted, Verdict};
 pub use law::{books_follow_tapes, books_tell_exactly, innocent_tapes_stay_untold, restarts_begin};
 pub use numbers::apart;
 pub use packet_rule::PacketRule;

@@ -9,8 +9,8 @@ use crate::channel::{alone_sends, dropped, flow, flow_sends, flow_takes, small};
 use crate::packet::Packet;
 use crate::phase::{Phase, Talk};
 use crate::spots::{
-    Spot, Spots, are_answered, are_at_end, are_bound, found_all, gone, grown, is_one_idle, latest,
-    renew, rude,
+    Spot, Spots, are_again, are_answered, are_at_end, are_bound, found_all, gone, grown,
+    is_one_idle, latest, renew, rude,
 };
 use arrayvec::ArrayVec;
 use x25_bits::Role;
@@ -173,6 +173,13 @@ impl Set {
         ensures { result ≡ definition.is_known self.now }
     {
         matches!(self.knowledge, Knowledge::Known)
+    }
+
+    /// Whether a packet that the end sends is surely its RESTART, CLEAR or RESET once more, before the answer.
+    pub fn repeats(&self, packet: &Packet) -> bool
+        ensures { result ≡ definition.repeats packet.now self.now }
+    {
+        self.is_known() && are_again(*packet, self.spots.as_slice())
     }
 
     /// No states are listed.

@@ -357,6 +357,29 @@ pub(crate) fn rude(spots: &[Spot], packet: Packet) -> Option<Phase>
     found
 }
 
+/// Whether a packet is a state's own request once more, before its answer.
+fn is_again(packet: Packet, phase: Phase) -> bool
+    ensures { result ≡ definition.is_again packet phase }
+{
+    match phase {
+        Phase::Restarts => matches!(packet, Packet::Restart),
+        Phase::Clears => matches!(packet, Packet::Clear),
+        Phase::Resets(_) => matches!(packet, Packet::Reset),
+        _ => false,
+    }
+}
+
+pub(crate) fn are_again(packet: Packet, spots: &[Spot]) -> bool
+    ensures { result ≡ definition.are_again packet spots.now }
+{
+    for spot in spots {
+        if !is_again(packet, spot.phase) {
+            return false;
+        }
+    }
+    true
+}
+
 // ---- what makes a set known
 
 pub(crate) fn is_one_idle(spots: &[Spot]) -> bool

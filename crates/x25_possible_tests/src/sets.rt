@@ -174,6 +174,35 @@ fn knows_an_end(rt: HostRuntime) {
     assert!(rt; is_found(&Set::ready(Role::Dte), b">T"));
 }
 
+/// Behind which tapes from a restart on a packet of the DTE is its request once more, before the answer.
+static REPEATS: [(&[u8], u8, bool); 9] = [
+    (b"", b'T', false),
+    (b">T", b'T', true),
+    (b">T<U", b'T', false),
+    (b">T", b'L', false),
+    (b">L<C", b'L', true),
+    (b"<L", b'L', false),
+    (b">C<A>R", b'R', true),
+    (b">C<A<R", b'R', false),
+    (b">C<A>R", b'L', false),
+];
+
+#[test]
+fn knows_repeats(rt: HostRuntime) {
+    for &(tape, letter, is_again) in &REPEATS {
+        let mut set = Set::new(Role::Dte);
+        is_found_by(&mut set, tape);
+        assert_eq!(rt;
+            set.repeats(&packet_of(letter)),
+            is_again,
+            "{tape:?} {letter}"
+        );
+    }
+    let mut set = Set::any(Role::Dte);
+    is_found_by(&mut set, b">T");
+    assert!(rt; !set.repeats(&Packet::Restart));
+}
+
 /// Tapes from a set-up of the link: each RESTART may be answered by some of those that cross it.
 static SET_UP: [(&[u8], &[u8]); 3] = [
     (b">0>T>0", b"..!"),

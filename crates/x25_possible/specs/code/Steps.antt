@@ -8,7 +8,7 @@ use Rattle.x25_possible.specs.Channel.{at_once, dropped, far, found, goes_on, is
 use Rattle.x25_possible.specs.laws.Possible.{Item, Own, Other}
 use Rattle.x25_possible.specs.declared.packet.Packet.{Packet}
 use Rattle.x25_possible.specs.declared.packet.Packet.TheVariants.{Accept, Clear, ClearConf, Restart, RestartConf, Data}
-use Rattle.x25_possible.specs.declared.packet.Packet.TheVariants.{Rr, Rnr, Interrupt, InterruptConf}
+use Rattle.x25_possible.specs.declared.packet.Packet.TheVariants.{Rr, Rnr, Interrupt, InterruptConf, Reset}
 use Rattle.x25_possible.specs.declared.packet.Terms.{Terms}
 use Rattle.x25_possible.specs.declared.phase.Limits.{Limits}
 use Rattle.x25_possible.specs.declared.phase.Phase.{Phase}
@@ -176,6 +176,17 @@ rude_from x found (q ∷ qs) =
     if may_send q.phase x then (if is_polite q.phase x then None else rude_from x (Some q.phase) qs)
     else rude_from x found qs
 
+-- a state's own request once more, before its answer (timers T20, T23 and T22)
+abbrev pub is_again : Packet → Phase → Bool
+is_again Restart Restarts = true
+is_again Clear Clears = true
+is_again Reset (Resets limits) = true
+is_again x s = false
+
+abbrev pub are_again : Packet → List Spot → Bool
+are_again x [] = true
+are_again x (q ∷ qs) = is_again x q.phase && are_again x qs
+
 -- ---- what makes a set known
 
 abbrev pub is_idle : Phase → Bool
@@ -245,6 +256,10 @@ known_by k = false
 
 abbrev pub is_known : Set → Bool
 is_known s = known_by s.knowledge
+
+-- wherever the end may be, it sent the same request before, and waits for the answer
+abbrev pub repeats : Packet → Set → Bool
+repeats x s = is_known s && are_again x s.spots.items
 
 -- no states are listed
 abbrev pub blind_by : Knowledge → Bool
