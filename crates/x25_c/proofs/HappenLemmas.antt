@@ -15,7 +15,7 @@ use Rattle.x25_station.specs.code.Clock as clock
 use Rattle.x25_station.specs.code.FitsStation.{FitsStation, FitsStill, Does, IsEmpty, Leaves, Sends, Enters, Refuses, RefusesOnly}
 use Rattle.x25_station.specs.code.PlainEntry.{plain_entry}
 use Rattle.x25_station.specs.code.Pulls.{Pulls}
-use Rattle.x25_station.specs.laws.TimerLaw.{Event, outcome, is_firing}
+use Rattle.x25_station.specs.laws.TimerLaw.{StationEvent, outcome, is_firing}
 use Rattle.x25_clock.specs.declared.clock.Clock.{Clock}
 use Rattle.x25_clock.specs.Clock.{seen}
 use Rattle.x25_clock.specs.laws.ClockLaw.{comes}
@@ -24,7 +24,7 @@ use Rattle.x25_c.specs.declared.happening.Happening.TheVariants as variant
 use Rattle.x25_c.specs.declared.held.Held.{Held}
 use Rattle.x25_c.specs.Clocked.{Heeds}
 use Rattle.x25_c.specs.Happening.{and_pull, may_lack_at}
-use Rattle.x25_c.specs.code.Happens.{Happens, IsTimer, event_of}
+use Rattle.x25_c.specs.code.Happens.{HappensTo, IsTimer, event_of}
 
 abbrev accepted : Result Unit StationError
 accepted = Ok tt
@@ -45,15 +45,15 @@ module _ (at : code_station.Station) (step : code_step.Step) (new : Held) (pulls
   entered stay (Did did) same = ap (λ entries. map plain_entry entries.items) stay ∙ same
   entered stay (Refused e) same = tt
 
-  timed : ((c : Settings) (s : Station) → FitsStation c at s → new.step.timer ≡ timer_pulled step.timer s (pulled c s).near) → (s : Station) (event : Event) (o : Outcome) → Leaves c at accepted o → Refuses accepted o
+  timed : ((c : Settings) (s : Station) → FitsStation c at s → new.step.timer ≡ timer_pulled step.timer s (pulled c s).near) → (s : Station) (event : StationEvent) (o : Outcome) → Leaves c at accepted o → Refuses accepted o
       → clock.IsTimer s (is_firing event) step.timer accepted o → IsTimer c s event new.step.timer accepted o
   timed timer s event (Did did) fits refused same = timer c did.near fits ∙ ap (λ first. timer_pulled first did.near (pulled c did.near).near) same
   timed timer s event (Refused e) fits refused same = absurd refused
 
-pub is_both : (old new : Held) (at : code_station.Station) (step : code_step.Step) (event : Event) → Does old.station at step accepted (λ c s. outcome c s event)
+pub is_both : (old new : Held) (at : code_station.Station) (step : code_step.Step) (event : StationEvent) → Does old.station at step accepted (λ c s. outcome c s event)
     → clock.TellsTimer old.station step.timer accepted (is_firing event) (λ c s. outcome c s event) → (length step.frames ≤ 9 → Pulls at new.station step.frames new.step.frames)
     → (length step.frames ≤ 9 → (c : Settings) (s : Station) → FitsStation c at s → new.step.timer ≡ timer_pulled step.timer s (pulled c s).near) → new.step.entries ≡ step.entries → (may_lack_at event ≡ false → (c : Settings) (s : Station) → FitsStation c old.station s → RefusesOnly accepted (outcome c s event)) → new.end ≡ old.end → new.time ≡ old.time
-    → ((c : Settings) (s : Station) → FitsStation c new.station s → Heeds old.time (seen c s new.step (comes event)) old.clock new.clock) → Happens old new accepted event
+    → ((c : Settings) (s : Station) → FitsStation c new.station s → Heeds old.time (seen c s new.step (comes event)) old.clock new.clock) → HappensTo old new accepted event
 is_both old new at step event does timer pulls times entries only end now heeds = record {
   end = end;
   state = λ c s fits. left at step new (pulls does.few_frames) c (outcome c s event) (does.state c s fits);
@@ -93,11 +93,11 @@ module _ (new : Held) (e : StationError) (c : Settings) where
   none_entered (Refused e') = tt
 
 -- the station is as before, and its step is empty
-pub is_refused : (old new : Held) (e : StationError) (event : Event) → new.end ≡ old.end
+pub is_refused : (old new : Held) (e : StationError) (event : StationEvent) → new.end ≡ old.end
     → ((c : Settings) (s : Station) → FitsStation c old.station s → Refuses {T = Unit} (Err e) (outcome c s event))
     → (may_lack_at event ≡ false → (c : Settings) (s : Station) → FitsStation c old.station s → RefusesOnly {T = Unit} (Err e) (outcome c s event))
     → ((c : Settings) (s : Station) → FitsStation c old.station s → FitsStation c new.station s)
-    → IsEmpty new.step → ((c : Settings) (s : Station) → FitsStation c old.station s → new.step.timer ≡ standing s) → new.time ≡ old.time → new.clock ≡ old.clock → Happens old new (Err e) event
+    → IsEmpty new.step → ((c : Settings) (s : Station) → FitsStation c old.station s → new.step.timer ≡ standing s) → new.time ≡ old.time → new.clock ≡ old.clock → HappensTo old new (Err e) event
 is_refused old new e event end refused only stays empty timer now unheeded = record {
   end = end;
   state = λ c s fits. none_left new e c (outcome c s event);
@@ -114,7 +114,7 @@ is_refused old new e event end refused only stays empty timer now unheeded = rec
 }
 
 -- an event of a station that stands for what another stood for
-module _ (old mid new : Held) (event : Event) (now : mid.time ≡ old.time) (clock : mid.clock ≡ old.clock) where
+module _ (old mid new : Held) (event : StationEvent) (now : mid.time ≡ old.time) (clock : mid.clock ≡ old.clock) where
   heeded_from : (r : Result Unit StationError) → OnOk r ((c : Settings) (s : Station) → FitsStation c new.station s → Heeds mid.time (seen c s new.step (comes event)) mid.clock new.clock)
       → OnOk r ((c : Settings) (s : Station) → FitsStation c new.station s → Heeds old.time (seen c s new.step (comes event)) old.clock new.clock)
   heeded_from (Ok u) heeds = λ c s fits. subst (λ n. Heeds n (seen c s new.step (comes event)) old.clock new.clock) now (subst (λ v. Heeds mid.time (seen c s new.step (comes event)) v new.clock) clock (heeds c s fits))
@@ -124,8 +124,8 @@ module _ (old mid new : Held) (event : Event) (now : mid.time ≡ old.time) (clo
   unheeded_from (Ok u) none = tt
   unheeded_from (Err e) same = same ∙ clock
 
-pub from_still : (old mid new : Held) (r : Result Unit StationError) (event : Event) → FitsStill old.station mid.station → mid.end ≡ old.end → mid.time ≡ old.time → mid.clock ≡ old.clock → Happens mid new r event
-    → Happens old new r event
+pub from_still : (old mid new : Held) (r : Result Unit StationError) (event : StationEvent) → FitsStill old.station mid.station → mid.end ≡ old.end → mid.time ≡ old.time → mid.clock ≡ old.clock → HappensTo mid new r event
+    → HappensTo old new r event
 from_still old mid new r event still end now clock h = record {
   end = h.end ∙ end;
   state = λ c s fits. h.state c s (still c s fits);

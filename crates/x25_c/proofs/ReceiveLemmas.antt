@@ -9,7 +9,7 @@ use Rattle.x25_station.specs.code.FitsStation.{FitsStation, FitsStill, IsEmpty}
 use Rattle.x25_station.specs.laws.TimerLaw.{Comes}
 use Rattle.x25_c.specs.declared.held.Held.{Held}
 use Rattle.x25_c.specs.Held.{Whole, IsAlone, whole_of, part_before, part_of, and_then, no_answer}
-use Rattle.x25_c.specs.code.Happens.{Happens}
+use Rattle.x25_c.specs.code.Happens.{HappensTo}
 use Rattle.x25_c.specs.code.Receives.{IsClocked, Received, ReceivesAll, frame_at}
 use Rattle.x25_c.proofs.HappenLemmas.{from_still}
 
@@ -35,7 +35,7 @@ module _ (octets counts : List ℕ) (place : ℕ) (old self kept new : Held) whe
 
   -- one frame more was taken
   pub one_more : Received octets counts place old self (whole_of self) → whole_of kept ≡ whole_of self → part_of kept.step ≡ no_answer → FitsStill self.station kept.station → kept.end ≡ self.end
-      → kept.time ≡ self.time → kept.clock ≡ self.clock → Happens kept new (Ok tt) (Comes (frame_at octets counts place)) → new.earlier ≡ kept.earlier → Received octets counts (place + 1) old new (whole_of new)
+      → kept.time ≡ self.time → kept.clock ≡ self.clock → HappensTo kept new (Ok tt) (Comes (frame_at octets counts place)) → new.earlier ≡ kept.earlier → Received octets counts (place + 1) old new (whole_of new)
   one_more before same none still end now clock happens earlier =
       let next : suc place ≡ place + 1 = omega arith in
       subst (λ n. Received octets counts n old new (whole_of new)) next (self, whole_of self, before, from_still self kept new (Ok tt) (Comes (frame_at octets counts place)) still end now clock happens, behind same none earlier)

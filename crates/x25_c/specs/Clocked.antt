@@ -6,7 +6,7 @@ use Rattle.x25_clock.specs.declared.times.Times as clock
 use Rattle.x25_clock.specs.Clock.{Seen, after_due, due_of, heeded, next_of, plain}
 use Rattle.x25_clock.specs.Due.{command_for}
 use Rattle.x25_station.specs.Command.{Command}
-use Rattle.x25_station.specs.laws.TimerLaw.{Event, Asks, Fires}
+use Rattle.x25_station.specs.laws.TimerLaw.{StationEvent, Asks, Fires}
 use Rattle.x25_c.specs.declared.times.Times.{Times}
 
 abbrev pub times_in : Times → clock.Times
@@ -45,9 +45,9 @@ TellsNext None is_there old new = (is_there ≡ false) × (new ≡ old)
 TellsNext (Some moment) is_there old new = (is_there ≡ true) × (new ≡ moment)
 
 -- what is due is asked for by a command, or else T1 fires
-abbrev pub event_of_command : Option Command → Event
+abbrev pub event_of_command : Option Command → StationEvent
 event_of_command None = Fires
 event_of_command (Some asked) = Asks asked
 
-abbrev pub event_for : Due → Event
+abbrev pub event_for : Due → StationEvent
 event_for due = event_of_command (command_for due)

@@ -7,10 +7,10 @@ use Rattle.x25_station.specs.Pulling.{pulled}
 use Rattle.x25_station.specs.Station.{Station}
 use Rattle.x25_station.specs.Step.{Outcome, Did, Refused}
 use Rattle.x25_station.specs.Timer.{timer_pulled}
-use Rattle.x25_station.specs.laws.TimerLaw.{Event, Comes, Asks, Fires, outcome, timer}
+use Rattle.x25_station.specs.laws.TimerLaw.{StationEvent, Comes, Asks, Fires, outcome, timer}
 
 -- an event for which memory may be wanted: a call, an acceptance, a message, and what is given with a packet
-abbrev pub may_lack_at : Event → Bool
+abbrev pub may_lack_at : StationEvent → Bool
 may_lack_at (Comes octets) = false
 may_lack_at (Asks command) = may_lack command
 may_lack_at Fires = false
@@ -22,10 +22,10 @@ and_pull c (Did step) =
     Did (record { near = next.near; out = step.out ++ next.out; entries = step.entries })
 and_pull c (Refused e) = Refused e
 
-abbrev pub happens : Settings → Event → Station → Outcome
+abbrev pub happens : Settings → StationEvent → Station → Outcome
 happens c event s = and_pull c (outcome c s event)
 
 -- what becomes of T1 at both
-abbrev pub timer_at_both : Settings → Station → Event → Outcome → Timer
+abbrev pub timer_at_both : Settings → Station → StationEvent → Outcome → Timer
 timer_at_both c s event (Did step) = timer_pulled (timer s event (Did step)) step.near (pulled c step.near).near
 timer_at_both c s event (Refused e) = timer s event (Refused e)

@@ -10,13 +10,13 @@ use Rattle.x25_station.specs.declared.config.Cfg.{Cfg}
 use Rattle.x25_station.specs.declared.timer.Timer.{Timer}
 use Rattle.x25_station.specs.declared.timer.Timer.TheVariants.{Off, Begins, GoesOn}
 use Rattle.x25_station.specs.Error.{number_of}
-use Rattle.x25_station.specs.laws.TimerLaw.{Event}
+use Rattle.x25_station.specs.laws.TimerLaw.{StationEvent}
 use Rattle.x25_c.specs.declared.held.Held.{Held}
 use Rattle.x25_c.specs.declared.times.Times as c
 use Rattle.x25_c.specs.Clocked.{times_told}
 use Rattle.x25_c.specs.Held.{IsAlone}
 use Rattle.x25_c.specs.Making.{role_of, making_refusal}
-use Rattle.x25_c.specs.code.Happens.{DoesCommand, Happens, IsNew}
+use Rattle.x25_c.specs.code.Happens.{DoesCommand, HappensTo, IsNew}
 use Rattle.x25_c.specs.code.Clocks.{Passes, Sets}
 use Rattle.x25_c.specs.code.Receives.{ReceivesAll}
 
@@ -32,13 +32,13 @@ number_of_timer Begins = 1
 number_of_timer GoesOn = 2
 
 -- a call of a station that is held does what the definition says of it, and answers the number of how it ended
-abbrev pub AnswersOne : Held → Held → ℕ → Event → Type 0
+abbrev pub AnswersOne : Held → Held → ℕ → StationEvent → Type 0
 AnswersOne old new number event =
-    (r : Result Unit StationError) × (number ≡ number_in r) × Happens old new r event × IsAlone new
+    (r : Result Unit StationError) × (number ≡ number_in r) × HappensTo old new r event × IsAlone new
     × (new.passed ≡ None)
 
 -- where none is held, a call answers 16 and holds none behind it
-abbrev pub Answers : Option Held → Option Held → ℕ → Event → Type 0
+abbrev pub Answers : Option Held → Option Held → ℕ → StationEvent → Type 0
 Answers None None number event = number ≡ 16
 Answers None (Some new) number event = ⊥
 Answers (Some old) None number event = ⊥

@@ -1,6 +1,6 @@
 //! What a C program is told of an item of an answer: an event, of which each kind has what `include/x25.h` says, and
 //! else 0.
-ghost use Rattle.std.specs.Prelude.{◌≡◌};
+ghost use Rattle.std.specs.Prelude.{◌≡◌, length};
 ghost use Rattle.x25_c.specs.Event.{asked_event, entry_event, kind_alone, on, reason_number, under};
 ghost use Rattle.x25_c.specs.Event.{told_event};
 ghost use Rattle.x25_station.specs.code.PlainEntry.{plain_asked, plain_entry, plain_name, plain_told};
@@ -9,7 +9,7 @@ use crate::sizes::Sizes;
 use crate::stretch_name::StretchName;
 use x25_layer::{Params, Stretch};
 use x25_link::Reason;
-use x25_station::{Asked, Entry, Said, Told};
+use x25_station::{Asked, Entry, Marks, Told};
 
 pub(crate) const FRAME: u16 = 1;
 
@@ -135,6 +135,22 @@ impl Event {
         }
     }
 
+    // A message that is asked to be sent, or came.
+    fn of_message(kind: u16, channel: u16, name: &Stretch, marks: Marks, user: &[u8]) -> Event
+        ensures { result ≡ record (under kind channel (plain_name name.now)) {
+          q = marks.q;
+          d = marks.d;
+          count = length user.now;
+        } }
+    {
+        Event {
+            q: marks.q,
+            d: marks.d,
+            count: user.len(),
+            ..Event::under(kind, channel, name)
+        }
+    }
+
     fn of_asked(channel: u16, name: &Stretch, asked: &Asked) -> Event
         ensures { result ≡ asked_event channel (plain_name name.now) (plain_asked asked.now) }
     {
@@ -153,12 +169,9 @@ impl Event {
                 diagnostic: *diagnostic,
                 ..Event::on(CLEAR_ASKED, channel)
             },
-            Asked::Send { marks, user } => Event {
-                q: marks.q,
-                d: marks.d,
-                count: user.as_slice().len(),
-                ..Event::under(SEND_ASKED, channel, name)
-            },
+            Asked::Send { marks, user } => {
+                Event::of_message(SEND_ASKED, channel, name, *marks, user.as_slice())
+            }
             Asked::Interrupt { user } => Event {
                 count: user.as_slice().len(),
                 ..Event::under(INTERRUPT_ASKED, channel, name)
@@ -199,12 +212,9 @@ impl Event {
                 ..Event::on(RESET, channel)
             },
             Told::ResetDone => Event::on(RESET_DONE, channel),
-            Told::Delivered(message) => Event {
-                q: message.marks.q,
-                d: message.marks.d,
-                count: message.user.as_slice().len(),
-                ..Event::under(MESSAGE, channel, name)
-            },
+            Told::Delivered { marks, user } => {
+                Event::of_message(MESSAGE, channel, name, *marks, user.as_slice())
+            }
             Told::Interrupted { user } => Event {
                 count: user.as_slice().len(),
                 ..Event::under(INTERRUPT, channel, name)
@@ -222,15 +232,15 @@ impl Event {
         ensures { result ≡ entry_event (plain_entry entry.now) }
     {
         match entry {
-            Entry::OnChannel {
+            Entry::Asked {
                 channel,
                 name,
-                said: Said::Asked(asked),
+                asked,
             } => Event::of_asked(*channel, name, asked),
-            Entry::OnChannel {
+            Entry::Told {
                 channel,
                 name,
-                said: Said::Told(told),
+                told,
             } => Event::of_told(*channel, name, told),
             Entry::RestartAsked { cause, diagnostic } => Event {
                 cause: *cause,

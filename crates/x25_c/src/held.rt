@@ -13,7 +13,7 @@ ghost use Rattle.x25_c.specs.Held.{channel_of, entries_of, frames_of, in_place, 
 ghost use Rattle.x25_c.specs.Held.{timer_of, whole_of, IsAlone};
 ghost use Rattle.x25_c.specs.Item.{items_of, last_items, later_items, plain_item};
 ghost use Rattle.x25_c.specs.code.Clocks.{Insists, Passes, Rests, Sets};
-ghost use Rattle.x25_c.specs.code.Happens.{DoesCommand, GivesAnswer, Happens, IsNew, Lacks, event_of};
+ghost use Rattle.x25_c.specs.code.Happens.{DoesCommand, GivesAnswer, HappensTo, IsNew, Lacks, event_of};
 ghost use Rattle.x25_c.specs.code.Receives.{ReceivesAll};
 
 use crate::answers::{in_both, then};
@@ -79,7 +79,7 @@ impl Held {
 
     /// Lets something happen to the station, and pulls behind it.
     pub(crate) fn happen(&mut self, event: Happening<'_>) -> Result<(), StationError>
-        ensures happens { Happens self.old self.new result (event_of event.entry) }
+        ensures happens { HappensTo self.old self.new result (event_of event.entry) }
         ensures alone { IsAlone self.new }
         ensures passed { self.new.passed ≡ None }
     {
@@ -89,7 +89,7 @@ impl Held {
 
     // The same behind what was answered before.
     fn go_on(&mut self, event: Happening<'_>) -> Result<(), StationError>
-        ensures happens { Happens self.old self.new result (event_of event.entry) }
+        ensures happens { HappensTo self.old self.new result (event_of event.entry) }
         ensures earlier { self.new.earlier ≡ self.old.earlier }
         ensures passed { self.new.passed ≡ self.old.passed }
     {
@@ -105,7 +105,7 @@ impl Held {
 
     /// Takes octets that came, and pulls behind it.
     pub(crate) fn receive(&mut self, octets: &[u8])
-        ensures happens { Happens self.old self.new (Ok tt) (Comes octets.now) }
+        ensures happens { HappensTo self.old self.new (Ok tt) (Comes octets.now) }
         ensures alone { IsAlone self.new }
         ensures passed { self.new.passed ≡ None }
     {
@@ -115,7 +115,7 @@ impl Held {
 
     // The same behind what was answered before.
     fn take(&mut self, octets: &[u8])
-        ensures happens { Happens self.old self.new (Ok tt) (Comes octets.now) }
+        ensures happens { HappensTo self.old self.new (Ok tt) (Comes octets.now) }
         ensures earlier { self.new.earlier ≡ self.old.earlier }
         ensures passed { self.new.passed ≡ self.old.passed }
     {
@@ -338,7 +338,7 @@ impl Held {
         ensures { result ≡ channel_of self.now }
     {
         match self.step.entries.as_slice().first() {
-            Some(Entry::OnChannel { channel, .. }) => *channel,
+            Some(Entry::Asked { channel, .. } | Entry::Told { channel, .. }) => *channel,
             _ => 0,
         }
     }

@@ -9,7 +9,7 @@ use crate::clocked::Passed;
 use crate::copying::{copy, copy_figures};
 use crate::event::{Event, FRAME, TIMEOUT, TIMER};
 use crate::numbers::timer_number;
-use x25_station::{Asked, Entry, Said, Timer, Told};
+use x25_station::{Asked, Entry, Timer, Told};
 
 /// A frame to send, a timer that passed, an entry of the transcript, or what becomes of timer T1.
 #[derive(Clone, Copy)]
@@ -61,14 +61,14 @@ impl<'a> Item<'a> {
     {
         match self {
             Item::Entry(
-                Entry::OnChannel {
-                    said: Said::Asked(Asked::Call { called, .. }),
+                Entry::Asked {
+                    asked: Asked::Call { called, .. },
                     ..
                 },
             ) => copy(called.as_slice(), room),
             Item::Entry(
-                Entry::OnChannel {
-                    said: Said::Told(Told::Incoming { called, .. }),
+                Entry::Told {
+                    told: Told::Incoming { called, .. },
                     ..
                 },
             ) => copy_figures(called.as_slice(), room),
@@ -83,14 +83,14 @@ impl<'a> Item<'a> {
     {
         match self {
             Item::Entry(
-                Entry::OnChannel {
-                    said: Said::Asked(Asked::Call { calling, .. }),
+                Entry::Asked {
+                    asked: Asked::Call { calling, .. },
                     ..
                 },
             ) => copy(calling.as_slice(), room),
             Item::Entry(
-                Entry::OnChannel {
-                    said: Said::Told(Told::Incoming { calling, .. }),
+                Entry::Told {
+                    told: Told::Incoming { calling, .. },
                     ..
                 },
             ) => copy_figures(calling.as_slice(), room),
@@ -113,14 +113,8 @@ fn user_of(entry: &Entry) -> &[u8]
     ensures { result.now ≡ entry_user (plain_entry entry.now) }
 {
     match entry {
-        Entry::OnChannel {
-            said: Said::Asked(asked),
-            ..
-        } => user_asked(asked),
-        Entry::OnChannel {
-            said: Said::Told(told),
-            ..
-        } => user_told(told),
+        Entry::Asked { asked, .. } => user_asked(asked),
+        Entry::Told { told, .. } => user_told(told),
         Entry::Beside { user, .. } => user.as_slice(),
         _ => &[],
     }
@@ -141,7 +135,7 @@ fn user_told(told: &Told) -> &[u8]
 {
     match told {
         Told::Incoming { user, .. } | Told::Interrupted { user } => user.as_slice(),
-        Told::Delivered(message) => message.user.as_slice(),
+        Told::Delivered { user, .. } => user.as_slice(),
         _ => &[],
     }
 }

@@ -4,20 +4,20 @@ use Rattle.x25_circuit.specs.declared.requested.Requested.{Requested}
 use Rattle.x25_circuit.specs.declared.circuit.Circuit as code
 use Rattle.x25_circuit.specs.declared.error.CircuitError.{CircuitError}
 use Rattle.x25_circuit.specs.declared.error.CircuitError.TheVariants.{NoMemory}
-use Rattle.x25_circuit.specs.Circuit.{Settings}
+use Rattle.x25_circuit.specs.Circuit.{CircuitSettings}
 use Rattle.x25_circuit.specs.Calling.{Outcome, Done, Refused}
 use Rattle.x25_circuit.specs.code.FitsCircuit.{Sends, SendsOrLacks, IsDone}
 use Rattle.x25_circuit.specs.Request.{AnswersRequest, refusal_of, with_packet}
 
 -- a call with a packet to send is one that may have a packet
-pub asked : (c : Settings) (v : code.Circuit) (r : Result Requested CircuitError) (o : Outcome) → Sends c v r o → AnswersRequest c v (with_packet r) o
+pub asked : (c : CircuitSettings) (v : code.Circuit) (r : Result Requested CircuitError) (o : Outcome) → Sends c v r o → AnswersRequest c v (with_packet r) o
 asked c v (Ok p) (Done next packet) h = (h.0, sym h.1)
 asked c v (Err e) (Done next packet) h = absurd h
 asked c v (Ok p) (Refused e) h = absurd (cc)
 asked c v (Err f) (Refused e) h = ap with_packet h
 
 -- and so is one for which memory may be missing
-pub asked_or_lacks : (c : Settings) (v : code.Circuit) (r : Result Requested CircuitError) (o : Outcome) → SendsOrLacks c v r o → AnswersRequest c v (with_packet r) o
+pub asked_or_lacks : (c : CircuitSettings) (v : code.Circuit) (r : Result Requested CircuitError) (o : Outcome) → SendsOrLacks c v r o → AnswersRequest c v (with_packet r) o
 asked_or_lacks c v (Ok p) (Done next packet) h = (h.0, sym h.1)
 asked_or_lacks c v (Err e) (Done next packet) h = h
 asked_or_lacks c v (Ok p) (Refused e) h = absurd (cc)
@@ -49,6 +49,6 @@ is_done (Done next packet) none = tt
 is_done (Refused e) none = absurd (cc)
 
 -- an accepted call for which memory is missing
-pub lacks : (c : Settings) (v : code.Circuit) (r : Result Requested CircuitError) (o : Outcome) → IsDone o → r ≡ Err NoMemory → SendsOrLacks c v r o
+pub lacks : (c : CircuitSettings) (v : code.Circuit) (r : Result Requested CircuitError) (o : Outcome) → IsDone o → r ≡ Err NoMemory → SendsOrLacks c v r o
 lacks c v r (Done next packet) accepted e = rw e refl
 lacks c v r (Refused f) accepted e = absurd accepted

@@ -5,9 +5,8 @@ use Rattle.std.specs.Int.{from_bool}
 use Rattle.x25_bits.specs.Bits.{bit}
 use Rattle.x25_packet.specs.declared.marks.Marks.{Marks}
 use Rattle.x25_packet.specs.Marks.{with_q}
-use Rattle.x25_circuit.specs.declared.message.Message.{Message}
 use Rattle.x25_circuit.specs.code.Cutter.{first_cut}
-use Rattle.x25_circuit.specs.Message.{Piece, More, Last, piece_of, asks, asked_in, wholes, ends_of, cut_from}
+use Rattle.x25_circuit.specs.Message.{Message, Piece, More, Last, piece_of, asks, asked_in, wholes, ends_of, cut_from}
 
 pub asked_append : (ps rs : List Piece) → asked_in (ps ++ rs) ≡ asked_in ps + asked_in rs
 asked_append [] rs = omega arith

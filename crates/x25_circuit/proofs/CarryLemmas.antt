@@ -4,8 +4,7 @@ use Rattle.std.proofs.lemmas.Bool.{le-leb, leb-true, leb-false}
 use Rattle.std.proofs.lemmas.List.{length-drop, length-take-le, take-append-drop, length-append}
 use Rattle.x25_packet.specs.declared.marks.Marks.{Marks}
 use Rattle.x25_packet.specs.Marks.{with_q}
-use Rattle.x25_circuit.specs.declared.message.Message.{Message}
-use Rattle.x25_circuit.specs.Message.{Piece, More, Last, Partial, no_part, joined, joining, completed, carried_from, carried, same_q, may_have_q, ground_of, AreSound, cut, cut_from}
+use Rattle.x25_circuit.specs.Message.{Message, Piece, More, Last, Partial, no_part, joined, joining, completed, carried_from, carried, same_q, may_have_q, ground_of, AreSound, cut, cut_from}
 use Rattle.x25_circuit.specs.laws.MessageLaws.{CutCarries, CutIsSound, SendAdds, SendStaysWhole, TakeAdds}
 
 joining_append : (j : Partial) (ps rs : List Piece) → joining j (ps ++ rs) ≡ joining (joining j ps) rs

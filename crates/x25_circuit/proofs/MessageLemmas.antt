@@ -5,8 +5,7 @@ use Rattle.std.proofs.lemmas.List.{length-drop}
 use Rattle.x25_packet.specs.declared.marks.Marks.{Marks}
 use Rattle.x25_packet.specs.Marks.{with_q}
 use Rattle.x25_circuit.specs.code.Cutter.{first_cut, first_left}
-use Rattle.x25_circuit.specs.declared.message.Message.{Message}
-use Rattle.x25_circuit.specs.Message.{Piece, More, Last, Partial, joined, joining, cut, cut_from, cut_all, ends_of, wholes}
+use Rattle.x25_circuit.specs.Message.{Message, Piece, More, Last, Partial, joined, joining, cut, cut_from, cut_all, ends_of, wholes}
 
 pub wholes_append : (ps rs : List Piece) → wholes (ps ++ rs) ≡ wholes ps + wholes rs
 wholes_append [] rs = omega arith

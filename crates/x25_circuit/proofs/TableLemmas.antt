@@ -11,7 +11,7 @@ use Rattle.x25_circuit.specs.declared.state.State.{State}
 use Rattle.x25_circuit.specs.declared.state.State.TheVariants.{Free, Calling, Arriving, Collision, Open, Resetting, Clearing}
 use Rattle.x25_circuit.specs.declared.params.Params.{Params}
 use Rattle.x25_circuit.specs.Params.{Proposal, may_answer, field_for, said_in}
-use Rattle.x25_circuit.specs.Circuit.{Settings, Circuit, outgoing, waits}
+use Rattle.x25_circuit.specs.Circuit.{CircuitSettings, Circuit, outgoing, waits}
 use Rattle.x25_circuit.specs.code.Changes.{with_rest}
 use Rattle.x25_circuit.specs.Message.{cut}
 use Rattle.x25_circuit.specs.declared.error.CircuitError.TheVariants as error
@@ -25,20 +25,20 @@ collides_at_dte r x request e = ap (λ (s : Role). collides s x request) e
 pub collides_at_dce : (r : Role) (x : Circuit) (request : CallRequest) → r ≡ Dce → collides r x request ≡ goes x Arriving request.params false None (collided ∷ incoming request ∷ [])
 collides_at_dce r x request e = ap (λ (s : Role). collides s x request) e
 
-pub answer_connects : (c : Settings) (x : Circuit) (answered : Params) → may_answer x.params answered ≡ true → connects c x answered ≡ goes x Open answered true None (connected answered ∷ [])
+pub answer_connects : (c : CircuitSettings) (x : Circuit) (answered : Params) → may_answer x.params answered ≡ true → connects c x answered ≡ goes x Open answered true None (connected answered ∷ [])
 answer_connects c x answered e = rw e refl
 
-pub answer_clears : (c : Settings) (x : Circuit) (answered : Params) → may_answer x.params answered ≡ false → connects c x answered ≡ clears_for c x 3 66
+pub answer_clears : (c : CircuitSettings) (x : Circuit) (answered : Params) → may_answer x.params answered ≡ false → connects c x answered ≡ clears_for c x 3 66
 answer_clears c x answered e = rw e refl
 
 -- the code has the values that are known
-pub answer_in_force : (c : Settings) (x : Circuit) (known answered : Params) (field : List ℕ) → known ≡ x.params → answered ≡ said_in known field → may_answer known answered ≡ true
+pub answer_in_force : (c : CircuitSettings) (x : Circuit) (known answered : Params) (field : List ℕ) → known ≡ x.params → answered ≡ said_in known field → may_answer known answered ≡ true
     → connects c x (said_in x.params field) ≡ goes x Open answered true None (connected answered ∷ [])
 answer_in_force c x known answered field e f g =
     ap (λ (p : Params). connects c x (said_in p field)) (sym e) ∙ ap (connects c x) (sym f)
     ∙ answer_connects c x answered (ap (λ (p : Params). may_answer p answered) (sym e) ∙ g)
 
-pub answer_out_of_range : (c : Settings) (x : Circuit) (known answered : Params) (field : List ℕ) → known ≡ x.params → answered ≡ said_in known field → may_answer known answered ≡ false
+pub answer_out_of_range : (c : CircuitSettings) (x : Circuit) (known answered : Params) (field : List ℕ) → known ≡ x.params → answered ≡ said_in known field → may_answer known answered ≡ false
     → connects c x (said_in x.params field) ≡ clears_for c x 3 66
 answer_out_of_range c x known answered field e f g =
     ap (λ (p : Params). connects c x (said_in p field)) (sym e) ∙ ap (connects c x) (sym f)
@@ -47,7 +47,7 @@ answer_out_of_range c x known answered field e f g =
 pub answer_accepts : (x : Circuit) (answer : Proposal) → may_answer x.params answer.params ≡ true → accept_with x (Some answer) ≡ does x Open answer.params false (accept 1 (field_for x.params answer))
 answer_accepts x answer e = rw e refl
 
-pub call_strays : (c : Settings) (x : Circuit) (s : State) (request : CallRequest) → s ≢ Free → s ≢ Calling → s ≢ Clearing → row_call c x s request ≡ unexpected c x s
+pub call_strays : (c : CircuitSettings) (x : Circuit) (s : State) (request : CallRequest) → s ≢ Free → s ≢ Calling → s ≢ Clearing → row_call c x s request ≡ unexpected c x s
 call_strays c x Free request f g h = absurd (f refl)
 call_strays c x Calling request f g h = absurd (g refl)
 call_strays c x Arriving request f g h = refl
@@ -56,7 +56,7 @@ call_strays c x Open request f g h = refl
 call_strays c x Resetting request f g h = refl
 call_strays c x Clearing request f g h = absurd (h refl)
 
-pub accept_strays : (c : Settings) (x : Circuit) (s : State) (facilities : List ℕ) → s ≢ Calling → s ≢ Collision → s ≢ Clearing → row_accept c x s facilities ≡ unexpected c x s
+pub accept_strays : (c : CircuitSettings) (x : Circuit) (s : State) (facilities : List ℕ) → s ≢ Calling → s ≢ Collision → s ≢ Clearing → row_accept c x s facilities ≡ unexpected c x s
 accept_strays c x Free facilities f g h = refl
 accept_strays c x Calling facilities f g h = absurd (f refl)
 accept_strays c x Arriving facilities f g h = refl
@@ -74,7 +74,7 @@ clear_told x Open cause diagnostic f g = refl
 clear_told x Resetting cause diagnostic f g = refl
 clear_told x Clearing cause diagnostic f g = absurd (f refl)
 
-pub clear_conf_strays : (c : Settings) (x : Circuit) (s : State) → s ≢ Clearing → row_clear_conf c x s ≡ unexpected c x s
+pub clear_conf_strays : (c : CircuitSettings) (x : Circuit) (s : State) → s ≢ Clearing → row_clear_conf c x s ≡ unexpected c x s
 clear_conf_strays c x Free f = refl
 clear_conf_strays c x Calling f = refl
 clear_conf_strays c x Arriving f = refl
@@ -83,7 +83,7 @@ clear_conf_strays c x Open f = refl
 clear_conf_strays c x Resetting f = refl
 clear_conf_strays c x Clearing f = absurd (f refl)
 
-pub reset_strays : (c : Settings) (x : Circuit) (s : State) (cause diagnostic : ℕ) → s ≢ Open → s ≢ Resetting → s ≢ Clearing → row_reset c x s cause diagnostic ≡ unexpected c x s
+pub reset_strays : (c : CircuitSettings) (x : Circuit) (s : State) (cause diagnostic : ℕ) → s ≢ Open → s ≢ Resetting → s ≢ Clearing → row_reset c x s cause diagnostic ≡ unexpected c x s
 reset_strays c x Free cause diagnostic f g h = refl
 reset_strays c x Calling cause diagnostic f g h = refl
 reset_strays c x Arriving cause diagnostic f g h = refl
@@ -92,7 +92,7 @@ reset_strays c x Open cause diagnostic f g h = absurd (f refl)
 reset_strays c x Resetting cause diagnostic f g h = absurd (g refl)
 reset_strays c x Clearing cause diagnostic f g h = absurd (h refl)
 
-pub reset_conf_strays : (c : Settings) (x : Circuit) (s : State) → s ≢ Open → s ≢ Resetting → s ≢ Clearing → row_reset_conf c x s ≡ unexpected c x s
+pub reset_conf_strays : (c : CircuitSettings) (x : Circuit) (s : State) → s ≢ Open → s ≢ Resetting → s ≢ Clearing → row_reset_conf c x s ≡ unexpected c x s
 reset_conf_strays c x Free f g h = refl
 reset_conf_strays c x Calling f g h = refl
 reset_conf_strays c x Arriving f g h = refl
@@ -101,7 +101,7 @@ reset_conf_strays c x Open f g h = absurd (f refl)
 reset_conf_strays c x Resetting f g h = absurd (g refl)
 reset_conf_strays c x Clearing f g h = absurd (h refl)
 
-pub data_strays : (c : Settings) (x : Circuit) (s : State) (packet : PlainPacket) → s ≢ Open → s ≢ Resetting → s ≢ Clearing → row_data c x s packet ≡ unexpected c x s
+pub data_strays : (c : CircuitSettings) (x : Circuit) (s : State) (packet : PlainPacket) → s ≢ Open → s ≢ Resetting → s ≢ Clearing → row_data c x s packet ≡ unexpected c x s
 data_strays c x Free packet f g h = refl
 data_strays c x Calling packet f g h = refl
 data_strays c x Arriving packet f g h = refl
@@ -110,7 +110,7 @@ data_strays c x Open packet f g h = absurd (f refl)
 data_strays c x Resetting packet f g h = absurd (g refl)
 data_strays c x Clearing packet f g h = absurd (h refl)
 
-pub undecoded_clears : (c : Settings) (x : Circuit) (s : State) (e : PacketError) → s ≢ Open → s ≢ Resetting → s ≢ Clearing → row_undecoded c x s e ≡ clears_for c x (cause_of e) (diagnostic_of e)
+pub undecoded_clears : (c : CircuitSettings) (x : Circuit) (s : State) (e : PacketError) → s ≢ Open → s ≢ Resetting → s ≢ Clearing → row_undecoded c x s e ≡ clears_for c x (cause_of e) (diagnostic_of e)
 undecoded_clears c x Free e f g h = refl
 undecoded_clears c x Calling e f g h = refl
 undecoded_clears c x Arriving e f g h = refl
@@ -119,7 +119,7 @@ undecoded_clears c x Open e f g h = absurd (f refl)
 undecoded_clears c x Resetting e f g h = absurd (g refl)
 undecoded_clears c x Clearing e f g h = absurd (h refl)
 
-pub clear_done : (c : Settings) (x : Circuit) (s : State) (cause diagnostic : ℕ) → s ≢ Free → s ≢ Clearing → clear_in c x s cause diagnostic ≡ clear_with c x cause diagnostic
+pub clear_done : (c : CircuitSettings) (x : Circuit) (s : State) (cause diagnostic : ℕ) → s ≢ Free → s ≢ Clearing → clear_in c x s cause diagnostic ≡ clear_with c x cause diagnostic
 clear_done c x Free cause diagnostic f g = absurd (f refl)
 clear_done c x Calling cause diagnostic f g = refl
 clear_done c x Arriving cause diagnostic f g = refl
@@ -131,21 +131,21 @@ clear_done c x Clearing cause diagnostic f g = absurd (g refl)
 pub ready_at : (x : Circuit) (s : State) (b : Bool) → s ≡ Open → ready_in x s b ≡ ready_open x x.talk b
 ready_at x s b e = ap (λ (r : State). ready_in x r b) e
 
-pub send_at : (c : Settings) (x : Circuit) (s : State) (marks : Marks) (user : List ℕ) → s ≡ Open → send_in c x s marks user ≡ send_open c x x.talk marks user
+pub send_at : (c : CircuitSettings) (x : Circuit) (s : State) (marks : Marks) (user : List ℕ) → s ≡ Open → send_in c x s marks user ≡ send_open c x x.talk marks user
 send_at c x s marks user e = ap (λ (r : State). send_in c x r marks user) e
 
-pub call_at : (c : Settings) (x : Circuit) (s : State) (called calling user : List ℕ) (proposal : Proposal) → s ≡ Free → call_in c x s called calling user proposal ≡ call_in c x Free called calling user proposal
+pub call_at : (c : CircuitSettings) (x : Circuit) (s : State) (called calling user : List ℕ) (proposal : Proposal) → s ≡ Free → call_in c x s called calling user proposal ≡ call_in c x Free called calling user proposal
 call_at c x s called calling user proposal e = ap (λ (r : State). call_in c x r called calling user proposal) e
 
 pub accept_at : (x : Circuit) (s : State) (answer : Option Proposal) → s ≡ Arriving → accept_in x s answer ≡ accept_with x answer
 accept_at x s answer e = ap (λ (r : State). accept_in x r answer) e
 
-pub send_long : (c : Settings) (x : Circuit) (marks : Marks) (user : List ℕ) → c.longest < length user → send_open c x x.talk marks user ≡ Refused error.TooLong
+pub send_long : (c : CircuitSettings) (x : Circuit) (marks : Marks) (user : List ℕ) → c.longest < length user → send_open c x x.talk marks user ≡ Refused error.TooLong
 send_long c x marks user long = rw (lt-leb _ _ long) refl
 
-pub send_full : (c : Settings) (x : Circuit) (marks : Marks) (user : List ℕ) → length user ≤ c.longest → waits x ≡ 8 → send_open c x x.talk marks user ≡ Refused error.Full
+pub send_full : (c : CircuitSettings) (x : Circuit) (marks : Marks) (user : List ℕ) → length user ≤ c.longest → waits x ≡ 8 → send_open c x x.talk marks user ≡ Refused error.Full
 send_full c x marks user short e = rw (le-leb _ _ short, e) refl
 
-pub send_waits : (c : Settings) (x : Circuit) (marks : Marks) (user : List ℕ) → length user ≤ c.longest → waits x < 8
+pub send_waits : (c : CircuitSettings) (x : Circuit) (marks : Marks) (user : List ℕ) → length user ≤ c.longest → waits x < 8
     → send_open c x x.talk marks user ≡ keeps_on x (with_rest (x.talk.rest ++ cut (outgoing x).size marks user) x.talk) None
 send_waits c x marks user short e = rw (le-leb _ _ short, lt-ltb _ _ e) refl

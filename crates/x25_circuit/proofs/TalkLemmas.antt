@@ -10,19 +10,20 @@ use Rattle.x25_packet.specs.declared.marks.Marks.{Marks}
 use Rattle.x25_circuit.specs.declared.circuit.Circuit as code
 use Rattle.x25_circuit.specs.declared.transfer.Transfer.{Transfer}
 use Rattle.x25_circuit.specs.declared.queue.Queue.{Queue}
-use Rattle.x25_circuit.specs.Message.{Piece, piece_of, piece_ground, ground_of, Partial, no_part, joining, wholes, cut_all, asked_in}
+use Rattle.x25_circuit.specs.Message.{Piece, piece_of, piece_ground, ground_of, Partial, no_part, joined, joining, wholes, cut_all, asked_in}
 use Rattle.x25_circuit.specs.code.PartialMessage.{ShownPartial}
 use Rattle.x25_circuit.specs.code.CallMemory.{has_memory}
 use Rattle.x25_circuit.specs.Queue.{waiting}
 use Rattle.x25_circuit.specs.Hearing.{data_ground, number_ground}
-use Rattle.x25_circuit.proofs.MessageLemmas.{wholes_all}
-use Rattle.x25_circuit.specs.Circuit.{Settings, Talk, Circuit, outgoing}
-use Rattle.x25_circuit.specs.code.Changes.{with_acked, with_rest, with_peer, with_own}
+use Rattle.std.proofs.lemmas.List.{length_push}
+use Rattle.x25_circuit.proofs.MessageLemmas.{wholes_all, joining_push}
+use Rattle.x25_circuit.specs.Circuit.{CircuitSettings, Talk, Circuit, outgoing}
+use Rattle.x25_circuit.specs.code.Changes.{with_acked, with_taken, with_rest, with_peer, with_own}
 use Rattle.x25_circuit.specs.code.FitsNumbers.{FitsNumbers}
 use Rattle.x25_circuit.specs.code.Fits.{FitsTalk, first_ground}
 use Rattle.x25_circuit.specs.code.FitsCircuit.{FitsCircuit}
 
-pub with_transfer : (c : Settings) (v : code.Circuit) (x : Circuit) (u : Transfer) (made : has_memory v.state ≡ true → u.partial.made ≡ true) (t : Talk) → FitsCircuit c v x
+pub with_transfer : (c : CircuitSettings) (v : code.Circuit) (x : Circuit) (u : Transfer) (made : has_memory v.state ≡ true → u.partial.made ≡ true) (t : Talk) → FitsCircuit c v x
     → FitsTalk (outgoing x).size u t → u.partial.longest ≡ v.transfer.partial.longest → FitsCircuit c (record v { transfer = u; made = made }) (record x { talk = t })
 with_transfer c v x u made t fits talk kept = record {
   role = fits.role;
@@ -40,7 +41,7 @@ pub same_longest : (p q : ShownPartial) → p ≡ q → p.longest ≡ q.longest
 same_longest p q same = ap (λ (r : ShownPartial). r.longest) same
 
 -- a transfer that was left as it is
-pub same_transfer : (c : Settings) (v : code.Circuit) (x : Circuit) (u : Transfer) (made : has_memory v.state ≡ true → u.partial.made ≡ true) → FitsCircuit c v x → u ≡ v.transfer
+pub same_transfer : (c : CircuitSettings) (v : code.Circuit) (x : Circuit) (u : Transfer) (made : has_memory v.state ≡ true → u.partial.made ≡ true) → FitsCircuit c v x → u ≡ v.transfer
     → FitsCircuit c (record v { transfer = u; made = made }) x
 same_transfer c v x u made fits same = with_transfer c v x u made x.talk fits (subst (λ (w : Transfer). FitsTalk (outgoing x).size w x.talk) (sym same) fits.talk) (ap (λ (w : Transfer). w.partial.longest) same)
 
@@ -60,9 +61,9 @@ own_fits size v t b fits = record { numbers = fits.numbers; taken = fits.taken; 
 pub peer_fits : (size : ℕ) (v : Transfer) (t : Talk) (b : Bool) → FitsTalk size v t → FitsTalk size (record v { peer_ready = b }) (with_peer b t)
 peer_fits size v t b fits = record { numbers = fits.numbers; taken = fits.taken; rest = fits.rest; part = fits.part; short = fits.short; unconfirmed = fits.unconfirmed; int_out = fits.int_out; peer_ready = refl; own_ready = fits.own_ready }
 
-pub taken_more : (r : Receiver) (b : Bool) (n m : ℕ) → IsTrue b → FitsTaken r (if b then n + 1 else n) → m ≡ n + 1 → FitsTaken r m
-taken_more r true n m h fits e = rw e fits
-taken_more r false n m h fits e = absurd (cc)
+pub taken_more : (r : Receiver) (b : Bool) (n : ℕ) → IsTrue b → FitsTaken r (if b then n + 1 else n) → FitsTaken r (n + 1)
+taken_more r true n h fits = fits
+taken_more r false n h fits = absurd (cc)
 
 pub piece_ground_of : (longest size : ℕ) (j : Partial) (marks : Marks) (m : Bool) (user : List ℕ) → piece_ground longest size j (piece_of marks m user) ≡ ground_of longest size j (length user) marks.q
 piece_ground_of longest size j marks true user = refl
@@ -79,6 +80,11 @@ acked_fits size v t sender n unconfirmed fits numbers asked = record { numbers =
 -- whether memory is made is no part of what is stood for
 pub partial_fits : (size : ℕ) (v : Transfer) (t : Talk) (p : ShownPartial) → FitsTalk size v t → p.part ≡ v.partial.part → p.longest ≡ v.partial.longest → FitsTalk size (record v { partial = p }) t
 partial_fits size v t p fits same longest = record { numbers = fits.numbers; taken = fits.taken; rest = fits.rest; part = same ∙ fits.part; short = subst (λ (j : Partial). length j.user ≤ p.longest) (sym same) (subst (λ (n : ℕ). length v.partial.part.user ≤ n) (sym longest) fits.short); unconfirmed = fits.unconfirmed; int_out = fits.int_out; peer_ready = fits.peer_ready; own_ready = fits.own_ready }
+
+-- a packet more is taken
+pub taken_fits : (size : ℕ) (v : Transfer) (t : Talk) (receiver : Receiver) (p : ShownPartial) (piece : Piece) → FitsTalk size v t → FitsTaken receiver (length t.taken + 1)
+    → p.part ≡ joined v.partial.part piece → length p.part.user ≤ p.longest → FitsTalk size (record v { receiver = receiver; partial = p }) (with_taken piece t)
+taken_fits size v t receiver p piece fits taken joins short = record { numbers = fits.numbers; taken = subst (FitsTaken receiver) (sym (length_push t.taken piece)) taken; rest = fits.rest; part = joins ∙ ap (λ (j : Partial). joined j piece) fits.part ∙ sym (joining_push no_part t.taken piece); short = short; unconfirmed = fits.unconfirmed; int_out = fits.int_out; peer_ready = fits.peer_ready; own_ready = fits.own_ready }
 
 pub waits_are : (size : ℕ) (v : Transfer) (t : Talk) → FitsTalk size v t → wholes t.rest ≡ length (waiting v.queue)
 waits_are size v t fits = ap wholes fits.rest ∙ wholes_all size (waiting v.queue)

@@ -15,7 +15,7 @@ use Rattle.x25_circuit.specs.declared.state.State.TheVariants.{Free, Calling, Ar
 use Rattle.x25_circuit.specs.declared.params.Params.{Params}
 use Rattle.x25_circuit.specs.Params.{Proposal, default_params, may_propose, may_answer, field_for}
 use Rattle.x25_circuit.specs.Message.{Piece, More, Last, cut}
-use Rattle.x25_circuit.specs.Circuit.{Settings, Talk, Circuit, entered, talking, outgoing, waits}
+use Rattle.x25_circuit.specs.Circuit.{CircuitSettings, Talk, Circuit, entered, talking, outgoing, waits}
 use Rattle.x25_circuit.specs.Notice.{CallRequest}
 use Rattle.x25_circuit.specs.Hearing.{status}
 use Rattle.x25_circuit.specs.Cause.{may_clear_for, may_reset_for}
@@ -71,7 +71,7 @@ may_call long_data called calling user params =
     is_address_text called && (is_address_text calling
     && (nat_le (length user) (longest_user long_data) && may_propose params))
 
-abbrev pub call_in : Settings → Circuit → State → List ℕ → List ℕ → List ℕ → Proposal → Outcome
+abbrev pub call_in : CircuitSettings → Circuit → State → List ℕ → List ℕ → List ℕ → Proposal → Outcome
 call_in c x Free called calling user proposal =
     if may_call c.long_data called calling user proposal.params
     then does x Calling proposal.params true (call_sent called calling user proposal) else Refused BadParameter
@@ -87,11 +87,11 @@ abbrev pub accept_in : Circuit → State → Option Proposal → Outcome
 accept_in x Arriving answer = accept_with x answer
 accept_in x state answer = Refused WrongState
 
-abbrev pub clear_with : Settings → Circuit → ℕ → ℕ → Outcome
+abbrev pub clear_with : CircuitSettings → Circuit → ℕ → ℕ → Outcome
 clear_with c x cause diagnostic = if may_clear_for c.role cause
     then does x Clearing default_params false (clear 1 cause diagnostic) else Refused BadParameter
 
-abbrev pub clear_in : Settings → Circuit → State → ℕ → ℕ → Outcome
+abbrev pub clear_in : CircuitSettings → Circuit → State → ℕ → ℕ → Outcome
 clear_in c x Free cause diagnostic = Refused WrongState
 clear_in c x Clearing cause diagnostic = Refused WrongState
 clear_in c x state cause diagnostic = clear_with c x cause diagnostic
@@ -99,7 +99,7 @@ clear_in c x state cause diagnostic = clear_with c x cause diagnostic
 -- ---- in p4 with d1
 
 -- a message that isn't too long waits behind at most seven others
-abbrev pub send_open : Settings → Circuit → Talk → Marks → List ℕ → Outcome
+abbrev pub send_open : CircuitSettings → Circuit → Talk → Marks → List ℕ → Outcome
 send_open c x t marks user =
     if nat_le (length user) c.longest
     then (if nat_lt (waits x) 8
@@ -147,7 +147,7 @@ ready_open x t is_ready =
     })
     (Some (status is_ready (length t.taken)))
 
-abbrev pub send_in : Settings → Circuit → State → Marks → List ℕ → Outcome
+abbrev pub send_in : CircuitSettings → Circuit → State → Marks → List ℕ → Outcome
 send_in c x Open marks user = send_open c x x.talk marks user
 send_in c x state marks user = Refused WrongState
 
@@ -156,7 +156,7 @@ interrupt_in x Open user = interrupt_open x x.talk user
 interrupt_in x state user = Refused WrongState
 
 -- section 4.4.3.1
-abbrev pub reset_in : Settings → Circuit → State → ℕ → ℕ → Outcome
+abbrev pub reset_in : CircuitSettings → Circuit → State → ℕ → ℕ → Outcome
 reset_in c x Open cause diagnostic = if may_reset_for c.role cause
     then does x Resetting x.params x.calls (reset 1 cause diagnostic) else Refused BadParameter
 reset_in c x state cause diagnostic = Refused WrongState
@@ -167,7 +167,7 @@ ready_in x state is_ready = Refused WrongState
 
 -- ---- the calls
 
-abbrev pub outcome : Settings → Circuit → Request → Outcome
+abbrev pub outcome : CircuitSettings → Circuit → Request → Outcome
 outcome c x (Calls called calling user proposal) = call_in c x x.state called calling user proposal
 outcome c x (Accepts answer) = accept_in x x.state answer
 outcome c x (Clears cause diagnostic) = clear_in c x x.state cause diagnostic
@@ -192,7 +192,7 @@ data_packet ps pr (Last marks user) = user_data 1 marks false ps pr user
 
 -- It is sent where the other end is ready and fewer than the window are unacknowledged (section 4.4.1.2), with P(S) and
 -- P(R).
-abbrev pub pull_open : Settings → Circuit → Talk → List Piece → Pulled
+abbrev pub pull_open : CircuitSettings → Circuit → Talk → List Piece → Pulled
 pull_open c x t [] = pulls_nothing x
 pull_open c x t (piece ∷ rest) =
     if t.peer_ready && nat_lt (length t.sent) (t.acked + (outgoing x).window)
@@ -211,9 +211,9 @@ pull_open c x t (piece ∷ rest) =
     }
     else pulls_nothing x
 
-abbrev pub pull_in : Settings → Circuit → State → Pulled
+abbrev pub pull_in : CircuitSettings → Circuit → State → Pulled
 pull_in c x Open = pull_open c x x.talk x.talk.rest
 pull_in c x state = pulls_nothing x
 
-abbrev pub pulled : Settings → Circuit → Pulled
+abbrev pub pulled : CircuitSettings → Circuit → Pulled
 pulled c x = pull_in c x x.state

@@ -9,7 +9,7 @@ use Rattle.x25_circuit.specs.Message.{Piece, wholes, asked_in}
 
 -- which end this is, whether the user data of a CALL may be long, and the most octets of a message, which are 65,535 at
 -- most (profile)
-pub record Settings : Type 0 where
+pub record CircuitSettings : Type 0 where
   pub role : Role
   pub long_data : Bool
   pub longest : ℕ

@@ -18,7 +18,7 @@ use Rattle.x25_circuit.specs.declared.state.State.TheVariants.{Clearing}
 use Rattle.x25_circuit.specs.declared.params.Params.{Params}
 use Rattle.x25_circuit.specs.Params.{default_params, may_answer, said_in}
 use Rattle.x25_circuit.specs.Message.{Piece, piece_of, no_part, joining, completed, piece_ground}
-use Rattle.x25_circuit.specs.Circuit.{Settings, Talk, silent, Circuit, entered, talking, incoming as terms_in}
+use Rattle.x25_circuit.specs.Circuit.{CircuitSettings, Talk, silent, Circuit, entered, talking, incoming as terms_in}
 use Rattle.x25_circuit.specs.Notice.{CallRequest, PlainNotice, incoming, connected, collided, cleared, clear_done}
 use Rattle.x25_circuit.specs.Notice.{was_reset, reset_done, interrupted, interrupt_done, fault, deliveries}
 
@@ -80,12 +80,12 @@ cause_at Dte cause = 128
 cause_at Dce cause = cause
 
 -- the call is cleared
-abbrev pub clears_for : Settings → Circuit → ℕ → ℕ → Answer
+abbrev pub clears_for : CircuitSettings → Circuit → ℕ → ℕ → Answer
 clears_for c x cause diagnostic = goes x Clearing default_params false
     (Some (clear 1 (cause_at c.role cause) diagnostic)) (fault diagnostic ∷ [])
 
 -- the call is reset: cause 5, local procedure error
-abbrev pub resets_for : Settings → Circuit → ℕ → Answer
+abbrev pub resets_for : CircuitSettings → Circuit → ℕ → Answer
 resets_for c x diagnostic = goes x Resetting x.params x.calls (Some (reset 1 (cause_at c.role 5) diagnostic))
     (fault diagnostic ∷ [])
 
@@ -104,7 +104,7 @@ diagnostic_in role Resetting = 23
 diagnostic_in role Clearing = 0
 
 -- a packet that the state doesn't allow: cause 19 (0x13), local procedure error
-abbrev pub unexpected : Settings → Circuit → State → Answer
+abbrev pub unexpected : CircuitSettings → Circuit → State → Answer
 unexpected c x state = clears_for c x 19 (diagnostic_in c.role state)
 
 -- ---- setting up and clearing
@@ -116,7 +116,7 @@ collides Dte x request = goes x Collision x.params true None []
 collides Dce x request = goes x Arriving request.params false None (collided ∷ incoming request ∷ [])
 
 -- CALL (sections 4.1.2 and 4.1.3)
-abbrev pub row_call : Settings → Circuit → State → CallRequest → Answer
+abbrev pub row_call : CircuitSettings → Circuit → State → CallRequest → Answer
 row_call c x Free request = goes x Arriving request.params false None (incoming request ∷ [])
 row_call c x Calling request = collides c.role x request
 row_call c x Clearing request = ignores x
@@ -124,12 +124,12 @@ row_call c x state request = unexpected c x state
 
 -- what is answered is in force, where it may be answered (section 6.12): cause 3, invalid facility request, and
 -- diagnostic 66
-abbrev pub connects : Settings → Circuit → Params → Answer
+abbrev pub connects : CircuitSettings → Circuit → Params → Answer
 connects c x answered = if may_answer x.params answered then goes x Open answered true None (connected answered ∷ [])
     else clears_for c x 3 66
 
 -- CALL ACCEPTED (sections 4.1.4 and 4.1.5). What it doesn't say is answered as it was proposed.
-abbrev pub row_accept : Settings → Circuit → State → List ℕ → Answer
+abbrev pub row_accept : CircuitSettings → Circuit → State → List ℕ → Answer
 row_accept c x Calling facilities = connects c x (said_in x.params facilities)
 row_accept c x Collision facilities = connects c x (said_in x.params facilities)
 row_accept c x Clearing facilities = ignores x
@@ -142,21 +142,21 @@ row_clear x Clearing cause diagnostic = clears_to x None (clear_done ∷ [])
 row_clear x state cause diagnostic = clears_to x (Some (clear_conf 1)) (cleared cause diagnostic ∷ [])
 
 -- CLEAR CONFIRMATION (sections 4.1.7 and 4.1.8)
-abbrev pub row_clear_conf : Settings → Circuit → State → Answer
+abbrev pub row_clear_conf : CircuitSettings → Circuit → State → Answer
 row_clear_conf c x Clearing = clears_to x None (clear_done ∷ [])
 row_clear_conf c x state = unexpected c x state
 
 -- ---- resetting
 
 -- RESET (sections 4.4.3.1 to 4.4.3.3)
-abbrev pub row_reset : Settings → Circuit → State → ℕ → ℕ → Answer
+abbrev pub row_reset : CircuitSettings → Circuit → State → ℕ → ℕ → Answer
 row_reset c x Open cause diagnostic = resets_to x (Some (reset_conf 1)) (was_reset cause diagnostic ∷ [])
 row_reset c x Resetting cause diagnostic = resets_to x None (reset_done ∷ [])
 row_reset c x Clearing cause diagnostic = ignores x
 row_reset c x state cause diagnostic = unexpected c x state
 
 -- RESET CONFIRMATION (section 4.4.3.4)
-abbrev pub row_reset_conf : Settings → Circuit → State → Answer
+abbrev pub row_reset_conf : CircuitSettings → Circuit → State → Answer
 row_reset_conf c x Open = resets_for c x 27
 row_reset_conf c x Resetting = resets_to x None (reset_done ∷ [])
 row_reset_conf c x Clearing = ignores x
@@ -165,7 +165,7 @@ row_reset_conf c x state = unexpected c x state
 -- ---- data, flow control and interrupts: in p4 with d1
 
 -- the packet is done, or the call is reset for the ground
-abbrev pub unless : Settings → Circuit → Option ℕ → Answer → Answer
+abbrev pub unless : CircuitSettings → Circuit → Option ℕ → Answer → Answer
 unless c x None good = good
 unless c x (Some diagnostic) good = resets_for c x diagnostic
 
@@ -217,7 +217,7 @@ hears_status x t is_ready pr =
     }) None []
 
 -- INTERRUPT CONFIRMATION (section 4.3.7)
-abbrev pub confirms : Settings → Circuit → Talk → Bool → Answer
+abbrev pub confirms : CircuitSettings → Circuit → Talk → Bool → Answer
 confirms c x t true =
     talks x (record {
       sent = t.sent;
@@ -230,7 +230,7 @@ confirms c x t true =
     }) None (interrupt_done ∷ [])
 confirms c x t false = resets_for c x 43
 
-abbrev pub row_open : Settings → Circuit → Talk → PlainPacket → Answer
+abbrev pub row_open : CircuitSettings → Circuit → Talk → PlainPacket → Answer
 row_open c x t (user_data channel marks m ps pr user) =
     unless c x (data_ground c.longest (terms_in x).size t ps pr (piece_of marks m user))
     (takes x t pr (piece_of marks m user))
@@ -241,7 +241,7 @@ row_open c x t (interrupt_conf channel) = confirms c x t t.int_out
 row_open c x t other = ignores x
 
 -- DATA, RR, RNR, INTERRUPT and INTERRUPT CONFIRMATION
-abbrev pub row_data : Settings → Circuit → State → PlainPacket → Answer
+abbrev pub row_data : CircuitSettings → Circuit → State → PlainPacket → Answer
 row_data c x Open packet = row_open c x x.talk packet
 row_data c x Resetting packet = ignores x
 row_data c x Clearing packet = ignores x
@@ -258,7 +258,7 @@ request_in called calling facilities user = record {
   params = said_in default_params facilities;
 }
 
-abbrev pub answers : Settings → Circuit → PlainPacket → Answer
+abbrev pub answers : CircuitSettings → Circuit → PlainPacket → Answer
 answers c x (call channel called calling facilities user) = row_call c x x.state
     (request_in called calling facilities user)
 answers c x (accept channel facilities) = row_accept c x x.state facilities
@@ -277,11 +277,11 @@ cause_of BadParameter = 3
 cause_of error = 19
 
 -- octets that spell no packet
-abbrev pub row_undecoded : Settings → Circuit → State → PacketError → Answer
+abbrev pub row_undecoded : CircuitSettings → Circuit → State → PacketError → Answer
 row_undecoded c x Open error = resets_for c x (diagnostic_of error)
 row_undecoded c x Resetting error = ignores x
 row_undecoded c x Clearing error = ignores x
 row_undecoded c x state error = clears_for c x (cause_of error) (diagnostic_of error)
 
-abbrev pub undecoded : Settings → Circuit → PacketError → Answer
+abbrev pub undecoded : CircuitSettings → Circuit → PacketError → Answer
 undecoded c x error = row_undecoded c x x.state error

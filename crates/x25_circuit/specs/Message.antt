@@ -5,7 +5,6 @@ use Rattle.std.specs.Prelude.{true, false, nat_le, if◌then◌else◌}
 use Rattle.x25_bits.specs.Bits.{bit}
 use Rattle.x25_packet.specs.declared.marks.Marks.{Marks}
 use Rattle.x25_packet.specs.Marks.{with_q}
-use Rattle.x25_circuit.specs.declared.message.Message.{Message}
 
 -- the user data of a data packet with its marks: the more data mark is 1 or 0, Q is the qualifier, and D asks for
 -- confirmation of delivery
@@ -24,6 +23,11 @@ q_of (Last marks user) = marks.q
 abbrev pub user_of : Piece → List ℕ
 user_of (More marks user) = user
 user_of (Last marks user) = user
+
+-- a message, whole: its qualifier, and whether confirmation of its delivery is asked; 0 to 65,535 octets
+pub record Message : Type 0 where
+  pub marks : Marks
+  pub user : List ℕ
 
 -- a message of which some packets have come: Q, where one has, and the octets so far
 pub record Partial : Type 0 where

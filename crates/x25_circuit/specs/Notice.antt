@@ -1,6 +1,6 @@
 -- What a circuit tells the user.
 use Rattle.std.specs.Prelude.{ℕ, List, [], ◌∷◌}
-use Rattle.x25_circuit.specs.declared.message.Message.{Message}
+use Rattle.x25_circuit.specs.Message.{Message}
 use Rattle.x25_circuit.specs.declared.params.Params.{Params}
 
 -- what a call says: the digits of the called and of the calling address, the user data, and the packet sizes and

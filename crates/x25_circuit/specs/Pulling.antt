@@ -6,7 +6,7 @@ use Rattle.x25_packet.specs.Packet.{PlainPacket, user_data}
 use Rattle.x25_circuit.specs.declared.circuit.Circuit as code
 use Rattle.x25_circuit.specs.declared.transfer.Header.{Header}
 use Rattle.x25_circuit.specs.contracts.circuit.Circuit.{the_row}
-use Rattle.x25_circuit.specs.Circuit.{Settings, Circuit}
+use Rattle.x25_circuit.specs.Circuit.{CircuitSettings, Circuit}
 use Rattle.x25_circuit.specs.Calling.{pulled}
 use Rattle.x25_circuit.specs.code.FitsCircuit.{FitsCircuit, clears_of, resets_of}
 
@@ -20,4 +20,4 @@ abbrev pub EndsPulled : MutBor code.Circuit → Fml
 EndsPulled s = follows_so the_row the_row s.ghost_name none (λ _ _. ⊤)
     (λ n. (clears_of n ≡ clears_of s.now)
     × (resets_of n ≡ resets_of s.now)
-    × ((c : Settings) (x : Circuit) → FitsCircuit c s.now x → FitsCircuit c n (pulled c x).next))
+    × ((c : CircuitSettings) (x : Circuit) → FitsCircuit c s.now x → FitsCircuit c n (pulled c x).next))

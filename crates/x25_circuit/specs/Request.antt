@@ -9,7 +9,7 @@ use Rattle.x25_circuit.specs.declared.params.Params.{Params}
 use Rattle.x25_circuit.specs.Params.{Proposal}
 use Rattle.x25_circuit.specs.declared.request.Request as declared
 use Rattle.x25_circuit.specs.declared.request.Request.TheVariants as code
-use Rattle.x25_circuit.specs.Circuit.{Settings, Circuit}
+use Rattle.x25_circuit.specs.Circuit.{CircuitSettings, Circuit}
 use Rattle.x25_circuit.specs.Calling.{Outcome, Done, Refused, Request, Calls, Accepts, Clears, Sends, Interrupts}
 use Rattle.x25_circuit.specs.Calling.{Resets, SaysReady, SaysNotReady, outcome}
 use Rattle.x25_circuit.specs.code.FitsCircuit.{FitsCircuit, made_of}
@@ -46,7 +46,8 @@ with_packet (Ok packet) = Ok (Some packet)
 with_packet (Err e) = Err e
 
 -- a call that may have a packet to send, or for which memory is missing
-abbrev pub AnswersRequest : Settings → circuit_code.Circuit → Result (Option Requested) CircuitError → Outcome → Type 0
+abbrev pub AnswersRequest : CircuitSettings → circuit_code.Circuit → Result (Option Requested) CircuitError → Outcome
+    → Type 0
 AnswersRequest c v result (Done next packet) =
     MatchResult result (λ p. FitsCircuit c v next × (plain_sent p ≡ packet)) (λ e. e ≡ error.NoMemory)
 AnswersRequest c v result (Refused e) = result ≡ Err e
@@ -74,4 +75,4 @@ may_ask_memory request = false
 -- where 70 may be answered: where memory is asked for, in place of acceptance
 pub record MayLack (v : circuit_code.Circuit) (request : Request) : Type 0 where
   pub asks : asks_memory v request ≡ true
-  pub accepted : (c : Settings) (x : Circuit) → FitsCircuit c v x → refusal_of (outcome c x request) ≡ None
+  pub accepted : (c : CircuitSettings) (x : Circuit) → FitsCircuit c v x → refusal_of (outcome c x request) ≡ None

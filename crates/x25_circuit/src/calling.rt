@@ -3,7 +3,7 @@ ghost use Rattle.std.specs.Prelude.{◌≡◌, ◌≢◌, ◌≤◌, IfSome, IfN
 ghost use Rattle.std.specs.Result.{result_err};
 ghost use Rattle.x25_packet.specs.Digits.{IsAddress, digits_of_text};
 ghost use Rattle.x25_circuit.specs.declared.state.State.{State};
-ghost use Rattle.x25_circuit.specs.Circuit.{Settings};
+ghost use Rattle.x25_circuit.specs.Circuit.{CircuitSettings};
 ghost use Rattle.x25_circuit.specs.Circuit.{Circuit as Channel};
 ghost use Rattle.x25_circuit.specs.Params.{may_answer};
 ghost use Rattle.x25_circuit.specs.Calling.{outcome, Refused, Calls, Accepts, Clears, may_call, call_in, accept_in};
@@ -113,10 +113,10 @@ impl Circuit {
         ensures calling_address { IfOk result (λ fields. IsAddress fields.calling) }
         ensures short { IfOk result (λ fields. length user.now ≤ 128) }
         ensures flow { IfOk result (λ fields. fields.flow.params ≡ params) }
-        ensures refused { (c : Settings) (x : Channel) (says_all : Bool) → FitsCircuit c self.now x
+        ensures refused { (c : CircuitSettings) (x : Channel) (says_all : Bool) → FitsCircuit c self.now x
             → IfErr result (λ e. call_in c x x.state called.now calling.now user.now
             (record { params = params; says_all = says_all }) ≡ Refused e) }
-        ensures refusal { (c : Settings) (x : Channel) (says_all : Bool) → FitsCircuit c self.now x
+        ensures refusal { (c : CircuitSettings) (x : Channel) (says_all : Bool) → FitsCircuit c self.now x
             → result_err result ≡ refusal_of (call_in c x x.state called.now calling.now user.now
             (record { params = params; says_all = says_all })) }
         ensures kinds { IfErr result (λ e. e ≢ CircuitError.NoMemory) }
@@ -162,9 +162,9 @@ impl Circuit {
             (λ said. may_answer self.now.flow.params said.params ≡ true)) }
         ensures flow { IfOk result (λ flow. flow.params
             ≡ params_answered (plain_answer answer.entry) self.now.flow.params) }
-        ensures refused { (c : Settings) (x : Channel) → FitsCircuit c self.now x
+        ensures refused { (c : CircuitSettings) (x : Channel) → FitsCircuit c self.now x
             → IfErr result (λ e. accept_in x x.state (plain_answer answer.entry) ≡ Refused e) }
-        ensures refusal { (c : Settings) (x : Channel) → FitsCircuit c self.now x
+        ensures refusal { (c : CircuitSettings) (x : Channel) → FitsCircuit c self.now x
             → result_err result ≡ refusal_of (accept_in x x.state (plain_answer answer.entry)) }
         ensures kinds { IfErr result (λ e. e ≢ CircuitError.NoMemory) }
     {

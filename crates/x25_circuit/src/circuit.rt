@@ -3,7 +3,8 @@ ghost use Rattle.x25_circuit.specs.declared.state.State.{State};
 ghost use Rattle.x25_circuit.specs.Awaits.{awaited_in};
 ghost use Rattle.x25_circuit.specs.Params.{default_params};
 ghost use Rattle.x25_circuit.specs.Calling.{pulled, pulls_nothing};
-ghost use Rattle.x25_circuit.specs.Circuit.{Settings, begun, entered, forgotten, zeroed, is_free, is_open, waits};
+ghost use Rattle.x25_circuit.specs.Circuit.{CircuitSettings, begun, entered, forgotten, zeroed, is_free, is_open};
+ghost use Rattle.x25_circuit.specs.Circuit.{waits};
 ghost use Rattle.x25_circuit.specs.Circuit.{message_room, unconfirmed, outgoing, incoming};
 ghost use Rattle.x25_circuit.specs.code.CallMemory.{has_memory};
 ghost use Rattle.x25_circuit.specs.Circuit.{Circuit as Channel};
@@ -72,8 +73,8 @@ impl Circuit {
 
     /// How many clears were done, and how many resets since the last of them.
     pub fn counts(&self) -> (u64, u64)
-        ensures clears { (c : Settings) (x : Channel) → FitsCircuit c self.now x → result.0 ≡ x.clears }
-        ensures resets { (c : Settings) (x : Channel) → FitsCircuit c self.now x → result.1 ≡ x.resets }
+        ensures clears { (c : CircuitSettings) (x : Channel) → FitsCircuit c self.now x → result.0 ≡ x.clears }
+        ensures resets { (c : CircuitSettings) (x : Channel) → FitsCircuit c self.now x → result.1 ≡ x.resets }
         ensures clears_held { result.0 ≡ clears_of self.now }
         ensures resets_held { result.1 ≡ resets_of self.now }
     {
@@ -82,7 +83,8 @@ impl Circuit {
 
     /// Sets both counts to 0.
     pub fn zero(&mut self)
-        ensures fits { (c : Settings) (x : Channel) → FitsCircuit c self.old x → FitsCircuit c self.new (zeroed x) }
+        ensures fits { (c : CircuitSettings) (x : Channel) → FitsCircuit c self.old x
+            → FitsCircuit c self.new (zeroed x) }
     {
         self.clears = 0;
         self.resets = 0;
@@ -90,7 +92,8 @@ impl Circuit {
 
     /// Goes to p1, with everything dropped, no packet and no notice. The counts are as they were.
     pub fn forget(&mut self)
-        ensures fits { (c : Settings) (x : Channel) → FitsCircuit c self.old x → FitsCircuit c self.new (forgotten x) }
+        ensures fits { (c : CircuitSettings) (x : Channel) → FitsCircuit c self.old x
+            → FitsCircuit c self.new (forgotten x) }
     {
         self.end_call(State::Free);
     }
@@ -98,15 +101,17 @@ impl Circuit {
     /// Packet sizes and windows: those that are proposed, until the call is accepted, and then those in force; the
     /// defaults where there is no call.
     pub fn params(&self) -> Params
-        ensures { (c : Settings) (x : Channel) → FitsCircuit c self.now x → result ≡ x.params }
+        ensures { (c : CircuitSettings) (x : Channel) → FitsCircuit c self.now x → result ≡ x.params }
     {
         self.flow.params
     }
 
     /// Of the data packets that this end sends.
     pub(crate) fn outgoing(&self) -> Terms
-        ensures window { (c : Settings) (x : Channel) → FitsCircuit c self.now x → result.window ≡ (outgoing x).window }
-        ensures size { (c : Settings) (x : Channel) → FitsCircuit c self.now x → result.size ≡ (outgoing x).size }
+        ensures window { (c : CircuitSettings) (x : Channel) → FitsCircuit c self.now x
+            → result.window ≡ (outgoing x).window }
+        ensures size { (c : CircuitSettings) (x : Channel) → FitsCircuit c self.now x
+            → result.size ≡ (outgoing x).size }
     {
         if self.calls {
             self.flow.calling()
@@ -117,8 +122,10 @@ impl Circuit {
 
     /// Of the data packets that this end takes.
     pub(crate) fn incoming(&self) -> Terms
-        ensures window { (c : Settings) (x : Channel) → FitsCircuit c self.now x → result.window ≡ (incoming x).window }
-        ensures size { (c : Settings) (x : Channel) → FitsCircuit c self.now x → result.size ≡ (incoming x).size }
+        ensures window { (c : CircuitSettings) (x : Channel) → FitsCircuit c self.now x
+            → result.window ≡ (incoming x).window }
+        ensures size { (c : CircuitSettings) (x : Channel) → FitsCircuit c self.now x
+            → result.size ≡ (incoming x).size }
     {
         if self.calls {
             self.flow.called()
@@ -129,21 +136,21 @@ impl Circuit {
 
     /// Whether it is in p1.
     pub fn is_free(&self) -> bool
-        ensures { (c : Settings) (x : Channel) → FitsCircuit c self.now x → result ≡ is_free x }
+        ensures { (c : CircuitSettings) (x : Channel) → FitsCircuit c self.now x → result ≡ is_free x }
     {
         self.state == State::Free
     }
 
     /// Whether it is in p4 with d1.
     pub fn is_open(&self) -> bool
-        ensures { (c : Settings) (x : Channel) → FitsCircuit c self.now x → result ≡ is_open x }
+        ensures { (c : CircuitSettings) (x : Channel) → FitsCircuit c self.now x → result ≡ is_open x }
     {
         self.state == State::Open
     }
 
     /// The answer that this end awaits.
     pub fn awaits(&self) -> Awaits
-        ensures { (c : Settings) (x : Channel) → FitsCircuit c self.now x → result ≡ awaited_in x.state }
+        ensures { (c : CircuitSettings) (x : Channel) → FitsCircuit c self.now x → result ≡ awaited_in x.state }
     {
         match self.state {
             State::Free | State::Arriving | State::Open => Awaits::Nothing,
@@ -155,8 +162,8 @@ impl Circuit {
 
     /// How many messages wait, at most 8. None has more octets than the longest.
     pub fn waits(&self) -> usize
-        ensures value { (c : Settings) (x : Channel) → FitsCircuit c self.now x → result ≡ waits x }
-        ensures none { (c : Settings) (x : Channel) → FitsCircuit c self.now x → result ≡ 0
+        ensures value { (c : CircuitSettings) (x : Channel) → FitsCircuit c self.now x → result ≡ waits x }
+        ensures none { (c : CircuitSettings) (x : Channel) → FitsCircuit c self.now x → result ≡ 0
             → pulled c x ≡ pulls_nothing x }
         ensures held { result ≡ waits_of self.now }
         ensures few { result ≤ 8 }
@@ -166,7 +173,7 @@ impl Circuit {
 
     /// How many messages more it takes: 8 less those that wait, in p4 with d1, and else 0.
     pub fn room(&self) -> usize
-        ensures value { (c : Settings) (x : Channel) → FitsCircuit c self.now x → result ≡ message_room x }
+        ensures value { (c : CircuitSettings) (x : Channel) → FitsCircuit c self.now x → result ≡ message_room x }
         ensures few { result ≤ 8 }
     {
         if !self.is_open() {
@@ -178,8 +185,8 @@ impl Circuit {
     /// How many messages haven't the confirmation yet that was asked of them: they wait, or their last packet isn't
     /// acknowledged. They are 15 at most. ITU-T X.25 (10/96), section 4.4.1.4.
     pub fn unconfirmed(&self) -> usize
-        ensures value { (c : Settings) (x : Channel) → FitsCircuit c self.now x → result ≡ unconfirmed x }
-        ensures few { (c : Settings) (x : Channel) → FitsCircuit c self.now x → result ≤ 15 }
+        ensures value { (c : CircuitSettings) (x : Channel) → FitsCircuit c self.now x → result ≡ unconfirmed x }
+        ensures few { (c : CircuitSettings) (x : Channel) → FitsCircuit c self.now x → result ≤ 15 }
     {
         usize::from(self.transfer.unconfirmed)
     }
@@ -187,7 +194,7 @@ impl Circuit {
     /// Goes to this state, with these packet sizes and windows, and nothing kept.
     pub(crate) fn enter(&mut self, state: State, flow: FlowControl, calls: bool)
         requires { has_memory state ≡ true → made_of self.old ≡ true }
-        ensures fits { (c : Settings) (x : Channel) → FitsCircuit c self.old x
+        ensures fits { (c : CircuitSettings) (x : Channel) → FitsCircuit c self.old x
             → FitsCircuit c self.new (entered x state flow.params calls) }
         ensures role { self.new.role ≡ self.old.role }
         ensures made { made_of self.new ≡ made_of self.old }
@@ -202,7 +209,7 @@ impl Circuit {
     /// Goes to this state, in which there is no call.
     pub(crate) fn end_call(&mut self, state: State)
         requires { has_memory state ≡ false }
-        ensures fits { (c : Settings) (x : Channel) → FitsCircuit c self.old x
+        ensures fits { (c : CircuitSettings) (x : Channel) → FitsCircuit c self.old x
             → FitsCircuit c self.new (entered x state default_params false) }
         ensures role { self.new.role ≡ self.old.role }
         ensures keeps { KeepsCounts self.old self.new }
@@ -213,7 +220,7 @@ impl Circuit {
     /// Goes to this state, in which the call goes on with nothing kept.
     pub(crate) fn begin_stretch(&mut self, state: State)
         requires { has_memory state ≡ true → made_of self.old ≡ true }
-        ensures fits { (c : Settings) (x : Channel) → FitsCircuit c self.old x
+        ensures fits { (c : CircuitSettings) (x : Channel) → FitsCircuit c self.old x
             → FitsCircuit c self.new (entered x state x.params x.calls) }
         ensures role { self.new.role ≡ self.old.role }
         ensures keeps { KeepsCounts self.old self.new }

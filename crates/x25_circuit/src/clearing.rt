@@ -2,7 +2,7 @@
 //! to
 //! 4.1.9, 4.4.3 and Annex C.
 ghost use Rattle.std.specs.Prelude.{◌≡◌, ◌≢◌, ℕ, suc, ◌^◌, ◌-◌, ◌<◌, true, None, Some, [], ◌∷◌};
-ghost use Rattle.x25_circuit.specs.Circuit.{Settings};
+ghost use Rattle.x25_circuit.specs.Circuit.{CircuitSettings};
 ghost use Rattle.x25_circuit.specs.Circuit.{Circuit as Channel};
 ghost use Rattle.x25_circuit.specs.Notice.{reset_done};
 ghost use Rattle.x25_circuit.specs.Hearing.{cause_at, diagnostic_in, clears_for, resets_for, unexpected, clears_to};
@@ -109,7 +109,7 @@ impl Circuit {
     // A clear is done.
     fn be_cleared(&mut self)
         requires { clears_of self.old < 2 ^ 64 - 1 }
-        ensures fits { (c : Settings) (x : Channel) → FitsCircuit c self.old x
+        ensures fits { (c : CircuitSettings) (x : Channel) → FitsCircuit c self.old x
             → FitsCircuit c self.new (clears_to x None []).next }
     {
         self.end_call(State::Free);
@@ -121,7 +121,7 @@ impl Circuit {
     fn be_reset(&mut self)
         requires made { made_of self.old ≡ true }
         requires left { resets_of self.old < 2 ^ 64 - 1 }
-        ensures fits { (c : Settings) (x : Channel) → FitsCircuit c self.old x
+        ensures fits { (c : CircuitSettings) (x : Channel) → FitsCircuit c self.old x
             → FitsCircuit c self.new (resets_to x None []).next }
     {
         self.begin_stretch(State::Open);
@@ -132,7 +132,7 @@ impl Circuit {
     fn end_reset<'a>(&mut self) -> Reply<'a>
         requires made { made_of self.old ≡ true }
         requires left { resets_of self.old < 2 ^ 64 - 1 }
-        ensures next { (c : Settings) (x : Channel) → FitsCircuit c self.old x
+        ensures next { (c : CircuitSettings) (x : Channel) → FitsCircuit c self.old x
             → FitsCircuit c self.new (resets_to x None (reset_done ∷ [])).next }
         ensures says { Says result None (reset_done ∷ []) }
         ensures range { IsSendable (plain_owed result.packet) }

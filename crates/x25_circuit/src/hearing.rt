@@ -1,43 +1,29 @@
 //! Packets that come. ITU-T X.25 (10/96), sections 4.3.7 and 4.4.1, and Annex C.
 ghost use Rattle.std.specs.Prelude.{◌≡◌, ℕ, ◌+◌, ◌-◌, ◌^◌, ◌<◌, ◌≤◌, length, [], ◌∷◌, Some, None, true, false};
-ghost use Rattle.std.specs.Prelude.{option_to_list};
 ghost use Rattle.x25_packet.specs.Packet.{plain, user_data};
 ghost use Rattle.x25_packet.specs.Spelling.{HasChannel, IsInRange};
-ghost use Rattle.x25_circuit.specs.Circuit.{Settings};
+ghost use Rattle.x25_circuit.specs.Circuit.{CircuitSettings};
 ghost use Rattle.x25_circuit.specs.Circuit.{Circuit as Channel};
 ghost use Rattle.x25_circuit.specs.Message.{piece_of};
-ghost use Rattle.x25_circuit.specs.Notice.{deliveries};
 ghost use Rattle.x25_circuit.specs.code.Fits.{first_ground};
 ghost use Rattle.x25_circuit.specs.Hearing.{resets_for, unless, number_ground, hears_status, confirms, takes, row_open};
 ghost use Rattle.x25_circuit.specs.Hearing.{row_data, status, answers};
 ghost use Rattle.x25_circuit.specs.code.FitsCircuit.{FitsCircuit, made_of, clears_of, resets_of};
-ghost use Rattle.x25_circuit.specs.code.Replies.{Says, IsSendable, RepliesBy, RepliesWith, handed_over};
-ghost use Rattle.x25_circuit.specs.code.Replies.{packet_owed, plain_owed, plain_notices};
+ghost use Rattle.x25_circuit.specs.code.Replies.{Says, IsSendable, RepliesBy, RepliesWith, packet_owed, plain_owed};
 ghost use Rattle.x25_circuit.specs.code.PartialMessage.{spares};
 
 use crate::circuit::Circuit;
 use crate::codes::{INVALID_PR, NO_INTERRUPT};
-use crate::message::Message;
 use crate::notice::{Notice, Reply};
 use crate::octets::Octets;
 use crate::owed::Owed;
 use crate::state::State;
 use x25_packet::{Marks, Packet, Seq, facility_field};
 
-fn delivered<'a>(message: Option<Message>) -> Option<Notice<'a>>
-    ensures notices { plain_notices result ≡ deliveries (option_to_list message) }
-    ensures handed { handed_over result ≡ length (option_to_list message) }
-{
-    match message {
-        Some(message) => Some(Notice::Delivered(message)),
-        None => None,
-    }
-}
-
 impl Circuit {
     /// RR, or RNR where this end isn't ready, with P(R).
     pub(crate) fn status(&self) -> Owed
-        ensures value { (c : Settings) (x : Channel) → FitsCircuit c self.now x
+        ensures value { (c : CircuitSettings) (x : Channel) → FitsCircuit c self.now x
             → packet_owed 1 result ≡ status x.talk.own_ready (length x.talk.taken) }
         ensures range { IsInRange 128 (packet_owed 1 result) }
     {
@@ -109,12 +95,10 @@ impl Circuit {
         if !self.transfer.ack(pr) {
             return self.reset_for(INVALID_PR);
         }
-        let message = self.transfer.take(ps, marks, m, user, spare);
-        let owed = self.status();
-        Reply {
-            packet: Some(owed),
-            collided: false,
-            notice: delivered(message),
+        self.transfer.receiver.accept(ps);
+        match self.transfer.partial.join(marks, m, user, spare) {
+            Some(user) => Reply::both(self.status(), Notice::Delivered { marks, user }),
+            None => Reply::owes(self.status()),
         }
     }
 
@@ -142,13 +126,17 @@ impl Circuit {
         }
     }
 
-    // A packet of data transfer, in p4 with d1.
-    fn hear_open<'a>(&mut self, packet: &Packet<'a>, spare: &mut Option<Octets>) -> Reply<'a>
-        requires made { made_of self.old ≡ true }
+    // A packet of data transfer.
+    fn hear_transfer<'a>(&mut self, packet: &Packet<'a>, spare: &mut Option<Octets>) -> Reply<'a>
         requires spare { spares spare.old ≡ 1 }
         ensures { RepliesWith self.old self.new result (spares spare.new)
-            (λ c x. row_open c x x.talk (plain packet.now)) }
+            (λ c x. row_data c x self.old.state (plain packet.now)) }
     {
+        match self.state {
+            State::Open => {}
+            State::Resetting | State::Clearing => return Reply::nothing(),
+            _ => return self.unexpected(),
+        }
         match packet {
             Packet::Data {
                 marks,
@@ -166,19 +154,6 @@ impl Circuit {
             ),
             Packet::InterruptConf { .. } => self.hear_interrupt_conf(),
             _ => Reply::nothing(),
-        }
-    }
-
-    // A packet of data transfer.
-    fn hear_transfer<'a>(&mut self, packet: &Packet<'a>, spare: &mut Option<Octets>) -> Reply<'a>
-        requires spare { spares spare.old ≡ 1 }
-        ensures { RepliesWith self.old self.new result (spares spare.new)
-            (λ c x. row_data c x self.old.state (plain packet.now)) }
-    {
-        match self.state {
-            State::Open => self.hear_open(packet, spare),
-            State::Resetting | State::Clearing => Reply::nothing(),
-            _ => self.unexpected(),
         }
     }
 

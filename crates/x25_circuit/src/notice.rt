@@ -1,11 +1,12 @@
 ghost use Rattle.std.specs.Prelude.{◌≡◌, [], ◌∷◌, None, Some};
 ghost use Rattle.x25_packet.specs.Spelling.{IsInRange};
 
-use crate::message::Message;
+use crate::octets::Octets;
 use crate::owed::Owed;
 use crate::params::Params;
+use x25_packet::Marks;
 
-/// What a packet brought the user. Octets are borrowed from the packet; a message is handed over whole.
+/// What a packet brought the user. Octets are borrowed from the packet, but for those of a message.
 #[derive(Debug, Drop)]
 pub enum Notice<'a> {
     /// The other end calls.
@@ -34,8 +35,11 @@ pub enum Notice<'a> {
     },
     /// This end's reset is confirmed.
     ResetDone,
-    /// The last packet of a message came.
-    Delivered(Message),
+    /// The last packet of a message came, with these marks; its user data are 0 to 65,535 octets.
+    Delivered {
+        marks: Marks,
+        user: Octets,
+    },
     /// An interrupt came.
     Interrupted {
         user: &'a [u8],

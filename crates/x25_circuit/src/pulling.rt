@@ -2,7 +2,7 @@
 ghost use Rattle.std.specs.Prelude.{◌≡◌, ◌≤◌, length, IfSome};
 ghost use Rattle.std.specs.Borrow.{sem};
 ghost use Rattle.x25_packet.specs.Packet.{plain};
-ghost use Rattle.x25_circuit.specs.Circuit.{Settings};
+ghost use Rattle.x25_circuit.specs.Circuit.{CircuitSettings};
 ghost use Rattle.x25_circuit.specs.Circuit.{Circuit as Channel};
 ghost use Rattle.x25_circuit.specs.Calling.{pulled};
 ghost use Rattle.x25_circuit.specs.code.DataPacket.{plain_data, plain_pulled};
@@ -43,7 +43,7 @@ impl Circuit {
     /// The next data packet, where a message waits, the other end is ready and fewer packets than the window are
     /// unacknowledged. Its user data is borrowed from the message. It takes no memory.
     pub fn pull(&mut self) -> Option<DataPacket<'_>>
-        ensures packet { (c : Settings) (x : Channel) → FitsCircuit c self.old x
+        ensures packet { (c : CircuitSettings) (x : Channel) → FitsCircuit c self.old x
             → plain_pulled result ≡ (pulled c x).packet }
         ensures range { IsSendable (plain_pulled result) }
         ensures* after { sem 𝓛 (EndsPulled self.entry) }
@@ -57,9 +57,9 @@ impl Circuit {
 
     // Sends the next data packet. Its user data is lent by the queue.
     fn advance(&mut self) -> Option<Header>
-        ensures next { (c : Settings) (x : Channel) → FitsCircuit c self.old x
+        ensures next { (c : CircuitSettings) (x : Channel) → FitsCircuit c self.old x
             → FitsCircuit c self.new (pulled c x).next }
-        ensures packet { (c : Settings) (x : Channel) → FitsCircuit c self.old x
+        ensures packet { (c : CircuitSettings) (x : Channel) → FitsCircuit c self.old x
             → packet_with result self.new.transfer.queue.cutter.lent ≡ (pulled c x).packet }
         ensures short { IfSome result (λ header. length self.new.transfer.queue.cutter.lent ≤ 4096) }
         ensures clears { clears_of self.new ≡ clears_of self.old }

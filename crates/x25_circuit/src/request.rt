@@ -5,7 +5,7 @@ ghost use Rattle.std.specs.Prelude.{IsErrOf};
 ghost use Rattle.std.specs.Prelude.{length};
 ghost use Rattle.x25_packet.specs.declared.marks.Marks.{Marks};
 ghost use Rattle.x25_packet.specs.Spelling.{IsInRange};
-ghost use Rattle.x25_circuit.specs.Circuit.{Settings};
+ghost use Rattle.x25_circuit.specs.Circuit.{CircuitSettings};
 ghost use Rattle.x25_circuit.specs.Circuit.{Circuit as Channel};
 ghost use Rattle.x25_circuit.specs.Calling.{outcome, Refused, Accepts, clear_in, send_in, interrupt_in, reset_in};
 ghost use Rattle.x25_circuit.specs.Calling.{ready_in};
@@ -81,7 +81,7 @@ impl Circuit {
     /// memory of messages that come was made. The circuit is as before then. No request changes a count.
     #[inline(always)]
     pub fn ask<'a>(&mut self, request: Request<'a>) -> Result<Option<Requested<'a>>, CircuitError>
-        ensures outcome { (c : Settings) (x : Channel) → FitsCircuit c self.old x
+        ensures outcome { (c : CircuitSettings) (x : Channel) → FitsCircuit c self.old x
             → AnswersRequest c self.new result (outcome c x (plain_request request.entry)) }
         ensures range { IfOk result (λ packet. IsSendable (plain_sent packet)) }
         ensures control { IfOk result (λ packet. IsControl (plain_sent packet)) }
@@ -113,7 +113,7 @@ impl Circuit {
 
     /// Why `ask` would refuse this now, if it would.
     pub fn refusal(&self, request: &Request<'_>) -> Option<CircuitError>
-        ensures { (c : Settings) (x : Channel) → FitsCircuit c self.now x
+        ensures { (c : CircuitSettings) (x : Channel) → FitsCircuit c self.now x
             → result ≡ refusal_of (outcome c x (plain_request request.now)) }
     {
         match request {
@@ -135,9 +135,9 @@ impl Circuit {
     }
 
     pub(crate) fn clear_refusal(&self, cause: u8) -> Option<CircuitError>
-        ensures refusal { (c : Settings) (x : Channel) (diagnostic : ℕ) → FitsCircuit c self.now x
+        ensures refusal { (c : CircuitSettings) (x : Channel) (diagnostic : ℕ) → FitsCircuit c self.now x
             → result ≡ refusal_of (clear_in c x x.state cause diagnostic) }
-        ensures refused { (c : Settings) (x : Channel) (diagnostic : ℕ) → FitsCircuit c self.now x
+        ensures refused { (c : CircuitSettings) (x : Channel) (diagnostic : ℕ) → FitsCircuit c self.now x
             → IfSome result (λ e. clear_in c x x.state cause diagnostic ≡ Refused e) }
         ensures not_free { IfNone result (self.now.state ≢ State.Free) }
         ensures not_clearing { IfNone result (self.now.state ≢ State.Clearing) }
@@ -153,9 +153,9 @@ impl Circuit {
     }
 
     pub(crate) fn reset_refusal(&self, cause: u8) -> Option<CircuitError>
-        ensures refusal { (c : Settings) (x : Channel) (diagnostic : ℕ) → FitsCircuit c self.now x
+        ensures refusal { (c : CircuitSettings) (x : Channel) (diagnostic : ℕ) → FitsCircuit c self.now x
             → result ≡ refusal_of (reset_in c x x.state cause diagnostic) }
-        ensures refused { (c : Settings) (x : Channel) (diagnostic : ℕ) → FitsCircuit c self.now x
+        ensures refused { (c : CircuitSettings) (x : Channel) (diagnostic : ℕ) → FitsCircuit c self.now x
             → IfSome result (λ e. reset_in c x x.state cause diagnostic ≡ Refused e) }
         ensures open { IfNone result (self.now.state ≡ State.Open) }
         ensures given { IfNone result (may_reset_for self.now.role cause ≡ true) }
@@ -170,9 +170,9 @@ impl Circuit {
     }
 
     pub(crate) fn send_refusal(&self, count: usize) -> Option<CircuitError>
-        ensures refusal { (c : Settings) (x : Channel) (marks : Marks) (user : List ℕ) → length user ≡ count
+        ensures refusal { (c : CircuitSettings) (x : Channel) (marks : Marks) (user : List ℕ) → length user ≡ count
             → FitsCircuit c self.now x → result ≡ refusal_of (send_in c x x.state marks user) }
-        ensures refused { (c : Settings) (x : Channel) (marks : Marks) (user : List ℕ) → length user ≡ count
+        ensures refused { (c : CircuitSettings) (x : Channel) (marks : Marks) (user : List ℕ) → length user ≡ count
             → FitsCircuit c self.now x → IfSome result (λ e. send_in c x x.state marks user ≡ Refused e) }
         ensures open { IfNone result (self.now.state ≡ State.Open) }
         ensures longest { IfNone result (count ≤ self.now.transfer.partial.longest) }
@@ -190,9 +190,9 @@ impl Circuit {
     }
 
     pub(crate) fn interrupt_refusal(&self, user: &[u8]) -> Option<CircuitError>
-        ensures refusal { (c : Settings) (x : Channel) → FitsCircuit c self.now x
+        ensures refusal { (c : CircuitSettings) (x : Channel) → FitsCircuit c self.now x
             → result ≡ refusal_of (interrupt_in x x.state user.now) }
-        ensures refused { (c : Settings) (x : Channel) → FitsCircuit c self.now x
+        ensures refused { (c : CircuitSettings) (x : Channel) → FitsCircuit c self.now x
             → IfSome result (λ e. interrupt_in x x.state user.now ≡ Refused e) }
         ensures open { IfNone result (self.now.state ≡ State.Open) }
         ensures none_out { IfNone result (self.now.transfer.interrupt_out ≡ false) }
@@ -215,9 +215,9 @@ impl Circuit {
     // Where it isn't in p4 with d1.
     pub(crate) fn closed(&self) -> Option<CircuitError>
         ensures open { IfNone result (self.now.state ≡ State.Open) }
-        ensures no_ready { (c : Settings) (x : Channel) (is_ready : Bool) → FitsCircuit c self.now x
+        ensures no_ready { (c : CircuitSettings) (x : Channel) (is_ready : Bool) → FitsCircuit c self.now x
             → IfSome result (λ e. ready_in x x.state is_ready ≡ Refused e) }
-        ensures ready { (c : Settings) (x : Channel) (is_ready : Bool) → FitsCircuit c self.now x
+        ensures ready { (c : CircuitSettings) (x : Channel) (is_ready : Bool) → FitsCircuit c self.now x
             → result ≡ refusal_of (ready_in x x.state is_ready) }
         ensures kinds { IfSome result (λ e. e ≢ CircuitError.NoMemory) }
     {

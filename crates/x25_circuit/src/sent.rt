@@ -12,7 +12,7 @@ pub struct Sent {
 
 impl Model for Sent {
     ghost use Rattle.std.specs.Prelude.{◌≤◌, vec_len, vec_capacity};
-    ghost use Rattle.x25_circuit.specs.declared.message.Message.{Message};
+    ghost use Rattle.x25_circuit.specs.Message.{Message};
 
     ghost Value = { Message };
 

@@ -1,6 +1,6 @@
 //! The user's calls in data transfer. ITU-T X.25 (10/96), sections 4.3 and 4.4.
 ghost use Rattle.std.specs.Prelude.{◌≡◌, OnErr, IsErrOf};
-ghost use Rattle.x25_circuit.specs.Circuit.{Settings};
+ghost use Rattle.x25_circuit.specs.Circuit.{CircuitSettings};
 ghost use Rattle.x25_circuit.specs.Circuit.{Circuit as Channel};
 ghost use Rattle.x25_circuit.specs.Calling.{outcome, Sends as CallSends, Interrupts, Resets};
 ghost use Rattle.x25_circuit.specs.Calling.{ready_in};
@@ -24,7 +24,7 @@ impl Circuit {
     /// alone.
     #[inline(always)]
     pub(crate) fn send(&mut self, marks: Marks, user: &[u8]) -> Result<(), CircuitError>
-        ensures outcome { (c : Settings) (x : Channel) → FitsCircuit c self.old x
+        ensures outcome { (c : CircuitSettings) (x : Channel) → FitsCircuit c self.old x
             → Keeps c self.new result (outcome c x (CallSends marks user.now)) }
         ensures keeps { KeepsCounts self.old self.new }
         ensures unchanged { OnErr result (self.new ≡ self.old) }

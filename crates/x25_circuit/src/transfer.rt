@@ -1,22 +1,19 @@
 ghost use Rattle.std.specs.Prelude.{◌≡◌, ℕ, ◌+◌, ◌%◌, ◌<◌, ◌≤◌, ◌==◌, nat_le, nat_lt, length, drop, List, ◌∷◌, []};
 ghost use Rattle.std.specs.Prelude.{◌++◌, true};
-ghost use Rattle.std.specs.Prelude.{false, IfOk, IfErr, OnOk, OnErr, OnSome, IfSome, IfNone, Bool, option_to_list};
+ghost use Rattle.std.specs.Prelude.{false, IfOk, IfErr, OnOk, OnErr, OnSome, IfSome, IfNone, Bool};
 ghost use Rattle.std.specs.Prelude.{Some, None, if◌then◌else◌, max, vec_capacity};
 ghost use Rattle.x25_window.specs.code.Modulo.{resolved};
 ghost use Rattle.x25_circuit.specs.code.FitsNumbers.{FitsNumbers};
-ghost use Rattle.x25_circuit.specs.Message.{Piece, piece_of, no_part, joining, completed, piece_ground, ground_of, cut};
+ghost use Rattle.x25_circuit.specs.Message.{Piece, no_part, joining, piece_ground, ground_of, cut};
 ghost use Rattle.x25_circuit.specs.Message.{asks as asks_of, asked_in};
 ghost use Rattle.x25_circuit.specs.Circuit.{Talk, silent};
 ghost use Rattle.x25_circuit.specs.Queue.{waiting};
-ghost use Rattle.x25_circuit.specs.code.Changes.{with_acked, with_taken, with_rest, with_interrupt, with_peer};
+ghost use Rattle.x25_circuit.specs.code.Changes.{with_acked, with_rest, with_interrupt, with_peer};
 ghost use Rattle.x25_circuit.specs.code.Changes.{with_own, with_sent};
-ghost use Rattle.x25_circuit.specs.code.PartialMessage.{spares};
 
 use crate::codes::INVALID_PS;
 use crate::error::CircuitError;
-use crate::message::Message;
-use crate::octets::Octets;
-use crate::partial::PartialMessage;
+use crate::message::PartialMessage;
 use crate::queue::Queue;
 use crate::sent::Sent;
 use crate::terms::Terms;
@@ -171,33 +168,6 @@ impl Transfer {
             return Some(INVALID_PS);
         }
         self.partial.ground(size, count, q)
-    }
-
-    /// Takes a data packet that isn't refused, and gives the message that ends with it, if one does, in the spare
-    /// memory.
-    pub fn take(
-        &mut self,
-        ps: Seq,
-        marks: Marks,
-        m: bool,
-        user: &[u8],
-        spare: &mut Option<Octets>,
-    ) -> Option<Message>
-        requires wanted { ps.number ≡ self.old.receiver.number }
-        requires made { self.old.partial.made ≡ true }
-        requires spare { spares spare.old ≡ 1 }
-        requires short { length self.old.partial.part.user + length user.now ≤ self.old.partial.longest }
-        ensures fits { (size : ℕ) (t : Talk) → FitsTalk size self.old t
-            → FitsTalk size self.new (with_taken (piece_of marks m user.now) t) }
-        ensures message { (size : ℕ) (t : Talk) → FitsTalk size self.old t
-            → option_to_list result ≡ completed (joining no_part t.taken) (piece_of marks m user.now) }
-        ensures queue { self.new.queue ≡ self.old.queue }
-        ensures longest { self.new.partial.longest ≡ self.old.partial.longest }
-        ensures made { self.new.partial.made ≡ true }
-        ensures spare { spares spare.new + length (option_to_list result) ≡ 1 }
-    {
-        self.receiver.accept(ps);
-        self.partial.join(marks, m, user, spare)
     }
 
     /// Lets a copy of a message wait. Err: no memory; all is as it was then.

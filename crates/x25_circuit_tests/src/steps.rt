@@ -3,9 +3,7 @@
 use crate::calls::{ask, circuit, circuit_with, hear, hear_too_few, spare};
 use crate::requests::{Proposals, acceptance};
 use std::alloc::Global;
-use x25_circuit::{
-    Circuit, CircuitError, Message, Notice, Octets, Owed, Params, Reply, Requested, Role,
-};
+use x25_circuit::{Circuit, CircuitError, Notice, Octets, Owed, Params, Reply, Requested, Role};
 use x25_packet::{Marks, Packet, Seq, user_data};
 
 /// What happens to a circuit.
@@ -287,10 +285,7 @@ fn asked(circuit: &mut Circuit, index: usize) -> Answer {
 fn replied(reply: &Reply) -> Answer {
     let (number, message) = match &reply.notice {
         Some(Notice::Fault { diagnostic }) => (*diagnostic, None),
-        Some(Notice::Delivered(message)) => (
-            0,
-            Some((message.marks, message.user.as_slice().len())),
-        ),
+        Some(Notice::Delivered { marks, user }) => (0, Some((*marks, user.as_slice().len()))),
         _ => (0, None),
     };
     (number, message, shape_of(&reply.packet))
@@ -299,7 +294,7 @@ fn replied(reply: &Reply) -> Answer {
 // The memory of a message that was handed over.
 fn memory_of(notice: Option<Notice>) -> Option<Octets> {
     match notice {
-        Some(Notice::Delivered(Message { user, .. })) => Some(user),
+        Some(Notice::Delivered { user, .. }) => Some(user),
         _ => None,
     }
 }

@@ -127,7 +127,7 @@ module _ (c : Settings) (times : Times) where
   abbrev awaited_by : Station → ℕ → Awaits
   awaited_by s h = awaited_at (layer_settings c) s.layer h
 
-  pub happens_true : (w : Watched) (more : ℕ) (event : timer.Event) (o : Outcome) → AreTrue c times w → AreTrue c times (heeds c times (w.now + more) event o w)
+  pub happens_true : (w : Watched) (more : ℕ) (event : timer.StationEvent) (o : Outcome) → AreTrue c times w → AreTrue c times (heeds c times (w.now + more) event o w)
   happens_true w more event (Did step) h = record {
     t1 = t1_runs times w.now more (runs w.station) (runs step.near) (timer.is_firing event || (tells_link step.entries || is_acknowledged w.station.link step.near.link)) w.deadlines.t1 h.t1;
     idle = runs_on w.now more times.t3 (is_at_rest w.station) (is_at_rest step.near) (seen_of c w.station event (Did step)).come w.deadlines.idle h.idle;

@@ -88,7 +88,7 @@ same_acked : (before after : LinkStation) → after.outgoing.acked ≡ before.ou
 same_acked before after same = le-ltb _ _ (omega (arith, same))
 
 -- an event that is accepted, and a pull behind it
-module _ (c : Settings) (times : Times) (now : ℕ) (s : Station) (event : timer.Event) (step : Step) (d : Deadlines) where
+module _ (c : Settings) (times : Times) (now : ℕ) (s : Station) (event : timer.StationEvent) (step : Step) (d : Deadlines) where
   abbrev became : Timer
   became = timer.timer s event (Did step)
 
@@ -121,7 +121,7 @@ after_pulled s (Did step) = refl
 after_pulled s (Refused e) = refl
 
 -- what was done is heeded, and then the pull
-module _ (goes : PullsGoOn) (c : Settings) (times : Times) (now : ℕ) (s : Station) (event : timer.Event) (step : Step) (d : Deadlines) (settled : IsSettled c step.near) where
+module _ (goes : PullsGoOn) (c : Settings) (times : Times) (now : ℕ) (s : Station) (event : timer.StationEvent) (step : Step) (d : Deadlines) (settled : IsSettled c step.near) where
   abbrev o : Outcome
   o = requests c step.near PullsAll
 
@@ -146,6 +146,6 @@ pull_is_heeded goes c times (Happens later event) step w settled is =
     ∙ sym (ap (λ (o : Outcome). done c times pull (heeds c times (w.now + later) event o found)) is)
 pull_is_heeded goes c times (IsAsked later due) step w settled is =
     let found : Watched = found_by times (IsAsked later due) w in
-    let event : timer.Event = event_of (IsAsked later due) in
+    let event : timer.StationEvent = event_of (IsAsked later due) in
     done_both goes c times (w.now + later) w.station event step found.deadlines settled
     ∙ sym (ap (λ (o : Outcome). done c times pull (heeds c times (w.now + later) event o found)) is)

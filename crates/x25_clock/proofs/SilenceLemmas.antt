@@ -142,12 +142,12 @@ refused_behind bound times now more false rest come t1 idle on quiet by = idle_s
 waits_runs : (s : LinkStation) → s.phase ≡ Waiting → timer_runs s.phase s ≡ true
 waits_runs s is = ap (λ (p : Phase). timer_runs p s) is
 
-quiet_event : (s : Station) (event : timer.Event) → IsUnheard s event → runs s ≡ false → comes event ≡ false
+quiet_event : (s : Station) (event : timer.StationEvent) → IsUnheard s event → runs s ≡ false → comes event ≡ false
 quiet_event s (timer.Comes octets) is off = absurd (true≢false (sym (waits_runs s.link is) ∙ off))
 quiet_event s (timer.Asks command) is off = refl
 quiet_event s timer.Fires is off = refl
 
-one_firing : (event : timer.Event) → timer.is_firing event ≡ true → takes event ≡ 1
+one_firing : (event : timer.StationEvent) → timer.is_firing event ≡ true → takes event ≡ 1
 one_firing (timer.Comes octets) is = false_true is
 one_firing (timer.Asks command) is = false_true is
 one_firing timer.Fires is = refl
@@ -195,7 +195,7 @@ module _ (c : Settings) (times : Times) (phase : Phase) (bound : ℕ) (may : May
   Holds w = IsBy bound times (runs w.station) (left w.station) w.deadlines.t1 w.deadlines.idle
 
   -- a step, whatever what is asked renewed
-  did_by : (now : ℕ) (s : Station) (d : Deadlines) (event : timer.Event) (step : Step) → TakesTries c s step.near (takes event) → IsUnheard s event → tells_link step.entries ≡ false → (runs step.near || is_at_rest step.near) ≡ true
+  did_by : (now : ℕ) (s : Station) (d : Deadlines) (event : timer.StationEvent) (step : Step) → TakesTries c s step.near (takes event) → IsUnheard s event → tells_link step.entries ≡ false → (runs step.near || is_at_rest step.near) ≡ true
       → InTime bound times (runs s) (left s) now → (runs s ≡ true → timer.is_firing event ≡ false → Ends bound d.t1 (left s)) → (runs s ≡ false → runs step.near ≡ false → Ends bound d.idle (times.t1 + left s))
       → (let e : Deadlines = heeded times now (seen_of c s event (Did step)) d in IsBy bound times (runs step.near) (left step.near) e.t1 e.idle)
   did_by now s d event step took unheard quiet on late by_t1 by_idle =
@@ -209,7 +209,7 @@ module _ (c : Settings) (times : Times) (phase : Phase) (bound : ℕ) (may : May
       (same_acked s.link step.near.link took.acked) took.goes_on on late by_t1 by_idle (quiet_event s event unheard) (less_tries (c.retries - n) (c.retries - s.link.tries) times.t1 fewer_tries) one
 
   -- an event, by its outcome
-  event_by : (now : ℕ) (s : Station) (d : Deadlines) (event : timer.Event) (o : Outcome) → AsksOn c s (takes event) o → IsOn phase s → IsOn phase (timer.after s o) → IsUnheard s event → tells o ≡ false → InTime bound times (runs s) (left s) now
+  event_by : (now : ℕ) (s : Station) (d : Deadlines) (event : timer.StationEvent) (o : Outcome) → AsksOn c s (takes event) o → IsOn phase s → IsOn phase (timer.after s o) → IsUnheard s event → tells o ≡ false → InTime bound times (runs s) (left s) now
       → IsBy bound times (runs s) (left s) d.t1 d.idle → (let e : Deadlines = heeded times now (seen_of c s event o) d in IsBy bound times (runs (timer.after s o)) (left (timer.after s o)) e.t1 e.idle)
   event_by now s d event (Did step) took before after unheard quiet late by =
       did_by now s d event step (took quiet (after.phase ∙ sym before.phase)) unheard quiet after.on late
@@ -335,7 +335,7 @@ rest_is_off : (s : Station) → is_at_rest s ≡ true → runs s ≡ true → �
 rest_is_off s is on = true≢false (sym (and_parts (is_idle s.link) (not (runs s)) is).1 ∙ ap not on)
 
 module _ (c : Settings) (times : Times) (bound : ℕ) where
-  idle_by : (d : Deadlines) (now : ℕ) (s : Station) (event : timer.Event) (o : Outcome) → comes event ≡ false → is_at_rest (timer.after s o) ≡ true → Ends bound d.idle 0 → Ends bound (heeded times now (seen_of c s event o) d).idle 0
+  idle_by : (d : Deadlines) (now : ℕ) (s : Station) (event : timer.StationEvent) (o : Outcome) → comes event ≡ false → is_at_rest (timer.after s o) ≡ true → Ends bound d.idle 0 → Ends bound (heeded times now (seen_of c s event o) d).idle 0
   idle_by d now s event (Did step) quiet rest by = idle_stays bound 0 (is_at_rest step.near) (comes event) d.idle (deadline now times.t3) rest quiet by
   idle_by d now s event (Refused e) quiet rest by = idle_stays bound 0 (is_at_rest s) (comes event) d.idle (deadline now times.t3) rest quiet by
 

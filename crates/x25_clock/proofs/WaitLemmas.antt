@@ -143,7 +143,7 @@ record IsCleared (rest_a rest : ℕ) (a b : Awaits) : Type 0 where
   new : b ≡ ClearConfirmation
   differ : (number_of a == number_of ClearConfirmation) ≡ false
 
-abbrev pub asks : Due → timer.Event
+abbrev pub asks : Due → timer.StationEvent
 asks what = event_of (IsAsked 0 what)
 
 -- what is due is asked, and the rank is lower
@@ -317,11 +317,11 @@ module _ (c : Settings) (times : Times) (h bound : ℕ) (set : AreSet times) (sm
     high_up : 2 ≤ rank_of Up s.layer.restarting (awaited s)
     high_up = subst (λ (n : ℕ). 2 ≤ n) up_rank high
 
-    abbrev Behind : timer.Event → Outcome → Type 0
+    abbrev Behind : timer.StationEvent → Outcome → Type 0
     Behind event o = IsBy (timer.after s o).layer.restarting (heeded times now (seen_of c s event o) d).restart (heeded times now (seen_of c s event o) d).waits
 
     -- what a step tells of the link
-    noted : (event : timer.Event) (step : Step) → tells_link step.entries ≡ false
+    noted : (event : timer.StationEvent) (step : Step) → tells_link step.entries ≡ false
         → IsBy step.near.layer.restarting (running step.near.layer.restarting false d.restart (deadline now times.t20)) (heeded_waits now (λ k. awaited_at (layer_settings c) step.near.layer k) d.waits) → Behind event (Did step)
     noted event step quiet by =
         subst (λ (b : Bool). IsBy step.near.layer.restarting (running step.near.layer.restarting b d.restart (deadline now times.t20)) (heeded_waits now (λ k. awaited_at (layer_settings c) step.near.layer k) d.waits)) (sym quiet) by
@@ -332,13 +332,13 @@ module _ (c : Settings) (times : Times) (h bound : ℕ) (set : AreSet times) (sm
         (is, subst (λ (n : ℕ). 2 ≤ n) is higher)
 
     -- its rank is lower
-    fallen_by : (event : timer.Event) (step : Step) → tells_link step.entries ≡ false → 2 ≤ rank c step.near h → rank c step.near h < rank c s h → InTime s.layer.restarting (awaited s) now → Behind event (Did step)
+    fallen_by : (event : timer.StationEvent) (step : Step) → tells_link step.entries ≡ false → 2 ≤ rank c step.near h → rank c step.near h < rank c s h → InTime s.layer.restarting (awaited s) now → Behind event (Did step)
     fallen_by event step quiet higher low late =
         let new = higher_up step.near higher in
         let less : rank_of Up step.near.layer.restarting (awaited step.near) < rank_of Up s.layer.restarting (awaited s) = subst (λ (n : ℕ). n < rank_of Up s.layer.restarting (awaited s)) new.0 (subst (λ (n : ℕ). rank c step.near h < n) up_rank low) in
         noted event step quiet (fallen before now s step.near high_up new.1 d.restart d.waits off are less late)
 
-    event_by : (event : timer.Event) (o : Outcome) → LeadsOn c s h o → tells o ≡ false → 2 ≤ rank c (timer.after s o) h → IsBy s.layer.restarting d.restart d.waits → InTime s.layer.restarting (awaited s) now → Behind event o
+    event_by : (event : timer.StationEvent) (o : Outcome) → LeadsOn c s h o → tells o ≡ false → 2 ≤ rank c (timer.after s o) h → IsBy s.layer.restarting d.restart d.waits → InTime s.layer.restarting (awaited s) now → Behind event o
     event_by event (Did step) leads quiet higher by late = on (leads quiet)
       where
         on : AwaitsStill c s step.near h ⊎ (rank c step.near h < rank c s h) → Behind event (Did step)
@@ -406,7 +406,7 @@ module _ (c : Settings) (times : Times) (h bound : ℕ) (set : AreSet times) (sm
       then_true : AreTrue c times (record w { deadlines = e; now = now })
       then_true = due_true c times w later true_now
 
-      event : timer.Event
+      event : timer.StationEvent
       event = asks what
 
       o : Outcome

@@ -2,7 +2,7 @@
 use Rattle.std.proofs.Common.{◌≡◌, ◌⊎◌, inl, inr, ℕ, ◌≤◌, List, [], ◌∷◌, ◌++◌, length, take, drop, Some, refl, sym, ap, subst, ◌∙◌, arith}
 use Rattle.std.proofs.{lemmas.Bool.{true≢false}, lemmas.List.{take-append-drop, take-append-le}}
 use Rattle.x25_bits.specs.{declared.role.Role.{Role}, declared.role.Role.TheVariants.{Dte, Dce}}
-use Rattle.x25_circuit.specs.{declared.message.Message.{Message}, Message.{no_part, joining, carried_from, carried}, Notice.{CallRequest}}
+use Rattle.x25_circuit.specs.{Message.{Message, no_part, joining, carried_from, carried}, Notice.{CallRequest}}
 use Rattle.x25_handshakes.specs.{laws.Handshake.{Live, At, state_of, live}, laws.Stretch.{Packet, Stretch, fresh}, laws.Transfer.{fresh_transfer}}
 use Rattle.x25_handshakes.specs.{laws.Calls.{Phase, Talking, Connection, fresh_call}, laws.Layers.{Channels, all_fresh, Pair}, laws.Names.{Name}}
 use Rattle.x25_handshakes.specs.laws.Histories.{Lists, messages, resets_in, held_in, circuit_at, name_at, held_at, histories_run, histories_start, IsPrefix}

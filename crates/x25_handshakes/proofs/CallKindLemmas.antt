@@ -2,7 +2,7 @@
 use Rattle.std.proofs.{Common.{◌≡◌, inr, ℕ, List, [], ◌∷◌, ◌++◌, Option, Some, None, refl, sym, ◌∙◌}, lemmas.List.{append-nil}, lemmas.Bool.{cond_both}}
 use Rattle.x25_bits.specs.{declared.role.Role.{Role}, declared.role.Role.TheVariants.{Dte, Dce}}
 use Rattle.x25_circuit.specs.{declared.params.Params.{Params}, Params.{Proposal, may_propose, may_answer, field_for, said_in}, Notice.{CallRequest}}
-use Rattle.x25_handshakes.specs.{laws.Handshake.{Inner, Step}, laws.Stretch.{Packet, Call, Accept}}
+use Rattle.x25_handshakes.specs.{laws.Handshake.{Inner, OwnStep}, laws.Stretch.{Packet, Call, Accept}}
 use Rattle.x25_handshakes.specs.laws.Calls.{Phase, Unused, Waiting, Offered, Crossed, Talking, Connection, goes, unexpected, calling_talk, called_talk}
 use Rattle.x25_handshakes.specs.laws.Calls.{is_answered, accepts, phase_takes, call_takes, CallAct, PlacesCall, AcceptsCall, Talks, phase_acts}
 use Rattle.x25_handshakes.specs.{laws.Histories.{calls, IsPrefix}, laws.Transfer.{fresh_transfer}}
@@ -34,7 +34,7 @@ call_taken r e c u p v y inner h =
     Stays refl refl ([], append-nil c.made ∙ sym (takes_made r c.phase c.made c.indicated p))
     (inr (refl, (seen_begins r (call_takes r c p).next (u ++ (call_takes r c p).out) v y (Seen-takes r c u p v y h).1)))
 
-abbrev Acted : List CallRequest → List CallRequest → Step Connection Packet → Type 0
+abbrev Acted : List CallRequest → List CallRequest → OwnStep Connection Packet → Type 0
 Acted m i s = IsPrefix m s.next.made × (s.next.indicated ≡ i)
 
 accepted : (theirs : Params) (m i : List CallRequest) (answer : Option Proposal) (most : ℕ) → Acted m i (accepts theirs m i answer most)

@@ -1,7 +1,7 @@
 -- What is kept of two circuits between two clears. The first of the two ends is the DTE, the second the DCE.
 use Rattle.std.proofs.Common.{◌≡◌, ◌⊎◌, ℕ, List, [], ◌∷◌, ◌++◌, None, true}
 use Rattle.x25_circuit.specs.{declared.params.Params.{Params}, Params.{may_propose, may_answer, said_in}, Notice.{CallRequest}}
-use Rattle.x25_handshakes.specs.{laws.Handshake.{At, Step}, laws.Stretch.{Packet, Call, Accept, Stretch, fresh}, laws.Transfer.{fresh_transfer}}
+use Rattle.x25_handshakes.specs.{laws.Handshake.{At, OwnStep}, laws.Stretch.{Packet, Call, Accept, Stretch, fresh}, laws.Transfer.{fresh_transfer}}
 use Rattle.x25_handshakes.specs.laws.Calls.{Phase, Unused, Waiting, Offered, Crossed, Talking, Connection, Stage}
 use Rattle.x25_handshakes.specs.laws.Terms.{Terms, called_terms, calling_terms}
 use Rattle.x25_handshakes.proofs.{TermsLemmas.{IsSound}, TransferRelation.{OwnTransfer}, StretchRelation.{StretchesRelated}}
@@ -20,6 +20,7 @@ pub record TalkOf {T : Type 0} (R : Terms → Terms → Stretch → List Packet 
 abbrev pub TalksRelated : Terms → Terms → At Stretch → List Packet → List Packet → Terms → Terms → At Stretch → Type 0
 TalksRelated t b x u v t₂ b₂ y = TalkOf StretchesRelated fresh t b x u v t₂ b₂ y
 
+-- nothing is on the way
 abbrev pub Nil : List Packet → Type 0
 Nil [] = Unit {0}
 Nil (p ∷ u) = ⊥
@@ -29,6 +30,7 @@ abbrev pub call_at : List CallRequest → Packet → Type 0 → Type 0
 call_at m (Call n) later = (m ≡ n ∷ []) × later
 call_at m other later = ⊥
 
+-- one CALL alone is on the way
 abbrev pub OneCall : List CallRequest → List Packet → Type 0
 OneCall m [] = ⊥
 OneCall m (p ∷ u) = call_at m p (Nil u)
@@ -101,7 +103,7 @@ abbrev pub Joint : Phase → Phase → List CallRequest → List CallRequest →
 Joint a b ma ia mb ib u v = JointOf TalksRelated fresh_transfer fresh_transfer a b ma ia mb ib u v
 
 -- a step of our own end that is no error, and keeps what R says of it and the other end
-abbrev pub GoodCall : {T : Type 0} → (Connection → List Packet → List Packet → T → Type 0) → Step Connection Packet → List Packet → List Packet → T → Type 0
+abbrev pub GoodCall : {T : Type 0} → (Connection → List Packet → List Packet → T → Type 0) → OwnStep Connection Packet → List Packet → List Packet → T → Type 0
 GoodCall R s u v y = (s.error ≡ None) × R s.next (u ++ s.out) v y
 
 -- where an end is not in p1

@@ -5,6 +5,7 @@ use Rattle.x25_handshakes.specs.laws.Calls.{Connection, fresh_call}
 use Rattle.x25_bits.specs.{declared.role.Role.{Role}, declared.role.Role.TheVariants.{Dte, Dce}}
 use Rattle.x25_handshakes.proofs.{HandshakeRelation.{Level, Handshaken}, CallsRelation.{Joint, IsCalled}}
 
+-- what a packet is to the handshake of CLEAR
 abbrev pub clear_mark : Packet → Mark
 clear_mark Clear = Request
 clear_mark ClearConf = Confirm
@@ -20,8 +21,10 @@ abbrev pub own_call_level : {T : Type 0} → (Connection → Type 0) → (T → 
     → Level Connection T Packet
 own_call_level left left_there R y₀ = record { mark = clear_mark; fresh = fresh_call; fresh_there = y₀; gone = left; gone_there = left_there; related = R }
 
+-- two ends that are our own, with a call inside
 abbrev pub connection_level : Role → Level Connection Connection Packet
 connection_level r = own_call_level IsCalled IsCalled (Seen r) fresh_call
 
+-- the two ends of a channel keep step over CLEARs
 abbrev pub ChannelRelated : Role → At Connection → List Packet → List Packet → At Connection → Type 0
 ChannelRelated r x L K y = Handshaken (connection_level r) x L K y

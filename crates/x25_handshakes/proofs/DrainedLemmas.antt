@@ -3,7 +3,8 @@ use Rattle.std.proofs.Common.{◌≡◌, ◌⊎◌, inl, inr, ℕ, ◌+◌, ◌%
 use Rattle.std.proofs.{Common.{subst, ◌∙◌, arith}, lemmas.Bool.{true≢false, lt-ltb}}
 use Rattle.x25_circuit.specs.{Message.{Piece}, Notice.{CallRequest}}
 use Rattle.x25_bits.specs.{declared.role.Role.{Role}, declared.role.Role.TheVariants.{Dte, Dce}}
-use Rattle.x25_handshakes.specs.{laws.Handshake.{Side, Live, Left, At, state_of, Step, live}, laws.Stretch.{Data, Stretch, Pull, stretch_does, pulls, Packet}}
+use Rattle.x25_handshakes.specs.laws.Handshake.{Side, Live, Left, At, state_of, OwnStep, live}
+use Rattle.x25_handshakes.specs.laws.Stretch.{Data, Stretch, Pull, stretch_does, pulls, Packet}
 use Rattle.x25_handshakes.specs.{laws.Transfer.{Inside, lifted}, laws.Calls.{Phase, Waiting, Crossed, Talking, Connection, Talks, in_transfer}}
 use Rattle.x25_handshakes.specs.{laws.Channel.{Within, lifted_call, channel_acts}, laws.Layers.{LayerPacket, Channels, addressed, Pair, pair_run, pair_start}}
 use Rattle.x25_handshakes.specs.{laws.Histories.{messages, resets_in, name_at}, laws.Arrivals.{open_in, open_phase, open_call, open_channel, open_at}}
@@ -45,7 +46,7 @@ rest_seen Dte t b m i x y h = rest_a t b x y.phase m i y.made y.indicated h
 rest_seen Dce t b m i x y h = rest_b t b y.phase x y.made y.indicated m i h
 
 -- what a pull sends in a stretch, on its channel
-abbrev sent_by : ℕ → ℕ → Terms → Terms → List CallRequest → List CallRequest → ℕ → Step Stretch Packet → List LayerPacket
+abbrev sent_by : ℕ → ℕ → Terms → Terms → List CallRequest → List CallRequest → ℕ → OwnStep Stretch Packet → List LayerPacket
 sent_by k e t b m i s st = addressed k (lifted_call e (in_transfer t b m i (lifted s st st.error)) (in_transfer t b m i (lifted s st st.error)).error).out
 
 -- where all that was sent is acknowledged, a pull that sends none has none to send, or the other end isn't ready
@@ -53,7 +54,7 @@ held_back : (k e : ℕ) (t b : Terms) (m i : List CallRequest) (s : ℕ) (x : St
     → sent_by k e t b m i s (pulls t x x.rest) ≡ [] → (x.rest ≡ []) ⊎ (x.peer_ready ≡ false)
 held_back k e t b m i s x least acked none = by x.rest refl none
   where
-    next : Piece → List Piece → Step Stretch Packet
+    next : Piece → List Piece → OwnStep Stretch Packet
     next p ps = stretch_does (record x { sent = x.sent ++ p ∷ []; rest = ps }) (Data (length x.sent % 8) (length x.taken % 8) p ∷ [])
 
     room : nat_lt (length x.sent) (x.acked + t.window) ≡ true

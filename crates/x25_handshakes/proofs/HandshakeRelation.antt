@@ -81,6 +81,7 @@ pub record Later {S T P : Type 0} (l : Level S T P) (ex ey : ℕ) (x : Side S) (
   pub back : Behind l.mark (has_left y) K
   pub inner : Extended l.gone l.gone_there l.related (Live l.fresh) [] (before l.mark (past l.mark K)) y
 
+-- the two ends are in one epoch, or one of them is one ahead
 abbrev pub Handshake : {S T P : Type 0} → Level S T P → ℕ → ℕ → Side S → Side T → List P → List P → Type 0
 Handshake l ex ey x y L K = Same l ex ey x y L K ⊎ Ahead l ex ey x y L K ⊎ Later l ex ey x y L K
 

@@ -45,6 +45,7 @@ quiet_call_accepted m mine t b {R} quiet (Call n ∷ u) h = (refl, quiet_accepte
 quiet_call_accepted m mine t b quiet (Accept field most ∷ u) h = (refl, quiet u h.2)
 quiet_call_accepted m mine t b quiet u h = absurd h
 
+-- so it is between two ends of a call, in whatever stage each is
 pub quiet_joint : {A B : Type 0} (R : TalksOf A B) (a : A) (b : B)
     → ((t k : Terms) (x : A) (u v : List Packet) (t₂ k₂ : Terms) (y : B) → R t k x u v t₂ k₂ y → Quiet u × Quiet v)
     → (one : Stage A) (two : Stage B) (ma ia mb ib : List CallRequest) (u v : List Packet) → JointOf R a b one two ma ia mb ib u v → Quiet u × Quiet v

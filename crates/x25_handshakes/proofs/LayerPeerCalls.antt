@@ -2,7 +2,7 @@
 use Rattle.std.proofs.{Common.{◌≡◌, ℕ, ◌≤◌, List, [], ◌∷◌, ◌++◌, Option, Some, None, Bool, true, false, if◌then◌else◌, refl, ap}, lemmas.Bool.{cond_both}}
 use Rattle.x25_bits.specs.{declared.role.Role.{Role}, declared.role.Role.TheVariants.{Dte, Dce}}
 use Rattle.x25_circuit.specs.{declared.params.Params.{Params}, Params.{Proposal, may_propose, may_answer, field_for, said_in}, Notice.{CallRequest}}
-use Rattle.x25_handshakes.specs.{laws.Handshake.{Side, Live, Left, At, Step, PeerStep, live}, laws.Stretch.{Packet, Call, Accept, Clear, ClearConf}}
+use Rattle.x25_handshakes.specs.{laws.Handshake.{Side, Live, Left, At, OwnStep, PeerStep, live}, laws.Stretch.{Packet, Call, Accept, Clear, ClearConf}}
 use Rattle.x25_handshakes.specs.laws.Transfer.{transfer_side_takes, transfer_side_acts}
 use Rattle.x25_handshakes.specs.laws.Calls.{Phase, Unused, Waiting, Offered, Crossed, Talking, Connection, goes, unexpected, called_talk, calling_talk}
 use Rattle.x25_handshakes.specs.laws.Calls.{is_answered, phase_takes, call_takes, CallAct, PlacesCall, AcceptsCall, Talks, accepts, phase_acts, call_acts}
@@ -34,7 +34,7 @@ IsKnown (Offered theirs) = may_propose theirs ≡ true
 IsKnown (Talking t b at) = (t.window ≤ 7) × IsFit t.longest t.size at.side
 IsKnown other = Unit {0}
 
-abbrev Did_to : Phase → List CallRequest → List CallRequest → Step Connection Packet → Type 0
+abbrev Did_to : Phase → List CallRequest → List CallRequest → OwnStep Connection Packet → Type 0
 Did_to a m i s = CallDid (stands (as_stage a) m i) (as_peer_call s.next) s.out
 
 accepts_did : Laws → (theirs : Params) → may_propose theirs ≡ true → (m i : List CallRequest) (answer : Option Proposal) (most : ℕ)
@@ -109,13 +109,13 @@ abbrev pub IsKnownSide : Side Connection → Type 0
 IsKnownSide (Live x) = IsKnown x.phase
 IsKnownSide (Left x) = Unit {0}
 
-in_call_did : (e : ℕ) {y : PeerCall} (s : Step Connection Packet) (n : Option ℕ) → (lifted_call e s n).error ≡ None → CallDid y (as_peer_call s.next) s.out
+in_call_did : (e : ℕ) {y : PeerCall} (s : OwnStep Connection Packet) (n : Option ℕ) → (lifted_call e s n).error ≡ None → CallDid y (as_peer_call s.next) s.out
     → ChannelDid (live e y) (as_at as_peer_call (lifted_call e s n).next) (lifted_call e s n).out
 in_call_did e {y} s None quiet did =
     did_above call_deeds channel_deeds (λ y. live e y) (λ d. InCall d) y (as_peer_call s.next) s.out (λ d may. may) (λ d. refl) (λ d. refl) did
 in_call_did e s (Some n) quiet did = absurd (cc)
 
-no_error : (e : ℕ) (s : Step Connection Packet) (n : Option ℕ) → (lifted_call e s n).error ≡ None → n ≡ None
+no_error : (e : ℕ) (s : OwnStep Connection Packet) (n : Option ℕ) → (lifted_call e s n).error ≡ None → n ≡ None
 no_error e s None quiet = refl
 no_error e s (Some n) quiet = absurd (cc)
 

@@ -3,7 +3,7 @@ use Rattle.std.proofs.Common.{◌≡◌, ℕ, ◌≤◌, List, [], ◌∷◌, �
 use Rattle.std.proofs.{Common.{append_assoc}, lemmas.List.{append-nil}, lemmas.Bool.{eqb-true}, Math.Path.{fun_ext}}
 use Rattle.x25_bits.specs.{declared.role.Role.{Role}, declared.role.Role.TheVariants.{Dte, Dce}}
 use Rattle.x25_circuit.specs.{Params.{may_propose}, Notice.{CallRequest}}
-use Rattle.x25_handshakes.specs.{laws.Handshake.{Side, Live, Left, At, Step, PeerStep, live, left}, laws.Stretch.{Packet, Stretch}}
+use Rattle.x25_handshakes.specs.{laws.Handshake.{Side, Live, Left, At, OwnStep, PeerStep, live, left}, laws.Stretch.{Packet, Stretch}}
 use Rattle.x25_handshakes.specs.{laws.Calls.{Phase, Waiting, Offered, Crossed, Talking, Connection}, laws.Channel.{channel_takes, channel_acts}}
 use Rattle.x25_handshakes.specs.laws.Layers.{LayerPacket, On, Restart, RestartConf, Channels, put, addressed, all_fresh, layer_side_takes, layer_takes}
 use Rattle.x25_handshakes.specs.laws.Layers.{LayerAct, OnChannel, SendsRestart, layer_side_acts, layer_acts, Pair, Move, Acts, Takes, LinkDown, turned}
@@ -92,7 +92,7 @@ put_same e x h c is = ap (λ f. live e f) (fun_ext (λ k. by k (k == h) refl))
     by k true at = ap (λ j. as_at as_peer_call (x j)) (eqb-true k h at) ∙ is
     by k false at = refl
 
-on_channel_did : (e : ℕ) (x : Channels) (h : ℕ) (s : Step (At Connection) Packet) → ChannelDid (as_at as_peer_call (x h)) (as_at as_peer_call s.next) s.out
+on_channel_did : (e : ℕ) (x : Channels) (h : ℕ) (s : OwnStep (At Connection) Packet) → ChannelDid (as_at as_peer_call (x h)) (as_at as_peer_call s.next) s.out
     → LayerDid (as_peer (live e x)) (as_peer (live e (put x h s.next))) (addressed h s.out)
 on_channel_did e x h s (Nothing same none) = Nothing (put_same e x h s.next same) (ap (addressed h) none)
 on_channel_did e x h s (Something d may next out) = Something (InChannel h d) may

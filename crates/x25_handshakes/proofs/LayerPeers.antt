@@ -8,7 +8,7 @@ use Rattle.x25_handshakes.specs.laws.Stretch.{Packet, Data, Rr, Rnr, Int, IntCon
 use Rattle.x25_handshakes.specs.laws.Stretch.{StretchAct, Send, Pull, Ready, NotReady, Interrupt, sends, pulls, interrupts, stretch_acts, ack_ground}
 use Rattle.x25_handshakes.specs.laws.Stretch.{data_ground, by_ground, takes_data, takes_status, stretch_takes}
 use Rattle.x25_handshakes.specs.laws.PeerStretch.{PeerStretch, Deed, Sends, Says, Interrupts, Confirms, MayDo, does, packet_of, taking}
-use Rattle.x25_handshakes.specs.laws.Handshake.{Side, Live, Left, At, Step, PeerStep, live}
+use Rattle.x25_handshakes.specs.laws.Handshake.{Side, Live, Left, At, OwnStep, PeerStep, live}
 use Rattle.x25_handshakes.specs.laws.Transfer.{lifted, TransferAct, Inside, SendsReset, transfer_side_takes, transfer_side_acts}
 use Rattle.x25_handshakes.specs.laws.PeerTransfer.{TransferDeed, InStretch, Resets, MayDoTransfer, does_transfer, transfer_packet_of, transfer_taking}
 use Rattle.x25_handshakes.specs.{laws.LayerPeers.{as_peer_stretch, as_side, as_at}, laws.Terms.{Terms}}
@@ -50,7 +50,7 @@ stretch_deeds longest size = record { may = MayDo longest size; does = does; pac
 abbrev pub StretchDid : ℕ → ℕ → PeerStretch → PeerStretch → List Packet → Type 0
 StretchDid longest size y y₂ o = Did (stretch_deeds longest size) y y₂ o
 
-abbrev Does : ℕ → ℕ → Stretch → Step Stretch Packet → Type 0
+abbrev Does : ℕ → ℕ → Stretch → OwnStep Stretch Packet → Type 0
 Does longest size x s = StretchDid longest size (as_peer_stretch x) (as_peer_stretch s.next) s.out
 
 does_still : (longest size : ℕ) (x : Stretch) → Does longest size x (stretch_does x [])
@@ -101,10 +101,10 @@ stretch_did t small x sound NotReady = Something (Says false (length x.taken)) (
 stretch_did t small x sound (Interrupt xs) = does_interrupt t.longest t.size x xs
 
 -- what it makes of what comes: as the peer, and then what the peer may do
-abbrev Hears : ℕ → ℕ → Stretch → Packet → Step Stretch Packet → Type 0
+abbrev Hears : ℕ → ℕ → Stretch → Packet → OwnStep Stretch Packet → Type 0
 Hears longest size x p s = StretchDid longest size (taking (as_peer_stretch x) p) (as_peer_stretch s.next) s.out
 
-by_none : {longest size : ℕ} (x : Stretch) (p : Packet) (g : Option ℕ) (good : Step Stretch Packet) → (by_ground g x good).error ≡ None
+by_none : {longest size : ℕ} (x : Stretch) (p : Packet) (g : Option ℕ) (good : OwnStep Stretch Packet) → (by_ground g x good).error ≡ None
     → (g ≡ None → Hears longest size x p good) → Hears longest size x p (by_ground g x good)
 by_none x p None good quiet h = h refl
 by_none x p (Some n) good quiet h = absurd (cc)
@@ -157,7 +157,7 @@ abbrev pub IsFit : ℕ → ℕ → Side Stretch → Type 0
 IsFit longest size (Live x) = AreSound longest size no_part (x.sent ++ x.rest)
 IsFit longest size (Left x) = Unit {0}
 
-lifted_did : {longest size : ℕ} (e : ℕ) (x : Stretch) (s : Step Stretch Packet) → (lifted e s s.error).error ≡ None
+lifted_did : {longest size : ℕ} (e : ℕ) (x : Stretch) (s : OwnStep Stretch Packet) → (lifted e s s.error).error ≡ None
     → StretchDid longest size (as_peer_stretch x) (as_peer_stretch s.next) s.out
     → TransferDid longest size (as_at as_peer_stretch (live e x)) (as_at as_peer_stretch (lifted e s s.error).next) (lifted e s s.error).out
 lifted_did {longest} {size} e x s quiet did = by s.error quiet

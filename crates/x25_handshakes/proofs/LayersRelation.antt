@@ -1,10 +1,11 @@
 -- What is kept of two layers, and of two ends of which each may be out.
 use Rattle.std.proofs.Common.{ℕ, List, [], ◌∷◌, Bool, true, false, ◌==◌}
-use Rattle.x25_handshakes.specs.{laws.Handshake.{Mark, Inner, Request, Confirm, Side, At, Step}, laws.Stretch.{Packet}, laws.Calls.{Connection}}
+use Rattle.x25_handshakes.specs.{laws.Handshake.{Mark, Inner, Request, Confirm, Side, At, OwnStep}, laws.Stretch.{Packet}, laws.Calls.{Connection}}
 use Rattle.x25_handshakes.specs.laws.Layers.{LayerPacket, On, Restart, RestartConf, Channels, all_fresh}
 use Rattle.x25_bits.specs.declared.role.Role.{Role}
 use Rattle.x25_handshakes.proofs.{HandshakeRelation.{Extended, Level, Handshaken, GoodStep}, ChannelRelation.{ChannelRelated}}
 
+-- the packet with those behind it, or those alone
 abbrev pub kept_on : Bool → Packet → List Packet → List Packet
 kept_on true p rest = p ∷ rest
 kept_on false p rest = rest
@@ -20,11 +21,13 @@ on h (RestartConf ∷ L) = on h L
 pub record OnEach {Z : Type 0} (R : At Connection → List Packet → List Packet → Z → Type 0) (x : Channels) (L K : List LayerPacket) (y : ℕ → Z) : Type 0 where
   pub each : (h : ℕ) → R (x h) (on h L) (on h K) (y h)
 
+-- what a packet is to the handshake of RESTART
 abbrev pub restart_mark : LayerPacket → Mark
 restart_mark (On h p) = Inner
 restart_mark Restart = Request
 restart_mark RestartConf = Confirm
 
+-- our own end and one of any kind, with channels inside of which each keeps R
 abbrev pub own_channels_level : {Z : Type 0} → (At Connection → List Packet → List Packet → Z → Type 0) → (ℕ → Z) → Level Channels (ℕ → Z) LayerPacket
 own_channels_level R y₀ = record {
   mark = restart_mark;
@@ -38,10 +41,11 @@ own_channels_level R y₀ = record {
 abbrev pub channels_level : Role → Level Channels Channels LayerPacket
 channels_level r = own_channels_level (ChannelRelated r) all_fresh
 
+-- the two layers keep step over RESTARTs
 abbrev pub LayersRelated : Role → At Channels → List LayerPacket → List LayerPacket → At Channels → Type 0
 LayersRelated r x L K y = Handshaken (channels_level r) x L K y
 
-abbrev pub GoodLayer : Role → Step (At Channels) LayerPacket → List LayerPacket → List LayerPacket → At Channels → Type 0
+abbrev pub GoodLayer : Role → OwnStep (At Channels) LayerPacket → List LayerPacket → List LayerPacket → At Channels → Type 0
 GoodLayer r s L K y = GoodStep (channels_level r) s.error s.next s.out L K y
 
 -- what is kept of the two ends

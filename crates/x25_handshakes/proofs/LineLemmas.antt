@@ -14,6 +14,7 @@ hears_least : (a : ℕ) (r : Option ℕ) → a ≤ hears a r
 hears_least a None = omega arith
 hears_least a (Some r) = omega arith
 
+-- what a line acknowledges is never less than what is acknowledged
 pub heard_least : (a : ℕ) (v : List Packet) → a ≤ heard a v
 heard_least a [] = omega arith
 heard_least a (p ∷ v) = omega (arith, hears_least a (ack_in p), heard_least (hears a (ack_in p)) v)

@@ -2,6 +2,7 @@
 use Rattle.std.proofs.{Common.{◌≡◌, inl, inr, ℕ, Bool, true, false, ◌==◌, refl, ap, subst, ◌∙◌, eq-eqb, arith}, lemmas.Bool.{eqb-true, false_from_ne_true}}
 use Rattle.x25_handshakes.specs.laws.Names.{Name, both, same_name, IsEarlierCount, IsEarlier}
 
+-- names are the same that count alike
 pub name_eq : (m n : Name) → m.restarts ≡ n.restarts → m.clears ≡ n.clears → m.resets ≡ n.resets → m ≡ n
 name_eq m n p q w =
     ap (λ a. record { restarts = a; clears = m.clears; resets = m.resets }) p

@@ -3,7 +3,7 @@ use Rattle.std.proofs.{Common.{◌≡◌, inl, inr, ℕ, List, [], ◌∷◌, �
 use Rattle.std.proofs.lemmas.Bool.{cond_both}
 use Rattle.x25_bits.specs.{declared.role.Role.{Role}, declared.role.Role.TheVariants.{Dte, Dce}}
 use Rattle.x25_circuit.specs.{declared.params.Params.{Params}, Params.{Proposal, may_propose, may_answer, field_for, said_in}, Notice.{CallRequest}}
-use Rattle.x25_handshakes.specs.{laws.Handshake.{Live, At, Step}, laws.Stretch.{Packet, Call, Accept, Stretch}}
+use Rattle.x25_handshakes.specs.{laws.Handshake.{Live, At, OwnStep}, laws.Stretch.{Packet, Call, Accept, Stretch}}
 use Rattle.x25_handshakes.specs.laws.Transfer.{fresh_transfer, transfer_takes, TransferAct, transfer_acts}
 use Rattle.x25_handshakes.specs.laws.Calls.{Phase, Unused, Waiting, Offered, Crossed, Talking, Connection, goes, unexpected, called_talk, calling_talk}
 use Rattle.x25_handshakes.specs.laws.Calls.{is_answered, phase_takes, call_takes, CallAct, PlacesCall, AcceptsCall, Talks, phase_acts, call_acts, Stage}
@@ -86,6 +86,7 @@ pub Accepted-some : (mine : Params) (t b : Terms) {R : List Packet → Type 0} (
 Accepted-some mine t b (Accept field most ∷ u) h = (u, h.1)
 Accepted-some mine t b u h = absurd h
 
+-- some line follows of which R holds
 pub CallAccepted-some : (mine : Params) (t b : Terms) {R : List Packet → Type 0} (m : List CallRequest) (u : List Packet) → CallAccepted m mine t b R u
     → (w : List Packet) × R w
 CallAccepted-some mine t b {R} m (Call n ∷ u) h = Accepted-some mine t b u h.1
@@ -337,7 +338,7 @@ abbrev OwnFine : Terms → Terms → At Stretch → Packet → Type 0
 OwnFine t b x p = (transfer_takes b.longest b.size x p).error ≡ None
 
 -- a step that is no error, and leads to this
-abbrev IsGood : (Stage (At Stretch) → List CallRequest → List CallRequest → List Packet → Type 0) → Step Connection Packet → Type 0
+abbrev IsGood : (Stage (At Stretch) → List CallRequest → List CallRequest → List Packet → Type 0) → OwnStep Connection Packet → Type 0
 IsGood K s = (s.error ≡ None) × K s.next.phase s.next.made s.next.indicated s.out
 
 module _ (K : Stage (At Stretch) → List CallRequest → List CallRequest → List Packet → Type 0) (m i : List CallRequest) where
@@ -378,7 +379,8 @@ module _ (K : Stage (At Stretch) → List CallRequest → List CallRequest → L
   own_done laws a act stays calls answers moves = (refl, stays)
 
 -- a step in p4 that is no error, and keeps what is kept there
-pub record OwnTalk {B : Type 0} (R : TalksOf (At Stretch) B) (t b : Terms) (s : Step (At Stretch) Packet) (u v : List Packet) (t₂ b₂ : Terms) (y : B) : Type 0
+pub record OwnTalk {B : Type 0} (R : TalksOf (At Stretch) B) (t b : Terms) (s : OwnStep (At Stretch) Packet) (u v : List Packet) (t₂ b₂ : Terms)
+    (y : B) : Type 0
   where
     pub quiet : s.error ≡ None
     pub kept : R t b s.next (u ++ s.out) v t₂ b₂ y
@@ -399,6 +401,7 @@ module _ {B : Type 0} {R : TalksOf (At Stretch) B} {y₀ : B} (talks : DteTalks 
     abbrev OwnDteNow : List Packet → Stage (At Stretch) → Type 0
     OwnDteNow v a = JointOf R fresh_transfer y₀ a b x.made x.indicated mb ib u v
 
+    -- our own end, as DTE, takes a packet
     pub dte_takes : (p : Packet) (v : List Packet) → OwnDteNow (p ∷ v) x.phase → IsGood (OwnDte v) (call_takes Dte x p)
     dte_takes p v h =
         let g = dte_taken R fresh_transfer y₀ own_next own_out OwnFine
@@ -421,7 +424,7 @@ module _ {B : Type 0} {R : TalksOf (At Stretch) B} {y₀ : B} (talks : DteTalks 
         )))
 
 pub record OwnTalkBack {A : Type 0} (R : TalksOf A (At Stretch)) (t b : Terms) (x : A) (u v : List Packet) (t₂ b₂ : Terms)
-    (s : Step (At Stretch) Packet) : Type 0 where
+    (s : OwnStep (At Stretch) Packet) : Type 0 where
   pub quiet : s.error ≡ None
   pub kept : R t b x u (v ++ s.out) t₂ b₂ s.next
 
@@ -440,6 +443,7 @@ module _ {A : Type 0} {R : TalksOf A (At Stretch)} {x₀ : A} (talks : DceTalks 
     abbrev OwnDceNow : List Packet → Stage (At Stretch) → Type 0
     OwnDceNow u b = JointOf R x₀ fresh_transfer a b ma ia y.made y.indicated u v
 
+    -- our own end, as DCE, takes a packet
     pub dce_takes : (p : Packet) (u : List Packet) → OwnDceNow (p ∷ u) y.phase → IsGood (OwnDce u) (call_takes Dce y p)
     dce_takes p u h =
         let g = dce_taken R x₀ fresh_transfer own_next own_out OwnFine

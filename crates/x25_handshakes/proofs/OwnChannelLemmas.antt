@@ -1,6 +1,6 @@
 -- What our own circuit does between two restarts keeps what is kept of it and the other end, whatever kind of end that is.
 use Rattle.std.proofs.Common.{◌≡◌, ℕ, List, [], ◌∷◌, ◌++◌, Option, None, refl, sym, ◌∙◌}
-use Rattle.x25_handshakes.specs.{laws.Handshake.{Inner, Side, Live, Left, At, Step, live}, laws.Stretch.{Packet, Clear, ClearConf}}
+use Rattle.x25_handshakes.specs.{laws.Handshake.{Inner, Side, Live, Left, At, OwnStep, live}, laws.Stretch.{Packet, Clear, ClearConf}}
 use Rattle.x25_handshakes.specs.laws.Calls.{Phase, Unused, Connection, call_takes, CallAct, call_acts, fresh_call}
 use Rattle.x25_handshakes.specs.laws.Channel.{lifted_call, in_p1, channel_side_takes, channel_takes, ChannelAct, Within, SendsClear, clears, channel_side_acts}
 use Rattle.x25_handshakes.specs.laws.Channel.{channel_acts}
@@ -29,11 +29,11 @@ module _ {T : Type 0} (gone : Connection → Type 0) (gone_there : T → Type 0)
   abbrev level : Level Connection T Packet
   level = own_call_level gone gone_there R y₀
 
-  abbrev Good : Option ℕ → Step (At Connection) Packet → List Packet → List Packet → At T → Type 0
+  abbrev Good : Option ℕ → OwnStep (At Connection) Packet → List Packet → List Packet → At T → Type 0
   Good e s L K y = GoodStep level e s.next s.out L K y
 
   -- a step in a call that is no error, with these packets taken, one or none
-  inside : (f : Option ℕ → Option ℕ) → f None ≡ None → (e : ℕ) (x : Connection) (s : Step Connection Packet) (taken : List Packet)
+  inside : (f : Option ℕ → Option ℕ) → f None ≡ None → (e : ℕ) (x : Connection) (s : OwnStep Connection Packet) (taken : List Packet)
       → ((u v : List Packet) (y : T) → R x u (taken ++ v) y → GoodCall R s u v y)
       → (let k = lifted_call e s s.error in Inside level Any e x taken k.next k.out (f k.error))
   inside f none e x s taken good = record { after = s.next; goes = λ u v y h. at u v y (good u v y h) }
@@ -50,6 +50,7 @@ module _ {T : Type 0} (gone : Connection → Type 0) (gone_there : T → Type 0)
   answers e (Left x) Clear = (refl, refl, own.none Clear)
   answers e (Left x) p = (refl, refl, own.none p)
 
+  -- our own end of a channel takes a packet, and keeps step with an end of whatever kind
   pub channel_takes_good : {x : At Connection} {L : List Packet} (p : Packet) (K : List Packet) {y : At T} → Handshaken level x L (p ∷ K) y
       → Good (finds p (channel_takes r x p).error) (channel_takes r x p) L K y
   channel_takes_good {x} {L} p K {y} h =

@@ -1,7 +1,7 @@
 -- What our own layer does keeps what is kept of it and the other end, whatever kind of end that is.
 use Rattle.std.proofs.Common.{◌≡◌, ℕ, List, [], ◌∷◌, ◌++◌, Option, None, Bool, true, false, if◌then◌else◌, refl, sym, ap, subst, ◌∙◌, ◌==◌, eq-eqb}
 use Rattle.std.proofs.{lemmas.Bool.{eqb-true}, lemmas.List.{append-nil}}
-use Rattle.x25_handshakes.specs.{laws.Handshake.{Side, Live, Left, At, Step, live}, laws.Stretch.{Packet}, laws.Calls.{Connection}}
+use Rattle.x25_handshakes.specs.{laws.Handshake.{Side, Live, Left, At, OwnStep, live}, laws.Stretch.{Packet}, laws.Calls.{Connection}}
 use Rattle.x25_handshakes.specs.laws.Channel.{fresh_channel, channel_takes, ChannelAct, channel_acts}
 use Rattle.x25_handshakes.specs.laws.Layers.{LayerPacket, On, Restart, RestartConf, Channels, put, addressed, layer_side_takes, layer_takes, LayerAct}
 use Rattle.x25_handshakes.specs.laws.Layers.{OnChannel, SendsRestart, layer_side_acts, layer_acts}
@@ -68,11 +68,11 @@ module _ {Z : Type 0} (R : At Connection → List Packet → List Packet → Z �
   abbrev level : Level Channels (ℕ → Z) LayerPacket
   level = own_channels_level R y₀
 
-  abbrev Good : Option ℕ → Step (At Channels) LayerPacket → List LayerPacket → List LayerPacket → At (ℕ → Z) → Type 0
+  abbrev Good : Option ℕ → OwnStep (At Channels) LayerPacket → List LayerPacket → List LayerPacket → At (ℕ → Z) → Type 0
   Good e s L K y = GoodStep level e s.next s.out L K y
 
   -- a step of channel h that is no error, with these packets taken
-  inside : (e : ℕ) (x : Channels) (h : ℕ) (s : Step (At Connection) Packet) (taken : List LayerPacket) (error : Option ℕ)
+  inside : (e : ℕ) (x : Channels) (h : ℕ) (s : OwnStep (At Connection) Packet) (taken : List LayerPacket) (error : Option ℕ)
       → ((k : ℕ) (K : List LayerPacket) → (k == h) ≡ false → on k (taken ++ K) ≡ on k K)
       → ((L K : List LayerPacket) (y : ℕ → Z) → OnEach R x L (taken ++ K) y → (error ≡ None) × R s.next (on h L ++ s.out) (on h K) (y h))
       → Inside level Any e x taken (live e (put x h s.next)) (addressed h s.out) error
@@ -97,6 +97,7 @@ module _ {Z : Type 0} (R : At Connection → List Packet → List Packet → Z �
   answers e (Left x) Restart = (refl, refl, own.none Restart)
   answers e (Left x) p = (refl, refl, own.none p)
 
+  -- our own layer takes a packet, and keeps step with one of whatever kind
   pub layer_takes_good : {x : At Channels} {L : List LayerPacket} (p : LayerPacket) (K : List LayerPacket) {y : At (ℕ → Z)} → Handshaken level x L (p ∷ K) y
       → Good (finds p (layer_takes r x p).error) (layer_takes r x p) L K y
   layer_takes_good {x} {L} p K {y} h =

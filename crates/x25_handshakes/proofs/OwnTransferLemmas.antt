@@ -1,6 +1,6 @@
 -- What our own circuit does in p4 keeps what is kept of it and the other end, and is no procedure error, whatever kind of end the other is.
 use Rattle.std.proofs.Common.{◌≡◌, ℕ, List, [], ◌∷◌, ◌++◌, refl, sym, subst}
-use Rattle.x25_handshakes.specs.laws.Handshake.{Inner, Side, Live, Left, At, Step}
+use Rattle.x25_handshakes.specs.laws.Handshake.{Inner, Side, Live, Left, At, OwnStep}
 use Rattle.x25_handshakes.specs.laws.Stretch.{Packet, Data, Rr, Rnr, Int, IntConf, Reset, ResetConf, Call, Accept, Clear, ClearConf, Stretch, fresh, StretchAct}
 use Rattle.x25_handshakes.specs.laws.Stretch.{stretch_acts, stretch_takes}
 use Rattle.x25_handshakes.specs.laws.Transfer.{lifted, transfer_side_takes, transfer_takes, TransferAct, Inside, SendsReset, transfer_side_acts, transfer_acts}
@@ -37,7 +37,7 @@ module _ {T : Type 0} (R : Stretch → List Packet → List Packet → T → Typ
     level = own_level R y₀
 
     -- a step in d1 that is no error, with these packets taken, one or none
-    inside : (e : ℕ) (x : Stretch) (s : Step Stretch Packet) (taken : List Packet)
+    inside : (e : ℕ) (x : Stretch) (s : OwnStep Stretch Packet) (taken : List Packet)
         → ((u v : List Packet) (y : T) → R x u (taken ++ v) y → GoodStretch R s u v y)
         → (let k = lifted e s s.error in hand.Inside level AllInTransfer e x taken k.next k.out k.error)
     inside e x s taken good = record { after = s.next; goes = λ u v y h. at u v y (good u v y h) }
@@ -66,13 +66,14 @@ module _ {T : Type 0} (R : Stretch → List Packet → List Packet → T → Typ
     answers e (Left x) p is = (refl, refl, refl)
 
     -- with the kinds of packets on both lines
-    kinds : (x : At Stretch) (L K K₂ : List Packet) (y : At T) (s : Step (At Stretch) Packet) → OwnTransfer R y₀ x L K y → AllInTransfer K₂
+    kinds : (x : At Stretch) (L K K₂ : List Packet) (y : At T) (s : OwnStep (At Stretch) Packet) → OwnTransfer R y₀ x L K y → AllInTransfer K₂
         → GoodStep level s.error s.next s.out L K₂ y × AllInTransfer s.out → GoodOwnTransfer R y₀ s L K₂ y
     kinds x L K K₂ y s h back g = record {
       quiet = g.0.quiet;
       kept = record { hand = g.0.kept.hand; there = each_append InTransfer L s.out h.there g.1; back = back };
     }
 
+    -- our own end of a call takes a packet, and keeps step over RESETs
     pub own_takes : {x : At Stretch} {L : List Packet} (p : Packet) (K : List Packet) {y : At T} → OwnTransfer R y₀ x L (p ∷ K) y
         → GoodOwnTransfer R y₀ (transfer_takes longest size x p) L K y
     own_takes {x} {L} p K {y} h =

@@ -2,7 +2,7 @@
 use Rattle.std.proofs.Common.{◌≡◌, ℕ, ◌+◌, ◌-◌, ◌%◌, ◌≤◌, List, [], ◌∷◌, ◌++◌, length, Some, None, Bool, true, false, refl, sym, ap, subst, ◌∙◌, arith}
 use Rattle.std.proofs.{Common.{append_assoc, length-append}, lemmas.List.{length_push, append-nil}}
 use Rattle.x25_packet.specs.declared.marks.Marks.{Marks}
-use Rattle.x25_circuit.specs.{declared.message.Message.{Message}, Message.{Piece, no_part, joining, completed, carried_from, carried, AreSound, cut}}
+use Rattle.x25_circuit.specs.Message.{Message, Piece, no_part, joining, completed, carried_from, carried, AreSound, cut}
 use Rattle.x25_window.specs.code.Modulo.{resolved}
 use Rattle.x25_handshakes.specs.laws.Stretch.{Packet, Data, Int, IntConf}
 use Rattle.x25_handshakes.proofs.StretchRelation.{numbering, ack_in, int_in, conf_in, piece_of, pieces, number_at, Numbered, hears, heard, ints, confs}
@@ -13,6 +13,7 @@ use Rattle.x25_handshakes.proofs.HandshakeLemmas.{each_append}
 
 -- the data packets on the way, in their numbers
 
+-- as many were sent as were taken and are on the way
 pub Line-le : {sent taken : List Piece} {u : List Packet} → Line sent taken u → length sent ≡ length taken + length (pieces u)
 Line-le {taken} {u} h = ap length h.flow ∙ length-append taken (pieces u)
 
@@ -39,6 +40,7 @@ Line-take {taken} u s r p h = record {
   kinds = h.kinds.1;
 }
 
+-- a packet without a number is taken off in front
 pub Line-skip : {sent taken : List Piece} (u : List Packet) (q : Packet) → numbering q ≡ None → Line sent taken (q ∷ u) → Line sent taken u
 Line-skip {sent} {taken} u q none h = record {
   flow = subst (λ c. sent ≡ taken ++ (piece_of c ++ pieces u)) none h.flow;
@@ -126,6 +128,7 @@ pub Ints-skip : {out : Bool} {down up : List (List ℕ)} {u : List Packet} (v : 
     → Ints out down up u (q ∷ v) owed → Ints out down up u v owed
 Ints-skip v q none h = let count = h.count in record { count = omega (arith, count); flow = h.flow }
 
+-- while a confirmation is on the way an interrupt is out
 pub Ints-out : (out : Bool) {down up : List (List ℕ)} {u : List Packet} (v : List Packet) {owed : ℕ} → Ints out down up u (IntConf ∷ v) owed → out ≡ true
 Ints-out true v h = refl
 Ints-out false v h = absurd (omega (arith, h.count))

@@ -6,7 +6,7 @@ use Rattle.x25_circuit.specs.Message.{Piece, no_part, joining, piece_ground, cut
 use Rattle.x25_window.specs.code.Modulo.{resolved}
 use Rattle.x25_handshakes.specs.laws.Stretch.{Packet, Data, Rr, Rnr, Int, IntConf, Stretch, stretch_does, stretch_fails, StretchAct, Send, Pull, Ready}
 use Rattle.x25_handshakes.specs.laws.Stretch.{NotReady, Interrupt, status, sends, pulls, interrupts, stretch_acts, ack_ground, data_ground, by_ground}
-use Rattle.x25_handshakes.specs.{laws.Stretch.{takes_data, takes_status, stretch_takes}, laws.PeerStretch.{PeerStretch}, laws.Handshake.{Step}}
+use Rattle.x25_handshakes.specs.{laws.Stretch.{takes_data, takes_status, stretch_takes}, laws.PeerStretch.{PeerStretch}, laws.Handshake.{OwnStep}}
 use Rattle.x25_handshakes.specs.laws.Terms.{Terms}
 use Rattle.x25_handshakes.proofs.StretchRelation.{numbering, ack_in, int_in, conf_in, InFlowControl, pieces, hears, heard, GoodStretch}
 use Rattle.x25_handshakes.proofs.TextLemmas.{AreSound-back}
@@ -15,7 +15,7 @@ use Rattle.x25_handshakes.proofs.PartLemmas.{heard_below, Ints-there, Ints-back,
 use Rattle.x25_handshakes.proofs.{PartLemmas.{Text-send, Text-pull, up-take}, PeerRelation.{Theirs, Kept}}
 
 -- a step of ours that is no error, and keeps both
-abbrev pub Good : Terms → ℕ → ℕ → Step Stretch Packet → List Packet → List Packet → PeerStretch → Type 0
+abbrev pub Good : Terms → ℕ → ℕ → OwnStep Stretch Packet → List Packet → List Packet → PeerStretch → Type 0
 Good t longest size s u v y = GoodStretch (Kept t longest size) s u v y
 
 -- an answer of no packet

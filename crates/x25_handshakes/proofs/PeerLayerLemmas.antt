@@ -1,7 +1,7 @@
 -- What is kept of a packet layer of ours and a peer: all that happens keeps it and is no procedure error, and it says the claims.
 use Rattle.std.proofs.{Common.{◌≡◌, ℕ, List, [], ◌∷◌, ◌++◌, Option, None, false, ◌==◌, refl, sym, ap, subst, ◌∙◌, inl, Some, true}, lemmas.Bool.{true≢false}}
 use Rattle.std.proofs.lemmas.Option.{none-some}
-use Rattle.x25_handshakes.specs.{laws.Handshake.{Side, Live, Left, At, Step, live, first_error, near_stepped}, laws.Stretch.{Packet}}
+use Rattle.x25_handshakes.specs.{laws.Handshake.{Side, Live, Left, At, OwnStep, live, first_error, near_stepped}, laws.Stretch.{Packet}}
 use Rattle.x25_handshakes.specs.laws.Layers.{LayerPacket, On, Restart, RestartConf, Channels, addressed, all_fresh, layer_takes, LayerAct, layer_acts}
 use Rattle.x25_handshakes.specs.{laws.PeerCalls.{PeerCall, fresh_peer_call}, laws.PeerChannel.{does_channel, channel_packet_of, channel_taking}}
 use Rattle.x25_handshakes.specs.laws.PeerLayer.{PeerChannels, put_peer, peer_fresh, LayerDeed, InChannel, Restarts, MayDoLayer, does_layer, layer_packet_of}
@@ -26,7 +26,7 @@ peer_channels_level r = own_channels_level (PeerChannelRelated r) peer_fresh
 abbrev pub PeerLayersRelated : Role → At Channels → List LayerPacket → List LayerPacket → At PeerChannels → Type 0
 PeerLayersRelated r x L K y = Handshaken (peer_channels_level r) x L K y
 
-abbrev pub GoodPeerLayer : Role → Option ℕ → Step (At Channels) LayerPacket → List LayerPacket → List LayerPacket → At PeerChannels → Type 0
+abbrev pub GoodPeerLayer : Role → Option ℕ → OwnStep (At Channels) LayerPacket → List LayerPacket → List LayerPacket → At PeerChannels → Type 0
 GoodPeerLayer r e s L K y = GoodStep (peer_channels_level r) e s.next s.out L K y
 
 pub PeerChannelsRelated-fresh : (r : Role) → OnEach (PeerChannelRelated r) all_fresh [] [] peer_fresh
@@ -166,7 +166,7 @@ record Holds (r : Role) (w : JoinedLayers) : Type 0 where
   pub quiet : w.error ≡ None
   pub kept : PeerLayersRelated r w.near w.out w.back w.peer
 
-stepped_holds : {r : Role} (w : JoinedLayers) {back : List LayerPacket} (s : Step (At Channels) LayerPacket) {e : Option ℕ} → w.error ≡ None
+stepped_holds : {r : Role} (w : JoinedLayers) {back : List LayerPacket} (s : OwnStep (At Channels) LayerPacket) {e : Option ℕ} → w.error ≡ None
     → GoodPeerLayer r e s w.out back w.peer → Holds r (near_stepped w back s e)
 stepped_holds w s {e} none good = record { quiet = ap (λ f. first_error f e) none ∙ good.quiet; kept = good.kept }
 

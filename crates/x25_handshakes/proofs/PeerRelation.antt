@@ -1,6 +1,6 @@
 -- What is kept of our circuit and a peer in one stretch.
 use Rattle.std.proofs.Common.{◌≡◌, ℕ, ◌≤◌, List, [], length, refl, arith}
-use Rattle.x25_circuit.specs.{declared.message.Message.{Message}, Message.{Piece, no_part, carried, AreSound}}
+use Rattle.x25_circuit.specs.Message.{Message, Piece, no_part, carried, AreSound}
 use Rattle.x25_handshakes.specs.{laws.Stretch.{Packet, Stretch, fresh}, laws.PeerStretch.{PeerStretch, fresh_peer}, laws.Terms.{Terms}}
 use Rattle.x25_handshakes.proofs.StretchRelation.{Line, Acks, Ints, Text}
 

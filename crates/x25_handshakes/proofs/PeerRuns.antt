@@ -2,7 +2,7 @@
 use Rattle.std.proofs.Common.{◌≡◌, ℕ, ◌≤◌, List, None, refl, ap, ◌∙◌, sym}
 use Rattle.x25_handshakes.specs.{laws.Stretch.{Packet, Stretch}, laws.Transfer.{transfer_acts, transfer_takes}}
 use Rattle.x25_handshakes.specs.laws.PeerJoined.{JoinedCall, HappensInCall, Acts, Takes, Does, Hears, Skips, ReachedInCall, at_start, goes_on}
-use Rattle.x25_handshakes.specs.{laws.PeerClaims.{WithAnyPeer, KeepsStretches, FindsNoError}, laws.Handshake.{Step, At, first_error, near_stepped}}
+use Rattle.x25_handshakes.specs.{laws.PeerClaims.{WithAnyPeer, KeepsStretches, FindsNoError}, laws.Handshake.{OwnStep, At, first_error, near_stepped}}
 use Rattle.x25_handshakes.specs.laws.Terms.{Terms}
 use Rattle.x25_handshakes.proofs.{HandshakeLemmas.{both_fresh}, PeerRelation.{Kept-start}}
 use Rattle.x25_handshakes.proofs.PeerTransferLemmas.{peer_level, KeptTransfer, GoodTransfer, GoodTransfer-acts, GoodTransfer-takes, done_kept, takes_kept}
@@ -12,7 +12,7 @@ record Holds (t : Terms) (longest size : ℕ) (w : JoinedCall) : Type 0 where
   pub quiet : w.error ≡ None
   pub kept : KeptTransfer t longest size w.near w.out w.back w.peer
 
-stepped_holds : {t : Terms} {longest size : ℕ} (w : JoinedCall) {back : List Packet} (s : Step (At Stretch) Packet) → w.error ≡ None
+stepped_holds : {t : Terms} {longest size : ℕ} (w : JoinedCall) {back : List Packet} (s : OwnStep (At Stretch) Packet) → w.error ≡ None
     → GoodTransfer t longest size s w.out back w.peer → Holds t longest size (near_stepped w back s s.error)
 stepped_holds w s none good = record { quiet = ap (λ e. first_error e s.error) none ∙ good.quiet; kept = good.kept }
 

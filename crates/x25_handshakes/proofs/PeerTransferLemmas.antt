@@ -1,6 +1,6 @@
 -- What our circuit and a peer do in p4 keeps what is kept of them, and what comes to our circuit is no procedure error.
 use Rattle.std.proofs.{Common.{ℕ, ◌≤◌, List, ◌∷◌, ◌≡◌, suc, [], ◌++◌, None, true, false, refl, sym, subst}, lemmas.List.{append-nil}}
-use Rattle.x25_handshakes.specs.laws.Handshake.{At, Inner, Side, Live, Left, Step, live}
+use Rattle.x25_handshakes.specs.laws.Handshake.{At, Inner, Side, Live, Left, OwnStep, live}
 use Rattle.x25_handshakes.specs.laws.Stretch.{Packet, Stretch, Reset, ResetConf, Call, Accept, Clear, ClearConf}
 use Rattle.x25_handshakes.specs.laws.Transfer.{transfer_takes, TransferAct, transfer_acts}
 use Rattle.x25_handshakes.specs.laws.PeerStretch.{PeerStretch, fresh_peer, Deed, Sends, Says, Interrupts, Confirms, does, packet_of, taking}
@@ -13,13 +13,14 @@ use Rattle.x25_handshakes.proofs.{PeerActs.{Good-acts, Good-takes}, StretchRelat
 use Rattle.x25_handshakes.proofs.HandshakeLemmas.{each_append, each_back, request_skips, flip, turned}
 use Rattle.x25_handshakes.proofs.{HandshakeSteps.{Answers, acts_inside, leaves, answered}, PeerDeeds.{does_kept, taking_kept}}
 
+-- our own end and a peer, with a stretch inside
 abbrev pub peer_level : Terms → ℕ → ℕ → Level Stretch PeerStretch Packet
 peer_level t longest size = own_level (Kept t longest size) fresh_peer
 
 abbrev pub KeptTransfer : Terms → ℕ → ℕ → At Stretch → List Packet → List Packet → At PeerStretch → Type 0
 KeptTransfer t longest size x L K y = OwnTransfer (Kept t longest size) fresh_peer x L K y
 
-abbrev pub GoodTransfer : Terms → ℕ → ℕ → Step (At Stretch) Packet → List Packet → List Packet → At PeerStretch → Type 0
+abbrev pub GoodTransfer : Terms → ℕ → ℕ → OwnStep (At Stretch) Packet → List Packet → List Packet → At PeerStretch → Type 0
 GoodTransfer t longest size s L K y = GoodOwnTransfer (Kept t longest size) fresh_peer s L K y
 
 pub own_stretches : (t : Terms) (longest size : ℕ) → 1 ≤ t.size → OwnStretches (Kept t longest size) fresh_peer t longest size

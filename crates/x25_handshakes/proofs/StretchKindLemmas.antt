@@ -8,7 +8,7 @@ use Rattle.x25_handshakes.proofs.{TermsLemmas.{IsSound}, HandshakeLemmas.{meets}
 use Rattle.x25_handshakes.proofs.{TransferRelation.{stretch_level, TransfersRelated}, ChannelRelation.{clear_mark, Seen}, OwnTransferLemmas.{inner_mark}}
 use Rattle.x25_handshakes.proofs.{StretchLemmas.{GoodStretch-takes, FollowsFrom-from_Dir}, ClaimLemmas.{Seen-joint}}
 use Rattle.x25_handshakes.proofs.{HistoryLemmas.{Change, Stays, MoreResets, IsPrefix-refl}, TurnLemmas.{MayIndicate, WithinCall, IsHandled}}
-use Rattle.x25_handshakes.specs.laws.Handshake.{Inner, Side, Live, Left, At, state_of, Step, live, left}
+use Rattle.x25_handshakes.specs.laws.Handshake.{Inner, Side, Live, Left, At, state_of, OwnStep, live, left}
 use Rattle.x25_handshakes.specs.laws.Stretch.{Packet, Data, Rr, Rnr, IntConf, Reset, ResetConf, Call, Accept, Clear, ClearConf, Stretch, fresh, stretch_does}
 use Rattle.x25_handshakes.specs.laws.Stretch.{stretch_fails, StretchAct, Send, Pull, Interrupt, pulls, stretch_acts, by_ground, data_ground, ack_ground}
 use Rattle.x25_handshakes.specs.laws.Stretch.{takes_data, takes_status, stretch_takes}
@@ -41,7 +41,8 @@ TransferChange down up A e x y = Change A e x.epoch (held_of down up x) e y.epoc
 still : {M : Type 0} (down up : Stretch → List M) (A : List M → Type 0) (e : ℕ) (x : At Stretch) → TransferChange down up A e x x
 still down up A e x = Stays refl refl (IsPrefix-refl (down (state_of x.side))) (inl refl)
 
-lifted_taken : {M : Type 0} (down up : Stretch → List M) (A : List M → Type 0) (e s : ℕ) (x : Stretch) (st : Step Stretch Packet) (n : Option ℕ) → down st.next
+lifted_taken : {M : Type 0} (down up : Stretch → List M) (A : List M → Type 0) (e s : ℕ) (x : Stretch) (st : OwnStep Stretch Packet) (n : Option ℕ)
+    → down st.next
     ≡ down x → A (up st.next)
     → TransferChange down up A e (live s x) (lifted s st n).next
 lifted_taken down up A e s x st None same may = Stays refl refl ([], append-nil (down x) ∙ sym same) (inr may)
@@ -125,7 +126,7 @@ call_taken down up k r e c u p v y inner h = phase_taken down up k r e c.phase c
 abbrev Acted : {M : Type 0} → (Stretch → List M) → (Stretch → List M) → Phase → Phase → Type 0
 Acted down up a z = (resets_in z ≡ resets_in a) × IsPrefix (held_in down up a).down (held_in down up z).down × ((held_in down up z).up ≡ (held_in down up a).up)
 
-lifted_acted : {M : Type 0} (down up : Stretch → List M) (t b : Terms) (s : ℕ) (x : Stretch) (st : Step Stretch Packet) (n : Option ℕ)
+lifted_acted : {M : Type 0} (down up : Stretch → List M) (t b : Terms) (s : ℕ) (x : Stretch) (st : OwnStep Stretch Packet) (n : Option ℕ)
     → IsPrefix (down x) (down st.next) × (up st.next ≡ up x)
     → Acted down up (Talking t b (live s x)) (Talking t b (lifted s st n).next)
 lifted_acted down up t b s x st None h = (refl, h.0, h.1)
@@ -168,10 +169,10 @@ handled {down} {up} k = record { fresh = refl; takes = call_taken down up k; act
 
 -- messages and interrupts are such lists
 
-abbrev Same : Stretch → Step Stretch Packet → Type 0
+abbrev Same : Stretch → OwnStep Stretch Packet → Type 0
 Same x s = (s.next.down ≡ x.down) × (s.next.int_down ≡ x.int_down)
 
-same_by : (x : Stretch) (g : Option ℕ) (good : Step Stretch Packet) → Same x good → Same x (by_ground g x good)
+same_by : (x : Stretch) (g : Option ℕ) (good : OwnStep Stretch Packet) → Same x good → Same x (by_ground g x good)
 same_by x None good is = is
 same_by x (Some n) good is = (refl, refl)
 
@@ -186,11 +187,11 @@ taken longest size x IntConf = test x.int_out
     test false = (refl, refl)
 taken longest size x p = (refl, refl)
 
-record Quiet (x : Stretch) (s : Step Stretch Packet) : Type 0 where
+record Quiet (x : Stretch) (s : OwnStep Stretch Packet) : Type 0 where
   messages : IsPrefix x.down s.next.down × (s.next.up ≡ x.up)
   interrupts : IsPrefix x.int_down s.next.int_down × (s.next.int_up ≡ x.int_up)
 
-if_quiet : {x : Stretch} (b : Bool) {u v : Step Stretch Packet} → Quiet x u → Quiet x v → Quiet x (if b then u else v)
+if_quiet : {x : Stretch} (b : Bool) {u v : OwnStep Stretch Packet} → Quiet x u → Quiet x v → Quiet x (if b then u else v)
 if_quiet true h g = h
 if_quiet false h g = g
 

@@ -5,7 +5,7 @@ use Rattle.x25_handshakes.proofs.{TermsLemmas.{IsSound}, PeerRelation.{Kept}, Pe
 use Rattle.x25_handshakes.proofs.StretchRelation.{pieces, ints, Direction, Told, StretchesRelated, GoodStretch, FollowsFrom}
 use Rattle.x25_handshakes.proofs.{ToldLemmas.{tells_act, tells_take}, TextLemmas.{carried-append, AreSound-front}}
 use Rattle.x25_handshakes.specs.{laws.Stretch.{Packet, Stretch, fresh, StretchAct, stretch_acts, stretch_takes}, laws.LayerPeers.{as_peer_stretch}}
-use Rattle.x25_handshakes.specs.{laws.Handshake.{Step}, laws.Terms.{Terms}}
+use Rattle.x25_handshakes.specs.{laws.Handshake.{OwnStep}, laws.Terms.{Terms}}
 
 pub StretchesRelated-flip : {t b : Terms} {x : Stretch} {u v : List Packet} {y : Stretch} → StretchesRelated t b x u v y → StretchesRelated b t y v u x
 StretchesRelated-flip h = record { there = h.back; back = h.there; told = h.told_back; told_back = h.told }
@@ -45,7 +45,7 @@ kept t b x u v y sound h =
     }
 
 -- it stays as it was
-goes_on : {t b : Terms} {x : Stretch} {u v : List Packet} {y : Stretch} {s : Step Stretch Packet} {w : List Packet} → StretchesRelated t b x u v y
+goes_on : {t b : Terms} {x : Stretch} {u v : List Packet} {y : Stretch} {s : OwnStep Stretch Packet} {w : List Packet} → StretchesRelated t b x u v y
     → Good t b.longest b.size s u w (as_peer_stretch y) → Told s.next w y → Told y (u ++ s.out) s.next
     → GoodStretch (StretchesRelated t b) s u w y
 goes_on h good told told_back =

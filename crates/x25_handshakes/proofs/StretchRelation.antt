@@ -1,8 +1,8 @@
 -- What is kept of two circuits in d1 of one stretch, and the lines between them.
 use Rattle.std.proofs.Common.{◌≡◌, ℕ, ◌+◌, ◌%◌, ◌≤◌, List, [], ◌∷◌, ◌++◌, length, Option, Some, None, Bool, true, false}
-use Rattle.x25_circuit.specs.{declared.message.Message.{Message}, Message.{Piece, no_part, joining, carried, AreSound}}
+use Rattle.x25_circuit.specs.Message.{Message, Piece, no_part, joining, carried, AreSound}
 use Rattle.x25_window.specs.code.Modulo.{resolved}
-use Rattle.x25_handshakes.specs.{laws.Stretch.{Packet, Data, Rr, Rnr, Int, IntConf, Stretch}, laws.Histories.{IsPrefix}, laws.Handshake.{Step}}
+use Rattle.x25_handshakes.specs.{laws.Stretch.{Packet, Data, Rr, Rnr, Int, IntConf, Stretch}, laws.Histories.{IsPrefix}, laws.Handshake.{OwnStep}}
 use Rattle.x25_handshakes.specs.laws.Terms.{Terms}
 use Rattle.x25_handshakes.proofs.HandshakeRelation.{Each}
 
@@ -11,6 +11,7 @@ pub record Numbering : Type 0 where
   pub number : ℕ
   pub piece : Piece
 
+-- P(S) and the piece, where the packet has one
 abbrev pub numbering : Packet → Option Numbering
 numbering (Data s r p) = Some (record { number = s; piece = p })
 numbering other = None
@@ -22,10 +23,12 @@ ack_in (Rr r) = Some r
 ack_in (Rnr r) = Some r
 ack_in other = None
 
+-- the octets of an interrupt
 abbrev pub int_in : Packet → List (List ℕ)
 int_in (Int xs) = xs ∷ []
 int_in other = []
 
+-- one confirmation of an interrupt, or none
 abbrev pub conf_in : Packet → ℕ
 conf_in IntConf = 1
 conf_in other = 0
@@ -51,6 +54,7 @@ abbrev pub pieces : List Packet → List Piece
 pieces [] = []
 pieces (p ∷ u) = piece_of (numbering p) ++ pieces u
 
+-- where it is numbered it has n, modulo 8, and what is later goes on from n + 1
 abbrev pub number_at : ℕ → Option Numbering → (ℕ → Type 0) → Type 0
 number_at n None later = later n
 number_at n (Some c) later = (c.number ≡ n % 8) × later (n + 1)
@@ -136,7 +140,8 @@ pub record StretchesRelated (t b : Terms) (x : Stretch) (u v : List Packet) (y :
   pub told_back : Told y u x
 
 -- a step that is no error, and keeps the relation to the other end, of whatever kind
-pub record GoodStretch {T : Type 0} (R : Stretch → List Packet → List Packet → T → Type 0) (s : Step Stretch Packet) (u v : List Packet) (y : T) : Type 0 where
+pub record GoodStretch {T : Type 0} (R : Stretch → List Packet → List Packet → T → Type 0) (s : OwnStep Stretch Packet) (u v : List Packet)
+    (y : T) : Type 0 where
   pub quiet : s.error ≡ None
   pub kept : R s.next (u ++ s.out) v y
 

@@ -23,5 +23,6 @@ answer_sound laws most p q proposed answered =
     let terms = laws.terms q (laws.answer p q proposed answered) in
     record { called = sound most terms.0; calling = sound most terms.1 }
 
+-- who called reads the terms that the called end answered
 pub answer_read : Laws → (p : Params) (q : Proposal) → may_propose p ≡ true → may_answer p q.params ≡ true → said_in p (field_for p q) ≡ q.params
 answer_read laws p q proposed answered = laws.said p q (laws.answer p q.params proposed answered)

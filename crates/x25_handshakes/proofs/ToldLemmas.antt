@@ -5,7 +5,7 @@ use Rattle.x25_packet.specs.declared.marks.Marks.{Marks}
 use Rattle.x25_circuit.specs.Message.{Piece, cut, wholes}
 use Rattle.x25_handshakes.specs.laws.Stretch.{Packet, Data, Rr, Rnr, Int, IntConf, Stretch, stretch_does, stretch_fails, StretchAct, Send, Pull, Ready}
 use Rattle.x25_handshakes.specs.laws.Stretch.{NotReady, Interrupt, status, sends, pulls, interrupts, stretch_acts, ack_ground, data_ground, by_ground}
-use Rattle.x25_handshakes.specs.{laws.Stretch.{takes_data, takes_status, stretch_takes}, laws.Handshake.{Step}, laws.Terms.{Terms}}
+use Rattle.x25_handshakes.specs.{laws.Stretch.{takes_data, takes_status, stretch_takes}, laws.Handshake.{OwnStep}, laws.Terms.{Terms}}
 use Rattle.x25_handshakes.proofs.{StretchRelation.{ack_in, hears, heard, readied, all_readied, Told}, LineLemmas.{resolved_is, heard_push}}
 
 readied_push : (b : Bool) (u : List Packet) (p : Packet) → all_readied b (u ++ p ∷ []) ≡ readied (all_readied b u) p
@@ -13,7 +13,7 @@ readied_push b [] p = refl
 readied_push b (q ∷ u) p = readied_push (readied b q) u p
 
 -- what a step leaves of what both ends tell: x has gone to another stretch, and has sent these
-abbrev BothTold : Step Stretch Packet → List Packet → List Packet → Stretch → Type 0
+abbrev BothTold : OwnStep Stretch Packet → List Packet → List Packet → Stretch → Type 0
 BothTold s u v y = Told s.next v y × Told y (u ++ s.out) s.next
 
 -- a step that sends nothing
@@ -101,7 +101,7 @@ tells_act t x u v y (Interrupt xs) told told_back = told_interrupts x u v y xs t
 
 -- ---- takes: of a packet that is no error
 
-no_ground : (g : Option ℕ) (x : Stretch) (good : Step Stretch Packet) (P : Step Stretch Packet → Type 0) → (by_ground g x good).error ≡ None → P good
+no_ground : (g : Option ℕ) (x : Stretch) (good : OwnStep Stretch Packet) (P : OwnStep Stretch Packet → Type 0) → (by_ground g x good).error ≡ None → P good
     → P (by_ground g x good)
 no_ground None x good P quiet h = h
 no_ground (Some n) x good P quiet h = absurd (none-some n (sym quiet))

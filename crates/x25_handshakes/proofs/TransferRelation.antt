@@ -1,9 +1,10 @@
 -- What is kept of two circuits in p4.
 use Rattle.std.proofs.Common.{◌≡◌, List, ◌++◌, None}
-use Rattle.x25_handshakes.specs.laws.Handshake.{Mark, Inner, Request, Confirm, At, Step}
+use Rattle.x25_handshakes.specs.laws.Handshake.{Mark, Inner, Request, Confirm, At, OwnStep}
 use Rattle.x25_handshakes.specs.{laws.Stretch.{Packet, Reset, ResetConf, Call, Accept, Clear, ClearConf, Stretch, fresh}, laws.Terms.{Terms}}
 use Rattle.x25_handshakes.proofs.{HandshakeRelation.{Level, Handshake, Each}, StretchRelation.{StretchesRelated}}
 
+-- what a packet is to the handshake of RESET
 abbrev pub reset_mark : Packet → Mark
 reset_mark Reset = Request
 reset_mark ResetConf = Confirm
@@ -13,6 +14,7 @@ reset_mark other = Inner
 abbrev pub own_level : {T : Type 0} → (Stretch → List Packet → List Packet → T → Type 0) → T → Level Stretch T Packet
 own_level R y₀ = record { mark = reset_mark; fresh = fresh; fresh_there = y₀; gone = λ x. Unit {0}; gone_there = λ y. Unit {0}; related = R }
 
+-- two ends that are our own, with a stretch inside
 abbrev pub stretch_level : Terms → Terms → Level Stretch Stretch Packet
 stretch_level t b = own_level (StretchesRelated t b) fresh
 
@@ -33,7 +35,7 @@ pub record OwnTransfer {T : Type 0} (R : Stretch → List Packet → List Packet
     pub there : AllInTransfer L
     pub back : AllInTransfer K
 
-pub record GoodOwnTransfer {T : Type 0} (R : Stretch → List Packet → List Packet → T → Type 0) (y₀ : T) (s : Step (At Stretch) Packet) (L K : List Packet)
+pub record GoodOwnTransfer {T : Type 0} (R : Stretch → List Packet → List Packet → T → Type 0) (y₀ : T) (s : OwnStep (At Stretch) Packet) (L K : List Packet)
     (y : At T) : Type 0 where
   pub quiet : s.error ≡ None
   pub kept : OwnTransfer R y₀ s.next (L ++ s.out) K y

@@ -3,7 +3,7 @@
 use Rattle.std.proofs.Common.{◌≡◌, inl, inr, ℕ, List, ◌∷◌, Option, Some, None, Bool, true, false, ◌==◌, if◌then◌else◌, refl, sym, ap, subst, ◌∙◌, arith}
 use Rattle.std.proofs.lemmas.Bool.{eqb-true}
 use Rattle.x25_bits.specs.declared.role.Role.{Role}
-use Rattle.x25_handshakes.specs.{laws.Handshake.{Inner, Side, Live, Left, At, state_of, Step, live}, laws.Stretch.{Packet, Clear, ClearConf}}
+use Rattle.x25_handshakes.specs.{laws.Handshake.{Inner, Side, Live, Left, At, state_of, OwnStep, live}, laws.Stretch.{Packet, Clear, ClearConf}}
 use Rattle.x25_handshakes.specs.laws.Calls.{Phase, Unused, Connection, call_takes, CallAct, call_acts, fresh_call}
 use Rattle.x25_handshakes.specs.laws.Channel.{lifted_call, channel_side_takes, channel_takes, ChannelAct, Within, SendsClear, clears, channel_side_acts}
 use Rattle.x25_handshakes.specs.laws.Channel.{channel_acts}
@@ -17,6 +17,7 @@ use Rattle.x25_handshakes.proofs.HistoryLemmas.{Change, Stays, MoreResets, MoreC
 abbrev pub MayIndicate : {M : Type 0} → Kind M → Connection → Connection → List M → Type 0
 MayIndicate kind c y up = (kind.resets y ≡ kind.resets c) × IsPrefix up (kind.held y).down
 
+-- what changes in a call, within the same restarts and clears
 abbrev pub WithinCall : {M : Type 0} → Kind M → (List M → Type 0) → ℕ → Connection → Connection → Type 0
 WithinCall kind Allowed e c c₂ = Change Allowed e (kind.resets c) (kind.held c) e (kind.resets c₂) (kind.held c₂)
 
@@ -44,7 +45,8 @@ change_map A B c s l c₂ s₂ l₂ f (Stays p q down (inr new)) = Stays p q dow
 change_map A B c s l c₂ s₂ l₂ f (MoreResets p q empty) = MoreResets p q empty
 change_map A B c s l c₂ s₂ l₂ f (MoreClears p empty) = MoreClears p empty
 
-lifted : {M : Type 0} (kind : Kind M) {A : List M → Type 0} {e : ℕ} {c : Connection} (s : Step Connection Packet) (n : Option ℕ) → WithinCall kind A e c s.next
+lifted : {M : Type 0} (kind : Kind M) {A : List M → Type 0} {e : ℕ} {c : Connection} (s : OwnStep Connection Packet) (n : Option ℕ)
+    → WithinCall kind A e c s.next
     → ChannelChange kind A (live e c) (lifted_call e s n).next
 lifted kind s None h = h
 lifted kind s (Some n) h = h

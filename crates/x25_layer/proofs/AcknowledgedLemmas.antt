@@ -1,8 +1,7 @@
 -- What is acknowledged to an end the other one has handed up, from what is known of the nested handshakes.
 use Rattle.std.proofs.Common.{◌≡◌, ℕ, Bool, take, Some, true, sym, ap, subst, ◌∙◌}
-use Rattle.x25_circuit.specs.declared.message.Message.{Message}
 use Rattle.x25_circuit.specs.Circuit.{Talk, is_open}
-use Rattle.x25_circuit.specs.Message.{carried}
+use Rattle.x25_circuit.specs.Message.{Message, carried}
 use Rattle.x25_handshakes.specs.laws.Handshake.{Side, At, state_of}
 use Rattle.x25_handshakes.specs.laws.Stretch.{Stretch}
 use Rattle.x25_handshakes.specs.laws.Layers.{Channels, Pair, pair_run, pair_start}

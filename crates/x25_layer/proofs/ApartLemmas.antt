@@ -8,7 +8,7 @@ use Rattle.x25_layer.specs.declared.ranges.Ranges.{Ranges}
 use Rattle.x25_layer.specs.Layer.{LayerSettings, is_channel}
 use Rattle.x25_layer.specs.Calls.{LayerOutcome, Accepted, Declined, layer_outcome, layer_pulled}
 use Rattle.x25_layer.specs.laws.TwoLayers as world
-use Rattle.x25_layer.specs.laws.TwoLayers.{End, TwoLayers, requested, pulled_in, handed_up, moves_in, moves, turned, settings_of, Event, happens, run, start}
+use Rattle.x25_layer.specs.laws.TwoLayers.{End, TwoLayers, requested, pulled_in, handed_up, moves_in, moves, turned, settings_of, EndMove, happens, run, start}
 use Rattle.x25_layer.specs.laws.Law.{Always, KeepsOrder}
 use Rattle.x25_layer.specs.laws.Apart.{OwnMove, Requests, Pulls, Takes, GoesDown, as_move, coming, alone, own_moves, own_run, Ends, ApartEvent, apart_happens, apart_run, ends_of, IsNext, IsInOrder, AreInOrder, over_links, all_over_links, as_world, AlwaysApart}
 use Rattle.x25_layer.specs.laws.ApartLaw.{IsOverLinks, AreByThemselves, OwnMovesDecide, StaysDown, EventsRunOn}
@@ -88,7 +88,7 @@ event_agrees long_data channels w false what order next =
     let same = agrees (settings_of Dce long_data channels) (turned w) what w.far.is_out refl (record { near = order.far; far = order.near }) next in
     ap₂ both (sym same.1) same.0
 
-run_agrees : (long_data : Bool) (channels : Ranges) (es : List ApartEvent) (w : TwoLayers) → ((behind : List Event) → KeepsOrder (run long_data channels behind w)) → AreInOrder long_data channels es (ends_of w)
+run_agrees : (long_data : Bool) (channels : Ranges) (es : List ApartEvent) (w : TwoLayers) → ((behind : List EndMove) → KeepsOrder (run long_data channels behind w)) → AreInOrder long_data channels es (ends_of w)
     → apart_run long_data channels es (ends_of w) ≡ ends_of (run long_data channels (all_over_links es) w)
 run_agrees long_data channels [] w order next = refl
 run_agrees long_data channels (e ∷ es) w order next =

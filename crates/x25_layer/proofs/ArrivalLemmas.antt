@@ -1,8 +1,7 @@
 -- Where the giver is idle and a stretch is open at both ends, the transcripts say that all of it has arrived.
 use Rattle.std.proofs.Common.{◌≡◌, ℕ, ◌+◌, ◌≤◌, List, [], ◌∷◌, ◌++◌, length, Some, true, false, refl, sym, ap, ◌∙◌, length-append, arith}
 use Rattle.x25_packet.specs.Packet.{PlainPacket}
-use Rattle.x25_circuit.specs.declared.message.Message.{Message}
-use Rattle.x25_circuit.specs.Message.{wholes}
+use Rattle.x25_circuit.specs.Message.{Message, wholes}
 use Rattle.x25_handshakes.specs.laws.Terms.{Terms}
 use Rattle.x25_circuit.specs.Circuit.{Circuit, is_open, waits}
 use Rattle.x25_handshakes.specs.laws.Handshake.{Side, Live, Left, At, state_of}

@@ -4,7 +4,7 @@ use Rattle.x25_bits.specs.declared.role.Role.{Role}
 use Rattle.x25_bits.specs.declared.role.Role.TheVariants.{Dte, Dce}
 use Rattle.x25_packet.specs.Packet.{PlainPacket, clear}
 use Rattle.x25_circuit.specs.Circuit.{Circuit, is_free, is_free_in}
-use Rattle.x25_handshakes.specs.laws.Handshake.{Side, Live, Left, has_left, At, Step}
+use Rattle.x25_handshakes.specs.laws.Handshake.{Side, Live, Left, has_left, At, OwnStep}
 use Rattle.x25_handshakes.specs.laws.Stretch.{Stretch, Clear}
 use Rattle.x25_handshakes.specs.laws.Calls.{Phase, Unused, Waiting, Offered, Crossed, Talking, Connection}
 use Rattle.x25_handshakes.specs.laws.Channel.{in_p1, channel_takes, channel_side_takes}
@@ -60,7 +60,7 @@ front_is r channels w near far out back error sees quiet [] front = tt
 front_is r channels w (Left z) far out back error sees quiet (p ∷ K) front = out_takes_none w.near p sees.near.0
 front_is r channels w (Live z) far out back error sees quiet (p ∷ K) front =
     let same : bare_layer channels.message p ∷ bare_layers channels.message K ≡ back = ap (bare_layers channels.message) (sym front) ∙ sees.back in
-    let s : Step (At Channels) LayerPacket = layer_takes r z (bare_layer channels.message p) in
+    let s : OwnStep (At Channels) LayerPacket = layer_takes r z (bare_layer channels.message p) in
     at_end channels.message r w.near z p sees.near.1
     (second error s.error (subst (λ (l : List LayerPacket). (pair_moves r (record { near = Live z; far = far; out = out; back = l; error = error }) (Live z) Takes).error ≡ None) (sym same) quiet))
 

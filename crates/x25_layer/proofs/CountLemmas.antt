@@ -18,7 +18,7 @@ use Rattle.x25_layer.specs.declared.error.LayerError.TheVariants as error
 use Rattle.x25_layer.specs.Layer.{LayerSettings, Layer, LayerNotice, LayerAnswer, is_channel, notices_on, is_ready, answers_on, drops, restarting_from, answers_ready, answers_restarting, answers_in, layer_answers}
 use Rattle.x25_layer.specs.Calls.{LayerRequest, Asks, Dials, Restarts, PullsAll, LayerOutcome, Accepted, Declined, free_channel, puts_at_once, where_room, if_at_once, outcome_on, dialled, restarted_for, outcome_ready, outcome_in, layer_outcome, layer_pulled}
 use Rattle.x25_layer.specs.laws.Transcript.{name_of}
-use Rattle.x25_layer.specs.laws.TwoLayers.{End, TwoLayers, Move, Requests, Pulls, HandsUp, GoesDown, requested, pulled_in, handed_up, moves_in, turned, settings_of, Event, happens, run, start}
+use Rattle.x25_layer.specs.laws.TwoLayers.{End, TwoLayers, Move, Requests, Pulls, HandsUp, GoesDown, requested, pulled_in, handed_up, moves_in, turned, settings_of, EndMove, happens, run, start}
 use Rattle.x25_layer.specs.laws.Law.{Always}
 use Rattle.x25_layer.specs.laws.NameLaw.{first_name, named_by, named_after, counted, NamesAreCounted, IsNoClearInP1, FrontIsNoClearInP1, NoClearComesInP1}
 use Rattle.x25_layer.proofs.LayerLemmas.{true≢false}
@@ -168,16 +168,16 @@ event_counted long_data channels w false what h front =
     let r = move_counted (settings_of Dce long_data channels) (turned w) what w.far.is_out refl (record { near = h.far; far = h.near }) front.far in
     record { near = r.far; far = r.near }
 
-run_more : (long_data : Bool) (channels : Ranges) (es : List Event) (e : Event) (w : TwoLayers) → run long_data channels (es ++ e ∷ []) w ≡ happens long_data channels (run long_data channels es w) e
+run_more : (long_data : Bool) (channels : Ranges) (es : List EndMove) (e : EndMove) (w : TwoLayers) → run long_data channels (es ++ e ∷ []) w ≡ happens long_data channels (run long_data channels es w) e
 run_more long_data channels [] e w = refl
 run_more long_data channels (x ∷ es) e w = run_more long_data channels es e (happens long_data channels w x)
 
 -- the names are counted behind these events, where they were behind those before
-run_counted : (long_data : Bool) (channels : Ranges) → Always NoClearComesInP1 long_data channels → (done es : List Event) → NamesAreCounted (run long_data channels done (start long_data channels))
+run_counted : (long_data : Bool) (channels : Ranges) → Always NoClearComesInP1 long_data channels → (done es : List EndMove) → NamesAreCounted (run long_data channels done (start long_data channels))
     → NamesAreCounted (run long_data channels (done ++ es) (start long_data channels))
-run_counted long_data channels front done [] h = subst (λ (l : List Event). NamesAreCounted (run long_data channels l (start long_data channels))) (sym (append-nil done)) h
+run_counted long_data channels front done [] h = subst (λ (l : List EndMove). NamesAreCounted (run long_data channels l (start long_data channels))) (sym (append-nil done)) h
 run_counted long_data channels front done (e ∷ es) h =
-    subst (λ (l : List Event). NamesAreCounted (run long_data channels l (start long_data channels))) (append_assoc done (e ∷ []) es)
+    subst (λ (l : List EndMove). NamesAreCounted (run long_data channels l (start long_data channels))) (append_assoc done (e ∷ []) es)
     (run_counted long_data channels front (done ++ e ∷ []) es
     (subst (λ (w : TwoLayers). NamesAreCounted w) (sym (run_more long_data channels done e (start long_data channels)))
     (event_counted long_data channels (run long_data channels done (start long_data channels)) e.first e.what h (front done))))

@@ -2,7 +2,7 @@
 use Rattle.std.proofs.Common.{◌≡◌, ◌⊎◌, inl, inr, ℕ, zero, suc, ◌+◌, ◌-◌, ◌<◌, ◌≤◌, List, length, Option, Some, None, Bool, true, false, if◌then◌else◌, get_or, sym, ap, ◌∙◌, arith}
 use Rattle.x25_bits.specs.declared.role.Role.{Role}
 use Rattle.x25_circuit.specs.declared.circuit.Circuit as circuit_code
-use Rattle.x25_circuit.specs.Circuit.{Settings, Circuit, is_free}
+use Rattle.x25_circuit.specs.Circuit.{CircuitSettings, Circuit, is_free}
 use Rattle.x25_circuit.specs.code.FitsCircuit.{FitsCircuit}
 use Rattle.x25_layer.specs.Layer.{LayerSettings}
 use Rattle.x25_layer.specs.declared.ranges.Ranges.{Ranges}
@@ -14,7 +14,7 @@ use Rattle.x25_layer.proofs.SettleLemmas.{split}
 
 -- whether the circuit at a place is free
 pub freed : (c : LayerSettings) (vs : List circuit_code.Circuit) (f : ℕ → Circuit) (i : ℕ) (v : circuit_code.Circuit) (b : Bool) → FitsCircuits c vs f → i < length vs → v ≡ get_or vs i v
-    → ((s : Settings) (x : Circuit) → FitsCircuit s v x → b ≡ is_free x) → is_free (f (suc i)) ≡ b
+    → ((s : CircuitSettings) (x : Circuit) → FitsCircuit s v x → b ≡ is_free x) → is_free (f (suc i)) ≡ b
 freed c vs f i v b fits low read told = sym (told c.circuit (f (suc i)) (fits i v (read_at vs i v low read)))
 
 lowest_next : (f : ℕ → Circuit) (i : ℕ) (b : Bool) → lowest_free f i ≡ None → is_free (f (suc i)) ≡ b → lowest_free f (suc i) ≡ (if b then Some (suc i) else None)

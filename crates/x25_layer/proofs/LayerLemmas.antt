@@ -13,7 +13,7 @@ use Rattle.x25_circuit.specs.Circuit.{Circuit, begun, forgotten, is_free}
 use Rattle.x25_circuit.specs.Notice.{PlainNotice}
 use Rattle.x25_circuit.specs.Hearing.{Answer, answers}
 use Rattle.x25_circuit.specs.Calling.{Outcome, Done, Refused, Request, Calls, Accepts, outcome, Pulled, pulled}
-use Rattle.x25_handshakes.specs.laws.Handshake.{Side, Live, Left, has_left, At, Step, live, left}
+use Rattle.x25_handshakes.specs.laws.Handshake.{Side, Live, Left, has_left, At, OwnStep, live, left}
 use Rattle.x25_handshakes.specs.laws.Calls.{Connection}
 use Rattle.x25_handshakes.specs.laws.Channel.{channel_takes, channel_acts, fresh_channel}
 use Rattle.x25_handshakes.specs.laws.Layers.{LayerPacket, On, Restart, Channels, put, addressed, on_channel, all_fresh, layer_takes, layer_side_takes, layer_acts, layer_side_acts, OnChannel}
@@ -81,7 +81,7 @@ sees_put most e f x h c s each is = record { restarting = refl; restarts = refl;
 
 -- ---- packets handed up
 
-answers_follow : (most : ℕ) (channels : Ranges) (e : ℕ) (f : ℕ → Circuit) (x : Channels) (h : ℕ) (a : Answer) (s : Step (At Connection) Packet) → is_channel channels h ≡ true → ((k : ℕ) → Shows most (f k) (x k)) → Follows most a s
+answers_follow : (most : ℕ) (channels : Ranges) (e : ℕ) (f : ℕ → Circuit) (x : Channels) (h : ℕ) (a : Answer) (s : OwnStep (At Connection) Packet) → is_channel channels h ≡ true → ((k : ℕ) → Shows most (f k) (x k)) → Follows most a s
     → Notes (x h) s.next (told_by_all a.notices) → FollowsLayer most channels (answers_on e f h a) (live e x) (on_channel e x h s)
 answers_follow most channels e f x h a s is each g notes =
     let sees : SeesLayer most (is_ready e (put_at f h a.next)) (live e (put x h s.next)) = sees_put most e f x h a.next s.next each g.next in
@@ -94,7 +94,7 @@ answers_follow most channels e f x h a s is each g notes =
           (λ k m. told_under (is_ready e (put_at f h a.next)) h a.notices k m);
     }
 
-if_channel : (most : ℕ) (channels : Ranges) (b : Bool) (u v : LayerAnswer) (z : At Channels) (s : Step (At Channels) LayerPacket) → b ≡ true → FollowsLayer most channels u z s → FollowsLayer most channels (if b then u else v) z s
+if_channel : (most : ℕ) (channels : Ranges) (b : Bool) (u v : LayerAnswer) (z : At Channels) (s : OwnStep (At Channels) LayerPacket) → b ≡ true → FollowsLayer most channels u z s → FollowsLayer most channels (if b then u else v) z s
 if_channel most channels true u v z s is g = g
 if_channel most channels false u v z s is g = absurd (true≢false (sym is))
 
@@ -104,13 +104,13 @@ on_its_channel : ParamsLaws → (c : LayerSettings) (e : ℕ) (f : ℕ → Circu
     (on_channel e x (channel_of p) (channel_takes c.circuit.role (x (channel_of p)) (bare c.circuit.longest p)))
 on_its_channel laws c e f x p has each ok q =
     let h : ℕ = channel_of p in
-    let s : Step (At Connection) Packet = channel_takes c.circuit.role (x h) (bare c.circuit.longest p) in
+    let s : OwnStep (At Connection) Packet = channel_takes c.circuit.role (x h) (bare c.circuit.longest p) in
     if_channel c.circuit.longest c.channels (is_channel c.channels h) (answers_on e f h (answers c.circuit (f h) p)) (drops false e f) (live e x) (on_channel e x h s) (ok has)
     (answers_follow c.circuit.longest c.channels e f x h (answers c.circuit (f h) p) s (ok has) each
     (subst (λ (y : Circuit). Follows c.circuit.longest (answers c.circuit y p) s) (sym (each h).is) (follows laws c.circuit (each h).agreed (x h) p (each h).fits has q))
     (subst (λ (y : Circuit). Notes (x h) s.next (told_by_all (answers c.circuit y p).notices)) (sym (each h).is) (notes_taken c.circuit (each h).agreed (x h) p (each h).fits has q)))
 
-abbrev Taken : LayerSettings → ℕ → Side Channels → PlainPacket → Step (At Channels) LayerPacket
+abbrev Taken : LayerSettings → ℕ → Side Channels → PlainPacket → OwnStep (At Channels) LayerPacket
 Taken c e z p = layer_side_takes c.circuit.role e z (bare_layer c.circuit.longest p)
 
 row_ready : ParamsLaws → (c : LayerSettings) (e : ℕ) (f : ℕ → Circuit) (x : Channels) (p : PlainPacket) → ((k : ℕ) → Shows c.circuit.longest (f k) (x k)) → IsConfigured c.channels p → layer_found (bare_layer c.circuit.longest p) (Taken c e (Live x) p).error ≡ None
@@ -177,7 +177,7 @@ asked_shown : (x : Circuit) (request : Request) → asked_by (shown x request) �
 asked_shown x (Accepts answer) = refl
 asked_shown x other = refl
 
-asked_on : (c : LayerSettings) (e : ℕ) (f : ℕ → Circuit) (x : Channels) (h : ℕ) (request : Request) (d : Outcome) (s : Step (At Connection) Packet) → is_channel c.channels h ≡ true → ((k : ℕ) → Shows c.circuit.longest (f k) (x k)) → Heeds c.circuit.longest d s
+asked_on : (c : LayerSettings) (e : ℕ) (f : ℕ → Circuit) (x : Channels) (h : ℕ) (request : Request) (d : Outcome) (s : OwnStep (At Connection) Packet) → is_channel c.channels h ≡ true → ((k : ℕ) → Shows c.circuit.longest (f k) (x k)) → Heeds c.circuit.longest d s
     → NotesOutcome d (x h) s.next (asked_by request) → (l : Layer) (r : LayerRequest) → ((n : Layer) → entries_asked c l n r ≡ entry_of_request n h request)
     → HeedsLayer c l r (outcome_on e f h d) (live e x) (on_channel e x h s)
 asked_on c e f x h request (Done next packet) s is each g notes l r same =
@@ -194,15 +194,15 @@ asked_on c e f x h request (Done next packet) s is each g notes l r same =
     }
 asked_on c e f x h request (Refused error) s is each g notes l r same = tt
 
-room : (c : LayerSettings) (l : Layer) (r : LayerRequest) (full : Bool) (good : LayerOutcome) (z : At Channels) (s : Step (At Channels) LayerPacket) → HeedsLayer c l r good z s → HeedsLayer c l r (where_room full good) z s
+room : (c : LayerSettings) (l : Layer) (r : LayerRequest) (full : Bool) (good : LayerOutcome) (z : At Channels) (s : OwnStep (At Channels) LayerPacket) → HeedsLayer c l r good z s → HeedsLayer c l r (where_room full good) z s
 room c l r true good z s h = tt
 room c l r false good z s h = h
 
-at_once : (c : LayerSettings) (l : Layer) (r : LayerRequest) (now full : Bool) (good : LayerOutcome) (z : At Channels) (s : Step (At Channels) LayerPacket) → HeedsLayer c l r good z s → HeedsLayer c l r (if_at_once now full good) z s
+at_once : (c : LayerSettings) (l : Layer) (r : LayerRequest) (now full : Bool) (good : LayerOutcome) (z : At Channels) (s : OwnStep (At Channels) LayerPacket) → HeedsLayer c l r good z s → HeedsLayer c l r (if_at_once now full good) z s
 at_once c l r true full good z s h = room c l r full good z s h
 at_once c l r false full good z s h = h
 
-if_there : (c : LayerSettings) (l : Layer) (r : LayerRequest) (b : Bool) (good : LayerOutcome) (error : _) (z : At Channels) (s : Step (At Channels) LayerPacket) → (b ≡ true → HeedsLayer c l r good z s)
+if_there : (c : LayerSettings) (l : Layer) (r : LayerRequest) (b : Bool) (good : LayerOutcome) (error : _) (z : At Channels) (s : OwnStep (At Channels) LayerPacket) → (b ≡ true → HeedsLayer c l r good z s)
     → HeedsLayer c l r (if b then good else Declined error) z s
 if_there c l r true good error z s h = h refl
 if_there c l r false good error z s h = tt
@@ -281,7 +281,7 @@ asked_ready laws c full e l x PullsAll does each = absurd does
 asked_ready laws c full e l x (Restarts cause diagnostic) does each =
     room c l (Restarts cause diagnostic) full (restarted_for c.circuit.role e l.circuits cause diagnostic) (live e x) restarts (given (is_fault_of_restart cause) refl (cause == 0 || is_of_end c.circuit.role cause))
   where
-    restarts : Step (At Channels) LayerPacket
+    restarts : OwnStep (At Channels) LayerPacket
     restarts = record { next = left e x; out = Restart ∷ []; error = None }
 
     given : (is_fault : Bool) → is_fault_of_restart cause ≡ is_fault → (b : Bool)
@@ -336,7 +336,7 @@ layer_pulls c l z h is s = side l.restarting z.side s.restarting s.circuits
           step = quiet_step (left z.epoch x) (left z.epoch x) refl (λ k. still (x k));
         }
     side false (Live x) both each =
-        let t : Step (At Connection) Packet = channel_acts (x h) pull_act in
+        let t : OwnStep (At Connection) Packet = channel_acts (x h) pull_act in
         let g : Does c.circuit.longest (pulled c.circuit (l.circuits h)).next (pulled c.circuit (l.circuits h)).packet t =
         subst (λ (y : Circuit). Does c.circuit.longest (pulled c.circuit y).next (pulled c.circuit y).packet t) (sym (each h).is) (pulls_as c.circuit (each h).agreed (x h) (each h).fits) in
         record {

@@ -4,7 +4,7 @@ use Rattle.x25_packet.specs.Packet.{PlainPacket}
 use Rattle.x25_circuit.specs.Params.{Proposal}
 use Rattle.x25_circuit.specs.Circuit.{Circuit, forgotten}
 use Rattle.x25_circuit.specs.Calling.{request_of}
-use Rattle.x25_handshakes.specs.laws.Handshake.{Side, Live, Left, has_left, At, Step}
+use Rattle.x25_handshakes.specs.laws.Handshake.{Side, Live, Left, has_left, At, OwnStep}
 use Rattle.x25_handshakes.specs.laws.Calls.{PlacesCall}
 use Rattle.x25_handshakes.specs.laws.Channel.{Within}
 use Rattle.x25_handshakes.specs.laws.Layers.{Channels, LayerAct, OnChannel, SendsRestart, LayerPacket}
@@ -43,7 +43,7 @@ abbrev pub StepOf : At Channels → At Channels → List Entry → Type 0
 StepOf x y es = (k : ℕ) → (h : Handed) × TurnOf k x y h × ((m : Name) → under k m es ≡ (if same_name m (present y k) then h else nothing_handed))
 
 -- an answer of the layer is the step of the nested one, tells of no error, and says what that gains
-pub record FollowsLayer (most : ℕ) (channels : Ranges) (a : LayerAnswer) (z : At Channels) (s : Step (At Channels) LayerPacket) : Type 0 where
+pub record FollowsLayer (most : ℕ) (channels : Ranges) (a : LayerAnswer) (z : At Channels) (s : OwnStep (At Channels) LayerPacket) : Type 0 where
   pub next : SeesLayer most a.next s.next
   pub owed : bare_layers most (option_to_list a.owed) ≡ s.out
   pub quiet : AreQuiet channels (option_to_list a.owed)
@@ -51,7 +51,7 @@ pub record FollowsLayer (most : ℕ) (channels : Ranges) (a : LayerAnswer) (z : 
   pub step : StepOf z s.next (entries_told a.next a.notices)
 
 -- the same of a call or a pull, with the entries that it makes
-pub record DoesLayer (most : ℕ) (channels : Ranges) (l : Layer) (packet : Option PlainPacket) (es : List Entry) (z : At Channels) (s : Step (At Channels) LayerPacket) : Type 0 where
+pub record DoesLayer (most : ℕ) (channels : Ranges) (l : Layer) (packet : Option PlainPacket) (es : List Entry) (z : At Channels) (s : OwnStep (At Channels) LayerPacket) : Type 0 where
   pub next : SeesLayer most l s.next
   pub put : bare_layers most (option_to_list packet) ≡ s.out
   pub quiet : AreQuiet channels (option_to_list packet)
@@ -73,6 +73,6 @@ abbrev pub DoesItself : LayerRequest → Type 0
 DoesItself PullsAll = ⊥
 DoesItself request = Unit {0}
 
-abbrev pub HeedsLayer : LayerSettings → Layer → LayerRequest → LayerOutcome → At Channels → Step (At Channels) LayerPacket → Type 0
+abbrev pub HeedsLayer : LayerSettings → Layer → LayerRequest → LayerOutcome → At Channels → OwnStep (At Channels) LayerPacket → Type 0
 HeedsLayer c l request (Accepted next packet) z s = DoesLayer c.circuit.longest c.channels next packet (entries_asked c l next request) z s
 HeedsLayer c l request (Declined error) z s = Unit {0}

@@ -4,15 +4,14 @@ use Rattle.x25_bits.specs.declared.role.Role.{Role}
 use Rattle.x25_bits.specs.declared.role.Role.TheVariants.{Dte, Dce}
 use Rattle.x25_packet.specs.Packet.{PlainPacket, call, accept, clear, clear_conf, user_data, rr, rnr, interrupt, interrupt_conf, reset, reset_conf, restart, restart_conf}
 use Rattle.x25_packet.specs.declared.marks.Marks.{Marks}
-use Rattle.x25_circuit.specs.declared.message.Message.{Message}
 use Rattle.x25_circuit.specs.declared.error.CircuitError.TheVariants.{Full, TooLong, InterruptOutstanding, BadParameter}
 use Rattle.x25_circuit.specs.declared.state.State.{State}
 use Rattle.x25_circuit.specs.declared.state.State.TheVariants.{Free, Calling, Arriving, Collision, Open, Resetting, Clearing}
 use Rattle.x25_circuit.specs.declared.params.Params.{Params}
 use Rattle.x25_circuit.specs.Params.{Proposal, default_params, may_answer, field_for, said_in}
 use Rattle.x25_circuit.specs.Cause.{may_clear_for, may_reset_for}
-use Rattle.x25_circuit.specs.Message.{Piece, piece_of, no_part, joining, completed, cut}
-use Rattle.x25_circuit.specs.Circuit.{Settings, Talk, Circuit, outgoing, incoming as terms_in, is_free, is_free_in, waits}
+use Rattle.x25_circuit.specs.Message.{Message, Piece, piece_of, no_part, joining, completed, cut}
+use Rattle.x25_circuit.specs.Circuit.{CircuitSettings, Talk, Circuit, outgoing, incoming as terms_in, is_free, is_free_in, waits}
 use Rattle.x25_circuit.specs.Notice.{CallRequest, PlainNotice, connected, deliveries}
 use Rattle.x25_circuit.specs.Hearing.{Answer, answers, goes, clears_for, request_in, collides, connects, row_call, row_accept, row_clear, row_clear_conf, row_reset, row_reset_conf, unless, takes, hears_status, confirms, row_open, row_data, data_ground, number_ground}
 use Rattle.x25_circuit.specs.Calling.{Outcome, Done, Refused, Request, Calls, Accepts, Clears, Sends, Interrupts, Resets, SaysReady, SaysNotReady, does, keeps_on, call_sent, may_call, call_in, accept_with, accept_in, clear_with, clear_in, send_in, interrupt_in, reset_in, ready_in, outcome, Pulled, pull_open, pull_in, pulled}
@@ -40,7 +39,7 @@ abbrev pub ClearsNotFree : Circuit → PlainPacket → Type 0
 ClearsNotFree x (clear channel cause diagnostic) = is_free x ≡ false
 ClearsNotFree x p = Unit {0}
 
-module _ (c : Settings) (e : ℕ) (x : Circuit) where
+module _ (c : CircuitSettings) (e : ℕ) (x : Circuit) where
   collides_count : (role : Role) (request : CallRequest) → Counts e x (collides role x request)
   collides_count Dte request = refl
   collides_count Dce request = refl
@@ -160,7 +159,7 @@ keeps_if : (x : Circuit) (b : Bool) (u v : Outcome) → KeepsName x u → KeepsN
 keeps_if x true u v h g = h
 keeps_if x false u v h g = g
 
-module _ (c : Settings) (x : Circuit) where
+module _ (c : CircuitSettings) (x : Circuit) where
   call_keeps : (s : State) (called calling user : List ℕ) (proposal : Proposal) → KeepsName x (call_in c x s called calling user proposal)
   call_keeps Free called calling user proposal =
       keeps_if x (may_call c.long_data called calling user proposal.params) (does x Calling proposal.params true (call_sent called calling user proposal)) (Refused BadParameter) (λ e. refl) tt

@@ -4,7 +4,7 @@ use Rattle.std.proofs.lemmas.Option.{none-some}
 use Rattle.x25_packet.specs.Packet.{PlainPacket}
 use Rattle.x25_packet.specs.Spelling.{moved_to}
 use Rattle.x25_circuit.specs.declared.circuit.Circuit as circuit_code
-use Rattle.x25_circuit.specs.Circuit.{Settings, Circuit}
+use Rattle.x25_circuit.specs.Circuit.{CircuitSettings, Circuit}
 use Rattle.x25_circuit.specs.Calling.{Pulled, pulled}
 use Rattle.x25_circuit.specs.code.FitsCircuit.{FitsCircuit}
 use Rattle.x25_circuit.specs.laws.PullLaw.{PullsWhatWaits}
@@ -26,7 +26,7 @@ off_channel h None none = refl
 off_channel h (Some packet) none = absurd (none-some (moved_to h packet) (sym none))
 
 -- a circuit that has none stays as it was
-pub kept_one : (b : Bool) (sheet : List ℕ) (c : Settings) (h : ℕ) (v : circuit_code.Circuit) (x : Circuit) → b ≡ false → IsPut b sheet (packet_on h (pulled c x).packet) → FitsCircuit c v (pulled c x).next → FitsCircuit c v x
+pub kept_one : (b : Bool) (sheet : List ℕ) (c : CircuitSettings) (h : ℕ) (v : circuit_code.Circuit) (x : Circuit) → b ≡ false → IsPut b sheet (packet_on h (pulled c x).packet) → FitsCircuit c v (pulled c x).next → FitsCircuit c v x
 kept_one false sheet c h v x is none fits = subst (λ (y : Circuit). FitsCircuit c v y) (none_kept c x (off_channel h (pulled c x).packet none)) fits
 kept_one true sheet c h v x is none fits = absurd (cc)
 

@@ -6,19 +6,18 @@ use Rattle.x25_bits.specs.declared.role.Role.TheVariants.{Dte, Dce}
 use Rattle.x25_packet.specs.Packet.{PlainPacket, call, accept, clear, clear_conf, user_data, rr, rnr, interrupt, interrupt_conf, reset, reset_conf, restart, restart_conf}
 use Rattle.x25_packet.specs.Spelling.{HasChannel}
 use Rattle.x25_packet.specs.declared.marks.Marks.{Marks}
-use Rattle.x25_circuit.specs.declared.message.Message.{Message}
-use Rattle.x25_circuit.specs.Message.{Piece, piece_of, no_part, joining, completed, wholes}
+use Rattle.x25_circuit.specs.Message.{Message, Piece, piece_of, no_part, joining, completed, wholes}
 use Rattle.x25_circuit.specs.declared.params.Params.{Params}
 use Rattle.x25_circuit.specs.declared.error.CircuitError.TheVariants.{BadParameter}
 use Rattle.x25_circuit.specs.declared.state.State.TheVariants.{Calling, Open}
 use Rattle.x25_handshakes.specs.laws.Terms.{Terms}
 use Rattle.x25_circuit.specs.Params.{Proposal, may_answer, field_for, said_in}
-use Rattle.x25_circuit.specs.Circuit.{Settings, Circuit}
+use Rattle.x25_circuit.specs.Circuit.{CircuitSettings, Circuit}
 use Rattle.x25_circuit.specs.Notice.{CallRequest, connected, deliveries}
 use Rattle.x25_circuit.specs.Hearing.{answers, unless, takes, hears_status, confirms, request_in, goes, clears_for, collides}
 use Rattle.x25_circuit.specs.Calling.{Outcome, Refused, Request, Calls, Accepts, Clears, Sends, Interrupts, Resets, does, call_sent, may_call, request_of, outcome}
 use Rattle.x25_circuit.specs.Cause.{may_clear_for, may_reset_for}
-use Rattle.x25_handshakes.specs.laws.Handshake.{Side, Live, Left, At, Step, live, left}
+use Rattle.x25_handshakes.specs.laws.Handshake.{Side, Live, Left, At, OwnStep, live, left}
 use Rattle.x25_handshakes.specs.laws.Stretch.{Data, Call, Accept, Stretch, stretch_does, stretch_fails, by_ground, takes_data, takes_status, data_ground, ack_ground, pulls, Packet}
 use Rattle.x25_handshakes.specs.laws.Transfer.{lifted}
 use Rattle.x25_handshakes.specs.laws.Calls.{Phase, Unused, Waiting, Offered, Crossed, Talking, Connection, in_transfer, call_crosses, calling_talk, called_talk}
@@ -65,7 +64,7 @@ told_deliveries : (ms : List Message) → told_by_all (deliveries ms) ≡ record
 told_deliveries [] = refl
 told_deliveries (m ∷ ms) = ap (λ (s : Handed). added (record { made = []; indicated = []; down = []; up = m ∷ []; int_down = []; int_up = [] }) s) (told_deliveries ms)
 
-data_notes : (c : Settings) (g : Agreed) (e : ℕ) (m i : List CallRequest) (s : ℕ) (x : Stretch) (pr : ℕ) (p : Piece) (ground : Option ℕ) → (channel_step c.longest g e m i s (by_ground ground x (takes_data x pr p))).error ≡ None
+data_notes : (c : CircuitSettings) (g : Agreed) (e : ℕ) (m i : List CallRequest) (s : ℕ) (x : Stretch) (pr : ℕ) (p : Piece) (ground : Option ℕ) → (channel_step c.longest g e m i s (by_ground ground x (takes_data x pr p))).error ≡ None
     → Notes (in_open c.longest g e m i s x) (channel_step c.longest g e m i s (by_ground ground x (takes_data x pr p))).next (told_by_all (unless c (view g (in_open c.longest g e m i s x)) ground (takes (view g (in_open c.longest g e m i s x)) (talk_of x) pr p)).notices)
 data_notes c g e m i s x pr p None q =
     Adds refl refl
@@ -74,22 +73,22 @@ data_notes c g e m i s x pr p None q =
     (inl (ap (λ (t : Handed). t.made) (told_deliveries (completed (joining no_part x.taken) p)), ap (λ (t : Handed). t.indicated) (told_deliveries (completed (joining no_part x.taken) p))))
 data_notes c g e m i s x pr p (Some n) q = absurd (some_none n q)
 
-status_notes : (c : Settings) (g : Agreed) (e : ℕ) (m i : List CallRequest) (s : ℕ) (x : Stretch) (b : Bool) (pr : ℕ) (ground : Option ℕ) → (channel_step c.longest g e m i s (by_ground ground x (takes_status x b pr))).error ≡ None
+status_notes : (c : CircuitSettings) (g : Agreed) (e : ℕ) (m i : List CallRequest) (s : ℕ) (x : Stretch) (b : Bool) (pr : ℕ) (ground : Option ℕ) → (channel_step c.longest g e m i s (by_ground ground x (takes_status x b pr))).error ≡ None
     → Notes (in_open c.longest g e m i s x) (channel_step c.longest g e m i s (by_ground ground x (takes_status x b pr))).next (told_by_all (unless c (view g (in_open c.longest g e m i s x)) ground (hears_status (view g (in_open c.longest g e m i s x)) (talk_of x) b pr)).notices)
 status_notes c g e m i s x b pr None q = silent (in_open c.longest g e m i s x) (channel_step c.longest g e m i s (takes_status x b pr)).next (refl, refl, refl)
 status_notes c g e m i s x b pr (Some n) q = absurd (some_none n q)
 
-confirmed_notes : (c : Settings) (g : Agreed) (e : ℕ) (m i : List CallRequest) (s : ℕ) (x : Stretch) (b : Bool)
+confirmed_notes : (c : CircuitSettings) (g : Agreed) (e : ℕ) (m i : List CallRequest) (s : ℕ) (x : Stretch) (b : Bool)
     → (channel_step c.longest g e m i s (if b then stretch_does (record x { int_out = false }) [] else stretch_fails x 43)).error ≡ None
     → Notes (in_open c.longest g e m i s x) (channel_step c.longest g e m i s (if b then stretch_does (record x { int_out = false }) [] else stretch_fails x 43)).next (told_by_all (confirms c (view g (in_open c.longest g e m i s x)) (talk_of x) b).notices)
 confirmed_notes c g e m i s x true q = silent (in_open c.longest g e m i s x) (channel_step c.longest g e m i s (stretch_does (record x { int_out = false }) [])).next (refl, refl, refl)
 confirmed_notes c g e m i s x false q = absurd (some_none 43 q)
 
 -- the claim of a row
-abbrev Row : Settings → Agreed → At Connection → PlainPacket → Type 0
+abbrev Row : CircuitSettings → Agreed → At Connection → PlainPacket → Type 0
 Row c g n p = HasChannel p → found (bare c.longest p) (channel_takes c.role n (bare c.longest p)).error ≡ None → Notes n (channel_takes c.role n (bare c.longest p)).next (told_by_all (answers c (view g n) p).notices)
 
-row_open : (c : Settings) (g : Agreed) (e : ℕ) (m i : List CallRequest) (s : ℕ) (x : Stretch) (p : PlainPacket) → Row c g (in_open c.longest g e m i s x) p
+row_open : (c : CircuitSettings) (g : Agreed) (e : ℕ) (m i : List CallRequest) (s : ℕ) (x : Stretch) (p : PlainPacket) → Row c g (in_open c.longest g e m i s x) p
 row_open c g e m i s x (call h called calling fac user) has q = absurd (some_none 0 q)
 row_open c g e m i s x (accept h fac) has q = absurd (some_none 0 q)
 row_open c g e m i s x (clear h cause n) has q = AfterClear (omega arith) refl refl
@@ -105,7 +104,7 @@ row_open c g e m i s x (reset_conf h) has q = absurd (some_none 27 q)
 row_open c g e m i s x (restart cause n) has q = absurd has
 row_open c g e m i s x restart_conf has q = absurd has
 
-row_resetting : (c : Settings) (g : Agreed) (e : ℕ) (m i : List CallRequest) (s : ℕ) (x : Stretch) (p : PlainPacket) → Row c g (in_resetting c.longest g e m i s x) p
+row_resetting : (c : CircuitSettings) (g : Agreed) (e : ℕ) (m i : List CallRequest) (s : ℕ) (x : Stretch) (p : PlainPacket) → Row c g (in_resetting c.longest g e m i s x) p
 row_resetting c g e m i s x (call h called calling fac user) has q = absurd (some_none 0 q)
 row_resetting c g e m i s x (accept h fac) has q = absurd (some_none 0 q)
 row_resetting c g e m i s x (clear h cause n) has q = AfterClear (omega arith) refl refl
@@ -116,7 +115,7 @@ row_resetting c g e m i s x (restart cause n) has q = absurd has
 row_resetting c g e m i s x restart_conf has q = absurd has
 row_resetting c g e m i s x other has q = still (in_resetting c.longest g e m i s x)
 
-row_free : (c : Settings) (g : Agreed) (e : ℕ) (m i : List CallRequest) (p : PlainPacket) → Row c g (in_call e m i Unused) p
+row_free : (c : CircuitSettings) (g : Agreed) (e : ℕ) (m i : List CallRequest) (p : PlainPacket) → Row c g (in_call e m i Unused) p
 row_free c g e m i (call h called calling fac user) has q =
     Adds refl refl (handed_is m _ (none m) (i ++ request_in called calling fac user ∷ []) _ refl [] _ refl [] _ refl [] _ refl [] _ refl) (inr refl)
 row_free c g e m i (clear h cause n) has q = AfterClear (omega arith) refl refl
@@ -133,15 +132,15 @@ collision_notes Dce g e m i mine request = Adds refl refl (handed_is m _ (none m
 abbrev IsBefore : Phase → Type 0
 IsBefore a = (e : ℕ) (m i : List CallRequest) → (held_of (in_call e m i a) ≡ held_of (in_call e m i Unused)) × (resets_of (in_call e m i a) ≡ 0)
 
-answered_notes : (c : Settings) (x : Circuit) (e : ℕ) (m i : List CallRequest) (a : Phase) (answer : Params) → IsBefore a → (b : Bool)
-    → let s : Step Connection Packet = if b then nested_calls.goes (calling_talk c.longest answer) m i [] else nested_calls.unexpected a m i in
+answered_notes : (c : CircuitSettings) (x : Circuit) (e : ℕ) (m i : List CallRequest) (a : Phase) (answer : Params) → IsBefore a → (b : Bool)
+    → let s : OwnStep Connection Packet = if b then nested_calls.goes (calling_talk c.longest answer) m i [] else nested_calls.unexpected a m i in
     (lifted_call e s s.error).error ≡ None
     → Notes (in_call e m i a) (lifted_call e s s.error).next (told_by_all (if b then goes x Open answer true None (connected answer ∷ []) else clears_for c x 3 66).notices)
 answered_notes c x e m i a answer before true q =
     silent (in_call e m i a) (in_call e m i (calling_talk c.longest answer)) (refl, sym (before e m i).1, sym (before e m i).0)
 answered_notes c x e m i a answer before false q = absurd (some_none 0 q)
 
-row_calling : (c : Settings) (g : Agreed) (e : ℕ) (m i : List CallRequest) (mine : Params) (p : PlainPacket) → Row c g (in_call e m i (Waiting mine)) p
+row_calling : (c : CircuitSettings) (g : Agreed) (e : ℕ) (m i : List CallRequest) (mine : Params) (p : PlainPacket) → Row c g (in_call e m i (Waiting mine)) p
 row_calling c g e m i mine (call h called calling fac user) has q = collision_notes c.role g e m i mine (request_in called calling fac user)
 row_calling c g e m i mine (accept h fac) has q =
     answered_notes c (view g (in_call e m i (Waiting mine))) e m i (Waiting mine) (said_in mine fac) (λ e m i. (refl, refl)) (may_answer mine (said_in mine fac)) q
@@ -150,7 +149,7 @@ row_calling c g e m i mine (restart cause n) has q = absurd has
 row_calling c g e m i mine restart_conf has q = absurd has
 row_calling c g e m i mine other has q = absurd (some_none 0 q)
 
-row_collision : (c : Settings) (g : Agreed) (e : ℕ) (m i : List CallRequest) (mine : Params) (p : PlainPacket) → Row c g (in_call e m i (Crossed mine)) p
+row_collision : (c : CircuitSettings) (g : Agreed) (e : ℕ) (m i : List CallRequest) (mine : Params) (p : PlainPacket) → Row c g (in_call e m i (Crossed mine)) p
 row_collision c g e m i mine (accept h fac) has q =
     answered_notes c (view g (in_call e m i (Crossed mine))) e m i (Crossed mine) (said_in mine fac) (λ e m i. (refl, refl)) (may_answer mine (said_in mine fac)) q
 row_collision c g e m i mine (clear h cause n) has q = AfterClear (omega arith) refl refl
@@ -158,47 +157,47 @@ row_collision c g e m i mine (restart cause n) has q = absurd has
 row_collision c g e m i mine restart_conf has q = absurd has
 row_collision c g e m i mine other has q = absurd (some_none 0 q)
 
-row_arriving : (c : Settings) (g : Agreed) (e : ℕ) (m i : List CallRequest) (theirs : Params) (p : PlainPacket) → Row c g (in_call e m i (Offered theirs)) p
+row_arriving : (c : CircuitSettings) (g : Agreed) (e : ℕ) (m i : List CallRequest) (theirs : Params) (p : PlainPacket) → Row c g (in_call e m i (Offered theirs)) p
 row_arriving c g e m i theirs (clear h cause n) has q = AfterClear (omega arith) refl refl
 row_arriving c g e m i theirs (restart cause n) has q = absurd has
 row_arriving c g e m i theirs restart_conf has q = absurd has
 row_arriving c g e m i theirs other has q = absurd (some_none 0 q)
 
-row_in_transfer : (c : Settings) (g : Agreed) (e : ℕ) (m i : List CallRequest) (s : ℕ) (x : Side Stretch) (p : PlainPacket) → Row c g (in_talk c.longest g e m i (record { epoch = s; side = x })) p
+row_in_transfer : (c : CircuitSettings) (g : Agreed) (e : ℕ) (m i : List CallRequest) (s : ℕ) (x : Side Stretch) (p : PlainPacket) → Row c g (in_talk c.longest g e m i (record { epoch = s; side = x })) p
 row_in_transfer c g e m i s (Live x) p has q = row_open c g e m i s x p has q
 row_in_transfer c g e m i s (Left x) p has q = row_resetting c g e m i s x p has q
 
-row_in_call : (c : Settings) (g : Agreed) (e : ℕ) (m i : List CallRequest) (a : Phase) (p : PlainPacket) → AreAgreedIn c.longest g a → Row c g (in_call e m i a) p
+row_in_call : (c : CircuitSettings) (g : Agreed) (e : ℕ) (m i : List CallRequest) (a : Phase) (p : PlainPacket) → AreAgreedIn c.longest g a → Row c g (in_call e m i a) p
 row_in_call c g e m i Unused p fits = row_free c g e m i p
 row_in_call c g e m i (Waiting mine) p fits = row_calling c g e m i mine p
 row_in_call c g e m i (Offered theirs) p fits = row_arriving c g e m i theirs p
 row_in_call c g e m i (Crossed mine) p fits = row_collision c g e m i mine p
 row_in_call c g e m i (Talking t b at) p fits = on_terms c.longest (λ a. Row c g (in_call e m i a) p) g t b at fits (row_in_transfer c g e m i at.epoch at.side p)
 
-row_clearing : (c : Settings) (g : Agreed) (e : ℕ) (x : Connection) (p : PlainPacket) → Row c g (left e x) p
+row_clearing : (c : CircuitSettings) (g : Agreed) (e : ℕ) (x : Connection) (p : PlainPacket) → Row c g (left e x) p
 row_clearing c g e x (clear h cause n) has q = AfterClear (omega arith) refl refl
 row_clearing c g e x (clear_conf h) has q = AfterClear (omega arith) refl refl
 row_clearing c g e x (restart cause n) has q = absurd has
 row_clearing c g e x restart_conf has q = absurd has
 row_clearing c g e x other has q = still (left e x)
 
-row_side : (c : Settings) (g : Agreed) (e : ℕ) (x : Side Connection) (p : PlainPacket) → AreAgreed c.longest g x → Row c g (record { epoch = e; side = x }) p
+row_side : (c : CircuitSettings) (g : Agreed) (e : ℕ) (x : Side Connection) (p : PlainPacket) → AreAgreed c.longest g x → Row c g (record { epoch = e; side = x }) p
 row_side c g e (Live x) p fits = row_in_call c g e x.made x.indicated x.phase p fits
 row_side c g e (Left x) p fits = row_clearing c g e x p
 
 -- A packet taken.
-pub notes_taken : (c : Settings) (g : Agreed) (n : At Connection) (p : PlainPacket) → AreAgreed c.longest g n.side → HasChannel p → found (bare c.longest p) (channel_takes c.role n (bare c.longest p)).error ≡ None
+pub notes_taken : (c : CircuitSettings) (g : Agreed) (n : At Connection) (p : PlainPacket) → AreAgreed c.longest g n.side → HasChannel p → found (bare c.longest p) (channel_takes c.role n (bare c.longest p)).error ≡ None
     → Notes n (channel_takes c.role n (bare c.longest p)).next (told_by_all (answers c (view g n) p).notices)
 notes_taken c g n p fits has q = row_side c g n.epoch n.side p fits has q
 
 -- ---- calls of the user
 
-if_notes : (b : Bool) (u v : Outcome) (n : At Connection) (f : Step Stretch Packet → At Connection) (s w : Step Stretch Packet) (h : Handed) → NotesOutcome u n (f s) h → NotesOutcome v n (f w) h
+if_notes : (b : Bool) (u v : Outcome) (n : At Connection) (f : OwnStep Stretch Packet → At Connection) (s w : OwnStep Stretch Packet) (h : Handed) → NotesOutcome u n (f s) h → NotesOutcome v n (f w) h
     → NotesOutcome (if b then u else v) n (f (if b then s else w)) h
 if_notes true u v n f s w h p q = p
 if_notes false u v n f s w h p q = q
 
-if_both : (a b : Bool) (u v : Outcome) (n : At Connection) (f : Step Stretch Packet → At Connection) (s w : Step Stretch Packet) (h : Handed) → NotesOutcome u n (f s) h → NotesOutcome v n (f w) h
+if_both : (a b : Bool) (u v : Outcome) (n : At Connection) (f : OwnStep Stretch Packet → At Connection) (s w : OwnStep Stretch Packet) (h : Handed) → NotesOutcome u n (f s) h → NotesOutcome v n (f w) h
     → NotesOutcome (if a && b then u else v) n (f (if a then (if b then s else w) else w)) h
 if_both true true u v n f s w h p q = p
 if_both true false u v n f s w h p q = q
@@ -208,10 +207,10 @@ given_notes : (b : Bool) (u : Outcome) (n m : At Connection) (h : Handed) → No
 given_notes true u n m h p = p
 given_notes false u n m h p = tt
 
-abbrev Asked : Settings → Agreed → At Connection → Request → Type 0
+abbrev Asked : CircuitSettings → Agreed → At Connection → Request → Type 0
 Asked c g n request = NotesOutcome (outcome c (view g n) request) n (channel_acts n (act_of c.longest request)).next (asked_by request)
 
-asked_send : (c : Settings) (g : Agreed) (e : ℕ) (m i : List CallRequest) (s : ℕ) (x : Stretch) (q : Marks) (user : List ℕ) → Asked c g (in_open c.longest g e m i s x) (Sends q user)
+asked_send : (c : CircuitSettings) (g : Agreed) (e : ℕ) (m i : List CallRequest) (s : ℕ) (x : Stretch) (q : Marks) (user : List ℕ) → Asked c g (in_open c.longest g e m i s x) (Sends q user)
 asked_send c g e m i s x q user =
     if_notes (nat_le (length user) c.longest) _ _ (in_open c.longest g e m i s x) (λ st. (channel_step c.longest g e m i s st).next) _ _ _
     (if_notes (nat_lt (wholes x.rest) 8) _ _ (in_open c.longest g e m i s x) (λ st. (channel_step c.longest g e m i s st).next) _ _ _
@@ -220,14 +219,14 @@ asked_send c g e m i s x q user =
     tt)
     tt
 
-asked_interrupt : (c : Settings) (g : Agreed) (e : ℕ) (m i : List CallRequest) (s : ℕ) (x : Stretch) (user : List ℕ) → Asked c g (in_open c.longest g e m i s x) (Interrupts user)
+asked_interrupt : (c : CircuitSettings) (g : Agreed) (e : ℕ) (m i : List CallRequest) (s : ℕ) (x : Stretch) (user : List ℕ) → Asked c g (in_open c.longest g e m i s x) (Interrupts user)
 asked_interrupt c g e m i s x user =
     if_both (nat_le 1 (length user)) (nat_le (length user) 32) _ _ (in_open c.longest g e m i s x) (λ st. (channel_step c.longest g e m i s st).next) _ _ _
     (if_notes x.int_out _ _ (in_open c.longest g e m i s x) (λ st. (channel_step c.longest g e m i s st).next) _ _ _ tt
     (Adds refl refl (handed_is m _ (none m) i _ (none i) x.down _ (none x.down) x.up _ (none x.up) (x.int_down ++ user ∷ []) _ refl x.int_up _ (none x.int_up)) (inl (refl, refl))))
     tt
 
-asked_open : (c : Settings) (g : Agreed) (e : ℕ) (m i : List CallRequest) (s : ℕ) (x : Stretch) (request : Request) → Asked c g (in_open c.longest g e m i s x) request
+asked_open : (c : CircuitSettings) (g : Agreed) (e : ℕ) (m i : List CallRequest) (s : ℕ) (x : Stretch) (request : Request) → Asked c g (in_open c.longest g e m i s x) request
 asked_open c g e m i s x (Calls called calling user params) = tt
 asked_open c g e m i s x (Accepts answer) = tt
 asked_open c g e m i s x (Sends q user) = asked_send c g e m i s x q user
@@ -236,21 +235,21 @@ asked_open c g e m i s x (Clears cause diagnostic) = given_notes (may_clear_for 
 asked_open c g e m i s x (Resets cause diagnostic) = given_notes (may_reset_for c.role cause) _ (in_open c.longest g e m i s x) _ _ (Adds refl refl (added_nothing (held_stretch m i x)) (inl (refl, refl)))
 asked_open c g e m i s x other = Adds refl refl (added_nothing (held_stretch m i x)) (inl (refl, refl))
 
-asked_resetting : (c : Settings) (g : Agreed) (e : ℕ) (m i : List CallRequest) (s : ℕ) (x : Stretch) (request : Request) → Asked c g (in_resetting c.longest g e m i s x) request
+asked_resetting : (c : CircuitSettings) (g : Agreed) (e : ℕ) (m i : List CallRequest) (s : ℕ) (x : Stretch) (request : Request) → Asked c g (in_resetting c.longest g e m i s x) request
 asked_resetting c g e m i s x (Clears cause diagnostic) = given_notes (may_clear_for c.role cause) _ (in_resetting c.longest g e m i s x) _ _ (Adds refl refl (added_nothing (held_stretch m i x)) (inl (refl, refl)))
 asked_resetting c g e m i s x other = tt
 
-asked_in_transfer : (c : Settings) (g : Agreed) (e : ℕ) (m i : List CallRequest) (s : ℕ) (x : Side Stretch) (request : Request) → Asked c g (in_talk c.longest g e m i (record { epoch = s; side = x })) request
+asked_in_transfer : (c : CircuitSettings) (g : Agreed) (e : ℕ) (m i : List CallRequest) (s : ℕ) (x : Side Stretch) (request : Request) → Asked c g (in_talk c.longest g e m i (record { epoch = s; side = x })) request
 asked_in_transfer c g e m i s (Live x) request = asked_open c g e m i s x request
 asked_in_transfer c g e m i s (Left x) request = asked_resetting c g e m i s x request
 
-asked_call : (c : Settings) (g : Agreed) (e : ℕ) (m i : List CallRequest) (called calling user : List ℕ) (proposal : Proposal) → Asked c g (in_call e m i Unused) (Calls called calling user proposal)
+asked_call : (c : CircuitSettings) (g : Agreed) (e : ℕ) (m i : List CallRequest) (called calling user : List ℕ) (proposal : Proposal) → Asked c g (in_call e m i Unused) (Calls called calling user proposal)
 asked_call c g e m i called calling user proposal = test (may_call c.long_data called calling user params) refl
   where
     params : Params
     params = proposal.params
 
-    placed : Bool → Step Connection Packet
+    placed : Bool → OwnStep Connection Packet
     placed b = if b then nested_calls.goes (Waiting params) (m ++ request_of called calling user params ∷ []) i (Call (request_of called calling user params) ∷ []) else nested_calls.goes Unused m i []
 
     test : (b : Bool) → may_call c.long_data called calling user params ≡ b
@@ -261,10 +260,10 @@ asked_call c g e m i called calling user proposal = test (may_call c.long_data c
         (Adds refl refl (handed_is (m ++ request_of called calling user params ∷ []) _ refl i _ (none i) [] _ refl [] _ refl [] _ refl [] _ refl) (inr refl))
     test false is = tt
 
-asked_answer : (c : Settings) (g : Agreed) (e : ℕ) (m i : List CallRequest) (theirs : Params) (answer : Proposal) → Asked c g (in_call e m i (Offered theirs)) (Accepts (Some answer))
+asked_answer : (c : CircuitSettings) (g : Agreed) (e : ℕ) (m i : List CallRequest) (theirs : Params) (answer : Proposal) → Asked c g (in_call e m i (Offered theirs)) (Accepts (Some answer))
 asked_answer c g e m i theirs answer = test (may_answer theirs answer.params)
   where
-    answered : Bool → Step Connection Packet
+    answered : Bool → OwnStep Connection Packet
     answered b = if b then nested_calls.goes (called_talk c.longest answer.params) m i (Accept (field_for theirs answer) c.longest ∷ []) else nested_calls.goes (Offered theirs) m i []
 
     test : (b : Bool)
@@ -273,7 +272,7 @@ asked_answer c g e m i theirs answer = test (may_answer theirs answer.params)
     test true = Adds refl refl (added_nothing (held_of (in_call e m i (Offered theirs)))) (inl (refl, refl))
     test false = tt
 
-asked_in_call : (c : Settings) (g : Agreed) (e : ℕ) (m i : List CallRequest) (a : Phase) (request : Request) → AreAgreedIn c.longest g a → Asked c g (in_call e m i a) request
+asked_in_call : (c : CircuitSettings) (g : Agreed) (e : ℕ) (m i : List CallRequest) (a : Phase) (request : Request) → AreAgreedIn c.longest g a → Asked c g (in_call e m i a) request
 asked_in_call c g e m i Unused (Calls called calling user params) fits = asked_call c g e m i called calling user params
 asked_in_call c g e m i Unused other fits = tt
 asked_in_call c g e m i (Waiting mine) (Clears cause diagnostic) fits = given_notes (may_clear_for c.role cause) _ (in_call e m i (Waiting mine)) _ _ (Adds refl refl (added_nothing (held_of (in_call e m i (Waiting mine)))) (inl (refl, refl)))
@@ -286,12 +285,12 @@ asked_in_call c g e m i (Crossed mine) (Clears cause diagnostic) fits = given_no
 asked_in_call c g e m i (Crossed mine) other fits = tt
 asked_in_call c g e m i (Talking t b at) request fits = on_terms c.longest (λ a. Asked c g (in_call e m i a) request) g t b at fits (asked_in_transfer c g e m i at.epoch at.side request)
 
-asked_side : (c : Settings) (g : Agreed) (e : ℕ) (x : Side Connection) (request : Request) → AreAgreed c.longest g x → Asked c g (record { epoch = e; side = x }) request
+asked_side : (c : CircuitSettings) (g : Agreed) (e : ℕ) (x : Side Connection) (request : Request) → AreAgreed c.longest g x → Asked c g (record { epoch = e; side = x }) request
 asked_side c g e (Live x) request fits = asked_in_call c g e x.made x.indicated x.phase request fits
 asked_side c g e (Left x) (Accepts answer) fits = tt
 asked_side c g e (Left x) other fits = tt
 
-pub notes_asked : (c : Settings) (g : Agreed) (n : At Connection) (request : Request) → AreAgreed c.longest g n.side → NotesOutcome (outcome c (view g n) request) n (channel_acts n (act_of c.longest request)).next (asked_by request)
+pub notes_asked : (c : CircuitSettings) (g : Agreed) (n : At Connection) (request : Request) → AreAgreed c.longest g n.side → NotesOutcome (outcome c (view g n) request) n (channel_acts n (act_of c.longest request)).next (asked_by request)
 notes_asked c g n request fits = asked_side c g n.epoch n.side request fits
 
 -- ---- a pull says nothing
@@ -301,7 +300,7 @@ pulled_open : (t b : Terms) (e : ℕ) (m i : List CallRequest) (s : ℕ) (x : St
 pulled_open t b e m i s x [] = (refl, refl, refl)
 pulled_open t b e m i s x (p ∷ ps) = test x.peer_ready (nat_lt (length x.sent) (x.acked + t.window))
   where
-    step : Step Stretch Packet → At Connection
+    step : OwnStep Stretch Packet → At Connection
     step st = (lifted_call e (in_transfer t b m i (lifted s st st.error)) (lifted s st st.error).error).next
 
     test : (a c : Bool)

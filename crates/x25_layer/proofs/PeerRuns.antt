@@ -3,7 +3,7 @@ use Rattle.std.proofs.Common.{◌≡◌, ℕ, List, [], ◌∷◌, ◌++◌, Opt
 use Rattle.x25_bits.specs.declared.role.Role.{Role}
 use Rattle.x25_packet.specs.Packet.{PlainPacket, restart, restart_conf}
 use Rattle.x25_packet.specs.Spelling.{channel_of, HasChannel}
-use Rattle.x25_handshakes.specs.laws.Handshake.{At, Step, left, near_stepped}
+use Rattle.x25_handshakes.specs.laws.Handshake.{At, OwnStep, left, near_stepped}
 use Rattle.x25_handshakes.specs.laws.Layers.{LayerPacket, On, Channels, all_fresh, LayerAct, OnChannel, layer_acts, layer_takes}
 use Rattle.x25_handshakes.specs.laws.Histories.{messages, interrupts, calls}
 use Rattle.x25_handshakes.specs.laws.PeerLayer.{PeerChannels}
@@ -17,7 +17,7 @@ use Rattle.x25_layer.specs.laws.Bare.{bare, bare_layer, bare_layers}
 use Rattle.x25_layer.specs.laws.Transcript.{Entry, calls_in, messages_in, interrupts_in}
 use Rattle.x25_layer.specs.laws.TwoLayers.{TwoLayers, entries_asked, entries_told, Move, Requests, Pulls, HandsUp, GoesDown, puts, requested, pulled_in, handed_up, moves_in, settings_of}
 use Rattle.x25_layer.specs.laws.Law.{IsQuietEnd}
-use Rattle.x25_layer.specs.laws.PeerJoined.{Joined, start, our_end, with_peer, AreConfigured, StaysUp, Happens, Ours, Does, Hears, HearsChannel, IsReached, at_start, goes_on}
+use Rattle.x25_layer.specs.laws.PeerJoined.{PeerJoined, start, our_end, with_peer, AreConfigured, StaysUp, PeerMoves, Does, Hears, HearsChannel, Happens, Ours, Theirs, IsReached, at_start, goes_on}
 use Rattle.x25_layer.specs.laws.PeerClaims.{WithAnyPeer, IsAllInOrder, FindsNoError, AllHaveArrived}
 use Rattle.x25_layer.proofs.Sees.{ParamsLaws, pull_act}
 use Rattle.x25_layer.proofs.LayerSees.{SeesLayer, StepOf, FollowsLayer, DoesLayer, layer_act, HeedsLayer}
@@ -34,7 +34,7 @@ pub record PeerPremises : Type 0 where
   pub arrived : WithAnyPeerLayer LayerHasArrived
   pub params : ParamsLaws
 
-record Stands (r : Role) (channels : Ranges) (w : Joined) : Type 0 where
+record Stands (r : Role) (channels : Ranges) (w : PeerJoined) : Type 0 where
   nested_end : At Channels
   error : Option ℕ
   reached : nested.ReachedInLayers r (record { near = nested_end; peer = w.peer; out = bare_layers channels.message w.out; back = bare_layers channels.message w.back; error = error })
@@ -57,11 +57,11 @@ configured_more channels [] o p q = q
 configured_more channels (x ∷ L) o p q = (p.0, configured_more channels L o p.1 q)
 
 -- our layer has gone to this, and put these packets
-put_stands : (r : Role) (channels : Ranges) (w : Joined) (l : Layer) (o : List PlainPacket) (es : List Entry) (h : Stands r channels w) (act : LayerAct)
+put_stands : (r : Role) (channels : Ranges) (w : PeerJoined) (l : Layer) (o : List PlainPacket) (es : List Entry) (h : Stands r channels w) (act : LayerAct)
     → SeesLayer channels.message l (layer_acts h.nested_end act).next → bare_layers channels.message o ≡ (layer_acts h.nested_end act).out → IsQuietEnd channels (puts (our_end w) l o es).near → StepOf h.nested_end (layer_acts h.nested_end act).next es
     → Stands r channels (with_peer w.peer (puts (our_end w) l o es))
 put_stands r channels w l o es h act sees put quiet step =
-    let s : Step (At Channels) LayerPacket = layer_acts h.nested_end act in
+    let s : OwnStep (At Channels) LayerPacket = layer_acts h.nested_end act in
     record {
       nested_end = s.next;
       error = _;
@@ -80,13 +80,13 @@ module _ (p : PeerPremises) (r : Role) (long_data : Bool) (channels : Ranges) wh
   abbrev c : LayerSettings
   c = settings_of r long_data channels
 
-  does_stands : (w : Joined) (h : Stands r channels w) (l : Layer) (packet : Option PlainPacket) (es : List Entry) (act : LayerAct) → DoesLayer channels.message channels l packet es h.nested_end (layer_acts h.nested_end act)
+  does_stands : (w : PeerJoined) (h : Stands r channels w) (l : Layer) (packet : Option PlainPacket) (es : List Entry) (act : LayerAct) → DoesLayer channels.message channels l packet es h.nested_end (layer_acts h.nested_end act)
       → Stands r channels (with_peer w.peer (puts (our_end w) l (option_to_list packet) es))
   does_stands w h l packet es act g =
       put_stands r channels w l (option_to_list packet) es h act g.next g.put
       (record { given = quiet_more channels w.near.given (option_to_list packet) h.quiet.given g.quiet; told = h.quiet.told }) g.step
 
-  asks : (w : Joined) (h : Stands r channels w) (full : Bool) (request : LayerRequest) → Stands r channels (with_peer w.peer (requested c (our_end w) request (layer_outcome c full w.near.layer request)))
+  asks : (w : PeerJoined) (h : Stands r channels w) (full : Bool) (request : LayerRequest) → Stands r channels (with_peer w.peer (requested c (our_end w) request (layer_outcome c full w.near.layer request)))
   asks w h full PullsAll = subst (λ (v : TwoLayers). Stands r channels (with_peer w.peer v)) (sym (pulls_change_nothing c full (our_end w) h.up)) h
   asks w h full other = did other (layer_outcome c full w.near.layer other) (layer_heeds p.params c full w.near.layer h.nested_end other tt h.sees)
     where
@@ -95,17 +95,17 @@ module _ (p : PeerPremises) (r : Role) (long_data : Bool) (channels : Ranges) wh
       did request (Accepted next packet) g = does_stands w h next packet (entries_asked c w.near.layer next request) (layer_act c w.near.layer.circuits request) g
       did request (Declined e) g = h
 
-  pulls : (w : Joined) (h : Stands r channels w) (k : ℕ) (b : Bool) → is_channel channels k ≡ b
+  pulls : (w : PeerJoined) (h : Stands r channels w) (k : ℕ) (b : Bool) → is_channel channels k ≡ b
       → Stands r channels (with_peer w.peer (if b then pulled_in (our_end w) (layer_pulled c w.near.layer k) else our_end w))
   pulls w h k false is = h
   pulls w h k true is =
       let d : LayerPulled = layer_pulled c w.near.layer k in
       does_stands w h d.next d.packet [] (OnChannel k pull_act) (layer_pulls c w.near.layer h.nested_end k is h.sees)
 
-  hands_up : (w : Joined) (h : Stands r channels w) (K : List PlainPacket) → w.back ≡ K → Stands r channels (with_peer w.peer (handed_up c (our_end w) K))
+  hands_up : (w : PeerJoined) (h : Stands r channels w) (K : List PlainPacket) → w.back ≡ K → Stands r channels (with_peer w.peer (handed_up c (our_end w) K))
   hands_up w h [] front = h
   hands_up w h (packet ∷ K) front =
-      let s : Step (At Channels) LayerPacket = layer_takes r h.nested_end (bare_layer channels.message packet) in
+      let s : OwnStep (At Channels) LayerPacket = layer_takes r h.nested_end (bare_layer channels.message packet) in
       let back : bare_layers channels.message w.back ≡ bare_layer channels.message packet ∷ bare_layers channels.message K = ap (bare_layers channels.message) front in
       let j : JoinedLayers = record { near = h.nested_end; peer = w.peer; out = bare_layers channels.message w.out; back = bare_layers channels.message w.back; error = h.error } in
       let found : Option ℕ = layer_found (bare_layer channels.message packet) s.error in
@@ -129,14 +129,14 @@ module _ (p : PeerPremises) (r : Role) (long_data : Bool) (channels : Ranges) wh
         of_calls = written_on calls calls_in calls_listed h.nested_end s.next w.near.entries es g.step h.of_calls;
       }
 
-  ours : (w : Joined) (h : Stands r channels w) (move : Move) → StaysUp move → Stands r channels (with_peer w.peer (moves_in c (our_end w) false move))
+  ours : (w : PeerJoined) (h : Stands r channels w) (move : Move) → StaysUp move → Stands r channels (with_peer w.peer (moves_in c (our_end w) false move))
   ours w h (Requests full request) stays = asks w h full request
   ours w h (Pulls k) stays = pulls w h k (is_channel channels k) refl
   ours w h HandsUp stays = hands_up w h w.back refl
   ours w h GoesDown stays = absurd stays
 
   -- the peer has gone to this, and put these packets
-  peer_stands : (w : Joined) (h : Stands r channels w) (y : At PeerChannels) (out packets : List PlainPacket) (o : List LayerPacket) → bare_layers channels.message packets ≡ o → AreConfigured channels packets
+  peer_stands : (w : PeerJoined) (h : Stands r channels w) (y : At PeerChannels) (out packets : List PlainPacket) (o : List LayerPacket) → bare_layers channels.message packets ≡ o → AreConfigured channels packets
       → nested.ReachedInLayers r (record { near = h.nested_end; peer = y; out = bare_layers channels.message out; back = bare_layers channels.message w.back ++ o; error = h.error })
       → Stands r channels (record { near = w.near; peer = y; out = out; back = w.back ++ packets })
   peer_stands w h y out packets o put is reached = record {
@@ -157,19 +157,23 @@ module _ (p : PeerPremises) (r : Role) (long_data : Bool) (channels : Ranges) wh
   bare_on restart_conf has = absurd has
   bare_on other has = refl
 
-  happens_stands : (w v : Joined) → Happens r long_data channels w v → Stands r channels w → Stands r channels v
-  happens_stands w v (Ours move stays) h = subst (λ (b : Bool). Stands r channels (with_peer w.peer (moves_in c (our_end w) b move))) (sym h.up) (ours w h move stays)
-  happens_stands w v (Does deed packet may is at) h =
+  peer_moves : (w : PeerJoined) (h : Stands r channels w) {y : At PeerChannels} {out packets : List PlainPacket} → PeerMoves r channels w.peer w.out y out packets
+      → Stands r channels (record w { peer = y; out = out; back = w.back ++ packets })
+  peer_moves w h (Does deed packet may is at) =
       peer_stands w h _ w.out (packet ∷ []) _ (ap (λ q. q ∷ []) is) (at, tt) (nested.goes_on _ _ h.reached (nested.Does deed may))
-  happens_stands w v (Hears packet rest packets front answers) h =
+  peer_moves w h (Hears packet rest packets front answers) =
       peer_stands w h _ rest packets _ answers.are answers.configured (nested.goes_on _ _ h.reached (nested.Hears (bare_layer channels.message packet) (bare_layers channels.message rest) (ap (bare_layers channels.message) front)))
-  happens_stands w v (HearsChannel y passed packet rest packets live has apart front answers) h =
+  peer_moves w h (HearsChannel y passed packet rest packets live has apart front answers) =
       let k : ℕ = channel_of packet in
       let line : bare_layers channels.message w.out ≡ bare_layers channels.message passed ++ On k (bare channels.message packet) ∷ bare_layers channels.message rest =
       ap (bare_layers channels.message) front ∙ bare_more channels.message passed (packet ∷ rest) (bare_layers channels.message passed) (On k (bare channels.message packet) ∷ bare_layers channels.message rest) refl (ap (λ q. q ∷ bare_layers channels.message rest) (bare_on packet has)) in
       peer_stands w h _ (passed ++ rest) packets _ answers.are answers.configured
       (reached_at r h.nested_end _ (bare_layers channels.message passed ++ bare_layers channels.message rest) (bare_layers channels.message (passed ++ rest)) _ _ h.error (sym (bare_more channels.message passed rest (bare_layers channels.message passed) (bare_layers channels.message rest) refl refl)) refl
       (nested.goes_on _ _ h.reached (nested.HearsChannel y k (bare_layers channels.message passed) (bare channels.message packet) (bare_layers channels.message rest) live apart line)))
+
+  happens_stands : (w v : PeerJoined) → Happens r long_data channels w v → Stands r channels w → Stands r channels v
+  happens_stands w v (Ours move stays) h = subst (λ (b : Bool). Stands r channels (with_peer w.peer (moves_in c (our_end w) b move))) (sym h.up) (ours w h move stays)
+  happens_stands w v (Theirs y out packets moves) h = peer_moves w h moves
 
   start_stands : Stands r channels (start r long_data channels)
   start_stands = record {
@@ -185,7 +189,7 @@ module _ (p : PeerPremises) (r : Role) (long_data : Bool) (channels : Ranges) wh
     of_calls = record { held = λ k. refl; later = λ k m earlier. refl };
   }
 
-  reached_stands : (w : Joined) → IsReached r long_data channels w → Stands r channels w
+  reached_stands : (w : PeerJoined) → IsReached r long_data channels w → Stands r channels w
   reached_stands w at_start = start_stands
   reached_stands w (goes_on v u h event) = happens_stands v w event (reached_stands v h)
 

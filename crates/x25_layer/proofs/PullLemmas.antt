@@ -6,7 +6,7 @@ use Rattle.x25_circuit.specs.declared.circuit.Circuit as circuit_code
 use Rattle.x25_circuit.specs.declared.state.State.{State}
 use Rattle.x25_circuit.specs.declared.state.State.TheVariants.{Free, Calling, Arriving, Collision, Open, Resetting, Clearing}
 use Rattle.x25_circuit.specs.Message.{Piece}
-use Rattle.x25_circuit.specs.Circuit.{Settings, Talk, Circuit, outgoing}
+use Rattle.x25_circuit.specs.Circuit.{CircuitSettings, Talk, Circuit, outgoing}
 use Rattle.x25_circuit.specs.Calling.{Pulled, pulls_nothing, pull_open, pull_in, pulled}
 use Rattle.x25_circuit.specs.code.FitsCircuit.{FitsCircuit}
 use Rattle.x25_layer.specs.Layer.{LayerSettings, put_at}
@@ -20,11 +20,11 @@ kept_if : (b : Bool) (next : Pulled) (x : Circuit) (p : PlainPacket) → next.pa
 kept_if true next x p some none = absurd (none-some p (sym none ∙ some))
 kept_if false next x p some none = refl
 
-none_kept_open : (c : Settings) (x : Circuit) (t : Talk) (rest : List Piece) → (pull_open c x t rest).packet ≡ None → (pull_open c x t rest).next ≡ x
+none_kept_open : (c : CircuitSettings) (x : Circuit) (t : Talk) (rest : List Piece) → (pull_open c x t rest).packet ≡ None → (pull_open c x t rest).next ≡ x
 none_kept_open c x t [] none = refl
 none_kept_open c x t (piece ∷ rest) none = kept_if (t.peer_ready && nat_lt (length t.sent) (t.acked + (outgoing x).window)) _ x _ refl none
 
-pub none_kept : (c : Settings) (x : Circuit) → (pulled c x).packet ≡ None → (pulled c x).next ≡ x
+pub none_kept : (c : CircuitSettings) (x : Circuit) → (pulled c x).packet ≡ None → (pulled c x).next ≡ x
 none_kept c x none = at x.state none
   where
     at : (s : State) → (pull_in c x s).packet ≡ None → (pull_in c x s).next ≡ x

@@ -10,7 +10,7 @@ use Rattle.x25_handshakes.specs.laws.Histories.{Lists, none, Kind, messages, int
 use Rattle.x25_handshakes.specs.laws.Arrivals.{AllArrives}
 use Rattle.x25_layer.specs.declared.ranges.Ranges.{Ranges}
 use Rattle.x25_layer.specs.laws.Transcript.{Handed, Entry, under, calls_in, messages_in, interrupts_in}
-use Rattle.x25_layer.specs.laws.TwoLayers.{TwoLayers, Move, Event, moves, turned, happens, run, start, settings_of}
+use Rattle.x25_layer.specs.laws.TwoLayers.{TwoLayers, Move, EndMove, moves, turned, happens, run, start, settings_of}
 use Rattle.x25_layer.proofs.Sees.{ParamsLaws}
 use Rattle.x25_layer.proofs.LayerSees.{StepOf}
 use Rattle.x25_layer.proofs.HistoryLemmas.{IsListed, recorded, messages_listed, interrupts_listed, calls_listed}
@@ -138,7 +138,7 @@ if_run : (channels : Ranges) (first : Bool) (u v : TwoLayers) → InRun channels
 if_run channels true u v f g = f
 if_run channels false u v f g = g
 
-in_run_on : Premises → (long_data : Bool) (channels : Ranges) (es : List Event) (w : TwoLayers) → InRun channels w → InRun channels (run long_data channels es w)
+in_run_on : Premises → (long_data : Bool) (channels : Ranges) (es : List EndMove) (w : TwoLayers) → InRun channels w → InRun channels (run long_data channels es w)
 in_run_on p long_data channels [] w h = h
 in_run_on p long_data channels (e ∷ es) w h =
     in_run_on p long_data channels es (happens long_data channels w e)
@@ -164,5 +164,5 @@ begins long_data channels = record {
   calls = record { near = λ k m. refl; far = λ k m. refl };
 }
 
-pub in_run : Premises → (long_data : Bool) (channels : Ranges) (es : List Event) → InRun channels (run long_data channels es (start long_data channels))
+pub in_run : Premises → (long_data : Bool) (channels : Ranges) (es : List EndMove) → InRun channels (run long_data channels es (start long_data channels))
 in_run p long_data channels es = in_run_on p long_data channels es (start long_data channels) (begins long_data channels)

@@ -12,7 +12,7 @@ use Rattle.x25_circuit.specs.Circuit.{Talk, silent, Circuit}
 use Rattle.x25_circuit.specs.Notice.{CallRequest, PlainNotice}
 use Rattle.x25_circuit.specs.Hearing.{Answer}
 use Rattle.x25_circuit.specs.Calling.{Outcome, Done, Refused, Request, Calls, Accepts, Clears, Sends, Interrupts, Resets, SaysReady, SaysNotReady, request_of}
-use Rattle.x25_handshakes.specs.laws.Handshake.{Side, Live, Left, At, state_of, Step}
+use Rattle.x25_handshakes.specs.laws.Handshake.{Side, Live, Left, At, state_of, OwnStep}
 use Rattle.x25_handshakes.specs.laws.Stretch.{Packet, Stretch, Send, Pull, Ready, NotReady, Interrupt}
 use Rattle.x25_handshakes.specs.laws.Terms.{Terms, with_longest}
 use Rattle.x25_handshakes.specs.laws.Transfer.{Inside, SendsReset}
@@ -126,19 +126,19 @@ TellNoFault [] = Unit {0}
 TellNoFault (notice ∷ notices) = IsNoFault notice × TellNoFault notices
 
 -- the answer of the table is the step of the channel, and tells of no error of procedure
-pub record Follows (most : ℕ) (a : Answer) (s : Step (At Connection) Packet) : Type 0 where
+pub record Follows (most : ℕ) (a : Answer) (s : OwnStep (At Connection) Packet) : Type 0 where
   pub next : Shows most a.next s.next
   pub owed : bare_if most a.owed ≡ s.out
   pub quiet : IsQuietIf a.owed
   pub no_fault : TellNoFault a.notices
 
 -- the same of a call of the user that isn't refused, and of a pull
-pub record Does (most : ℕ) (x : Circuit) (owed : Option PlainPacket) (s : Step (At Connection) Packet) : Type 0 where
+pub record Does (most : ℕ) (x : Circuit) (owed : Option PlainPacket) (s : OwnStep (At Connection) Packet) : Type 0 where
   pub next : Shows most x s.next
   pub packet : bare_if most owed ≡ s.out
   pub quiet : IsQuietIf owed
 
-abbrev pub Heeds : ℕ → Outcome → Step (At Connection) Packet → Type 0
+abbrev pub Heeds : ℕ → Outcome → OwnStep (At Connection) Packet → Type 0
 Heeds most (Done next packet) s = Does most next packet s
 Heeds most (Refused e) s = Unit {0}
 

@@ -6,7 +6,7 @@ use Rattle.x25_packet.specs.Packet.{PlainPacket}
 use Rattle.x25_circuit.specs.declared.state.State.{State}
 use Rattle.x25_circuit.specs.declared.state.State.TheVariants.{Free, Calling, Arriving, Collision, Open, Resetting, Clearing}
 use Rattle.x25_circuit.specs.Message.{Piece}
-use Rattle.x25_circuit.specs.Circuit.{Settings, Talk, Circuit, begun, talking, outgoing}
+use Rattle.x25_circuit.specs.Circuit.{CircuitSettings, Talk, Circuit, begun, talking, outgoing}
 use Rattle.x25_circuit.specs.Calling.{Pulled, pulls_nothing, data_packet, pull_open, pull_in, pulled}
 use Rattle.x25_layer.specs.Layer.{LayerSettings, put_at, packet_on, goes_up}
 use Rattle.x25_layer.specs.Calls.{layer_pulled}
@@ -15,7 +15,7 @@ use Rattle.x25_layer.specs.laws.RoundLaw.{RoundsSettle, ComesUpAlone}
 
 -- a pull that gives a packet leaves one fewer
 
-shorter_open : (c : Settings) (x : Circuit) (t : Talk) (rest : List Piece) (p : PlainPacket) → x.talk.rest ≡ rest → (pull_open c x t rest).packet ≡ Some p → suc (length (pull_open c x t rest).next.talk.rest) ≡ length x.talk.rest
+shorter_open : (c : CircuitSettings) (x : Circuit) (t : Talk) (rest : List Piece) (p : PlainPacket) → x.talk.rest ≡ rest → (pull_open c x t rest).packet ≡ Some p → suc (length (pull_open c x t rest).next.talk.rest) ≡ length x.talk.rest
 shorter_open c x t [] p same found = absurd (none-some p found)
 shorter_open c x t (piece ∷ rest) p same found = test (t.peer_ready && nat_lt (length t.sent) (t.acked + (outgoing x).window)) found
   where
@@ -29,7 +29,7 @@ shorter_open c x t (piece ∷ rest) p same found = test (t.peer_ready && nat_lt 
     test true is = let l : length x.talk.rest ≡ length (piece ∷ rest) = ap length same in omega (arith, l)
     test false is = absurd (none-some p is)
 
-shorter : (c : Settings) (x : Circuit) (p : PlainPacket) → (pulled c x).packet ≡ Some p → suc (length (pulled c x).next.talk.rest) ≡ length x.talk.rest
+shorter : (c : CircuitSettings) (x : Circuit) (p : PlainPacket) → (pulled c x).packet ≡ Some p → suc (length (pulled c x).next.talk.rest) ≡ length x.talk.rest
 shorter c x p found = at x.state found
   where
     at : (s : State) → (pull_in c x s).packet ≡ Some p → suc (length (pull_in c x s).next.talk.rest) ≡ length x.talk.rest

@@ -2,7 +2,7 @@
 use Rattle.std.proofs.Common.{◌≡◌, ◌⊎◌, inl, inr, ℕ, List, [], ◌∷◌, ◌++◌, Option, Some, None, Bool, true, false, if◌then◌else◌, option_to_list, refl, sym, ap, subst, ◌∙◌, append_assoc}
 use Rattle.x25_bits.specs.declared.role.Role.{Role}
 use Rattle.x25_packet.specs.Packet.{PlainPacket}
-use Rattle.x25_handshakes.specs.laws.Handshake.{Side, Live, Left, At, state_of, Step, first_error}
+use Rattle.x25_handshakes.specs.laws.Handshake.{Side, Live, Left, At, state_of, OwnStep, first_error}
 use Rattle.x25_handshakes.specs.laws.Layers.{LayerPacket, On, Restart, RestartConf, Channels, OnChannel, Pair, Acts, Takes, LinkDown, pair_moves, layer_acts, layer_takes}
 use Rattle.x25_handshakes.specs.laws.Layers as nested
 use Rattle.x25_handshakes.specs.laws.Histories.{circuit_at}
@@ -67,7 +67,7 @@ second None f q = q
 second (Some n) f q = absurd (some_none n q)
 
 -- the near end has put these packets, and stands as the nested one does
-put_sees : (channels : Ranges) (w : TwoLayers) (j : Pair) (l : Layer) (o : List PlainPacket) (es : List Entry) (s : Step (At Channels) LayerPacket) (error : Option ℕ) → Sees channels w j
+put_sees : (channels : Ranges) (w : TwoLayers) (j : Pair) (l : Layer) (o : List PlainPacket) (es : List Entry) (s : OwnStep (At Channels) LayerPacket) (error : Option ℕ) → Sees channels w j
     → SeesLayer channels.message l s.next → bare_layers channels.message o ≡ s.out → AreQuiet channels o
     → Sees channels (puts w l o es) (record { near = Live s.next; far = j.far; out = j.out ++ s.out; back = j.back; error = error })
 put_sees channels w j l o es s error sees next owed quiet = record {
@@ -83,7 +83,7 @@ put_sees channels w j l o es s error sees next owed quiet = record {
 }
 
 -- after a packet was handed up
-answered_sees : (channels : Ranges) (w : TwoLayers) (j : Pair) (p : PlainPacket) (K : List PlainPacket) (a : LayerAnswer) (s : Step (At Channels) LayerPacket) (error : Option ℕ) → Sees channels w j → w.back ≡ p ∷ K
+answered_sees : (channels : Ranges) (w : TwoLayers) (j : Pair) (p : PlainPacket) (K : List PlainPacket) (a : LayerAnswer) (s : OwnStep (At Channels) LayerPacket) (error : Option ℕ) → Sees channels w j → w.back ≡ p ∷ K
     → (z : At Channels) → FollowsLayer channels.message channels a z s
     → Sees channels (answered w p K a) (record { near = Live s.next; far = j.far; out = j.out ++ s.out; back = bare_layers channels.message K; error = error })
 answered_sees channels w j p K a s error sees front z g = record {
@@ -203,7 +203,7 @@ world_moves laws r long_data channels w (Live z) far out back error HandsUp sees
     handed (p ∷ K) front =
         let c : LayerSettings = settings_of r long_data channels in
         let same : bare_layer channels.message p ∷ bare_layers channels.message K ≡ back = ap (bare_layers channels.message) (sym front) ∙ sees.back in
-        let s : Step (At Channels) LayerPacket = layer_takes r z (bare_layer channels.message p) in
+        let s : OwnStep (At Channels) LayerPacket = layer_takes r z (bare_layer channels.message p) in
         let clean : s.error ≡ None =
         second error s.error (subst (λ (l : List LayerPacket). (pair_moves r (record { near = Live z; far = far; out = out; back = l; error = error }) (Live z) Takes).error ≡ None) (sym same) (quiet Takes)) in
         let ok = subst (λ (l : List PlainPacket). AreQuiet channels l) front sees.back_quiet in

@@ -7,7 +7,7 @@ use Rattle.x25_bits.specs.declared.role.Role.{Role}
 use Rattle.x25_packet.specs.declared.error.PacketError.{PacketError}
 use Rattle.x25_packet.specs.Packet.{PlainPacket, restart, restart_conf}
 use Rattle.x25_packet.specs.Spelling.{channel_of, moved_to}
-use Rattle.x25_circuit.specs.Circuit.{Settings, Circuit, begun, forgotten}
+use Rattle.x25_circuit.specs.Circuit.{CircuitSettings, Circuit, begun, forgotten}
 use Rattle.x25_circuit.specs.Notice.{PlainNotice}
 use Rattle.x25_layer.specs.declared.ranges.Ranges.{Ranges}
 pub use Rattle.x25_layer.specs.Ranges.{is_channel}
@@ -17,7 +17,7 @@ pub mod MessageRoom
 
 pub record LayerSettings : Type 0 where
   pub channels : Ranges
-  pub circuit : Settings
+  pub circuit : CircuitSettings
 
 -- whether this end has sent RESTART and waits (r2 at a DTE, r3 at a DCE), how many restarts were done since link set-up
 -- (profile), and the circuit of each channel

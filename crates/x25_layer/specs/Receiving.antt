@@ -7,7 +7,7 @@ use Rattle.x25_packet.specs.Packet.{PlainPacket, plain}
 use Rattle.x25_packet.specs.Reading.{channel_in}
 use Rattle.x25_packet.specs.Spelling.{HasChannel, longest_user}
 use Rattle.x25_packet.specs.Taking.{read_in}
-use Rattle.x25_circuit.specs.Circuit.{Settings, Circuit}
+use Rattle.x25_circuit.specs.Circuit.{CircuitSettings, Circuit}
 use Rattle.x25_circuit.specs.Hearing.{Answer, answers, undecoded}
 use Rattle.x25_layer.specs.Layer.{LayerSettings, Layer, LayerAnswer, is_channel, answers_on, drops, layer_answers}
 use Rattle.x25_layer.specs.Layer.{layer_undecoded}
@@ -35,7 +35,7 @@ abbrev pub IsOfChannel : Result PlainPacket PacketError → Type 0
 IsOfChannel (Ok packet) = HasChannel packet
 IsOfChannel (Err e) = e ≢ error.NoMemory
 
-abbrev pub circuit_hears : Settings → Circuit → Result PlainPacket PacketError → Answer
+abbrev pub circuit_hears : CircuitSettings → Circuit → Result PlainPacket PacketError → Answer
 circuit_hears c x (Ok packet) = answers c x packet
 circuit_hears c x (Err e) = undecoded c x e
 

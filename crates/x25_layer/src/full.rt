@@ -1,6 +1,6 @@
 //! Whether the counts of a layer have room.
 ghost use Rattle.std.specs.Prelude.{◌≡◌, ℕ, ◌||◌, length, false};
-ghost use Rattle.x25_circuit.specs.Circuit.{Settings};
+ghost use Rattle.x25_circuit.specs.Circuit.{CircuitSettings};
 ghost use Rattle.x25_circuit.specs.Circuit.{Circuit as Channel};
 ghost use Rattle.x25_circuit.specs.code.FitsCircuit.{FitsCircuit};
 ghost use Rattle.x25_layer.specs.Layer.{LayerSettings};
@@ -13,7 +13,7 @@ use x25_circuit::Circuit;
 
 /// Whether a count of the circuit is at its most.
 pub(crate) fn is_full(circuit: &Circuit) -> bool
-    ensures value { (c : Settings) (x : Channel) → FitsCircuit c circuit.now x
+    ensures value { (c : CircuitSettings) (x : Channel) → FitsCircuit c circuit.now x
         → result ≡ (is_most x.clears || is_most x.resets) }
     ensures left { result ≡ false → HasCountsLeft circuit.now }
 {

@@ -248,7 +248,7 @@ fn told(report: &Report) -> Answer {
             notice: Some(notice),
             ..
         } => match notice {
-            Notice::Delivered(message) => (0, Some(message.user.as_slice().len())),
+            Notice::Delivered { user, .. } => (0, Some(user.as_slice().len())),
             Notice::Interrupted { user } => (0, Some(user.len())),
             Notice::Fault { diagnostic } => (*diagnostic, None),
             _ => OK,
@@ -275,7 +275,7 @@ fn is_handed_over(report: &Report) -> bool {
     matches!(
         report,
         Report::Channel {
-            notice: Some(Notice::Delivered(_)),
+            notice: Some(Notice::Delivered { .. }),
             ..
         }
     )

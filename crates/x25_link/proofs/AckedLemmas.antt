@@ -5,8 +5,8 @@ use Rattle.std.proofs.lemmas.Bool.{le-ltb}
 use Rattle.x25_link.specs.declared.phase.Phase.{Phase}
 use Rattle.x25_link.specs.declared.phase.Phase.TheVariants.{Down, Waiting, Up, Closed}
 use Rattle.x25_link.specs.declared.phase.Reason.TheVariants.{Retries}
-use Rattle.x25_link.specs.Station.{Settings, LinkStation, Side, is_busy, with_near, ready, may_send, pumped, owes_ready, ended}
-use Rattle.x25_link.specs.Hearing.{Step, acknowledges, quiet, leaves, answers, passes_over, polls}
+use Rattle.x25_link.specs.Station.{LinkSettings, LinkStation, Side, is_busy, with_near, ready, may_send, pumped, owes_ready, ended}
+use Rattle.x25_link.specs.Hearing.{LinkStep, acknowledges, quiet, leaves, answers, passes_over, polls}
 use Rattle.x25_link.specs.Link.{asks_again, fires, closed_by}
 
 abbrev acked : Side → ℕ
@@ -43,7 +43,7 @@ passed_same p t =
     (if_same (not t.near.rejecting) _ _ t refl (if_same p _ _ t (ready_same false true t) refl))
 
 -- the end of a step leaves what it acknowledges
-pub closed_same : (s : LinkStation) (k : ℕ) (step : Step) → acknowledges s (closed_by k step) ≡ acknowledges s step
+pub closed_same : (s : LinkStation) (k : ℕ) (step : LinkStep) → acknowledges s (closed_by k step) ≡ acknowledges s step
 closed_same s k step = ap (λ (n : ℕ). nat_lt s.outgoing.acked n) (ended_same k step.side)
 
 -- ---- where none are acknowledged
@@ -54,7 +54,7 @@ none_again t = sym (le-ltb _ _ (omega arith))
 pub none_left : (n : ℕ) → false ≡ nat_lt n 0
 none_left n = sym (le-ltb n 0 (omega arith))
 
-pub none_fired : (c : Settings) (t : Side) → false ≡ acknowledges t.near (fires c t)
+pub none_fired : (c : LinkSettings) (t : Side) → false ≡ acknowledges t.near (fires c t)
 none_fired c t = by (nat_lt t.near.tries c.retries)
   where
     up : Side

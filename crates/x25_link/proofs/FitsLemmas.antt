@@ -12,17 +12,17 @@ use Rattle.x25_link.specs.Outgoing.{Outgoing, acknowledged_to, gone_back, is_ope
 use Rattle.x25_link.specs.code.OutgoingHeld.{FitsOutgoing}
 use Rattle.x25_link.specs.declared.phase.Phase.{Phase}
 use Rattle.x25_link.specs.declared.phase.Phase.TheVariants.{Up}
-use Rattle.x25_link.specs.Station.{Settings, LinkStation, Side, with_near, with_nothing, fresh, is_up, wanted, may_send, pumped, pumped_once}
+use Rattle.x25_link.specs.Station.{LinkSettings, LinkStation, Side, with_near, with_nothing, fresh, is_up, wanted, may_send, pumped, pumped_once}
 use Rattle.x25_link.specs.Hearing.{acknowledged, peer_is, goes_back}
 use Rattle.x25_link.specs.code.Fits.{FitsStation, FitsSide, Made}
 
-pub made_more : (c : Settings) (role : Role) (before old made : List (List ℕ)) (frames : List PlainFrame) (frame : PlainFrame) → role ≡ c.role → Made c before old frames
+pub made_more : (c : LinkSettings) (role : Role) (before old made : List (List ℕ)) (frames : List PlainFrame) (frame : PlainFrame) → role ≡ c.role → Made c before old frames
     → made ≡ old ++ spelling_of role frame ∷ [] → Made c before made (frames ++ frame ∷ [])
 made_more c role before old made frames frame same h e =
     e ∙ ap (λ (r : Role). old ++ spelling_of r frame ∷ []) same ∙ ap (λ (o : List (List ℕ)). o ++ spelling_of c.role frame ∷ []) h
     ∙ append_assoc before _ _ ∙ ap (λ (m : List (List ℕ)). before ++ m) (sym (map-append (spelling_of c.role) frames (frame ∷ [])))
 
-pub with_outgoing : (c : Settings) (v : StationCode) (s : LinkStation) (b : OutgoingCode) (o : Outgoing) → FitsStation c v s → FitsOutgoing c.window b o
+pub with_outgoing : (c : LinkSettings) (v : StationCode) (s : LinkStation) (b : OutgoingCode) (o : Outgoing) → FitsStation c v s → FitsOutgoing c.window b o
     → FitsStation c (record v { outgoing = b }) (record s { outgoing = o })
 with_outgoing c v s b o fits outgoing = record {
   role = fits.role;
@@ -42,7 +42,7 @@ pub may_send_is : (k : ℕ) (s : LinkStation) → s.recovery ≡ false → s.pee
 may_send_is k s recovery peer_busy up = rw (up, recovery, peer_busy) refl
 
 -- the sending rule, once, where neither recovery nor a busy peer holds it up, of a station that has these packets
-pub sends_fits : (c : Settings) (v : StationCode) (b : OutgoingCode) (before old made : List (List ℕ)) (s : LinkStation) (o : Outgoing) (out : List PlainFrame) (nr : ℕ) (sent : Bool) → FitsStation c v s
+pub sends_fits : (c : LinkSettings) (v : StationCode) (b : OutgoingCode) (before old made : List (List ℕ)) (s : LinkStation) (o : Outgoing) (out : List PlainFrame) (nr : ℕ) (sent : Bool) → FitsStation c v s
     → Made c before old out → v.recovery ≡ false → v.peer_busy ≡ false → is_up v.phase ≡ true → nr ≡ wanted s → sent ≡ is_open c.window o
     → FitsOutgoing c.window b (if sent then moved_on o else o)
     → made ≡ (if sent then old ++ spelling_of v.role (info (o.place % 8) nr false (next_packet o)) ∷ [] else old)
@@ -54,7 +54,7 @@ sends_fits c v b before old made s o out nr false near h recovery peer_busy up n
     let may = may_send_is c.window (record s { outgoing = o }) (sym near.recovery ∙ recovery) (sym near.peer_busy ∙ peer_busy) (sym (ap is_up near.phase) ∙ up) in
     rw (may, sym opened) (record { near = with_outgoing c v s b _ near outgoing; out = e ∙ h })
 
-pub pump_fits : (c : Settings) (v : StationCode) (b : OutgoingCode) (before old made : List (List ℕ)) (t : Side) (nr : ℕ) (sent : Bool) → FitsSide c v before old t
+pub pump_fits : (c : LinkSettings) (v : StationCode) (b : OutgoingCode) (before old made : List (List ℕ)) (t : Side) (nr : ℕ) (sent : Bool) → FitsSide c v before old t
     → v.recovery ≡ false → v.peer_busy ≡ false → is_up v.phase ≡ true → nr ≡ wanted t.near → sent ≡ is_open c.window t.near.outgoing
     → FitsOutgoing c.window b (if sent then moved_on t.near.outgoing else t.near.outgoing)
     → made ≡ (if sent then old ++ spelling_of v.role (info (t.near.outgoing.place % 8) nr false (next_packet t.near.outgoing)) ∷ [] else old)
@@ -66,7 +66,7 @@ pub pumped_more : (n k : ℕ) (t : Side) → pumped (n + 1) k t ≡ pumped_once 
 unfolding pumped
 pumped_more n k t = rw (add-one n) refl
 
-pub said : (c : Settings) (v : StationCode) (s : LinkStation) (b : Bool) → FitsStation c v s → FitsStation c (record v { said_busy = b }) (record s { said_busy = b })
+pub said : (c : LinkSettings) (v : StationCode) (s : LinkStation) (b : Bool) → FitsStation c v s → FitsStation c (record v { said_busy = b }) (record s { said_busy = b })
 said c v s b fits = record {
   role = fits.role;
   longest = fits.longest;
@@ -81,7 +81,7 @@ said c v s b fits = record {
   said_busy = refl;
 }
 
-pub rejecting : (c : Settings) (v : StationCode) (s : LinkStation) (b : Bool) → FitsStation c v s → FitsStation c (record v { rejecting = b }) (record s { rejecting = b })
+pub rejecting : (c : LinkSettings) (v : StationCode) (s : LinkStation) (b : Bool) → FitsStation c v s → FitsStation c (record v { rejecting = b }) (record s { rejecting = b })
 rejecting c v s b fits = record {
   role = fits.role;
   longest = fits.longest;
@@ -96,7 +96,7 @@ rejecting c v s b fits = record {
   said_busy = fits.said_busy;
 }
 
-pub tries_fits : (c : Settings) (v : StationCode) (s : LinkStation) (m n : ℕ) → m ≡ n → FitsStation c v s → FitsStation c (record v { tries = m }) (record s { tries = n })
+pub tries_fits : (c : LinkSettings) (v : StationCode) (s : LinkStation) (m n : ℕ) → m ≡ n → FitsStation c v s → FitsStation c (record v { tries = m }) (record s { tries = n })
 tries_fits c v s m n same fits = record {
   role = fits.role;
   longest = fits.longest;
@@ -113,7 +113,7 @@ tries_fits c v s m n same fits = record {
 
 -- ---- an N(R) that acknowledges some frames, or none
 
-pub risen : (c : Settings) (v : StationCode) (b : OutgoingCode) (before made : List (List ℕ)) (t : Side) (count nr : ℕ) → FitsSide c v before made t → 0 < count
+pub risen : (c : LinkSettings) (v : StationCode) (b : OutgoingCode) (before made : List (List ℕ)) (t : Side) (count nr : ℕ) → FitsSide c v before made t → 0 < count
     → t.near.outgoing.acked + count ≡ resolved t.near.outgoing.acked nr → FitsOutgoing c.window b (acknowledged_to (t.near.outgoing.acked + count) t.near.outgoing)
     → FitsSide c (record v { outgoing = b; tries = 0 }) before made (acknowledged nr t)
 risen c v b before made t count nr side some number outgoing =
@@ -123,7 +123,7 @@ risen c v b before made t count nr side some number outgoing =
       out = side.out;
     })
 
-pub not_risen : (c : Settings) (v : StationCode) (before made : List (List ℕ)) (t : Side) (count nr : ℕ) → FitsSide c v before made t → count ≡ 0
+pub not_risen : (c : LinkSettings) (v : StationCode) (before made : List (List ℕ)) (t : Side) (count nr : ℕ) → FitsSide c v before made t → count ≡ 0
     → t.near.outgoing.acked + count ≡ resolved t.near.outgoing.acked nr → FitsSide c v before made (acknowledged nr t)
 not_risen c v before made t count nr side none number =
     let o = t.near.outgoing in
@@ -132,13 +132,13 @@ not_risen c v before made t count nr side none number =
     let place : max o.place o.acked ≡ o.place = omega (arith, side.near.outgoing.sender.sound.place_low) in
     rw (same, test, place) side
 
-pub no_tries : (c : Settings) (v : StationCode) (before made : List (List ℕ)) (t : Side) → FitsSide c v before made (with_near t (with_nothing Up t.near.tries))
+pub no_tries : (c : LinkSettings) (v : StationCode) (before made : List (List ℕ)) (t : Side) → FitsSide c v before made (with_near t (with_nothing Up t.near.tries))
     → FitsSide c (record v { tries = 0 }) before made (with_near t fresh)
 no_tries c v before made t side = record { near = tries_fits c v _ 0 0 refl side.near; out = side.out }
 
 -- ---- what RR, RNR and REJ tell
 
-pub peer_fits : (c : Settings) (v : StationCode) (before made : List (List ℕ)) (t : Side) (busy : Bool) → FitsSide c v before made t
+pub peer_fits : (c : LinkSettings) (v : StationCode) (before made : List (List ℕ)) (t : Side) (busy : Bool) → FitsSide c v before made t
     → FitsSide c (record v { peer_busy = busy }) before made (peer_is busy t)
 peer_fits c v before made t busy side =
     let fits = side.near in
@@ -159,13 +159,13 @@ peer_fits c v before made t busy side =
       out = side.out;
     }
 
-pub back_fits : (c : Settings) (v : StationCode) (b : OutgoingCode) (before made : List (List ℕ)) (t : Side) → FitsSide c v before made t → FitsOutgoing c.window b (gone_back t.near.outgoing)
+pub back_fits : (c : LinkSettings) (v : StationCode) (b : OutgoingCode) (before made : List (List ℕ)) (t : Side) → FitsSide c v before made t → FitsOutgoing c.window b (gone_back t.near.outgoing)
     → FitsSide c (record v { outgoing = b }) before made (goes_back t)
 back_fits c v b before made t side outgoing = record { near = with_outgoing c v t.near b _ side.near outgoing; out = side.out }
 
 -- ---- other variables
 
-pub phase_fits : (c : Settings) (v : StationCode) (s : LinkStation) (phase : Phase) (tries : ℕ) → FitsStation c v s
+pub phase_fits : (c : LinkSettings) (v : StationCode) (s : LinkStation) (phase : Phase) (tries : ℕ) → FitsStation c v s
     → FitsStation c (record v { phase = phase; tries = tries }) (record s { phase = phase; tries = tries })
 phase_fits c v s phase tries fits = record {
   role = fits.role;
@@ -181,7 +181,7 @@ phase_fits c v s phase tries fits = record {
   said_busy = fits.said_busy;
 }
 
-pub recovery_fits : (c : Settings) (v : StationCode) (s : LinkStation) (b : Bool) → FitsStation c v s → FitsStation c (record v { recovery = b }) (record s { recovery = b })
+pub recovery_fits : (c : LinkSettings) (v : StationCode) (s : LinkStation) (b : Bool) → FitsStation c v s → FitsStation c (record v { recovery = b }) (record s { recovery = b })
 recovery_fits c v s b fits = record {
   role = fits.role;
   longest = fits.longest;

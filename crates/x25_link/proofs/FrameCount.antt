@@ -6,8 +6,8 @@ use Rattle.x25_frame.specs.declared.error.FrameError.{FrameError}
 use Rattle.x25_frame.specs.declared.error.FrameError.TheVariants.{Short, BadFcs, BadAddress, Undefined, NoInfoAllowed, TooLong}
 use Rattle.x25_link.specs.declared.phase.Phase.{Phase}
 use Rattle.x25_link.specs.declared.phase.Phase.TheVariants.{Down, Waiting, Up, Closed}
-use Rattle.x25_link.specs.Station.{Settings, LinkStation, Side, is_busy, wanted, next_frame, sends, ready, send_next, may_send, pumped, owes_ready, ended}
-use Rattle.x25_link.specs.Hearing.{Step, quiet, other, is_valid, acknowledged, is_taken, takes, answers, passes_over, hears_info, peer_is, goes_back, polls, numbered, rejects, reject_of, row_of_frame, row_of}
+use Rattle.x25_link.specs.Station.{LinkSettings, LinkStation, Side, is_busy, wanted, next_frame, sends, ready, send_next, may_send, pumped, owes_ready, ended}
+use Rattle.x25_link.specs.Hearing.{LinkStep, quiet, other, is_valid, acknowledged, is_taken, takes, answers, passes_over, hears_info, peer_is, goes_back, polls, numbered, rejects, reject_of, row_of_frame, row_of}
 use Rattle.x25_link.specs.Link.{alone, hears, when_down, when_waiting}
 use Rattle.x25_link.specs.code.Bounds.{TakeSendsFew, PutSendsOne}
 use Rattle.x25_link.proofs.OutgoingLemmas.{sent_length}
@@ -48,17 +48,17 @@ F-polls false false t none = nothing t none
 
 -- ---- rows
 
-few_step : (b : Bool) (x y : Step) → Few x.side → Few y.side → (let z : Step = if b then x else y in Few z.side)
+few_step : (b : Bool) (x y : LinkStep) → Few x.side → Few y.side → (let z : LinkStep = if b then x else y in Few z.side)
 few_step true x y f g = f
 few_step false x y f g = g
 
 info_few : (k ns : ℕ) (p : Bool) (packet : List ℕ) (t : Side) → t.out ≡ [] → Few (hears_info k ns p packet t).side
 info_few k ns p packet t none = few_step (is_taken ns t.near) _ _ (F-answers k p (takes packet t) none) (F-passes_over p t none)
 
-numbered_few : (c : Settings) (octets : List ℕ) (nr : ℕ) (row : Side → Step) (s : LinkStation) → Few (row (acknowledged nr (alone s))).side → Few (numbered c octets nr row (alone s)).side
+numbered_few : (c : LinkSettings) (octets : List ℕ) (nr : ℕ) (row : Side → LinkStep) (s : LinkStation) → Few (row (acknowledged nr (alone s))).side → Few (numbered c octets nr row (alone s)).side
 numbered_few c octets nr row s f = few_step (is_valid nr s) (row (acknowledged nr (alone s))) (rejects c octets 8 (alone s)) f (first (reject_of c octets 8 s) [] refl)
 
-frame_few : (c : Settings) (octets : List ℕ) (frame : PlainFrame) (s : LinkStation) → Few (row_of_frame c octets frame (alone s)).side
+frame_few : (c : LinkSettings) (octets : List ℕ) (frame : PlainFrame) (s : LinkStation) → Few (row_of_frame c octets frame (alone s)).side
 frame_few c octets (info ns nr p packet) s = numbered_few c octets nr (hears_info c.window ns p packet) s (info_few c.window ns p packet (acknowledged nr (alone s)) refl)
 frame_few c octets (rr command nr pf) s =
     numbered_few c octets nr (λ u. quiet (polls command pf (peer_is false u))) s (F-polls command pf (peer_is false (acknowledged nr (alone s))) refl)
@@ -72,7 +72,7 @@ frame_few c octets (ua f) s = nothing (alone s) refl
 frame_few c octets (dm f) s = nothing (alone s) refl
 frame_few c octets (frmr f why) s = nothing (alone s) refl
 
-read_few : (c : Settings) (octets : List ℕ) (read : Result PlainFrame FrameError) (s : LinkStation) → Few (row_of c octets read (alone s)).side
+read_few : (c : LinkSettings) (octets : List ℕ) (read : Result PlainFrame FrameError) (s : LinkStation) → Few (row_of c octets read (alone s)).side
 read_few c octets (Ok frame) s = frame_few c octets frame s
 read_few c octets (Err Short) s = nothing (alone s) refl
 read_few c octets (Err BadFcs) s = nothing (alone s) refl
@@ -108,7 +108,7 @@ waiting_few (ua false) s = nothing (alone s) refl
 waiting_few (dm f) s = nothing (alone s) refl
 waiting_few (frmr f why) s = nothing (alone s) refl
 
-hears_few : (c : Settings) (octets : List ℕ) (read : Result PlainFrame FrameError) (p : Phase) (s : LinkStation) → Few (hears c octets read p (alone s)).side
+hears_few : (c : LinkSettings) (octets : List ℕ) (read : Result PlainFrame FrameError) (p : Phase) (s : LinkStation) → Few (hears c octets read p (alone s)).side
 hears_few c octets (Ok frame) Down s = down_few frame s
 hears_few c octets (Err x) Down s = nothing (alone s) refl
 hears_few c octets (Ok frame) Waiting s = waiting_few frame s

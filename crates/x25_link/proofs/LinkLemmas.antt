@@ -5,7 +5,7 @@ use Rattle.std.proofs.lemmas.List.{length-drop}
 use Rattle.std.specs.Prelude.{nat_lt}
 use Rattle.x25_link.specs.declared.phase.Phase.{Phase}
 use Rattle.x25_link.specs.declared.phase.Phase.TheVariants.{Down, Waiting, Up, Closed}
-use Rattle.x25_link.specs.Station.{Settings, LinkStation, Side, is_up, is_busy, with_near, ready, may_send, owes_ready, ended}
+use Rattle.x25_link.specs.Station.{LinkSettings, LinkStation, Side, is_up, is_busy, with_near, ready, may_send, owes_ready, ended}
 use Rattle.x25_link.specs.Link.{alone, asks_again, fires}
 use Rattle.x25_link.specs.code.Fits.{FitsStation, FitsSide, Made}
 use Rattle.x25_link.proofs.OutgoingLemmas.{sent_length}
@@ -15,7 +15,7 @@ use Rattle.x25_link.proofs.EndLemmas.{ready_sends, ended_stays}
 
 -- ---- a call begins: no frame is made yet
 
-pub begins : (c : Settings) (old inside : ShownLink) (made : List (List ℕ)) (s : LinkStation) → inside ≡ old → FitsLink c old s → made ≡ []
+pub begins : (c : LinkSettings) (old inside : ShownLink) (made : List (List ℕ)) (s : LinkStation) → inside ≡ old → FitsLink c old s → made ≡ []
     → FitsSide c inside.station [] made (alone s)
 begins c old inside made s same fits none = record {
   near = (subst (λ (v : ShownLink). FitsLink c v s) (sym same) fits).near;
@@ -24,11 +24,11 @@ begins c old inside made s same fits none = record {
 
 -- ---- a step after which nothing may be sent
 
-pub closed_state : (c : Settings) (v : ShownLink) (u : Side) → FitsStation c v.station u.near → may_send c.window u.near ≡ false → owes_ready u.near ≡ false → FitsLink c v (ended c.window u).near
+pub closed_state : (c : LinkSettings) (v : ShownLink) (u : Side) → FitsStation c v.station u.near → may_send c.window u.near ≡ false → owes_ready u.near ≡ false → FitsLink c v (ended c.window u).near
 closed_state c v u near settled calm =
     subst (λ (w : Side). FitsLink c v w.near) (sym (ended_stays c.window u settled calm)) (record { near = near; settled = settled; calm = calm })
 
-pub closed_out : (c : Settings) (before made : List (List ℕ)) (u : Side) → may_send c.window u.near ≡ false → owes_ready u.near ≡ false
+pub closed_out : (c : LinkSettings) (before made : List (List ℕ)) (u : Side) → may_send c.window u.near ≡ false → owes_ready u.near ≡ false
     → Made c before made u.out → Made c before made (ended c.window u).out
 closed_out c before made u settled calm out =
     subst (λ (w : Side). Made c before made w.out) (sym (ended_stays c.window u settled calm)) out
@@ -51,18 +51,18 @@ asks_calm Waiting t e = and_left (is_up t.near.phase) _ (ap is_up e)
 asks_calm Up t e = calm_by _ true true (with_near t (record t.near { recovery = true })) refl
 asks_calm Closed t e = and_left (is_up t.near.phase) _ (ap is_up e)
 
-fires_settled_by : (b : Bool) (c : Settings) (t : Side) → nat_lt t.near.tries c.retries ≡ b → may_send c.window (fires c t).side.near ≡ false
+fires_settled_by : (b : Bool) (c : LinkSettings) (t : Side) → nat_lt t.near.tries c.retries ≡ b → may_send c.window (fires c t).side.near ≡ false
 fires_settled_by true c t e = rw e (asks_settled c.window t.near.phase (with_near t (record t.near { tries = t.near.tries + 1 })) refl)
 fires_settled_by false c t e = rw e refl
 
-pub fires_settled : (c : Settings) (t : Side) → may_send c.window (fires c t).side.near ≡ false
+pub fires_settled : (c : LinkSettings) (t : Side) → may_send c.window (fires c t).side.near ≡ false
 fires_settled c t = fires_settled_by _ c t refl
 
-fires_calm_by : (b : Bool) (c : Settings) (t : Side) → nat_lt t.near.tries c.retries ≡ b → owes_ready (fires c t).side.near ≡ false
+fires_calm_by : (b : Bool) (c : LinkSettings) (t : Side) → nat_lt t.near.tries c.retries ≡ b → owes_ready (fires c t).side.near ≡ false
 fires_calm_by true c t e = rw e (asks_calm t.near.phase (with_near t (record t.near { tries = t.near.tries + 1 })) refl)
 fires_calm_by false c t e = rw e refl
 
-pub fires_calm : (c : Settings) (t : Side) → owes_ready (fires c t).side.near ≡ false
+pub fires_calm : (c : LinkSettings) (t : Side) → owes_ready (fires c t).side.near ≡ false
 fires_calm c t = fires_calm_by _ c t refl
 
 -- ---- what a link holds at most

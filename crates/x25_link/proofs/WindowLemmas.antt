@@ -5,7 +5,7 @@ use Rattle.x25_frame.specs.Frame.{PlainFrame, rr, rnr, rej}
 use Rattle.x25_link.specs.Outgoing.{Outgoing}
 use Rattle.x25_link.specs.Station.{Side, is_up, is_busy, wanted, with_near, sends, ready, send_next, may_send, pumped, owes_ready, finished, ended}
 use Rattle.x25_link.specs.Hearing.{answers, passes_over, goes_back, polls}
-use Rattle.x25_window.specs.laws.Window.Step.{Send, Tell}
+use Rattle.x25_window.specs.laws.Window.EndStep.{Send, Tell}
 use Rattle.x25_link.specs.laws.WindowMachine.{Window, Runs, goes_on}
 use Rattle.x25_link.specs.laws.WindowLaw.{IsSound, window_in}
 use Rattle.x25_link.proofs.EndLemmas.{open_is}

@@ -14,25 +14,26 @@ use Rattle.x25_link.specs.declared.phase.Reason.{Reason}
 use Rattle.x25_link.specs.declared.phase.Reason.TheVariants.{Disc, Dm, FrmrSent, FrmrGot, Reset}
 use Rattle.x25_link.specs.declared.phase.Notes.{Notes}
 use Rattle.x25_link.specs.Outgoing.{acknowledged_to, gone_back}
-use Rattle.x25_link.specs.Station.{Settings, LinkStation, Side, with_nothing, fresh, wanted, is_busy, with_near, sends}
+use Rattle.x25_link.specs.Station.{LinkSettings, LinkStation, Side, with_nothing, fresh, wanted, is_busy, with_near}
+use Rattle.x25_link.specs.Station.{sends}
 use Rattle.x25_link.specs.Station.{ready, may_send, send_next}
 
 -- the station after a step and the frames sent, the packet handed up, and what is noted
-pub record Step : Type 0 where
+pub record LinkStep : Type 0 where
   pub side : Side
   pub packet : Option (List ℕ)
   pub notes : Notes
 
 -- it acknowledges frames (section 2.4.5.5), so that T1 begins anew (section 2.4.5.9)
-abbrev pub acknowledges : LinkStation → Step → Bool
+abbrev pub acknowledges : LinkStation → LinkStep → Bool
 acknowledges s step = nat_lt s.outgoing.acked step.side.near.outgoing.acked
 
 -- nothing is handed up or noted
-abbrev pub quiet : Side → Step
+abbrev pub quiet : Side → LinkStep
 quiet t = record { side = t; packet = None; notes = record { down = None; up = false } }
 
 -- Up is left: the queue and what is unacknowledged are dropped (profile)
-abbrev pub leaves : Reason → Side → Step
+abbrev pub leaves : Reason → Side → LinkStep
 leaves reason t = record {
   side = with_near t (with_nothing Down t.near.tries);
   packet = None;
@@ -43,7 +44,7 @@ leaves reason t = record {
 
 -- Section 2.3.4.9: the rejected control; V(S), whether a response was rejected, and V(R); and the ground (1 is W, 2 X,
 -- 4 Y and 8 Z). V(S) is the highest number sent plus one (profile). F answers the P of a command.
-abbrev pub reject_of : Settings → List ℕ → ℕ → LinkStation → PlainFrame
+abbrev pub reject_of : LinkSettings → List ℕ → ℕ → LinkStation → PlainFrame
 reject_of c octets why s =
     let control = slice_index octets 1 in
     let command = slice_index octets 0 == address_of (other c.role) true in
@@ -51,7 +52,7 @@ reject_of c octets why s =
     (control ∷ (2 * (s.outgoing.sent % 8) + (if command then 0 else 16) + 32 * wanted s) ∷ why ∷ [])
 
 -- FRMR is sent, and Up is left (section 2.4.7.3)
-abbrev pub rejects : Settings → List ℕ → ℕ → Side → Step
+abbrev pub rejects : LinkSettings → List ℕ → ℕ → Side → LinkStep
 rejects c octets why t = leaves FrmrSent (sends (reject_of c octets why t.near) t)
 
 -- ---- N(R)
@@ -96,7 +97,7 @@ passes_over p t =
     else if p then ready false true t
     else t
 
-abbrev pub hears_info : ℕ → ℕ → Bool → List ℕ → Side → Step
+abbrev pub hears_info : ℕ → ℕ → Bool → List ℕ → Side → LinkStep
 hears_info k ns p packet t =
     if is_taken ns t.near
     then record {
@@ -125,10 +126,10 @@ polls false false t = t
 -- ---- the rows
 
 -- a frame with an N(R): FRMR where that is invalid
-abbrev pub numbered : Settings → List ℕ → ℕ → (Side → Step) → Side → Step
+abbrev pub numbered : LinkSettings → List ℕ → ℕ → (Side → LinkStep) → Side → LinkStep
 numbered c octets nr row t = if is_valid nr t.near then row (acknowledged nr t) else rejects c octets 8 t
 
-abbrev pub row_of_frame : Settings → List ℕ → PlainFrame → Side → Step
+abbrev pub row_of_frame : LinkSettings → List ℕ → PlainFrame → Side → LinkStep
 row_of_frame c octets (info ns nr p packet) t = numbered c octets nr (hears_info c.window ns p packet) t
 row_of_frame c octets (rr command nr pf) t = numbered c octets nr (λ u. quiet (polls command pf (peer_is false u))) t
 row_of_frame c octets (rnr command nr pf) t = numbered c octets nr (λ u. quiet (polls command pf (peer_is true u))) t
@@ -145,7 +146,7 @@ row_of_frame c octets (dm f) t = leaves Dm t
 row_of_frame c octets (frmr f why) t = leaves FrmrGot t
 
 -- what octets that spell a frame, or none, do in Up
-abbrev pub row_of : Settings → List ℕ → Result PlainFrame FrameError → Side → Step
+abbrev pub row_of : LinkSettings → List ℕ → Result PlainFrame FrameError → Side → LinkStep
 row_of c octets (Ok frame) t = row_of_frame c octets frame t
 row_of c octets (Err Short) t = quiet t
 row_of c octets (Err BadFcs) t = quiet t

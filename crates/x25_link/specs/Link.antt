@@ -12,12 +12,12 @@ use Rattle.x25_link.specs.declared.phase.Phase.{Phase}
 use Rattle.x25_link.specs.declared.phase.Phase.TheVariants.{Down, Waiting, Up, Closed}
 use Rattle.x25_link.specs.declared.phase.Reason.TheVariants.{Retries, Local, Counts}
 use Rattle.x25_link.specs.Outgoing.{waits, added}
-use Rattle.x25_link.specs.Station.{Settings, LinkStation, Side, with_nothing, fresh, is_up, with_near, sends, ready}
+use Rattle.x25_link.specs.Station.{LinkSettings, LinkStation, Side, with_nothing, fresh, is_up, with_near, sends, ready}
 use Rattle.x25_link.specs.Station.{ended}
-use Rattle.x25_link.specs.Hearing.{Step, quiet, leaves, other, row_of}
+use Rattle.x25_link.specs.Hearing.{LinkStep, quiet, leaves, other, row_of}
 
 -- the end of a step
-abbrev pub closed_by : ℕ → Step → Step
+abbrev pub closed_by : ℕ → LinkStep → LinkStep
 closed_by k step = record { side = ended k step.side; packet = step.packet; notes = step.notes }
 
 -- a station before its step
@@ -35,7 +35,7 @@ RefusesOnly None result = IsOk result
 RefusesOnly (Some e) result = result ≡ Err e
 
 -- the link is set up
-abbrev pub goes_up : Side → Step
+abbrev pub goes_up : Side → LinkStep
 goes_up t = record { side = with_near t fresh; packet = None; notes = record { down = None; up = true } }
 
 -- ---- frames outside of Up (sections 2.4.4.1 to 2.4.4.4)
@@ -44,24 +44,24 @@ goes_up t = record { side = with_near t fresh; packet = None; notes = record { d
 abbrev pub declines : PlainFrame → Side → Side
 declines frame t = if is_command frame && poll_or_final frame then sends (dm true) t else t
 
-abbrev pub when_down : PlainFrame → Side → Step
+abbrev pub when_down : PlainFrame → Side → LinkStep
 when_down (sabm p) t = goes_up (sends (ua p) t)
 when_down (disc p) t = quiet (sends (dm p) t)
 when_down frame t = quiet (declines frame t)
 
-abbrev pub when_waiting : PlainFrame → Side → Step
+abbrev pub when_waiting : PlainFrame → Side → LinkStep
 when_waiting (ua true) t = goes_up t
 when_waiting (sabm p) t = quiet (sends (ua p) t)
 when_waiting (disc p) t = quiet (sends (dm p) t)
 when_waiting frame t = quiet t
 
 -- octets that spell no frame do nothing outside of Up
-abbrev pub if_read : (PlainFrame → Side → Step) → Result PlainFrame FrameError → Side → Step
+abbrev pub if_read : (PlainFrame → Side → LinkStep) → Result PlainFrame FrameError → Side → LinkStep
 if_read f (Ok frame) t = f frame t
 if_read f (Err e) t = quiet t
 
 -- by the phase
-abbrev pub hears : Settings → List ℕ → Result PlainFrame FrameError → Phase → Side → Step
+abbrev pub hears : LinkSettings → List ℕ → Result PlainFrame FrameError → Phase → Side → LinkStep
 hears c octets read Down t = if_read when_down read t
 hears c octets read Waiting t = if_read when_waiting read t
 hears c octets read Up t = row_of c octets read t
@@ -76,7 +76,7 @@ config_refusal k n1 n2 =
 
 -- ---- take
 
-abbrev pub take_step : Settings → List ℕ → LinkStation → Step
+abbrev pub take_step : LinkSettings → List ℕ → LinkStation → LinkStep
 take_step c octets s = closed_by c.window (hears c octets (frame_of (other c.role) c.longest octets) s.phase (alone s))
 
 -- ---- put
@@ -86,10 +86,10 @@ put_refusal s = if not (is_up s.phase) then Some error.NotUp
     else if waits s.outgoing == 256 then Some error.QueueFull
     else None
 
-abbrev pub puts : List ℕ → Side → Step
+abbrev pub puts : List ℕ → Side → LinkStep
 puts packet t = quiet (with_near t (record t.near { outgoing = added packet t.near.outgoing }))
 
-abbrev pub put_step : Settings → List ℕ → LinkStation → Step
+abbrev pub put_step : LinkSettings → List ℕ → LinkStation → LinkStep
 put_step c packet s = closed_by c.window (puts packet (alone s))
 
 -- ---- connect and disconnect
@@ -100,10 +100,10 @@ connect_refusal Waiting = Some error.AlreadyWaiting
 connect_refusal Up = Some error.AlreadyUp
 connect_refusal Closed = Some error.Closed
 
-abbrev pub connects : Side → Step
+abbrev pub connects : Side → LinkStep
 connects t = quiet (sends (sabm true) (with_near t (record t.near { phase = Waiting; tries = 0 })))
 
-abbrev pub connect_step : Settings → LinkStation → Step
+abbrev pub connect_step : LinkSettings → LinkStation → LinkStep
 connect_step c s = closed_by c.window (connects (alone s))
 
 abbrev pub disconnect_refusal : Phase → Option LinkError
@@ -112,14 +112,14 @@ disconnect_refusal Waiting = None
 disconnect_refusal Up = None
 disconnect_refusal Closed = Some error.Closed
 
-abbrev pub disconnects : Side → Step
+abbrev pub disconnects : Side → LinkStep
 disconnects t = record {
   side = sends (disc true) (with_near t (with_nothing Closed t.near.tries));
   packet = None;
   notes = record { down = if is_up t.near.phase then Some Local else None; up = false };
 }
 
-abbrev pub disconnect_step : Settings → LinkStation → Step
+abbrev pub disconnect_step : LinkSettings → LinkStation → LinkStep
 disconnect_step c s = closed_by c.window (disconnects (alone s))
 
 -- ---- timer T1
@@ -139,13 +139,13 @@ abbrev pub asks_again : Phase → Side → Side
 asks_again Up t = ready true true (with_near t (record t.near { recovery = true }))
 asks_again phase t = sends (sabm true) t
 
-abbrev pub fires : Settings → Side → Step
+abbrev pub fires : LinkSettings → Side → LinkStep
 fires c t =
     if nat_lt t.near.tries c.retries
     then quiet (asks_again t.near.phase (with_near t (record t.near { tries = t.near.tries + 1 })))
     else leaves Retries t
 
-abbrev pub timer_step : Settings → LinkStation → Step
+abbrev pub timer_step : LinkSettings → LinkStation → LinkStep
 timer_step c s = closed_by c.window (fires c (alone s))
 
 -- ---- probe: a link that is up is polled, as by timer T1 whether that runs or not (profile)
@@ -158,7 +158,7 @@ probe_refusal Closed = Some error.Closed
 
 -- ---- abandon: Up is left without a frame (profile)
 
-abbrev pub abandon_step : Settings → LinkStation → Step
+abbrev pub abandon_step : LinkSettings → LinkStation → LinkStep
 abandon_step c s = closed_by c.window (leaves Counts (alone s))
 
 -- ---- relink: Up is left without a frame, and the link is set up anew (profile)
@@ -169,14 +169,14 @@ relink_refusal Waiting = Some error.AlreadyWaiting
 relink_refusal Up = None
 relink_refusal Closed = Some error.Closed
 
-abbrev pub relinks : Side → Step
+abbrev pub relinks : Side → LinkStep
 relinks t = record {
   side = (connects (leaves Local t).side).side;
   packet = None;
   notes = record { down = Some Local; up = false };
 }
 
-abbrev pub relink_step : Settings → LinkStation → Step
+abbrev pub relink_step : LinkSettings → LinkStation → LinkStep
 relink_step c s = closed_by c.window (relinks (alone s))
 
 -- ---- what is told

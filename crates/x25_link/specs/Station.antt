@@ -10,7 +10,7 @@ use Rattle.x25_link.specs.Outgoing.{Outgoing, no_packet, waits, is_open, next_pa
 
 -- which end it is, k (section 2.4.8.6), N1 in octets of information (section 2.4.8.5, own unit) and N2 (section
 -- 2.4.8.4)
-pub record Settings : Type 0 where
+pub record LinkSettings : Type 0 where
   pub role : Role
   pub window : ℕ
   pub longest : ℕ

@@ -1,6 +1,6 @@
 //! What a station does at the calls of its user and of its timer.
 ghost use Rattle.std.specs.Prelude.{◌≡◌, ℕ, ◌+◌, ◌<◌, ◌≤◌, List, length, false, true};
-ghost use Rattle.x25_link.specs.Station.{Settings, LinkStation as StationState, Side, may_send, owes_ready};
+ghost use Rattle.x25_link.specs.Station.{LinkSettings, LinkStation as StationState, Side, may_send, owes_ready};
 ghost use Rattle.x25_link.specs.code.Fits.{FitsSide, Leads, Hears};
 ghost use Rattle.x25_link.specs.code.Places.{left_for};
 ghost use Rattle.x25_link.specs.Hearing.{quiet};
@@ -21,7 +21,7 @@ impl LinkStation {
         requires standing { 0 < left_for self.old.outgoing.places.short self.old.outgoing.places.long
             (length packet.now) }
         requires place { length out.old < 25 }
-        ensures step { (c : Settings) (before : List (List ℕ)) (s : StationState)
+        ensures step { (c : LinkSettings) (before : List (List ℕ)) (s : StationState)
             → FitsSide c self.old before out.old (alone s) → may_send c.window s ≡ false → owes_ready s ≡ false →
             FitsSide c self.new before out.new (closed_by c.window (puts packet.now (alone s))).side }
         ensures kept { self.new ≡ record self.old { outgoing = self.new.outgoing } }
@@ -39,7 +39,7 @@ impl LinkStation {
     /// Begins to set the link up.
     pub fn connect(&mut self, out: &mut Frames)
         requires { length out.old < 25 }
-        ensures step { (c : Settings) (before : List (List ℕ)) (t : Side) → FitsSide c self.old before out.old t
+        ensures step { (c : LinkSettings) (before : List (List ℕ)) (t : Side) → FitsSide c self.old before out.old t
             → FitsSide c self.new before out.new (connects t).side }
         ensures one { length out.new ≤ length out.old + 1 }
     {

@@ -2,7 +2,7 @@
 ghost use Rattle.std.specs.Prelude.{◌≡◌, ◌+◌, ◌*◌, ◌/◌, ◌%◌, ◌<◌, ◌≤◌, ◌==◌, length, slice_index, if◌then◌else◌};
 ghost use Rattle.x25_frame.specs.Frame.{plain};
 ghost use Rattle.x25_frame.specs.Spelling.{information_of};
-ghost use Rattle.x25_link.specs.Station.{Settings, LinkStation as StationState};
+ghost use Rattle.x25_link.specs.Station.{LinkSettings, LinkStation as StationState};
 ghost use Rattle.x25_link.specs.code.Fits.{FitsStation, Hears};
 ghost use Rattle.x25_link.specs.Hearing.{rejects, reject_of};
 
@@ -49,7 +49,7 @@ impl LinkStation {
 
     // The FRMR for these octets.
     fn rejection<'a>(&self, octets: &[u8], why: u8) -> Frame<'a>
-        ensures frame { (c : Settings) (s : StationState) → FitsStation c self.now s
+        ensures frame { (c : LinkSettings) (s : StationState) → FitsStation c self.now s
             → plain result ≡ reject_of c octets.now why s }
         ensures short { length (information_of (plain result)) ≤ 3 }
     {

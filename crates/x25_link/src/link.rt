@@ -1,5 +1,5 @@
 ghost use Rattle.std.specs.Prelude.{◌≡◌, ◌+◌, ◌<◌, ◌≤◌, [], length, true, None, Ok, IfOk, OnOk, OnErr, IsOk};
-ghost use Rattle.x25_link.specs.Station.{Settings, LinkStation as StationState, is_up, awaits_ua, with_nothing};
+ghost use Rattle.x25_link.specs.Station.{LinkSettings, LinkStation as StationState, is_up, awaits_ua, with_nothing};
 ghost use Rattle.x25_link.specs.Outgoing.{waits};
 ghost use Rattle.x25_link.specs.Link.{Refuses, config_refusal, take_step, put_refusal, connect_refusal};
 ghost use Rattle.x25_link.specs.Link.{connect_step, disconnect_refusal, disconnect_step, timer_refusal, timer_runs};
@@ -183,7 +183,7 @@ impl Link {
 
     /// Whether the link is up, nothing waits and all that was sent is acknowledged.
     pub fn idle(&self) -> bool
-        ensures { (c : Settings) (s : StationState) → FitsLink c self.now s → result ≡ is_idle s }
+        ensures { (c : LinkSettings) (s : StationState) → FitsLink c self.now s → result ≡ is_idle s }
     {
         let outgoing = &self.station.outgoing;
         self.is_up() && outgoing.queue.len() == 0 && outgoing.sender.unacked() == 0
@@ -191,14 +191,14 @@ impl Link {
 
     /// Whether this end sent a SABM and awaits its UA.
     pub fn awaits_ua(&self) -> bool
-        ensures { (c : Settings) (s : StationState) → FitsLink c self.now s → result ≡ awaits_ua s.phase }
+        ensures { (c : LinkSettings) (s : StationState) → FitsLink c self.now s → result ≡ awaits_ua s.phase }
     {
         self.station.phase.awaits_ua()
     }
 
     /// Whether timer T1 runs: exactly where `t1` isn't refused with 11.
     pub fn timer_runs(&self) -> bool
-        ensures { (c : Settings) (s : StationState) → FitsLink c self.now s → result ≡ timer_runs s.phase s }
+        ensures { (c : LinkSettings) (s : StationState) → FitsLink c self.now s → result ≡ timer_runs s.phase s }
     {
         let station = &self.station;
         if station.phase.is_up() {
@@ -219,7 +219,7 @@ impl Link {
     /// How many packets wait to be sent.
     pub fn waiting(&self) -> usize
         ensures value { result ≡ waiting_of self.now }
-        ensures state { (c : Settings) (s : StationState) → FitsLink c self.now s → result ≡ waits s.outgoing }
+        ensures state { (c : LinkSettings) (s : StationState) → FitsLink c self.now s → result ≡ waits s.outgoing }
         ensures few { result ≤ 256 }
     {
         self.station.outgoing.queue.len()
@@ -228,7 +228,7 @@ impl Link {
     /// Whether the link is up.
     pub fn is_up(&self) -> bool
         ensures value { result ≡ up_of self.now }
-        ensures state { (c : Settings) (s : StationState) → FitsLink c self.now s → result ≡ is_up s.phase }
+        ensures state { (c : LinkSettings) (s : StationState) → FitsLink c self.now s → result ≡ is_up s.phase }
     {
         self.station.phase.is_up()
     }
@@ -242,7 +242,8 @@ impl Link {
         requires { length packet.now ≤ limit_of self.old }
         ensures state { (x : State) → FitsWhole self.old x
             → OnOk result (FitsWhole self.new (after_put_to x packet.now)) }
-        ensures refused { (c : Settings) (s : StationState) → FitsLink c self.old s → Refuses (put_refusal s) result }
+        ensures refused { (c : LinkSettings) (s : StationState) → FitsLink c self.old s
+            → Refuses (put_refusal s) result }
         ensures accepted { up_of self.old ≡ true → waiting_of self.old < 256 → 0 < places_left self.old.frames
             → length packet.now ≤ 260 → IsOk result }
         ensures long { up_of self.old ≡ true → waiting_of self.old < 8 → 0 < places_left self.old.frames → IsOk result }

@@ -2,7 +2,7 @@
 ghost use Rattle.std.specs.Prelude.{◌≡◌, ℕ, ◌+◌, ◌<◌, ◌≤◌, nat_lt, List, length, true, false};
 ghost use Rattle.std.specs.Prelude.{is_some, IfSome, OnSome, MatchOption};
 ghost use Rattle.x25_window.specs.code.Modulo.{resolved};
-ghost use Rattle.x25_link.specs.Station.{Settings, LinkStation as StationState, Side};
+ghost use Rattle.x25_link.specs.Station.{LinkSettings, LinkStation as StationState, Side};
 ghost use Rattle.x25_link.specs.code.Fits.{FitsStation, FitsSide, Leads};
 ghost use Rattle.x25_link.specs.Hearing.{is_valid, acknowledged, is_taken, takes, answers, passes_over};
 ghost use Rattle.x25_link.specs.Hearing.{polls};
@@ -17,11 +17,11 @@ impl LinkStation {
     /// the number isn't valid.
     #[inline(always)]
     pub fn acknowledge(&mut self, nr: Seq) -> Option<bool>
-        ensures valid { (c : Settings) (s : StationState) → FitsStation c self.old s
+        ensures valid { (c : LinkSettings) (s : StationState) → FitsStation c self.old s
             → is_some result ≡ is_valid nr.number s }
-        ensures any { (c : Settings) (s : StationState) → FitsStation c self.old s
+        ensures any { (c : LinkSettings) (s : StationState) → FitsStation c self.old s
             → IfSome result (λ any. any ≡ nat_lt s.outgoing.acked (resolved s.outgoing.acked nr.number)) }
-        ensures step { (c : Settings) (before made : List (List ℕ)) (t : Side) → FitsSide c self.old before made t
+        ensures step { (c : LinkSettings) (before made : List (List ℕ)) (t : Side) → FitsSide c self.old before made t
             → OnSome result (FitsSide c self.new before made (acknowledged nr.number t)) }
         ensures unchanged { MatchOption result (self.new ≡ self.old) (λ _. Unit {0}) }
     {
@@ -39,10 +39,11 @@ impl LinkStation {
     /// Whether an I frame of this number is taken: the one wanted, where the station isn't busy. The REJ condition ends
     /// with that.
     pub fn takes(&mut self, ns: Seq) -> bool
-        ensures value { (c : Settings) (s : StationState) → FitsStation c self.old s → result ≡ is_taken ns.number s }
-        ensures taken { (c : Settings) (packet : List ℕ) (before made : List (List ℕ)) (t : Side)
+        ensures value { (c : LinkSettings) (s : StationState) → FitsStation c self.old s
+            → result ≡ is_taken ns.number s }
+        ensures taken { (c : LinkSettings) (packet : List ℕ) (before made : List (List ℕ)) (t : Side)
             → FitsSide c self.old before made t → result ≡ true → FitsSide c self.new before made (takes packet t) }
-        ensures passed { (c : Settings) (s : StationState) → FitsStation c self.old s → result ≡ false
+        ensures passed { (c : LinkSettings) (s : StationState) → FitsStation c self.old s → result ≡ false
             → FitsStation c self.new s }
     {
         let busy = self.is_busy();

@@ -2,7 +2,7 @@ ghost use Rattle.std.specs.Prelude.{◌≡◌, ℕ, ◌+◌, ◌<◌, ◌≤◌,
 ghost use Rattle.x25_frame.specs.Frame.{plain};
 ghost use Rattle.x25_frame.specs.Spelling.{information_of};
 ghost use Rattle.x25_link.specs.Hearing.{leaves};
-ghost use Rattle.x25_link.specs.Station.{Settings, LinkStation as StationState, Side, is_busy, sends, ready};
+ghost use Rattle.x25_link.specs.Station.{LinkSettings, LinkStation as StationState, Side, is_busy, sends, ready};
 ghost use Rattle.x25_link.specs.Station.{with_nothing, with_near, fresh, may_send, pumped_once, pumped};
 ghost use Rattle.x25_link.specs.Station.{ended};
 
@@ -49,7 +49,7 @@ impl LinkStation {
 
     /// Whether the station is busy, and takes no I frame.
     pub fn is_busy(&self) -> bool
-        ensures { (c : Settings) (s : StationState) → FitsStation c self.now s → result ≡ is_busy s }
+        ensures { (c : LinkSettings) (s : StationState) → FitsStation c self.now s → result ≡ is_busy s }
     {
         self.outgoing.queue.len() > BUSY_ABOVE
     }
@@ -112,7 +112,7 @@ impl LinkStation {
     #[inline(always)]
     pub fn pump_once(&mut self, out: &mut Frames) -> bool
         requires { length out.old < 25 }
-        ensures sent { (c : Settings) (s : StationState) → FitsStation c self.old s → result ≡ may_send c.window s }
+        ensures sent { (c : LinkSettings) (s : StationState) → FitsStation c self.old s → result ≡ may_send c.window s }
         ensures step { Leads self.old self.new out.old out.new (λ c t. pumped_once c.window t) }
         ensures one { length out.new ≤ length out.old + 1 }
         ensures none { result ≡ false → out.new ≡ out.old }
@@ -149,7 +149,7 @@ impl LinkStation {
     /// Leaves Up.
     #[cold]
     pub fn leave<'a>(&mut self, reason: Reason) -> Heard<'a>
-        ensures step { (c : Settings) (before made : List (List ℕ)) (t : Side) → FitsSide c self.old before made t
+        ensures step { (c : LinkSettings) (before made : List (List ℕ)) (t : Side) → FitsSide c self.old before made t
             → FitsHeard c self.new t.near before made result (leaves reason t) }
     {
         self.clear(Phase::Down);

@@ -12,7 +12,7 @@ use Rattle.x25_station.specs.Step.{Step, Outcome, Did, Refused, requests}
 use Rattle.x25_station.specs.Timer.{tells_link, timer_pulled}
 use Rattle.x25_station.specs.laws.SettledLaw.{IsSettled, SettledBy, StaysSettled, GoesOn, PullsGoOn}
 use Rattle.x25_station.specs.laws.TimerLaw as timer
-use Rattle.x25_station.specs.laws.TimerLaw.{Event}
+use Rattle.x25_station.specs.laws.TimerLaw.{StationEvent}
 use Rattle.x25_clock.specs.declared.due.Due.{Due}
 use Rattle.x25_clock.specs.declared.times.Times.{Times}
 use Rattle.x25_clock.specs.Clock.{Deadlines, Seen, heeded, after_due}
@@ -27,7 +27,7 @@ use Rattle.x25_pipe.specs.laws.ClockedLaw.{watched_in, with_pull, done_with_pull
 -- ---- what is seen of a step with its pull
 
 -- by what the pull leads to
-abbrev at_both : Settings → Station → Event → Step → Station → List StationEntry → Seen
+abbrev at_both : Settings → Station → StationEvent → Step → Station → List StationEntry → Seen
 at_both c s event step next entries = record {
   timer = timer_pulled (timer.timer s event (Did step)) step.near next;
   at_rest = is_at_rest next;
@@ -37,7 +37,7 @@ at_both c s event step next entries = record {
   awaited = λ h. awaited_at (layer_settings c) next.layer h;
 }
 
-seen_same : (c : Settings) (s : Station) (event : Event) (step : Step) (o : Outcome) → GoesOn c step.near (pulled_of step.near o)
+seen_same : (c : Settings) (s : Station) (event : StationEvent) (step : Step) (o : Outcome) → GoesOn c step.near (pulled_of step.near o)
     → at_both c s event step (pulled_behind step o).near (pulled_behind step o).entries ≡ at_both c s event step (pulled_of step.near o).near step.entries
 seen_same c s event step (Did p) goes =
     ap (λ (es : List StationEntry). at_both c s event step p.near (step.entries ++ es)) goes.told ∙ ap (λ (es : List StationEntry). at_both c s event step p.near es) (append-nil step.entries)
@@ -49,7 +49,7 @@ next_same step (Refused e) = refl
 
 -- ---- an event, at the deadlines that it finds
 
-module _ (goes : PullsGoOn) (c : Settings) (times : Times) (event : Event) (s : Station) (d : Deadlines) (now : ℕ) where
+module _ (goes : PullsGoOn) (c : Settings) (times : Times) (event : StationEvent) (s : Station) (d : Deadlines) (now : ℕ) where
   abbrev at_found : Station → Seen → Watched
   at_found next seen = record { station = next; deadlines = heeded times now seen d; now = now }
 
@@ -70,7 +70,7 @@ module _ (goes : PullsGoOn) (stays : StaysSettled) (heeded_so : PullIsHeeded) (c
   back : w.now ≡ w.now + 0
   back = omega arith
 
-  happens : (event : Event) → acted goes c times event s w.deadlines w.now (timer.outcome c s event) ≡ done_with_pull c times (Happens 0 event) w
+  happens : (event : StationEvent) → acted goes c times event s w.deadlines w.now (timer.outcome c s event) ≡ done_with_pull c times (Happens 0 event) w
   happens event = by (timer.outcome c s event) refl (stays c s event small settled)
     where
       found : Watched
@@ -87,10 +87,10 @@ module _ (goes : PullsGoOn) (stays : StaysSettled) (heeded_so : PullIsHeeded) (c
           ∙ ap (λ (o : Outcome). heeds_event c times (w.now + 0) event o found) (sym is)
           ∙ ap (λ (o : Outcome). all_done c times (with_pull (Happens 0 event) o) w) (sym is)
 
-  asked : (due : Due) → (let event : Event = by_command (command_for due) in acted goes c times event s (after_due times w.now w.deadlines) w.now (timer.outcome c s event)) ≡ done_with_pull c times (IsAsked 0 due) w
+  asked : (due : Due) → (let event : StationEvent = by_command (command_for due) in acted goes c times event s (after_due times w.now w.deadlines) w.now (timer.outcome c s event)) ≡ done_with_pull c times (IsAsked 0 due) w
   asked due = by (timer.outcome c s event) refl (stays c s event small settled)
     where
-      event : Event
+      event : StationEvent
       event = by_command (command_for due)
 
       found : Watched
@@ -119,5 +119,5 @@ pub due_is_done : PullsGoOn → StaysSettled → PullIsHeeded → DueIsDone
 unfolding event_act
 due_is_done goes stays heeded_so c times due w small settled =
     let d : Deadlines = after_due times w.now w.deadlines in
-    ap (λ (event : Event). acted goes c times event w.station d w.now (timer.outcome c w.station event)) (sym (same_event (command_for due)))
+    ap (λ (event : StationEvent). acted goes c times event w.station d w.now (timer.outcome c w.station event)) (sym (same_event (command_for due)))
     ∙ asked goes stays heeded_so c times (watched_in w) small settled due

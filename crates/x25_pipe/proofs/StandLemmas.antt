@@ -22,7 +22,7 @@ use Rattle.x25_station.specs.declared.timer.Timer.{Timer}
 use Rattle.x25_station.specs.Pulling.{pulled, pulled_of}
 use Rattle.x25_station.specs.Timer.{standing, timer_pulled}
 use Rattle.x25_station.specs.laws.TimerLaw as timer
-use Rattle.x25_station.specs.laws.TimerLaw.{Event}
+use Rattle.x25_station.specs.laws.TimerLaw.{StationEvent}
 use Rattle.x25_station.specs.code.Pulls.{Pulls}
 use Rattle.x25_station.specs.code.FitsStation as fits
 use Rattle.x25_station.specs.code.FitsStation.{FitsStation}
@@ -156,7 +156,7 @@ module _ (c : Settings) (old now : Option (List ℕ)) (q : Pipe) (s : Station) (
       → Acted c old now q told refused result (nothing_act s)
   acted_nothing tells fits role status timer empty comes = acted_quiet nothing_line reads_nothing false refl (nothing_said c.role) tells fits role status timer empty comes
 
-  pub acted_refused : (event : Event) (error : StationError) (o : Outcome) → o ≡ Refused error
+  pub acted_refused : (event : StationEvent) (error : StationError) (o : Outcome) → o ≡ Refused error
       → MatchResult result (λ _. Tells old now q.output (told ++ refusal_line (number_of error))) (λ _. AppendsPrefix old now (told ++ refusal_line (number_of error)))
       → FitsStation c q.station s → q.end ≡ c.role → q.is_refused ≡ true → q.step.timer ≡ standing s → q.step.entries.items ≡ [] → q.has_come ≡ comes event
       → Acted c old now q told refused result (act_of c s event o)
@@ -165,7 +165,7 @@ module _ (c : Settings) (old now : Option (List ℕ)) (q : Pipe) (s : Station) (
 
 -- ---- and with it
 
-act_marked : (c : Settings) (s : Station) (asked : Option Event) → let a = asked_act c s asked in asked_turn c s asked ≡ marked c a.timer a.next a.sayings
+act_marked : (c : Settings) (s : Station) (asked : Option StationEvent) → let a = asked_act c s asked in asked_turn c s asked ≡ marked c a.timer a.next a.sayings
 unfolding event_turn event_act
 act_marked c s None = refl
 act_marked c s (Some event) = refl
@@ -232,7 +232,7 @@ module _ (c : Settings) (v u : code.Station) (step both : code_step.Step) where
       })
   pulled_step (Refused e) h p entries = absurd h.accepted
 
-  pub pulled_timer_is : (s : Station) (event : Event) (o : Outcome) → IsStep c v step o → ((n : Station) → FitsStation c v n → both.timer ≡ timer_pulled step.timer n (pulled c n).near)
+  pub pulled_timer_is : (s : Station) (event : StationEvent) (o : Outcome) → IsStep c v step o → ((n : Station) → FitsStation c v n → both.timer ≡ timer_pulled step.timer n (pulled c n).near)
       → step.timer ≡ timer.timer s event o → both.timer ≡ timer_with_pulls c s event o
   pulled_timer_is s event (Did plain) h is same =
       is plain.near h.leaves ∙ ap (λ (t : Timer). timer_pulled t plain.near (pulled c plain.near).near) same

@@ -18,7 +18,7 @@ use Rattle.x25_station.specs.Station.{Station, view_of}
 use Rattle.x25_station.specs.Step.{Step, Outcome, Did, Refused, commands, did, entries_of_outcome}
 use Rattle.x25_station.specs.laws.SettledLaw.{IsSettled, SettledBy, NewIsSettled, StaysSettled}
 use Rattle.x25_station.specs.laws.TimerLaw as timer
-use Rattle.x25_station.specs.laws.TimerLaw.{Event, Asks}
+use Rattle.x25_station.specs.laws.TimerLaw.{StationEvent, Asks}
 use Rattle.x25_clock.specs.declared.due.Due.{Due}
 use Rattle.x25_clock.specs.declared.times.Times.{Times}
 use Rattle.x25_clock.specs.Clock.{Deadlines, due_of, after_due, most_due}
@@ -46,13 +46,13 @@ module _ (c : Settings) (times : Times) where
   here w = record { moments = []; is = refl }
 
   -- a deed and its pull are two moments
-  deeds_lead : (event : Event) (o : Outcome) (w : Watched) → Leads c times w (wait.all_done c times (with_pull (wait.Happens 0 event) o) w)
+  deeds_lead : (event : StationEvent) (o : Outcome) (w : Watched) → Leads c times w (wait.all_done c times (with_pull (wait.Happens 0 event) o) w)
   deeds_lead event (Did step) w = record { moments = Happens 0 event ∷ Happens 0 (Asks (Requests PullsAll)) ∷ []; is = refl }
   deeds_lead event (Refused e) w = record { moments = Happens 0 event ∷ []; is = refl }
 
 -- ---- a line that asks for nothing is heeded as a command that is refused
 
-abbrev refused_event : Event
+abbrev refused_event : StationEvent
 refused_event = Asks (Requests (asks_on 0 SaysReady))
 
 record IsRefused (o : Outcome) : Type 0 where
@@ -90,7 +90,7 @@ module _ (done : EventIsDone) (stays : StaysSettled) (c : Settings) (times : Tim
     leads : Leads c times (watched_in w) (watched_in v)
     settled : IsSettled c v.station
 
-  act_settled : (s : Station) (event : Event) (o : Outcome) → SettledBy c o → IsSettled c s → IsSettled c (act_of c s event o).next
+  act_settled : (s : Station) (event : StationEvent) (o : Outcome) → SettledBy c o → IsSettled c s → IsSettled c (act_of c s event o).next
   act_settled s event (Refused e) h before = before
   act_settled s event (Did step) h before = by (commands c step.near (Requests PullsAll)) (stays c step.near (Asks (Requests PullsAll)) small h)
     where
@@ -98,14 +98,14 @@ module _ (done : EventIsDone) (stays : StaysSettled) (c : Settings) (times : Tim
       by (Did pulls) after = after
       by (Refused e) after = h
 
-  event_reaches : (w : Timed) (event : Event) → IsSettled c w.station → Reaches w (act_turn c times w (event_act c w.station event)).next
+  event_reaches : (w : Timed) (event : StationEvent) → IsSettled c w.station → Reaches w (act_turn c times w (event_act c w.station event)).next
   unfolding event_act
   event_reaches w event h = record {
     leads = subst (Leads c times (watched_in w)) (sym (done c times event w small h)) (deeds_lead c times event (timer.outcome c w.station event) (watched_in w));
     settled = act_settled w.station event (timer.outcome c w.station event) (stays c w.station event small h) h;
   }
 
-  asked_reaches : (w : Timed) (o : Option Event) → IsSettled c w.station → Reaches w (act_turn c times w (asked_act c w.station o)).next
+  asked_reaches : (w : Timed) (o : Option StationEvent) → IsSettled c w.station → Reaches w (act_turn c times w (asked_act c w.station o)).next
   asked_reaches w None h = record { leads = nothing_leads c times w; settled = h }
   asked_reaches w (Some event) h = event_reaches w event h
 

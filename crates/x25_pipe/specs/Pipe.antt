@@ -28,7 +28,7 @@ use Rattle.x25_station.specs.Station.{Station, new_station}
 use Rattle.x25_station.specs.Step.{Step, Outcome, Did, Refused, commands}
 use Rattle.x25_station.specs.Station.Told.{awaits_answers, is_idle}
 use Rattle.x25_station.specs.laws.TimerLaw as timer
-use Rattle.x25_station.specs.laws.TimerLaw.{Event, Comes, Asks, Fires}
+use Rattle.x25_station.specs.laws.TimerLaw.{StationEvent, Comes, Asks, Fires}
 use Rattle.x25_station.specs.Timer.{standing, timer_pulled}
 use Rattle.x25_station.specs.declared.timer.Timer.{Timer}
 use Rattle.x25_station.specs.declared.timer.Timer.TheVariants.{Off, Begins, GoesOn}
@@ -41,12 +41,12 @@ is_same Dte Dce = false
 is_same Dce Dte = false
 is_same Dce Dce = true
 
-abbrev pub only_of : Role → Role → Event → Option Event
+abbrev pub only_of : Role → Role → StationEvent → Option StationEvent
 only_of end found event = if is_same end found then Some event else None
 
 -- the events of a station alone; a line has nothing on it to deliver, lose or damage, and the other end isn't here to
 -- heal
-abbrev pub script_event : Role → PlainLine → Option Event
+abbrev pub script_event : Role → PlainLine → Option StationEvent
 script_event end (command at asked) = only_of end at (Asks (command_asked asked))
 script_event end (t1 at) = only_of end at Fires
 script_event end (deliver from) = None
@@ -55,16 +55,16 @@ script_event end (damage from place octets) = None
 script_event end (drain count) = None
 script_event end heal = None
 
-abbrev pub trace_event : Role → Role × List ℕ → Option Event
+abbrev pub trace_event : Role → Role × List ℕ → Option StationEvent
 trace_event end sent = only_of (other end) sent.0 (Comes sent.1)
 
 -- what is sent in a line of a trace is read so, and any other line as one of a script
-abbrev pub read_event : Bool → Role → List ℕ → Option (Role × List ℕ) → Option Event
+abbrev pub read_event : Bool → Role → List ℕ → Option (Role × List ℕ) → Option StationEvent
 read_event wide end line None = option_and_then (script_event end) (taken wide (line_in line))
 read_event wide end line (Some sent) = trace_event end sent
 
 -- a longer line isn't in the grammar
-unfoldable pub event_in : Bool → Role → List ℕ → Option Event
+unfoldable pub event_in : Bool → Role → List ℕ → Option StationEvent
 event_in wide end line = if nat_le (length line) most_line then read_event wide end line (sent_in line) else None
 
 -- ---- what waits in the circuits
@@ -169,14 +169,14 @@ abbrev pub turn_of : Settings → Timer → Station → Outcome → Turn
 turn_of c t s o = marked c t (timer.after s o) (outcome_told c o)
 
 -- what T1 becomes at an event and the pulls behind it
-abbrev pub timer_with_pulls : Settings → Station → Event → Outcome → Timer
+abbrev pub timer_with_pulls : Settings → Station → StationEvent → Outcome → Timer
 timer_with_pulls c s event (Did step) = timer_pulled (timer.timer s event (Did step)) step.near (and_pulls c step).near
 timer_with_pulls c s event (Refused e) = standing s
 
-abbrev pub pulling_turn : Settings → Station → Event → Outcome → Turn
+abbrev pub pulling_turn : Settings → Station → StationEvent → Outcome → Turn
 pulling_turn c s event o = turn_of c (timer_with_pulls c s event o) s (with_pulls c o)
 
-unfoldable pub event_turn : Settings → Station → Event → Turn
+unfoldable pub event_turn : Settings → Station → StationEvent → Turn
 event_turn c s event = pulling_turn c s event (timer.outcome c s event)
 
 -- ---- what comes of a line, but for its mark
@@ -193,7 +193,7 @@ abbrev pub entries_told : Outcome → List StationEntry
 entries_told (Did step) = step.entries
 entries_told (Refused e) = []
 
-abbrev pub act_of : Settings → Station → Event → Outcome → Act
+abbrev pub act_of : Settings → Station → StationEvent → Outcome → Act
 act_of c s event o = record {
   next = timer.after s (with_pulls c o);
   sayings = outcome_told c (with_pulls c o);
@@ -202,7 +202,7 @@ act_of c s event o = record {
   has_come = comes event;
 }
 
-unfoldable pub event_act : Settings → Station → Event → Act
+unfoldable pub event_act : Settings → Station → StationEvent → Act
 event_act c s event = act_of c s event (timer.outcome c s event)
 
 abbrev pub nothing_act : Station → Act
@@ -214,18 +214,18 @@ nothing_act s = record {
   has_come = false;
 }
 
-abbrev pub asked_act : Settings → Station → Option Event → Act
+abbrev pub asked_act : Settings → Station → Option StationEvent → Act
 asked_act c s None = nothing_act s
 asked_act c s (Some event) = event_act c s event
 
 -- what is due is asked for by a command, or else T1 fires
-abbrev pub event_for : Option Command → Event
+abbrev pub event_for : Option Command → StationEvent
 event_for None = Fires
 event_for (Some asked) = Asks asked
 
 -- ---- with its mark
 
-abbrev pub asked_turn : Settings → Station → Option Event → Turn
+abbrev pub asked_turn : Settings → Station → Option StationEvent → Turn
 asked_turn c s None = marked c (standing s) s (reads_nothing ∷ [])
 asked_turn c s (Some event) = event_turn c s event
 

@@ -57,7 +57,7 @@ impl Pipe {
     ghost use Rattle.x25_station.specs.Config.{Settings, config_refusal, settings_from};
     ghost use Rattle.x25_station.specs.Station.{Station as State, new_station};
     ghost use Rattle.x25_station.specs.Step.{Outcome};
-    ghost use Rattle.x25_station.specs.laws.TimerLaw.{Asks, Comes, Event, Fires, timer as timer_of};
+    ghost use Rattle.x25_station.specs.laws.TimerLaw.{Asks, Comes, StationEvent, Fires, timer as timer_of};
     ghost use Rattle.x25_pipe.specs.Pipe.{act_of, asked_act, event_act, event_for, event_in, mark_turn, nothing_act};
     ghost use Rattle.x25_pipe.specs.Pipe.{sayings_text, standing_turn, trace_event};
     ghost use Rattle.x25_pipe.specs.code.Stands.{Acted, Acts, IsError, IsStep, Stands, Turns, answer_told};
@@ -153,7 +153,8 @@ impl Pipe {
     /// Pulls what waits behind a step of the station, and tells both.
     fn follow_up<W: Sink>(&mut self, writer: &mut W) -> Result<(), Fault>
         requires { length self.old.step.frames ≤ 9 }
-        ensures acted { (c : Settings) (old : Option (List ℕ)) (s : State) (event : Event) (o : Outcome) (told : List ℕ)
+        ensures acted { (c : Settings) (old : Option (List ℕ)) (s : State) (event : StationEvent) (o : Outcome)
+            (told : List ℕ)
             (refused : Bool)
             → IsStep c self.old.station self.old.step o → self.old.step.timer ≡ timer_of s event o
             → self.old.has_come ≡ comes event → self.old.end ≡ c.role
@@ -167,7 +168,8 @@ impl Pipe {
 
     /// Tells that an event is refused; want of memory is a fault.
     fn refuse<W: Sink>(&mut self, error: StationError, writer: &mut W) -> Result<(), Fault>
-        ensures acted { (c : Settings) (old : Option (List ℕ)) (s : State) (event : Event) (o : Outcome) (told : List ℕ)
+        ensures acted { (c : Settings) (old : Option (List ℕ)) (s : State) (event : StationEvent) (o : Outcome)
+            (told : List ℕ)
             (refused : Bool)
             → Stands c old (W.contents writer.old) self.old s told refused → self.old.has_come ≡ comes event
             → IsError error o

@@ -6,7 +6,7 @@ use Rattle.std.specs.Prelude.{cond, ◌&&◌}
 use Rattle.x25_bits.specs.declared.role.Role.{Role}
 use Rattle.x25_bits.specs.declared.role.Role.TheVariants.{Dte, Dce}
 use Rattle.x25_link.specs.Station.{awaits_ua}
-use Rattle.x25_line.specs.laws.Stations.{is_visible, replaced}
+use Rattle.x25_line.specs.{laws.Stations.{is_visible}, laws.Loss.{replaced}}
 use Rattle.x25_station.specs.declared.config.Cfg.{Cfg}
 use Rattle.x25_station.specs.Config.{Settings, settings_from}
 use Rattle.x25_station.specs.laws.ReadLaw.{RequestsOctets}
@@ -62,7 +62,7 @@ by_act c w Receives = by_delivery c w w.back
 by_act c w Fires = chosen w (awaits_ua w.near.link.phase && is_on_line c w) _ _ tt (by_station c w (fires c w.near))
 by_act c w (Loses place) = chosen w (nat_lt place (length w.back)) _ _ (as_it_was w (remove w.back place)) tt
 by_act c w (Damages place octets) = chosen w (nat_lt place (length w.back)) _ _
-    (chosen w (is_visible octets) _ _ (as_it_was w (replaced w.back place octets)) tt) tt
+    (chosen w (is_visible octets) _ _ (as_it_was w (replaced w.back place (λ _. octets))) tt) tt
 
 from_back : (w : World) (o : WorldOutcome) → GrowsTo (mirrored w) o → GrowsTo w (swapped_back o)
 from_back w (Happened next) h = record { entries = h.entries; frames = h.frames; transcript = h.transcript; tap = h.tap }

@@ -2,7 +2,7 @@
 use Rattle.std.proofs.Common.{◌≡◌, ℕ, List, [], map, Option, Some, None, Result, Ok, Err, Bool, true, false, ◌==◌, if◌then◌else◌, refl, ap, sym, subst, ◌∙◌}
 use Rattle.x25_circuit.specs.Params.{Proposal}
 use Rattle.x25_packet.specs.Packet.{PlainPacket, restart}
-use Rattle.x25_link.specs.Station.{Settings as LinkSettings, LinkStation, Side}
+use Rattle.x25_link.specs.Station.{LinkSettings, LinkStation, Side}
 use Rattle.x25_link.specs.Link.{alone}
 use Rattle.x25_link.specs.code.FitsLink.{ShownLink, LinkState, FitsWhole, FitsLink, up_at, waits_of, after_put_to}
 use Rattle.x25_circuit.specs.declared.error.CircuitError.TheVariants as circuit_error

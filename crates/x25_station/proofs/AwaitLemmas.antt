@@ -19,7 +19,7 @@ use Rattle.x25_circuit.specs.declared.state.State.TheVariants.{Free, Calling, Ar
 use Rattle.x25_circuit.specs.declared.error.CircuitError.TheVariants as circuit_error
 use Rattle.x25_circuit.specs.Cause.{may_clear_for, may_restart_for}
 use Rattle.x25_circuit.specs.Awaits.{awaited_in}
-use Rattle.x25_circuit.specs.Circuit.{Settings as CircuitSettings, Circuit}
+use Rattle.x25_circuit.specs.Circuit.{CircuitSettings, Circuit}
 use Rattle.x25_circuit.specs.Calling.{Outcome as CircuitOutcome, Done, Refused as CircuitRefused, Request, Calls, Accepts, Clears, Sends, Interrupts, Resets, SaysReady, SaysNotReady, call_in, accept_in, clear_in, send_in, interrupt_in, reset_in, ready_in, outcome, Pulled, pull_in, pull_open, pulled}
 use Rattle.x25_circuit.specs.Message.{Piece}
 use Rattle.x25_circuit.specs.Notice.{CallRequest, PlainNotice, connected}
@@ -60,13 +60,11 @@ none_low : {A : Type 0} (n : ℕ) → suc n ≤ 0 → A
 none_low n low = absurd (omega (arith, low))
 
 pub kind_of : (s : State) (n : ℕ) → suc n ≤ rank_in (awaited_in s) → IsKind s
-kind_of Free n high = none_low n high
 kind_of Calling n high = record { kind = in_call; is = refl }
-kind_of Arriving n high = none_low n high
 kind_of Collision n high = record { kind = in_collision; is = refl }
-kind_of Open n high = none_low n high
 kind_of Resetting n high = record { kind = in_reset; is = refl }
 kind_of Clearing n high = record { kind = in_clear; is = refl }
+kind_of s n high = none_low n high
 
 -- ---- a circuit: from one state to another, and what is said there
 
@@ -162,15 +160,11 @@ module _ (c : CircuitSettings) (x : Circuit) where
   hears_next k (accept channel facilities) = by_row (λ s. table.row_accept c x s facilities) k.kind k.is (accept_next k.kind k.is facilities)
   hears_next k (clear channel cause diagnostic) = by_row (λ s. table.row_clear x s cause diagnostic) k.kind k.is (clear_next k.kind cause diagnostic)
   hears_next k (clear_conf channel) = by_row (λ s. table.row_clear_conf c x s) k.kind k.is (clear_conf_next k.kind)
-  hears_next k (user_data channel q m ps pr user) = by_row (λ s. table.row_data c x s (user_data channel q m ps pr user)) k.kind k.is (data_next k.kind k.is _)
-  hears_next k (rr channel pr) = by_row (λ s. table.row_data c x s (rr channel pr)) k.kind k.is (data_next k.kind k.is _)
-  hears_next k (rnr channel pr) = by_row (λ s. table.row_data c x s (rnr channel pr)) k.kind k.is (data_next k.kind k.is _)
-  hears_next k (interrupt channel user) = by_row (λ s. table.row_data c x s (interrupt channel user)) k.kind k.is (data_next k.kind k.is _)
-  hears_next k (interrupt_conf channel) = by_row (λ s. table.row_data c x s (interrupt_conf channel)) k.kind k.is (data_next k.kind k.is _)
   hears_next k (reset channel cause diagnostic) = by_row (λ s. table.row_reset c x s cause diagnostic) k.kind k.is (reset_next k.kind k.is cause diagnostic)
   hears_next k (reset_conf channel) = by_row (λ s. table.row_reset_conf c x s) k.kind k.is (reset_conf_next k.kind k.is)
   hears_next k (restart cause diagnostic) = inl refl
   hears_next k restart_conf = inl refl
+  hears_next k packet = by_row (λ s. table.row_data c x s packet) k.kind k.is (data_next k.kind k.is _)
 
   cannot_read : IsKind x.state → (e : PacketError) → AnswerNext x.state (undecoded c x e)
   cannot_read k e = by_row (λ s. table.row_undecoded c x s e) k.kind k.is (undecoded_next k.kind k.is e)
@@ -310,9 +304,7 @@ restarted_moves h true r s entries high is = inr (omega (arith, high), inr is)
 
 above : (a : Awaits) → 2 ≤ rank_in a → 2 < rank_in a
 above Nothing high = absurd (none_low 1 high)
-above Acceptance high = omega arith
-above ResetConfirmation high = omega arith
-above ClearConfirmation high = omega arith
+above a high = omega arith
 
 restarting_moves : (h : ℕ) (b : Bool) (s t : State) (entries : List StationEntry) → 2 ≤ rank_of Up false (awaits_in b s) → list_any (is_left_on h) entries ≡ true → Moves h b false s true t entries
 restarting_moves h b s t entries high is = inr (above (awaits_in b s) high, inl (omega arith, is))
@@ -356,34 +348,14 @@ module _ (c : LayerSettings) (h : ℕ) where
       on_moves restarts circuits k (answers c.circuit (circuits k) packet) (is_channel c.channels k) high (λ is. hears_next c.circuit (circuits k) is packet)
 
   ready_moves : (restarts : ℕ) (circuits : ℕ → Circuit) (packet : PlainPacket) → IsHigh false circuits → AnswerMoves false circuits (answers_ready c restarts circuits packet)
-  ready_moves restarts circuits (call channel called calling facilities user) high = channel_moves restarts circuits (call channel called calling facilities user) high
-  ready_moves restarts circuits (accept channel facilities) high = channel_moves restarts circuits (accept channel facilities) high
-  ready_moves restarts circuits (clear channel cause diagnostic) high = channel_moves restarts circuits (clear channel cause diagnostic) high
-  ready_moves restarts circuits (clear_conf channel) high = channel_moves restarts circuits (clear_conf channel) high
-  ready_moves restarts circuits (user_data channel q m ps pr user) high = channel_moves restarts circuits (user_data channel q m ps pr user) high
-  ready_moves restarts circuits (rr channel pr) high = channel_moves restarts circuits (rr channel pr) high
-  ready_moves restarts circuits (rnr channel pr) high = channel_moves restarts circuits (rnr channel pr) high
-  ready_moves restarts circuits (interrupt channel user) high = channel_moves restarts circuits (interrupt channel user) high
-  ready_moves restarts circuits (interrupt_conf channel) high = channel_moves restarts circuits (interrupt_conf channel) high
-  ready_moves restarts circuits (reset channel cause diagnostic) high = channel_moves restarts circuits (reset channel cause diagnostic) high
-  ready_moves restarts circuits (reset_conf channel) high = channel_moves restarts circuits (reset_conf channel) high
   ready_moves restarts circuits (restart cause diagnostic) high = restarted_moves h configured false (circuits h).state (was_restarted cause diagnostic ∷ []) high refl
   ready_moves restarts circuits restart_conf high = restarting_moves h configured (circuits h).state Free (at_fault 17 ∷ []) high refl
+  ready_moves restarts circuits packet high = channel_moves restarts circuits packet high
 
   held_moves : (restarts : ℕ) (circuits : ℕ → Circuit) (packet : PlainPacket) → IsHigh true circuits → AnswerMoves true circuits (answers_restarting restarts circuits packet)
-  held_moves restarts circuits (call channel called calling facilities user) high = inl (refl, refl)
-  held_moves restarts circuits (accept channel facilities) high = inl (refl, refl)
-  held_moves restarts circuits (clear channel cause diagnostic) high = inl (refl, refl)
-  held_moves restarts circuits (clear_conf channel) high = inl (refl, refl)
-  held_moves restarts circuits (user_data channel q m ps pr user) high = inl (refl, refl)
-  held_moves restarts circuits (rr channel pr) high = inl (refl, refl)
-  held_moves restarts circuits (rnr channel pr) high = inl (refl, refl)
-  held_moves restarts circuits (interrupt channel user) high = inl (refl, refl)
-  held_moves restarts circuits (interrupt_conf channel) high = inl (refl, refl)
-  held_moves restarts circuits (reset channel cause diagnostic) high = inl (refl, refl)
-  held_moves restarts circuits (reset_conf channel) high = inl (refl, refl)
   held_moves restarts circuits (restart cause diagnostic) high = restarted_moves h configured true (circuits h).state (was_restarted cause diagnostic ∷ []) high refl
   held_moves restarts circuits restart_conf high = restarted_moves h configured true (circuits h).state (restart_confirmed ∷ []) high refl
+  held_moves restarts circuits packet high = inl (refl, refl)
 
   packet_moves : (r : Bool) (restarts : ℕ) (circuits : ℕ → Circuit) (packet : PlainPacket) → IsHigh r circuits → AnswerMoves r circuits (answers_in c r restarts circuits packet)
   packet_moves true restarts circuits packet high = held_moves restarts circuits packet high
@@ -480,12 +452,7 @@ pulled_state c x = at x.state
 
     at : (s : State) → (pull_in c x s).next.state ≡ x.state
     at Open = open_state x.talk.rest
-    at Free = refl
-    at Calling = refl
-    at Arriving = refl
-    at Collision = refl
-    at Resetting = refl
-    at Clearing = refl
+    at s = refl
 
 pulled_same : (c : LayerSettings) (l : Layer) (h : ℕ) → SameStates l (layer_pulled c l h).next
 pulled_same c l h = (refl, λ k. test k (k == h) refl)

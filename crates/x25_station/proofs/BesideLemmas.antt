@@ -31,22 +31,10 @@ differ h = cc
 kind_untold : (k : PlainKind) → nat_eq (type_of k) 241 ≡ false → entries_beside (beside_kind k) None ≡ []
 kind_untold (call block) other = fields_untold (without_user block.fields)
 kind_untold (accept block) other = block_untold block
-kind_untold (clear cause reason) other = refl
 kind_untold (extended_clear cause reason block) other = fields_untold block.fields
 kind_untold (clear_conf block) other = block_untold block
-kind_untold (user_data m ps pr user) other = refl
-kind_untold (rr pr) other = refl
-kind_untold (rnr pr) other = refl
-kind_untold (rej pr) other = refl
-kind_untold (interrupt user) other = refl
-kind_untold interrupt_conf other = refl
-kind_untold (reset cause reason) other = refl
-kind_untold reset_conf other = refl
-kind_untold (restart cause reason) other = refl
-kind_untold restart_conf other = refl
 kind_untold (diagnostic number explanation) other = absurd (differ other)
-kind_untold (registration octets) other = refl
-kind_untold (registration_conf octets) other = refl
+kind_untold k other = refl
 
 untold : ReadsFormsThatAreSpelled → (octets : List ℕ) → All (λ octet. octet < 256) octets → may_diagnose octets ≡ false → entries_beside (beside_in true octets) None ≡ []
 untold reads octets small other = by (packet_of 128 octets) (form_in 128 octets) refl

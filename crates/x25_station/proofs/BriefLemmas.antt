@@ -10,7 +10,7 @@ use Rattle.x25_circuit.specs.declared.error.CircuitError.TheVariants.{BadParamet
 use Rattle.x25_circuit.specs.declared.state.State.{State}
 use Rattle.x25_circuit.specs.declared.state.State.TheVariants.{Free, Calling, Arriving, Collision, Open, Resetting, Clearing}
 use Rattle.x25_circuit.specs.Params.{Proposal}
-use Rattle.x25_circuit.specs.Circuit.{Settings, Circuit, waits}
+use Rattle.x25_circuit.specs.Circuit.{CircuitSettings, Circuit, waits}
 use Rattle.x25_circuit.specs.Calling as circuit
 use Rattle.x25_circuit.specs.Calling.{Request, Calls, Accepts, Clears, Sends, Interrupts, Resets, SaysReady, SaysNotReady, Outcome, Done, Refused, outcome, call_in, may_call, is_address_text, send_in, interrupt_in}
 use Rattle.x25_layer.specs.declared.error.LayerError.TheVariants.{NoSuchChannel}
@@ -54,47 +54,28 @@ call_brief long called calling user proposal may =
     let most = longest_few long in
     (address_brief called first.0, (address_brief calling second.0, omega (arith, few, most)))
 
-call_done : (c : Settings) (x : Circuit) (s : State) (called calling user : List ℕ) (proposal : Proposal) → WhereDone (call_in c x s called calling user proposal) (IsBrief (Calls called calling user proposal))
+call_done : (c : CircuitSettings) (x : Circuit) (s : State) (called calling user : List ℕ) (proposal : Proposal) → WhereDone (call_in c x s called calling user proposal) (IsBrief (Calls called calling user proposal))
 call_done c x Free called calling user proposal = where_tested _ (may_call c.long_data called calling user proposal.params) _ BadParameter (λ may. call_brief c.long_data called calling user proposal may)
-call_done c x Calling called calling user proposal = tt
-call_done c x Arriving called calling user proposal = tt
-call_done c x Collision called calling user proposal = tt
-call_done c x Open called calling user proposal = tt
-call_done c x Resetting called calling user proposal = tt
-call_done c x Clearing called calling user proposal = tt
+call_done c x s called calling user proposal = tt
 
-send_done : (c : Settings) → c.longest ≤ 65535 → (x : Circuit) (s : State) (q : Marks) (user : List ℕ) → WhereDone (send_in c x s q user) (length user ≤ 65535)
+send_done : (c : CircuitSettings) → c.longest ≤ 65535 → (x : Circuit) (s : State) (q : Marks) (user : List ℕ) → WhereDone (send_in c x s q user) (length user ≤ 65535)
 send_done c most x Open q user =
     where_tested _ (nat_le (length user) c.longest) _ TooLong
     (λ short. where_tested _ (nat_lt (waits x) 8) _ Full (λ few. (let low = leb-true (length user) c.longest short in omega (arith, low, most))))
-send_done c most x Free q user = tt
-send_done c most x Calling q user = tt
-send_done c most x Arriving q user = tt
-send_done c most x Collision q user = tt
-send_done c most x Resetting q user = tt
-send_done c most x Clearing q user = tt
+send_done c most x s q user = tt
 
 interrupt_brief : (user : List ℕ) → (nat_le 1 (length user) && nat_le (length user) 32) ≡ true → length user ≤ 128
 interrupt_brief user is = let n = leb-true (length user) 32 (and_parts (nat_le 1 (length user)) (nat_le (length user) 32) is).1 in omega (arith, n)
 
 interrupt_done : (x : Circuit) (s : State) (user : List ℕ) → WhereDone (interrupt_in x s user) (length user ≤ 128)
 interrupt_done x Open user = where_tested _ (nat_le 1 (length user) && nat_le (length user) 32) _ BadParameter (λ few. unless_out x.talk.int_out _ InterruptOutstanding _ (interrupt_brief user few))
-interrupt_done x Free user = tt
-interrupt_done x Calling user = tt
-interrupt_done x Arriving user = tt
-interrupt_done x Collision user = tt
-interrupt_done x Resetting user = tt
-interrupt_done x Clearing user = tt
+interrupt_done x s user = tt
 
-done_brief : (c : Settings) → c.longest ≤ 65535 → (x : Circuit) (request : Request) → WhereDone (outcome c x request) (IsBrief request)
+done_brief : (c : CircuitSettings) → c.longest ≤ 65535 → (x : Circuit) (request : Request) → WhereDone (outcome c x request) (IsBrief request)
 done_brief c most x (Calls called calling user proposal) = call_done c x x.state called calling user proposal
-done_brief c most x (Accepts answer) = always (outcome c x (Accepts answer))
-done_brief c most x (Clears cause diagnostic) = always (outcome c x (Clears cause diagnostic))
 done_brief c most x (Sends q user) = send_done c most x x.state q user
 done_brief c most x (Interrupts user) = interrupt_done x x.state user
-done_brief c most x (Resets cause diagnostic) = always (outcome c x (Resets cause diagnostic))
-done_brief c most x SaysReady = always (outcome c x SaysReady)
-done_brief c most x SaysNotReady = always (outcome c x SaysNotReady)
+done_brief c most x request = always (outcome c x request)
 
 -- ---- of a layer
 

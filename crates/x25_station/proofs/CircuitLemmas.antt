@@ -21,7 +21,7 @@ use Rattle.x25_packet.specs.Facilities.{IsFacilityField}
 use Rattle.x25_circuit.specs.declared.params.Params.{Params}
 use Rattle.x25_circuit.specs.Params.{Proposal, default_params, may_propose, may_answer, field_for, said_in, called_terms, calling_terms}
 use Rattle.x25_circuit.specs.laws.ParamsLaws.{FieldIsAllowed, SaidIsAllowed, AnswerIsAllowed, TermsAreAllowed, AreTerms}
-use Rattle.x25_circuit.specs.Circuit.{Settings, Talk, Circuit, talking, outgoing, incoming, waits}
+use Rattle.x25_circuit.specs.Circuit.{CircuitSettings, Talk, Circuit, talking, outgoing, incoming, waits}
 use Rattle.x25_circuit.specs.Notice.{CallRequest, connected}
 use Rattle.x25_circuit.specs.Hearing as table
 use Rattle.x25_circuit.specs.Cause.{may_clear_for, may_reset_for}
@@ -92,21 +92,17 @@ module _ (wide long_data : Bool) where
   by_role_low Dce a b p q = q
 
   diagnostic_low : (r : Role) (s : State) → table.diagnostic_in r s < 256
-  diagnostic_low r Free = omega arith
   diagnostic_low r Calling = by_role_low r 21 22 (omega arith) (omega arith)
   diagnostic_low r Arriving = by_role_low r 22 21 (omega arith) (omega arith)
-  diagnostic_low r Collision = omega arith
-  diagnostic_low r Open = omega arith
-  diagnostic_low r Resetting = omega arith
-  diagnostic_low r Clearing = omega arith
+  diagnostic_low r s = omega arith
 
-  clears_for_fits : (c : Settings) (x : Circuit) (cause diagnostic : ℕ) → cause < 256 → diagnostic < 256 → AnswerFits (table.clears_for c x cause diagnostic)
+  clears_for_fits : (c : CircuitSettings) (x : Circuit) (cause diagnostic : ℕ) → cause < 256 → diagnostic < 256 → AnswerFits (table.clears_for c x cause diagnostic)
   clears_for_fits c x cause diagnostic p q = record { next = (tt, refl); owed = (tt, (cause_low c.role cause p, q)) }
 
-  resets_for_fits : (c : Settings) (x : Circuit) (diagnostic : ℕ) → diagnostic < 256 → CircuitFits wide x → AnswerFits (table.resets_for c x diagnostic)
+  resets_for_fits : (c : CircuitSettings) (x : Circuit) (diagnostic : ℕ) → diagnostic < 256 → CircuitFits wide x → AnswerFits (table.resets_for c x diagnostic)
   resets_for_fits c x diagnostic q f = record { next = (tt, f.1); owed = (tt, (cause_low c.role 5 (omega arith), q)) }
 
-  unexpected_fits : (c : Settings) (x : Circuit) (s : State) → AnswerFits (table.unexpected c x s)
+  unexpected_fits : (c : CircuitSettings) (x : Circuit) (s : State) → AnswerFits (table.unexpected c x s)
   unexpected_fits c x s = clears_for_fits c x 19 (table.diagnostic_in c.role s) (omega arith) (diagnostic_low c.role s)
 
   ignores_fits : (x : Circuit) → CircuitFits wide x → AnswerFits (table.ignores x)
@@ -116,68 +112,46 @@ module _ (wide long_data : Bool) where
   collides_fits Dte x request f may = record { next = (tt, f.1); owed = tt }
   collides_fits Dce x request f may = record { next = (tt, may); owed = tt }
 
-  call_fits : (c : Settings) (x : Circuit) (s : State) (request : CallRequest) → CircuitFits wide x → may_propose request.params ≡ true → AnswerFits (table.row_call c x s request)
+  call_fits : (c : CircuitSettings) (x : Circuit) (s : State) (request : CallRequest) → CircuitFits wide x → may_propose request.params ≡ true → AnswerFits (table.row_call c x s request)
   call_fits c x Free request f may = record { next = (tt, may); owed = tt }
   call_fits c x Calling request f may = collides_fits c.role x request f may
   call_fits c x Clearing request f may = ignores_fits x f
-  call_fits c x Arriving request f may = unexpected_fits c x Arriving
-  call_fits c x Collision request f may = unexpected_fits c x Collision
-  call_fits c x Open request f may = unexpected_fits c x Open
-  call_fits c x Resetting request f may = unexpected_fits c x Resetting
+  call_fits c x s request f may = unexpected_fits c x s
 
   answer_if : (b : Bool) (u v : table.Answer) → AnswerFits u → AnswerFits v → AnswerFits (if b then u else v)
   answer_if true u v p q = p
   answer_if false u v p q = q
 
-  connects_fits : (c : Settings) (x : Circuit) (answered : Params) → may_propose answered ≡ true → AnswerFits (table.connects c x answered)
+  connects_fits : (c : CircuitSettings) (x : Circuit) (answered : Params) → may_propose answered ≡ true → AnswerFits (table.connects c x answered)
   connects_fits c x answered may =
       answer_if (may_answer x.params answered) (table.goes x Open answered true None (connected answered ∷ [])) (table.clears_for c x 3 66) (record { next = (tt, may); owed = tt })
       (clears_for_fits c x 3 66 (omega arith) (omega arith))
 
-  accept_fits : Agreed → (c : Settings) (x : Circuit) (s : State) (facilities : List ℕ) → CircuitFits wide x → AnswerFits (table.row_accept c x s facilities)
+  accept_fits : Agreed → (c : CircuitSettings) (x : Circuit) (s : State) (facilities : List ℕ) → CircuitFits wide x → AnswerFits (table.row_accept c x s facilities)
   accept_fits laws c x Calling facilities f = connects_fits c x (said_in x.params facilities) (laws.said x.params facilities f.1)
   accept_fits laws c x Collision facilities f = connects_fits c x (said_in x.params facilities) (laws.said x.params facilities f.1)
   accept_fits laws c x Clearing facilities f = ignores_fits x f
-  accept_fits laws c x Free facilities f = unexpected_fits c x Free
-  accept_fits laws c x Arriving facilities f = unexpected_fits c x Arriving
-  accept_fits laws c x Open facilities f = unexpected_fits c x Open
-  accept_fits laws c x Resetting facilities f = unexpected_fits c x Resetting
+  accept_fits laws c x s facilities f = unexpected_fits c x s
 
   clear_fits : (x : Circuit) (s : State) (cause diagnostic : ℕ) → AnswerFits (table.row_clear x s cause diagnostic)
-  clear_fits x Free cause diagnostic = record { next = (tt, refl); owed = (tt, tt) }
   clear_fits x Clearing cause diagnostic = record { next = (tt, refl); owed = tt }
-  clear_fits x Calling cause diagnostic = record { next = (tt, refl); owed = (tt, tt) }
-  clear_fits x Arriving cause diagnostic = record { next = (tt, refl); owed = (tt, tt) }
-  clear_fits x Collision cause diagnostic = record { next = (tt, refl); owed = (tt, tt) }
-  clear_fits x Open cause diagnostic = record { next = (tt, refl); owed = (tt, tt) }
-  clear_fits x Resetting cause diagnostic = record { next = (tt, refl); owed = (tt, tt) }
+  clear_fits x s cause diagnostic = record { next = (tt, refl); owed = (tt, tt) }
 
-  clear_conf_fits : (c : Settings) (x : Circuit) (s : State) → AnswerFits (table.row_clear_conf c x s)
+  clear_conf_fits : (c : CircuitSettings) (x : Circuit) (s : State) → AnswerFits (table.row_clear_conf c x s)
   clear_conf_fits c x Clearing = record { next = (tt, refl); owed = tt }
-  clear_conf_fits c x Free = unexpected_fits c x Free
-  clear_conf_fits c x Calling = unexpected_fits c x Calling
-  clear_conf_fits c x Arriving = unexpected_fits c x Arriving
-  clear_conf_fits c x Collision = unexpected_fits c x Collision
-  clear_conf_fits c x Open = unexpected_fits c x Open
-  clear_conf_fits c x Resetting = unexpected_fits c x Resetting
+  clear_conf_fits c x s = unexpected_fits c x s
 
-  reset_fits : (c : Settings) (x : Circuit) (s : State) (cause diagnostic : ℕ) → CircuitFits wide x → AnswerFits (table.row_reset c x s cause diagnostic)
+  reset_fits : (c : CircuitSettings) (x : Circuit) (s : State) (cause diagnostic : ℕ) → CircuitFits wide x → AnswerFits (table.row_reset c x s cause diagnostic)
   reset_fits c x Open cause diagnostic f = record { next = (tt, f.1); owed = (tt, tt) }
   reset_fits c x Resetting cause diagnostic f = record { next = (tt, f.1); owed = tt }
   reset_fits c x Clearing cause diagnostic f = ignores_fits x f
-  reset_fits c x Free cause diagnostic f = unexpected_fits c x Free
-  reset_fits c x Calling cause diagnostic f = unexpected_fits c x Calling
-  reset_fits c x Arriving cause diagnostic f = unexpected_fits c x Arriving
-  reset_fits c x Collision cause diagnostic f = unexpected_fits c x Collision
+  reset_fits c x s cause diagnostic f = unexpected_fits c x s
 
-  reset_conf_fits : (c : Settings) (x : Circuit) (s : State) → CircuitFits wide x → AnswerFits (table.row_reset_conf c x s)
+  reset_conf_fits : (c : CircuitSettings) (x : Circuit) (s : State) → CircuitFits wide x → AnswerFits (table.row_reset_conf c x s)
   reset_conf_fits c x Open f = resets_for_fits c x 27 (omega arith) f
   reset_conf_fits c x Resetting f = record { next = (tt, f.1); owed = tt }
   reset_conf_fits c x Clearing f = ignores_fits x f
-  reset_conf_fits c x Free f = unexpected_fits c x Free
-  reset_conf_fits c x Calling f = unexpected_fits c x Calling
-  reset_conf_fits c x Arriving f = unexpected_fits c x Arriving
-  reset_conf_fits c x Collision f = unexpected_fits c x Collision
+  reset_conf_fits c x s f = unexpected_fits c x s
 
   -- a ground is 1, 2, 39 or 83
 
@@ -189,7 +163,7 @@ module _ (wide long_data : Bool) where
   ground_if true u v p q = p
   ground_if false u v p q = q
 
-  unless_fits : (c : Settings) (x : Circuit) (o : Option ℕ) (a : table.Answer) → LowGround o → CircuitFits wide x → AnswerFits a → AnswerFits (table.unless c x o a)
+  unless_fits : (c : CircuitSettings) (x : Circuit) (o : Option ℕ) (a : table.Answer) → LowGround o → CircuitFits wide x → AnswerFits a → AnswerFits (table.unless c x o a)
   unless_fits c x None a low g f = f
   unless_fits c x (Some n) a low g f = resets_for_fits c x n low g
 
@@ -200,7 +174,7 @@ module _ (wide long_data : Bool) where
   status_gives true n = (tt, mod_low n)
   status_gives false n = (tt, mod_low n)
 
-  confirms_fits : (c : Settings) (x : Circuit) (b : Bool) → CircuitFits wide x → AnswerFits (table.confirms c x x.talk b)
+  confirms_fits : (c : CircuitSettings) (x : Circuit) (b : Bool) → CircuitFits wide x → AnswerFits (table.confirms c x x.talk b)
   confirms_fits c x true f = record { next = f; owed = tt }
   confirms_fits c x false f = resets_for_fits c x 43 (omega arith) f
 
@@ -219,7 +193,7 @@ module _ (wide long_data : Bool) where
       (ground_if (ps == length t.taken % 8) (piece_ground longest size (joining no_part t.taken) piece) (Some 1) (ground_low longest size (joining no_part t.taken) (length (user_of piece)) (q_of piece)) (omega arith))
       (omega arith)
 
-  open_fits : (c : Settings) (x : Circuit) (p : PlainPacket) → CircuitFits wide x → AnswerFits (table.row_open c x x.talk p)
+  open_fits : (c : CircuitSettings) (x : Circuit) (p : PlainPacket) → CircuitFits wide x → AnswerFits (table.row_open c x x.talk p)
   open_fits c x (user_data h q m ps pr user) f =
       unless_fits c x (table.data_ground c.longest (incoming x).size x.talk ps pr (piece_of q m user)) (table.takes x x.talk pr (piece_of q m user)) (data_low c.longest (incoming x).size x.talk ps pr (piece_of q m user)) f
       (record { next = f; owed = status_gives x.talk.own_ready (length x.talk.taken + 1) })
@@ -227,25 +201,15 @@ module _ (wide long_data : Bool) where
   open_fits c x (rnr h pr) f = unless_fits c x (table.number_ground x.talk pr) (table.hears_status x x.talk false pr) (number_low x.talk pr) f (record { next = f; owed = tt })
   open_fits c x (interrupt h user) f = record { next = f; owed = (tt, tt) }
   open_fits c x (interrupt_conf h) f = confirms_fits c x x.talk.int_out f
-  open_fits c x (call h called calling facilities user) f = ignores_fits x f
-  open_fits c x (accept h facilities) f = ignores_fits x f
-  open_fits c x (clear h cause diagnostic) f = ignores_fits x f
-  open_fits c x (clear_conf h) f = ignores_fits x f
-  open_fits c x (reset h cause diagnostic) f = ignores_fits x f
-  open_fits c x (reset_conf h) f = ignores_fits x f
-  open_fits c x (restart cause diagnostic) f = ignores_fits x f
-  open_fits c x restart_conf f = ignores_fits x f
+  open_fits c x p f = ignores_fits x f
 
-  data_fits : (c : Settings) (x : Circuit) (s : State) (p : PlainPacket) → CircuitFits wide x → AnswerFits (table.row_data c x s p)
+  data_fits : (c : CircuitSettings) (x : Circuit) (s : State) (p : PlainPacket) → CircuitFits wide x → AnswerFits (table.row_data c x s p)
   data_fits c x Open p f = open_fits c x p f
   data_fits c x Resetting p f = ignores_fits x f
   data_fits c x Clearing p f = ignores_fits x f
-  data_fits c x Free p f = unexpected_fits c x Free
-  data_fits c x Calling p f = unexpected_fits c x Calling
-  data_fits c x Arriving p f = unexpected_fits c x Arriving
-  data_fits c x Collision p f = unexpected_fits c x Collision
+  data_fits c x s p f = unexpected_fits c x s
 
-  pub answers_fit : Agreed → (c : Settings) (x : Circuit) (p : PlainPacket) → CircuitFits wide x → AnswerFits (table.answers c x p)
+  pub answers_fit : Agreed → (c : CircuitSettings) (x : Circuit) (p : PlainPacket) → CircuitFits wide x → AnswerFits (table.answers c x p)
   answers_fit laws c x (call h called calling facilities user) f = call_fits c x x.state (table.request_in called calling facilities user) f (laws.said default_params facilities refl)
   answers_fit laws c x (accept h facilities) f = accept_fits laws c x x.state facilities f
   answers_fit laws c x (clear h cause diagnostic) f = clear_fits x x.state cause diagnostic
@@ -254,11 +218,7 @@ module _ (wide long_data : Bool) where
   answers_fit laws c x (reset_conf h) f = reset_conf_fits c x x.state f
   answers_fit laws c x (restart cause diagnostic) f = ignores_fits x f
   answers_fit laws c x restart_conf f = ignores_fits x f
-  answers_fit laws c x (user_data h q m ps pr user) f = data_fits c x x.state (user_data h q m ps pr user) f
-  answers_fit laws c x (rr h pr) f = data_fits c x x.state (rr h pr) f
-  answers_fit laws c x (rnr h pr) f = data_fits c x x.state (rnr h pr) f
-  answers_fit laws c x (interrupt h user) f = data_fits c x x.state (interrupt h user) f
-  answers_fit laws c x (interrupt_conf h) f = data_fits c x x.state (interrupt_conf h) f
+  answers_fit laws c x p f = data_fits c x x.state p f
 
   -- ---- calls of the user
 
@@ -284,7 +244,7 @@ module _ (wide long_data : Bool) where
       let short : length text ≤ 15 = leb-true (length text) 15 parts.0 in
       record { short = subst (λ (n : ℕ). n ≤ 15) (sym (length-map text (λ c. c - 48))) short; decimal = digits_low text parts.1 }
 
-  call_in_fits : Agreed → (c : Settings) → c.long_data ≡ long_data → (x : Circuit) (s : State) (called calling user : List ℕ) (proposal : Proposal) → AreOctets user → OutcomeFits (call_in c x s called calling user proposal)
+  call_in_fits : Agreed → (c : CircuitSettings) → c.long_data ≡ long_data → (x : Circuit) (s : State) (called calling user : List ℕ) (proposal : Proposal) → AreOctets user → OutcomeFits (call_in c x s called calling user proposal)
   call_in_fits laws c same x Free called calling user proposal octets = outcome_if (may_call c.long_data called calling user proposal.params) (does x Calling proposal.params true (call_sent called calling user proposal)) (Refused error.BadParameter) fits tt
     where
       fits : may_call c.long_data called calling user proposal.params ≡ true → OutcomeFits (does x Calling proposal.params true (call_sent called calling user proposal))
@@ -314,24 +274,15 @@ module _ (wide long_data : Bool) where
 
   accept_in_fits : Agreed → (x : Circuit) (s : State) (answer : Option Proposal) → CircuitFits wide x → OutcomeFits (accept_in x s answer)
   accept_in_fits laws x Arriving answer f = accept_with_fits laws x answer f
-  accept_in_fits laws x Free answer f = tt
-  accept_in_fits laws x Calling answer f = tt
-  accept_in_fits laws x Collision answer f = tt
-  accept_in_fits laws x Open answer f = tt
-  accept_in_fits laws x Resetting answer f = tt
-  accept_in_fits laws x Clearing answer f = tt
+  accept_in_fits laws x s answer f = tt
 
-  clear_with_fits : (c : Settings) (x : Circuit) (cause diagnostic : ℕ) → (cause < 256) × (diagnostic < 256) → OutcomeFits (clear_with c x cause diagnostic)
+  clear_with_fits : (c : CircuitSettings) (x : Circuit) (cause diagnostic : ℕ) → (cause < 256) × (diagnostic < 256) → OutcomeFits (clear_with c x cause diagnostic)
   clear_with_fits c x cause diagnostic octets = outcome_if (may_clear_for c.role cause) (does x Clearing default_params false (clear 1 cause diagnostic)) (Refused error.BadParameter) (λ may. ((tt, refl), (tt, octets))) tt
 
-  clear_in_fits : (c : Settings) (x : Circuit) (s : State) (cause diagnostic : ℕ) → (cause < 256) × (diagnostic < 256) → OutcomeFits (clear_in c x s cause diagnostic)
+  clear_in_fits : (c : CircuitSettings) (x : Circuit) (s : State) (cause diagnostic : ℕ) → (cause < 256) × (diagnostic < 256) → OutcomeFits (clear_in c x s cause diagnostic)
   clear_in_fits c x Free cause diagnostic octets = tt
   clear_in_fits c x Clearing cause diagnostic octets = tt
-  clear_in_fits c x Calling cause diagnostic octets = clear_with_fits c x cause diagnostic octets
-  clear_in_fits c x Arriving cause diagnostic octets = clear_with_fits c x cause diagnostic octets
-  clear_in_fits c x Collision cause diagnostic octets = clear_with_fits c x cause diagnostic octets
-  clear_in_fits c x Open cause diagnostic octets = clear_with_fits c x cause diagnostic octets
-  clear_in_fits c x Resetting cause diagnostic octets = clear_with_fits c x cause diagnostic octets
+  clear_in_fits c x s cause diagnostic octets = clear_with_fits c x cause diagnostic octets
 
   -- of the data packets that an end sends
   outgoing_is : (x : Circuit) → AreTerms (called_terms x.params) × AreTerms (calling_terms x.params) → AreTerms (outgoing x)
@@ -341,7 +292,7 @@ module _ (wide long_data : Bool) where
       test true = both.1
       test false = both.0
 
-  send_in_fits : Agreed → (c : Settings) (x : Circuit) (s : State) (q : Marks) (user : List ℕ) → CircuitFits wide x → AreOctets user → may_mark wide q ≡ true → OutcomeFits (send_in c x s q user)
+  send_in_fits : Agreed → (c : CircuitSettings) (x : Circuit) (s : State) (q : Marks) (user : List ℕ) → CircuitFits wide x → AreOctets user → may_mark wide q ≡ true → OutcomeFits (send_in c x s q user)
   send_in_fits laws c x Open q user f octets may =
       outcome_if (nat_le (length user) c.longest) _ (Refused error.TooLong) (λ _. outcome_if (nat_lt (waits x) 8) _ (Refused error.Full) (λ _. ((cut_append x.talk.rest (cut (outgoing x).size q user) f.0 cut_fits, f.1), tt)) tt) tt
     where
@@ -374,25 +325,15 @@ module _ (wide long_data : Bool) where
   interrupt_in_fits x Resetting user f octets = tt
   interrupt_in_fits x Clearing user f octets = tt
 
-  reset_in_fits : (c : Settings) (x : Circuit) (s : State) (cause diagnostic : ℕ) → CircuitFits wide x → (cause < 256) × (diagnostic < 256) → OutcomeFits (reset_in c x s cause diagnostic)
+  reset_in_fits : (c : CircuitSettings) (x : Circuit) (s : State) (cause diagnostic : ℕ) → CircuitFits wide x → (cause < 256) × (diagnostic < 256) → OutcomeFits (reset_in c x s cause diagnostic)
   reset_in_fits c x Open cause diagnostic f octets = outcome_if (may_reset_for c.role cause) (does x Resetting x.params x.calls (reset 1 cause diagnostic)) (Refused error.BadParameter) (λ may. ((tt, f.1), (tt, octets))) tt
-  reset_in_fits c x Free cause diagnostic f octets = tt
-  reset_in_fits c x Calling cause diagnostic f octets = tt
-  reset_in_fits c x Arriving cause diagnostic f octets = tt
-  reset_in_fits c x Collision cause diagnostic f octets = tt
-  reset_in_fits c x Resetting cause diagnostic f octets = tt
-  reset_in_fits c x Clearing cause diagnostic f octets = tt
+  reset_in_fits c x s cause diagnostic f octets = tt
 
   ready_in_fits : (x : Circuit) (s : State) (b : Bool) → CircuitFits wide x → OutcomeFits (ready_in x s b)
   ready_in_fits x Open b f = (f, status_gives b (length x.talk.taken))
-  ready_in_fits x Free b f = tt
-  ready_in_fits x Calling b f = tt
-  ready_in_fits x Arriving b f = tt
-  ready_in_fits x Collision b f = tt
-  ready_in_fits x Resetting b f = tt
-  ready_in_fits x Clearing b f = tt
+  ready_in_fits x s b f = tt
 
-  pub outcome_fits : Agreed → (c : Settings) → c.long_data ≡ long_data → (x : Circuit) (h : ℕ) (request : Request) → CircuitFits wide x → AsksOctets request → may_ask wide (Asks h request) ≡ true → OutcomeFits (outcome c x request)
+  pub outcome_fits : Agreed → (c : CircuitSettings) → c.long_data ≡ long_data → (x : Circuit) (h : ℕ) (request : Request) → CircuitFits wide x → AsksOctets request → may_ask wide (Asks h request) ≡ true → OutcomeFits (outcome c x request)
   outcome_fits laws c same x h (Calls called calling user proposal) f octets may = call_in_fits laws c same x x.state called calling user proposal octets
   outcome_fits laws c same x h (Accepts answer) f octets may = accept_in_fits laws x x.state answer f
   outcome_fits laws c same x h (Clears cause diagnostic) f octets may = clear_in_fits c x x.state cause diagnostic octets
@@ -419,7 +360,7 @@ module _ (wide long_data : Bool) where
   nothing_fits : (x : Circuit) → CircuitFits wide x → PulledFits (pulls_nothing x)
   nothing_fits x f = record { next = f; packet = tt }
 
-  pull_open_fits : (c : Settings) (x : Circuit) (t : Talk) (rest : List Piece) → CircuitFits wide x → AreCut wide rest → PulledFits (pull_open c x t rest)
+  pull_open_fits : (c : CircuitSettings) (x : Circuit) (t : Talk) (rest : List Piece) → CircuitFits wide x → AreCut wide rest → PulledFits (pull_open c x t rest)
   pull_open_fits c x t [] f g = nothing_fits x f
   pull_open_fits c x t (piece ∷ rest) f g = pulled_if (t.peer_ready && nat_lt (length t.sent) (t.acked + (outgoing x).window)) sent (pulls_nothing x) (record { next = (g.1, f.1); packet = data_gives (length t.sent) (length t.taken) piece g.0 }) (nothing_fits x f)
     where
@@ -429,7 +370,7 @@ module _ (wide long_data : Bool) where
         packet = Some (data_packet (length t.sent % 8) (length t.taken % 8) piece);
       }
 
-  pub pulled_fits : (c : Settings) (x : Circuit) → CircuitFits wide x → PulledFits (pulled c x)
+  pub pulled_fits : (c : CircuitSettings) (x : Circuit) → CircuitFits wide x → PulledFits (pulled c x)
   pulled_fits c x f = at x.state
     where
       at : (s : State) → PulledFits (pull_in c x s)

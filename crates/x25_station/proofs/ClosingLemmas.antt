@@ -5,7 +5,7 @@ use Rattle.x25_packet.specs.Packet.{PlainPacket, call, accept, clear, clear_conf
 use Rattle.x25_packet.specs.Spelling.{spelling_of}
 use Rattle.x25_circuit.specs.declared.state.State.{State}
 use Rattle.x25_circuit.specs.declared.state.State.TheVariants.{Free, Calling, Arriving, Collision, Open, Resetting, Clearing}
-use Rattle.x25_circuit.specs.Circuit.{Settings, Circuit, is_open, is_open_in, unconfirmed}
+use Rattle.x25_circuit.specs.Circuit.{CircuitSettings, Circuit, is_open, is_open_in, unconfirmed}
 use Rattle.x25_circuit.specs.Hearing.{Answer, answers, request_in, row_call, row_accept, row_clear}
 use Rattle.x25_circuit.specs.Notice.{CallRequest}
 use Rattle.x25_layer.specs.Layer.{LayerSettings, Layer, LayerAnswer, is_channel, answers_on, answers_in, drops, layer_answers}
@@ -20,32 +20,17 @@ use Rattle.x25_station.proofs.ConfirmLemmas.{closed_before, closed_behind}
 abbrev Closes : State → Answer → Type 0
 Closes s a = (is_open_in s && is_open_in a.next.state) ≡ false
 
-call_closes : (c : Settings) (x : Circuit) (s : State) (request : CallRequest) → Closes s (row_call c x s request)
+call_closes : (c : CircuitSettings) (x : Circuit) (s : State) (request : CallRequest) → Closes s (row_call c x s request)
 call_closes c x Free request = refl
-call_closes c x Calling request = refl
-call_closes c x Arriving request = refl
-call_closes c x Collision request = refl
-call_closes c x Open request = refl
-call_closes c x Resetting request = refl
-call_closes c x Clearing request = refl
+call_closes c x s request = refl
 
-accept_closes : (c : Settings) (x : Circuit) (s : State) (facilities : List ℕ) → Closes s (row_accept c x s facilities)
+accept_closes : (c : CircuitSettings) (x : Circuit) (s : State) (facilities : List ℕ) → Closes s (row_accept c x s facilities)
 accept_closes c x Free facilities = refl
-accept_closes c x Calling facilities = refl
-accept_closes c x Arriving facilities = refl
-accept_closes c x Collision facilities = refl
-accept_closes c x Open facilities = refl
-accept_closes c x Resetting facilities = refl
-accept_closes c x Clearing facilities = refl
+accept_closes c x s facilities = refl
 
 clear_closes : (x : Circuit) (s : State) (cause diagnostic : ℕ) → Closes s (row_clear x s cause diagnostic)
 clear_closes x Free cause diagnostic = refl
-clear_closes x Calling cause diagnostic = refl
-clear_closes x Arriving cause diagnostic = refl
-clear_closes x Collision cause diagnostic = refl
-clear_closes x Open cause diagnostic = refl
-clear_closes x Resetting cause diagnostic = refl
-clear_closes x Clearing cause diagnostic = refl
+clear_closes x s cause diagnostic = refl
 
 -- ---- of a layer
 
@@ -118,16 +103,7 @@ given_confirms : (g : PlainGiven) (v : PlainPacket) → written g v ≢ spelling
 given_confirms g (call k called calling facilities user) other c l h = call_confirms c l h k called calling facilities user
 given_confirms g (accept k facilities) other c l h = accept_confirms c l h k facilities
 given_confirms g (clear k cause diagnostic) other c l h = clear_confirms c l h k cause diagnostic
-given_confirms g (clear_conf k) other c l h = absurd (other refl)
-given_confirms g (user_data k q m ps pr user) other c l h = absurd (other refl)
-given_confirms g (rr k pr) other c l h = absurd (other refl)
-given_confirms g (rnr k pr) other c l h = absurd (other refl)
-given_confirms g (interrupt k user) other c l h = absurd (other refl)
-given_confirms g (interrupt_conf k) other c l h = absurd (other refl)
-given_confirms g (reset k cause diagnostic) other c l h = absurd (other refl)
-given_confirms g (reset_conf k) other c l h = absurd (other refl)
-given_confirms g (restart cause diagnostic) other c l h = absurd (other refl)
-given_confirms g restart_conf other c l h = absurd (other refl)
+given_confirms g v other c l h = absurd (other refl)
 
 pub given_confirms_none : (g : PlainGiven) (v : PlainPacket) → written g v ≢ spelling_of v → (wide : Bool) (c : LayerSettings) (l next : Layer) (h : ℕ) → next ≡ (layer_answers c l v).next → confirmed_by c wide l next h ≡ 0
 given_confirms_none g v other false c l next h is = refl

@@ -3,8 +3,8 @@ use Rattle.std.proofs.Common.{◌≡◌, ℕ, ◌+◌, List, [], ◌++◌, map, 
 use Rattle.x25_frame.specs.Spelling.{spelling_of}
 use Rattle.x25_link.specs.declared.error.LinkError.{LinkError}
 use Rattle.x25_link.specs.declared.phase.Reason.{Reason}
-use Rattle.x25_link.specs.Station.{Settings as LinkSettings, LinkStation, Side, with_near}
-use Rattle.x25_link.specs.Hearing.{Step as LinkStep, quiet, leaves}
+use Rattle.x25_link.specs.Station.{LinkSettings, LinkStation, Side, with_near}
+use Rattle.x25_link.specs.Hearing.{LinkStep, quiet, leaves}
 use Rattle.x25_link.specs.Link.{alone, asks_again, timer_step, disconnect_step, relink_step}
 use Rattle.x25_link.specs.declared.phase.Reason.TheVariants.{Retries}
 use Rattle.x25_link.specs.code.FitsLink.{ShownLink, FitsLink}

@@ -42,50 +42,25 @@ IsOn p = HasChannel p → (1 ≤ channel_of p) × (channel_of p ≤ 4095)
 
 pub moved_fits : (wide long_data : Bool) (h : ℕ) (p : PlainPacket) → Fits wide long_data p → Fits wide long_data (moved_to h p)
 moved_fits wide long_data h (call k called calling facilities user) f = f
-moved_fits wide long_data h (accept k facilities) f = f
-moved_fits wide long_data h (clear k cause diagnostic) f = f
-moved_fits wide long_data h (clear_conf k) f = f
-moved_fits wide long_data h (user_data k q m ps pr user) f = f
-moved_fits wide long_data h (rr k pr) f = f
-moved_fits wide long_data h (rnr k pr) f = f
-moved_fits wide long_data h (interrupt k user) f = f
-moved_fits wide long_data h (interrupt_conf k) f = f
-moved_fits wide long_data h (reset k cause diagnostic) f = f
-moved_fits wide long_data h (reset_conf k) f = f
-moved_fits wide long_data h (restart cause diagnostic) f = f
-moved_fits wide long_data h restart_conf f = f
+moved_fits wide long_data h p f = f
 
 pub moved_on : (h : ℕ) (p : PlainPacket) → HasChannel p → 1 ≤ h → h ≤ 4095 → IsOn (moved_to h p)
-moved_on h (call k called calling facilities user) has low high there = (low, high)
-moved_on h (accept k facilities) has low high there = (low, high)
-moved_on h (clear k cause diagnostic) has low high there = (low, high)
-moved_on h (clear_conf k) has low high there = (low, high)
-moved_on h (user_data k q m ps pr user) has low high there = (low, high)
-moved_on h (rr k pr) has low high there = (low, high)
-moved_on h (rnr k pr) has low high there = (low, high)
-moved_on h (interrupt k user) has low high there = (low, high)
-moved_on h (interrupt_conf k) has low high there = (low, high)
-moved_on h (reset k cause diagnostic) has low high there = (low, high)
-moved_on h (reset_conf k) has low high there = (low, high)
 moved_on h (restart cause diagnostic) has low high there = absurd has
 moved_on h restart_conf has low high there = absurd has
+moved_on h p has low high there = (low, high)
 
 -- ---- in range
 
 in_range : (wide long_data : Bool) (p : PlainPacket) → Fits wide long_data p → IsOn p → IsInRange (longest_user long_data) p
 in_range wide long_data (call h called calling facilities user) f on = (on tt, f.0, f.1, f.2, f.3)
 in_range wide long_data (accept h facilities) f on = (on tt, f)
-in_range wide long_data (clear h cause diagnostic) f on = on tt
-in_range wide long_data (clear_conf h) f on = on tt
 in_range wide long_data (user_data h q m ps pr user) f on = (on tt, f.0, f.1, f.2)
 in_range wide long_data (rr h pr) f on = (on tt, f)
 in_range wide long_data (rnr h pr) f on = (on tt, f)
 in_range wide long_data (interrupt h user) f on = (on tt, f.0, f.1)
-in_range wide long_data (interrupt_conf h) f on = on tt
-in_range wide long_data (reset h cause diagnostic) f on = on tt
-in_range wide long_data (reset_conf h) f on = on tt
 in_range wide long_data (restart cause diagnostic) f on = tt
 in_range wide long_data restart_conf f on = tt
+in_range wide long_data p f on = on tt
 
 -- ---- octets
 
@@ -164,63 +139,28 @@ body_octets : (wide long_data : Bool) (p : PlainPacket) → Fits wide long_data 
 body_octets wide long_data (call h called calling facilities user) f = call_octets called calling facilities user f.0 f.1 f.2 f.4
 body_octets wide long_data (accept h facilities) f = accept_octets facilities f
 body_octets wide long_data (clear h cause diagnostic) f = two cause diagnostic f.0 f.1
-body_octets wide long_data (clear_conf h) f = no_octets
 body_octets wide long_data (user_data h q m ps pr user) f = f.3
-body_octets wide long_data (rr h pr) f = no_octets
-body_octets wide long_data (rnr h pr) f = no_octets
 body_octets wide long_data (interrupt h user) f = f.2
-body_octets wide long_data (interrupt_conf h) f = no_octets
 body_octets wide long_data (reset h cause diagnostic) f = two cause diagnostic f.0 f.1
-body_octets wide long_data (reset_conf h) f = no_octets
 body_octets wide long_data (restart cause diagnostic) f = two cause diagnostic f.0 f.1
-body_octets wide long_data restart_conf f = no_octets
+body_octets wide long_data p f = no_octets
 
 -- ---- header
 
 format_low : (p : PlainPacket) → format_of p ≤ 13
-format_low (call h called calling facilities user) = omega arith
-format_low (accept h facilities) = omega arith
-format_low (clear h cause diagnostic) = omega arith
-format_low (clear_conf h) = omega arith
 format_low (user_data h q m ps pr user) = let b : bit q.q ≤ 1 = bit_low q.q in let d : bit q.d ≤ 1 = bit_low q.d in omega (arith, b, d)
-format_low (rr h pr) = omega arith
-format_low (rnr h pr) = omega arith
-format_low (interrupt h user) = omega arith
-format_low (interrupt_conf h) = omega arith
-format_low (reset h cause diagnostic) = omega arith
-format_low (reset_conf h) = omega arith
-format_low (restart cause diagnostic) = omega arith
-format_low restart_conf = omega arith
+format_low p = omega arith
 
 type_low : (wide long_data : Bool) (p : PlainPacket) → Fits wide long_data p → type_of p < 256
-type_low wide long_data (call h called calling facilities user) f = omega arith
-type_low wide long_data (accept h facilities) f = omega arith
-type_low wide long_data (clear h cause diagnostic) f = omega arith
-type_low wide long_data (clear_conf h) f = omega arith
 type_low wide long_data (user_data h q m ps pr user) f = let b : bit m ≤ 1 = bit_low m in omega (arith, b, f.0, f.1)
 type_low wide long_data (rr h pr) f = omega (arith, f)
 type_low wide long_data (rnr h pr) f = omega (arith, f)
-type_low wide long_data (interrupt h user) f = omega arith
-type_low wide long_data (interrupt_conf h) f = omega arith
-type_low wide long_data (reset h cause diagnostic) f = omega arith
-type_low wide long_data (reset_conf h) f = omega arith
-type_low wide long_data (restart cause diagnostic) f = omega arith
-type_low wide long_data restart_conf f = omega arith
+type_low wide long_data p f = omega arith
 
 channel_low : (p : PlainPacket) → IsOn p → channel_of p ≤ 4095
-channel_low (call h called calling facilities user) on = (on tt).1
-channel_low (accept h facilities) on = (on tt).1
-channel_low (clear h cause diagnostic) on = (on tt).1
-channel_low (clear_conf h) on = (on tt).1
-channel_low (user_data h q m ps pr user) on = (on tt).1
-channel_low (rr h pr) on = (on tt).1
-channel_low (rnr h pr) on = (on tt).1
-channel_low (interrupt h user) on = (on tt).1
-channel_low (interrupt_conf h) on = (on tt).1
-channel_low (reset h cause diagnostic) on = (on tt).1
-channel_low (reset_conf h) on = (on tt).1
 channel_low (restart cause diagnostic) on = omega arith
 channel_low restart_conf on = omega arith
+channel_low p on = (on tt).1
 
 header_octets : (wide long_data : Bool) (p : PlainPacket) → Fits wide long_data p → IsOn p → AreOctets (header_of p)
 header_octets wide long_data p f on =
@@ -250,17 +190,9 @@ body_short wide long_data (call h called calling facilities user) f =
     let short = user_short long_data in
     omega (arith, a, b, d, e, few, f.0.short, f.1.short, f.3, short)
 body_short wide long_data (accept h facilities) f = accept_short facilities (field_short facilities f)
-body_short wide long_data (clear h cause diagnostic) f = omega arith
-body_short wide long_data (clear_conf h) f = omega arith
 body_short wide long_data (user_data h q m ps pr user) f = f.2
-body_short wide long_data (rr h pr) f = omega arith
-body_short wide long_data (rnr h pr) f = omega arith
 body_short wide long_data (interrupt h user) f = omega (arith, f.1)
-body_short wide long_data (interrupt_conf h) f = omega arith
-body_short wide long_data (reset h cause diagnostic) f = omega arith
-body_short wide long_data (reset_conf h) f = omega arith
-body_short wide long_data (restart cause diagnostic) f = omega arith
-body_short wide long_data restart_conf f = omega arith
+body_short wide long_data p f = omega arith
 
 -- ---- reading
 

@@ -12,8 +12,8 @@ use Rattle.x25_frame.specs.declared.error.FrameError.TheVariants.{Short, BadFcs,
 use Rattle.x25_link.specs.declared.phase.Phase.{Phase}
 use Rattle.x25_link.specs.declared.phase.Phase.TheVariants.{Down, Waiting, Up, Closed}
 use Rattle.x25_link.specs.Outgoing.{no_packet, is_open, added, moved_on}
-use Rattle.x25_link.specs.Station.{Settings as LinkSettings, LinkStation, Side, with_nothing, fresh, is_up, is_busy, with_near, sends, wanted, ready, send_next, next_frame, may_send, pumped, owes_ready, finished, ended}
-use Rattle.x25_link.specs.Hearing.{Step as LinkStep, quiet, other, is_valid, acknowledged, is_taken, takes, answers, passes_over, hears_info, peer_is, goes_back, polls, numbered, rejects, reject_of, row_of_frame, row_of}
+use Rattle.x25_link.specs.Station.{LinkSettings, LinkStation, Side, with_nothing, fresh, is_up, is_busy, with_near, sends, wanted, ready, send_next, next_frame, may_send, pumped, owes_ready, finished, ended}
+use Rattle.x25_link.specs.Hearing.{LinkStep, quiet, other, is_valid, acknowledged, is_taken, takes, answers, passes_over, hears_info, peer_is, goes_back, polls, numbered, rejects, reject_of, row_of_frame, row_of}
 use Rattle.x25_link.specs.Link.{alone, hears, when_down, when_waiting, take_step, put_step}
 use Rattle.x25_station.specs.Station.{behind, put_on, all_put}
 

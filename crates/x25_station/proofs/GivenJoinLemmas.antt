@@ -3,7 +3,7 @@ use Rattle.std.proofs.Common.{◌≡◌, ℕ, List, ◌∷◌, ◌++◌, Option,
 use Rattle.std.proofs.lemmas.List.{append-nil}
 use Rattle.x25_packet.specs.Packet.{PlainPacket}
 use Rattle.x25_link.specs.Outgoing.{waits}
-use Rattle.x25_link.specs.Station.{Settings as LinkSettings, is_up}
+use Rattle.x25_link.specs.Station.{LinkSettings, is_up}
 use Rattle.x25_link.specs.Link.{alone}
 use Rattle.x25_link.specs.laws.NoteLaw.{PutTells}
 use Rattle.x25_layer.specs.declared.error.LayerError.TheVariants as layer_error

@@ -41,18 +41,8 @@ data_written spelled alike g h q m ps pr user range octets = by (packet_of 128 o
 
 pub given_written : ReadsWhatIsSpelled → TakesWhatIsSpelled → TakesWhatIsWritten → GivenIsWritten
 given_written reads spelled alike g (packet.user_data channel q m ps pr user) range octets = data_written spelled alike g channel q m ps pr user range octets
-given_written reads spelled alike g (packet.call channel called calling field user) range octets = plainly reads g (packet.call channel called calling field user) range tt octets
-given_written reads spelled alike g (packet.accept channel field) range octets = plainly reads g (packet.accept channel field) range tt octets
-given_written reads spelled alike g (packet.clear channel cause diagnostic) range octets = plainly reads g (packet.clear channel cause diagnostic) range tt octets
-given_written reads spelled alike g (packet.clear_conf channel) range octets = plainly reads g (packet.clear_conf channel) range tt octets
-given_written reads spelled alike g (packet.rr channel pr) range octets = plainly reads g (packet.rr channel pr) range tt octets
-given_written reads spelled alike g (packet.rnr channel pr) range octets = plainly reads g (packet.rnr channel pr) range tt octets
-given_written reads spelled alike g (packet.interrupt channel user) range octets = plainly reads g (packet.interrupt channel user) range tt octets
-given_written reads spelled alike g (packet.interrupt_conf channel) range octets = plainly reads g (packet.interrupt_conf channel) range tt octets
-given_written reads spelled alike g (packet.reset channel cause diagnostic) range octets = plainly reads g (packet.reset channel cause diagnostic) range tt octets
-given_written reads spelled alike g (packet.reset_conf channel) range octets = plainly reads g (packet.reset_conf channel) range tt octets
-given_written reads spelled alike g (packet.restart cause diagnostic) range octets = plainly reads g (packet.restart cause diagnostic) range tt octets
 given_written reads spelled alike g packet.restart_conf range octets = plainly reads g packet.restart_conf range tt octets
+given_written reads spelled alike g v range octets = plainly reads g v range tt octets
 
 -- octets that are no packet in the form that a station writes
 told_by : (o : List ℕ) (w : PlainForm) (r : Result PlainPacket PacketError) → packet_of 128 o ≡ r → ((u : PlainPacket) → packet_of 128 o ≡ Ok u → ⊥) → form_in 128 o ≡ Ok w → unless_written r (beside_or_none (form_in 128 o)) ≡ beside_kind w.kind
@@ -73,13 +63,5 @@ pub given_told : ReadsWhatIsSpelled → TakesWhatIsWritten → WrittenIsRead →
 given_told reads alike read form g (packet.call channel called calling field user) allowed range octets other = told_as reads alike read form g (packet.call channel called calling field user) (headed channel g.d (wide.call (call_block called calling (fields (field ++ g.facilities) user)))) allowed range (inl range.4) octets other refl
 given_told reads alike read form g (packet.accept channel field) allowed range octets other = told_as reads alike read form g (packet.accept channel field) (headed channel g.d (wide.accept (Some (bare_block (fields (field ++ g.facilities) g.user))))) allowed range tt octets other refl
 given_told reads alike read form g (packet.clear channel cause diagnostic) allowed range octets other = told_as reads alike read form g (packet.clear channel cause diagnostic) (headed channel false (wide.extended_clear cause diagnostic (bare_block (fields g.facilities g.user)))) allowed range tt octets other refl
-given_told reads alike read form g (packet.clear_conf channel) allowed range octets other = absurd (other refl)
-given_told reads alike read form g (packet.user_data channel q m ps pr user) allowed range octets other = absurd (other refl)
-given_told reads alike read form g (packet.rr channel pr) allowed range octets other = absurd (other refl)
-given_told reads alike read form g (packet.rnr channel pr) allowed range octets other = absurd (other refl)
-given_told reads alike read form g (packet.interrupt channel user) allowed range octets other = absurd (other refl)
-given_told reads alike read form g (packet.interrupt_conf channel) allowed range octets other = absurd (other refl)
-given_told reads alike read form g (packet.reset channel cause diagnostic) allowed range octets other = absurd (other refl)
-given_told reads alike read form g (packet.reset_conf channel) allowed range octets other = absurd (other refl)
-given_told reads alike read form g (packet.restart cause diagnostic) allowed range octets other = absurd (other refl)
 given_told reads alike read form g packet.restart_conf allowed range octets other = absurd (other refl)
+given_told reads alike read form g v allowed range octets other = absurd (other refl)

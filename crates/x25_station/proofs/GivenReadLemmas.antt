@@ -34,18 +34,7 @@ use Rattle.x25_station.proofs.GivenLemmas.{given_told, given_written}
 -- with more user data of a CALL at most
 wider : (most : ℕ) → most ≤ 128 → (v : PlainPacket) → IsInRange most v → IsInRange 128 v
 wider most low (call h called calling field user) range = (let few = range.4 in (range.0, range.1, range.2, range.3, omega (arith, few, low)))
-wider most low (accept h field) range = range
-wider most low (clear h cause diagnostic) range = range
-wider most low (clear_conf h) range = range
-wider most low (user_data h q m ps pr user) range = range
-wider most low (rr h pr) range = range
-wider most low (rnr h pr) range = range
-wider most low (interrupt h user) range = range
-wider most low (interrupt_conf h) range = range
-wider most low (reset h cause diagnostic) range = range
-wider most low (reset_conf h) range = range
-wider most low (restart cause diagnostic) range = range
-wider most low restart_conf range = range
+wider most low v range = range
 
 -- ---- how much may be given
 
@@ -163,16 +152,7 @@ module _ (read : WrittenIsRead) (wide long_data : Bool) (g : PlainGiven) (allowe
   by_kind (call h called calling field user) range r = call_read h called calling field user range r
   by_kind (accept h field) range r = accept_read h field range
   by_kind (clear h cause diagnostic) range r = clear_read h cause diagnostic range r
-  by_kind (clear_conf h) range r = same_read (clear_conf h) r
-  by_kind (user_data h q m ps pr user) range r = same_read (user_data h q m ps pr user) r
-  by_kind (rr h pr) range r = same_read (rr h pr) r
-  by_kind (rnr h pr) range r = same_read (rnr h pr) r
-  by_kind (interrupt h user) range r = same_read (interrupt h user) r
-  by_kind (interrupt_conf h) range r = same_read (interrupt_conf h) r
-  by_kind (reset h cause diagnostic) range r = same_read (reset h cause diagnostic) r
-  by_kind (reset_conf h) range r = same_read (reset_conf h) r
-  by_kind (restart cause diagnostic) range r = same_read (restart cause diagnostic) r
-  by_kind restart_conf range r = same_read restart_conf r
+  by_kind v range r = same_read v r
 
 pub given_read : ReadsWhatIsSpelled → TakesWhatIsSpelled → TakesWhatIsWritten → WrittenIsRead → GivenIsRead
 given_read reads spelled alike read wide long_data g v allowed octets r =

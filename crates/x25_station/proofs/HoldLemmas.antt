@@ -6,8 +6,7 @@ use Rattle.std.proofs.lemmas.List.{length-append}
 use Rattle.x25_packet.specs.declared.marks.Marks.{Marks}
 use Rattle.x25_packet.specs.Marks.{with_q}
 use Rattle.x25_circuit.specs.declared.circuit.Circuit as circuit_code
-use Rattle.x25_circuit.specs.declared.message.Message.{Message}
-use Rattle.x25_circuit.specs.Message.{Piece, More, Last, cut_from, cut_all, wholes, Partial, no_part, joining}
+use Rattle.x25_circuit.specs.Message.{Message, Piece, More, Last, cut_from, cut_all, wholes, Partial, no_part, joining}
 use Rattle.x25_circuit.specs.Circuit as circuit
 use Rattle.x25_circuit.specs.code.FitsCircuit.{FitsCircuit}
 use Rattle.x25_link.specs.code.Bounds.{FewStand as LinkStands, WindowIsSmall}

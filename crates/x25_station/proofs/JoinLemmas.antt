@@ -8,7 +8,7 @@ use Rattle.x25_packet.specs.Taking.{read_in}
 use Rattle.x25_link.specs.declared.phase.Notes.{Notes}
 use Rattle.x25_link.specs.Outgoing.{waits}
 use Rattle.x25_link.specs.Station.{LinkStation, Side, is_up}
-use Rattle.x25_link.specs.Hearing.{Step as LinkStep}
+use Rattle.x25_link.specs.Hearing.{LinkStep}
 use Rattle.x25_link.specs.Link.{alone, take_step, abandon_step}
 use Rattle.x25_link.specs.laws.NoteLaw.{IsQuiet, PutTells, TakeTells, TakeHandsUp}
 use Rattle.x25_layer.specs.declared.error.LayerError.TheVariants as layer_error

@@ -11,8 +11,8 @@ use Rattle.x25_link.specs.declared.phase.Phase.TheVariants.{Down, Waiting, Up, C
 use Rattle.x25_link.specs.declared.phase.Reason.{Reason}
 use Rattle.x25_link.specs.declared.phase.Reason.TheVariants.{Retries}
 use Rattle.x25_link.specs.Outgoing.{Outgoing, waits, moved_on, added}
-use Rattle.x25_link.specs.Station.{Settings as LinkSettings, LinkStation, Lists, Side, is_up, fresh, with_nothing, with_near, is_busy, ready, may_send, send_next, pumped, owes_ready, ended}
-use Rattle.x25_link.specs.Hearing.{Step as LinkStep, quiet, leaves}
+use Rattle.x25_link.specs.Station.{LinkSettings, LinkStation, Lists, Side, is_up, fresh, with_nothing, with_near, is_busy, ready, may_send, send_next, pumped, owes_ready, ended}
+use Rattle.x25_link.specs.Hearing.{LinkStep, quiet, leaves}
 use Rattle.x25_link.specs.Link.{alone, put_refusal, put_step, take_step, timer_refusal, asks_again, timer_step, connect_refusal, connects as link_connects, connect_step, disconnect_refusal, disconnects as link_disconnects, disconnect_step, abandon_step, probe_refusal, relink_refusal, relinks as link_relinks, relink_step}
 use Rattle.x25_link.specs.laws.NoteLaw.{IsQuiet, Tells, HandsUp, TakeTells, TakeContinues, TakeHandsUp, TimerTells, TimerContinues, PutTells, ConnectTells, DisconnectTells, AbandonTells, RelinkTells}
 use Rattle.x25_layer.specs.declared.error.LayerError.TheVariants as layer_error

@@ -6,7 +6,7 @@ use Rattle.x25_packet.specs.Packet.{PlainPacket}
 use Rattle.x25_packet.specs.Spelling as packet
 use Rattle.x25_frame.specs.Spelling.{spelling_of}
 use Rattle.x25_link.specs.Outgoing.{waits}
-use Rattle.x25_link.specs.Station.{Settings as LinkSettings, LinkStation, Side, is_up}
+use Rattle.x25_link.specs.Station.{LinkSettings, LinkStation, Side, is_up}
 use Rattle.x25_link.specs.Link.{alone, put_step}
 use Rattle.x25_link.specs.code.FitsLink.{waits_of}
 use Rattle.x25_layer.specs.laws.Rounds.{LinkView}

@@ -25,9 +25,5 @@ where_holds P false (Refused e) refused holds = holds
 pub memory_unasked : (wide : Bool) (h : ℕ) (request : Request) → may_ask wide (Asks h request) ≡ false → asks_memory (Asks h request) ≡ true
 memory_unasked wide h (Calls called calling user proposal) unasked = refl
 memory_unasked wide h (Accepts answer) unasked = refl
-memory_unasked wide h (Clears cause diagnostic) unasked = absurd (cc)
 memory_unasked wide h (Sends marks user) unasked = refl
-memory_unasked wide h (Interrupts user) unasked = absurd (cc)
-memory_unasked wide h (Resets cause diagnostic) unasked = absurd (cc)
-memory_unasked wide h SaysReady unasked = absurd (cc)
-memory_unasked wide h SaysNotReady unasked = absurd (cc)
+memory_unasked wide h request unasked = absurd (cc)

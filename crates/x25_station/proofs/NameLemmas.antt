@@ -7,7 +7,7 @@ use Rattle.x25_packet.specs.Packet.{PlainPacket}
 use Rattle.x25_circuit.specs.declared.state.State.{State}
 use Rattle.x25_circuit.specs.declared.state.State.TheVariants.{Free, Calling, Arriving, Collision, Open, Resetting, Clearing}
 use Rattle.x25_circuit.specs.declared.params.Params.{Params}
-use Rattle.x25_circuit.specs.Circuit.{Settings as CircuitSettings, Circuit, Talk, talking, outgoing, is_open_in, unconfirmed}
+use Rattle.x25_circuit.specs.Circuit.{CircuitSettings, Circuit, Talk, talking, outgoing, is_open_in, unconfirmed}
 use Rattle.x25_circuit.specs.Message.{Piece, asked_in}
 use Rattle.x25_circuit.specs.Calling.{Pulled, pulled, pull_in, pull_open, pulls_nothing, data_packet}
 use Rattle.x25_handshakes.specs.laws.Names.{Name}
@@ -48,13 +48,8 @@ open_counts n c x t (piece ∷ rest) same = test (t.peer_ready && nat_lt (length
     test false = refl
 
 state_counts : (n : ℕ) (c : CircuitSettings) (x : Circuit) (state : State) → kept_in n (pull_in c x state).next ≡ kept_in n x
-state_counts n c x Free = refl
-state_counts n c x Calling = refl
-state_counts n c x Arriving = refl
-state_counts n c x Collision = refl
 state_counts n c x Open = open_counts n c x x.talk x.talk.rest refl
-state_counts n c x Resetting = refl
-state_counts n c x Clearing = refl
+state_counts n c x state = refl
 
 put_kept : (n : ℕ) (circuits : ℕ → Circuit) (k : ℕ) (next : Circuit) (h : ℕ) → kept_in n next ≡ kept_in n (circuits k) → kept_in n (put_at circuits k next h) ≡ kept_in n (circuits h)
 put_kept n circuits k next h same = test (h == k) refl

@@ -77,9 +77,7 @@ refused T U e found (Some x) step named is h = is ∙ ap of_link (err_is T LinkE
 
 pub connect_named : (p : Phase) → IsNamed (link.connect_refusal p)
 connect_named Down = tt
-connect_named Waiting = refl
-connect_named Up = refl
-connect_named Closed = refl
+connect_named p = refl
 
 pub timer_named : (s : LinkStation) → IsNamed (link.timer_refusal s)
 timer_named s = test (link.timer_runs s.phase s)
@@ -89,19 +87,13 @@ timer_named s = test (link.timer_runs s.phase s)
     test false = refl
 
 pub disconnect_named : (p : Phase) → IsNamed (link.disconnect_refusal p)
-disconnect_named Down = tt
-disconnect_named Waiting = tt
-disconnect_named Up = tt
 disconnect_named Closed = refl
+disconnect_named p = tt
 
 pub probe_named : (p : Phase) → IsNamed (link.probe_refusal p)
-probe_named Down = refl
-probe_named Waiting = refl
 probe_named Up = tt
-probe_named Closed = refl
+probe_named p = refl
 
 pub relink_named : (p : Phase) → IsNamed (link.relink_refusal p)
-relink_named Down = refl
-relink_named Waiting = refl
 relink_named Up = tt
-relink_named Closed = refl
+relink_named p = refl

@@ -10,7 +10,7 @@ use Rattle.x25_packet.specs.Taking.{read_in}
 use Rattle.x25_window.specs.code.Modulo.{resolved}
 use Rattle.x25_circuit.specs.declared.state.State.{State}
 use Rattle.x25_circuit.specs.declared.state.State.TheVariants.{Free, Calling, Arriving, Collision, Open, Resetting, Clearing}
-use Rattle.x25_circuit.specs.Circuit.{Settings as CircuitSettings, Circuit, Talk, is_open, is_open_in, incoming as terms_in}
+use Rattle.x25_circuit.specs.Circuit.{CircuitSettings, Circuit, Talk, is_open, is_open_in, incoming as terms_in}
 use Rattle.x25_circuit.specs.Message.{Piece, piece_of, asked_in}
 use Rattle.x25_circuit.specs.Hearing.{Answer, answers, undecoded, row_call, row_accept, row_clear, row_clear_conf, row_reset, row_reset_conf, row_data, row_undecoded, request_in, unless, data_ground, number_ground, takes, hears_status, confirms}
 use Rattle.x25_layer.specs.Layer.{LayerSettings, Layer, LayerAnswer, LayerNotice, on_channel, restarted, restart_done, layer_fault, is_channel, put_at, answers_on, drops, answers_ready, answers_restarting, answers_in, undecoded_in}
@@ -53,12 +53,7 @@ take_within (suc n) (p ∷ ps) qs low = ap (λ (rs : List Piece). p ∷ rs) (tak
 
 open_is : (s : State) → is_open_in s ≡ true → s ≡ Open
 open_is Open is = refl
-open_is Free is = absurd (true_false (sym is))
-open_is Calling is = absurd (true_false (sym is))
-open_is Arriving is = absurd (true_false (sym is))
-open_is Collision is = absurd (true_false (sym is))
-open_is Resetting is = absurd (true_false (sym is))
-open_is Clearing is = absurd (true_false (sym is))
+open_is s is = absurd (true_false (sym is))
 
 -- the same is sent and waits, and P(R) goes on, up to the last packet sent, or stays
 record Stays (before behind : Talk) : Type 0 where
@@ -167,17 +162,7 @@ module _ (c : LayerSettings) (restarts : ℕ) (circuits : ℕ → Circuit) (h : 
   restarting_goes : (v : PlainPacket) → GoesOn (circuits h) ((answers_restarting restarts circuits v).next.circuits h)
   restarting_goes (restart cause diagnostic) = closed_goes (circuits h) ((answers_restarting restarts circuits (restart cause diagnostic)).next.circuits h) refl
   restarting_goes restart_conf = closed_goes (circuits h) ((answers_restarting restarts circuits restart_conf).next.circuits h) refl
-  restarting_goes (call k called calling facilities user) = same_goes (circuits h)
-  restarting_goes (accept k facilities) = same_goes (circuits h)
-  restarting_goes (clear k cause diagnostic) = same_goes (circuits h)
-  restarting_goes (clear_conf k) = same_goes (circuits h)
-  restarting_goes (reset k cause diagnostic) = same_goes (circuits h)
-  restarting_goes (reset_conf k) = same_goes (circuits h)
-  restarting_goes (user_data k q m ps pr user) = same_goes (circuits h)
-  restarting_goes (rr k pr) = same_goes (circuits h)
-  restarting_goes (rnr k pr) = same_goes (circuits h)
-  restarting_goes (interrupt k user) = same_goes (circuits h)
-  restarting_goes (interrupt_conf k) = same_goes (circuits h)
+  restarting_goes v = same_goes (circuits h)
 
   packet_goes : (b : Bool) (v : PlainPacket) → GoesOn (circuits h) ((answers_in c b restarts circuits v).next.circuits h)
   packet_goes true v = restarting_goes v

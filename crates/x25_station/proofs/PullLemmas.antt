@@ -89,14 +89,8 @@ leaves_did u c as_set before s m n z entries (LayerRefuses e) layer link same no
 -- ---- a refusal is the definition's
 
 memory_is : (e : LayerError) → of_layer e ≡ error.NoMemory → e ≡ layer_error.NoMemory
-memory_is layer_error.NotUp is = absurd (cc)
-memory_is layer_error.QueueFull is = absurd (cc)
-memory_is layer_error.BadConfig is = absurd (cc)
-memory_is layer_error.Restarting is = absurd (cc)
-memory_is layer_error.NoFreeChannel is = absurd (cc)
-memory_is layer_error.NoSuchChannel is = absurd (cc)
-memory_is (layer_error.Circuit e) is = absurd (cc)
 memory_is layer_error.NoMemory is = refl
+memory_is e is = absurd (cc)
 
 abbrev none_pulled : Station → Step
 none_pulled s = record { near = s; out = []; entries = [] }

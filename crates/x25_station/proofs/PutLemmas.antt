@@ -5,7 +5,7 @@ use Rattle.x25_packet.specs.Packet.{PlainPacket}
 use Rattle.x25_packet.specs.Spelling.{spelling_of}
 use Rattle.x25_link.specs.declared.error.LinkError.TheVariants as error
 use Rattle.x25_link.specs.Outgoing.{waits}
-use Rattle.x25_link.specs.Station.{Settings as LinkSettings, LinkStation, Side, is_up}
+use Rattle.x25_link.specs.Station.{LinkSettings, LinkStation, Side, is_up}
 use Rattle.x25_link.specs.Link.{alone, put_refusal}
 use Rattle.x25_link.specs.laws.NoteLaw.{PutTells}
 use Rattle.x25_layer.specs.Layer.{LayerSettings}

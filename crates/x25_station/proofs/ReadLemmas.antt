@@ -17,8 +17,8 @@ use Rattle.x25_layer.specs.declared.ranges.Ranges.{Ranges}
 use Rattle.x25_layer.specs.Ranges.{may_call}
 use Rattle.x25_layer.specs.Calls.{LayerRequest, Asks, Dials, Restarts, PullsAll, LayerOutcome, Accepted, Declined, highest_free, lowest_free, first_of, first_free, where_callable, free_channel, where_room, if_at_once, puts_at_once, outcome_on, dialled, restarted_for, outcome_ready, outcome_in, layer_outcome, layer_pulled}
 use Rattle.x25_layer.specs.declared.error.LayerError.TheVariants as error
-use Rattle.x25_layer.specs.laws.TwoLayers.{End, TwoLayers, Move, Requests, Pulls, HandsUp, GoesDown, Event, requested, pulled_in, handed_up, moves_in, moves, turned, settings_of, happens, run, started, start}
-use Rattle.x25_layer.specs.laws.PeerJoined.{Joined, our_end, Happens, Ours, Does, Hears, HearsChannel}
+use Rattle.x25_layer.specs.laws.TwoLayers.{End, TwoLayers, Move, Requests, Pulls, HandsUp, GoesDown, EndMove, requested, pulled_in, handed_up, moves_in, moves, turned, settings_of, happens, run, started, start}
+use Rattle.x25_layer.specs.laws.PeerJoined.{PeerJoined, our_end, Happens, Ours, Theirs}
 use Rattle.x25_station.specs.laws.ReadLaw.{BringsOctets, IsReachedByOctets, at_start, goes_on, PutsBesidePeersAreReadable, AreReadable, RequestsOctets, MovesOctets, BringOctets, PutsAreReadable}
 use Rattle.x25_station.proofs.FieldLemmas.{Fits, IsOn, moved_fits, moved_on, readable}
 use Rattle.x25_station.proofs.CircuitLemmas.{Agreed, CircuitFits, MayGive, AnswerFits, answers_fit, OutcomeFits, outcome_fits, PulledFits, pulled_fits}
@@ -111,17 +111,7 @@ module _ (wide long_data : Bool) where
   restarting_answers : (restarts : ℕ) (circuits : ℕ → Circuit) (p : PlainPacket) → ChannelsFit wide circuits → LayerFits (answers_restarting restarts circuits p)
   restarting_answers restarts circuits (restart cause diagnostic) all = record { next = begun_fits; owed = tt }
   restarting_answers restarts circuits restart_conf all = record { next = begun_fits; owed = tt }
-  restarting_answers restarts circuits (call h called calling facilities user) all = dropped restarts circuits all
-  restarting_answers restarts circuits (accept h facilities) all = dropped restarts circuits all
-  restarting_answers restarts circuits (clear h cause diagnostic) all = dropped restarts circuits all
-  restarting_answers restarts circuits (clear_conf h) all = dropped restarts circuits all
-  restarting_answers restarts circuits (user_data h q m ps pr user) all = dropped restarts circuits all
-  restarting_answers restarts circuits (rr h pr) all = dropped restarts circuits all
-  restarting_answers restarts circuits (rnr h pr) all = dropped restarts circuits all
-  restarting_answers restarts circuits (interrupt h user) all = dropped restarts circuits all
-  restarting_answers restarts circuits (interrupt_conf h) all = dropped restarts circuits all
-  restarting_answers restarts circuits (reset h cause diagnostic) all = dropped restarts circuits all
-  restarting_answers restarts circuits (reset_conf h) all = dropped restarts circuits all
+  restarting_answers restarts circuits p all = dropped restarts circuits all
 
   layer_fits : Agreed → (c : LayerSettings) (l : Layer) (p : PlainPacket) → c.channels.count ≤ 4095 → ChannelsFit wide l.circuits → LayerFits (layer_answers c l p)
   layer_fits laws c l p few all = by l.restarting
@@ -270,14 +260,14 @@ module _ (wide long_data : Bool) where
   turned_fits : (w : TwoLayers) → WorldFits w → WorldFits (turned w)
   turned_fits w f = record { near = f.far; far = f.near }
 
-  happens_fits : Agreed → (n : Ranges) → n.count ≤ 4095 → (w : TwoLayers) (e : Event) → MovesOctets wide e.what → WorldFits w → WorldFits (happens long_data n w e)
+  happens_fits : Agreed → (n : Ranges) → n.count ≤ 4095 → (w : TwoLayers) (e : EndMove) → MovesOctets wide e.what → WorldFits w → WorldFits (happens long_data n w e)
   happens_fits laws n few w e octets f = test e.first
     where
       test : (b : Bool) → WorldFits (if b then moves (settings_of Dte long_data n) w e.what else turned (moves (settings_of Dce long_data n) (turned w) e.what))
       test true = moves_fit laws (settings_of Dte long_data n) refl w e.what few octets f
       test false = turned_fits (moves (settings_of Dce long_data n) (turned w) e.what) (moves_fit laws (settings_of Dce long_data n) refl (turned w) e.what few octets (turned_fits w f))
 
-  run_fits : Agreed → (n : Ranges) → n.count ≤ 4095 → (events : List Event) (w : TwoLayers) → BringOctets wide events → WorldFits w → WorldFits (run long_data n events w)
+  run_fits : Agreed → (n : Ranges) → n.count ≤ 4095 → (events : List EndMove) (w : TwoLayers) → BringOctets wide events → WorldFits w → WorldFits (run long_data n events w)
   run_fits laws n few [] w octets f = f
   run_fits laws n few (e ∷ events) w octets f = run_fits laws n few events (happens long_data n w e) octets.1 (happens_fits laws n few w e octets.0 f)
 
@@ -298,14 +288,12 @@ puts_are_readable reads takes laws wide long_data n few events octets =
 
 -- ---- a layer beside any peer
 
-happens_near : (wide long_data : Bool) → Agreed → (r : Role) (channels : Ranges) → channels.count ≤ 4095 → (w v : Joined) → (h : Happens r long_data channels w v) → BringsOctets wide h → EndFits wide long_data w.near → EndFits wide long_data v.near
+happens_near : (wide long_data : Bool) → Agreed → (r : Role) (channels : Ranges) → channels.count ≤ 4095 → (w v : PeerJoined) → (h : Happens r long_data channels w v) → BringsOctets wide h → EndFits wide long_data w.near → EndFits wide long_data v.near
 happens_near wide long_data laws r channels few w v (Ours move stays) octets f =
     (moves_fit wide long_data laws (settings_of r long_data channels) refl (our_end w) move few octets (record { near = f; far = f })).near
-happens_near wide long_data laws r channels few w v (Does deed p may is at) octets f = f
-happens_near wide long_data laws r channels few w v (Hears p rest packets front answers) octets f = f
-happens_near wide long_data laws r channels few w v (HearsChannel y passed p rest packets live has apart front answers) octets f = f
+happens_near wide long_data laws r channels few w v (Theirs y out packets moves) octets f = f
 
-reached_near : (wide long_data : Bool) → Agreed → (r : Role) (channels : Ranges) → channels.count ≤ 4095 → (w : Joined) → IsReachedByOctets wide r long_data channels w → EndFits wide long_data w.near
+reached_near : (wide long_data : Bool) → Agreed → (r : Role) (channels : Ranges) → channels.count ≤ 4095 → (w : PeerJoined) → IsReachedByOctets wide r long_data channels w → EndFits wide long_data w.near
 reached_near wide long_data laws Dte channels few w at_start = started_fits wide long_data (settings_of Dte long_data channels) (omega arith)
 reached_near wide long_data laws Dce channels few w at_start = started_fits wide long_data (settings_of Dce long_data channels) (omega arith)
 reached_near wide long_data laws r channels few w (goes_on v u h event octets) = happens_near wide long_data laws r channels few v w event octets (reached_near wide long_data laws r channels few v h)

@@ -4,7 +4,7 @@ use Rattle.x25_packet.specs.Packet.{PlainPacket}
 use Rattle.x25_packet.specs.declared.marks.Marks.{Marks}
 use Rattle.x25_circuit.specs.declared.state.State.{State}
 use Rattle.x25_circuit.specs.declared.state.State.TheVariants.{Free, Calling, Arriving, Collision, Open, Resetting, Clearing}
-use Rattle.x25_circuit.specs.Circuit.{Settings, Talk, Circuit, outgoing, waits}
+use Rattle.x25_circuit.specs.Circuit.{CircuitSettings, Talk, Circuit, outgoing, waits}
 use Rattle.x25_circuit.specs.Message.{cut}
 use Rattle.x25_circuit.specs.declared.error.CircuitError.TheVariants as circuit
 use Rattle.x25_circuit.specs.Calling.{Outcome, Done, Refused, Request, Calls, Accepts, Clears, Sends, Interrupts, Resets, SaysReady, SaysNotReady, keeps_on, send_open, send_in, outcome}
@@ -32,13 +32,13 @@ by_if : (b : Bool) (u v : Outcome) → GivesNone u → GivesNone v → GivesNone
 by_if true u v p q = p
 by_if false u v p q = q
 
-send_open_none : (c : Settings) (x : Circuit) (q : Marks) (user : List ℕ) → GivesNone (send_open c x x.talk q user)
+send_open_none : (c : CircuitSettings) (x : Circuit) (q : Marks) (user : List ℕ) → GivesNone (send_open c x x.talk q user)
 send_open_none c x q user = by_if (nat_le (length user) c.longest) _ (Refused circuit.TooLong) (by_if (nat_lt (waits x) 8) (keeps_on x (sending c x q user) None) (Refused circuit.Full) tt tt) tt
   where
-    sending : Settings → Circuit → Marks → List ℕ → Talk
+    sending : CircuitSettings → Circuit → Marks → List ℕ → Talk
     sending c x q user = record { sent = x.talk.sent; taken = x.talk.taken; acked = x.talk.acked; rest = x.talk.rest ++ cut (outgoing x).size q user; int_out = x.talk.int_out; peer_ready = x.talk.peer_ready; own_ready = x.talk.own_ready }
 
-send_none : (c : Settings) (x : Circuit) (q : Marks) (user : List ℕ) → GivesNone (outcome c x (Sends q user))
+send_none : (c : CircuitSettings) (x : Circuit) (q : Marks) (user : List ℕ) → GivesNone (outcome c x (Sends q user))
 send_none c x q user = at x.state
   where
     at : (s : State) → GivesNone (send_in c x s q user)
@@ -59,13 +59,7 @@ if_channel false u none = tt
 asks_none : (c : LayerSettings) (restarts : ℕ) (circuits : ℕ → Circuit) (h : ℕ) (request : Request)
     → PutsNone (if_at_once (puts_at_once request) true (outcome_on restarts circuits h (outcome c.circuit (circuits h) request)))
 asks_none c restarts circuits h (Sends q user) = on_none restarts circuits h (outcome c.circuit (circuits h) (Sends q user)) (send_none c.circuit (circuits h) q user)
-asks_none c restarts circuits h (Calls called calling user proposal) = tt
-asks_none c restarts circuits h (Accepts answer) = tt
-asks_none c restarts circuits h (Clears cause diagnostic) = tt
-asks_none c restarts circuits h (Interrupts user) = tt
-asks_none c restarts circuits h (Resets cause diagnostic) = tt
-asks_none c restarts circuits h SaysReady = tt
-asks_none c restarts circuits h SaysNotReady = tt
+asks_none c restarts circuits h v = tt
 
 ready_none : (c : LayerSettings) (restarts : ℕ) (circuits : ℕ → Circuit) (request : LayerRequest) → PutsNone (outcome_ready c true restarts circuits request)
 ready_none c restarts circuits (Asks h request) =

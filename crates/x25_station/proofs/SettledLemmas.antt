@@ -12,8 +12,8 @@ use Rattle.x25_link.specs.declared.phase.Phase.TheVariants.{Waiting, Closed, Dow
 use Rattle.x25_link.specs.declared.phase.Reason.{Reason}
 use Rattle.x25_link.specs.declared.phase.Reason.TheVariants.{Retries, Counts}
 use Rattle.x25_link.specs.Outgoing.{no_packet, Outgoing, added, waits}
-use Rattle.x25_link.specs.Station.{Settings as LinkSettings, LinkStation, Side, is_up, with_near, with_nothing, sends}
-use Rattle.x25_link.specs.Hearing.{Step as LinkStep, other}
+use Rattle.x25_link.specs.Station.{LinkSettings, LinkStation, Side, is_up, with_near, with_nothing, sends}
+use Rattle.x25_link.specs.Hearing.{LinkStep, other}
 use Rattle.x25_link.specs.Link.{alone, put_step, take_step, timer_refusal, timer_step, connect_refusal, connect_step, disconnect_refusal, disconnect_step, abandon_step, probe_refusal, relink_refusal, relink_step, timer_runs, is_idle, connects as link_connects}
 use Rattle.x25_link.specs.laws.NoteLaw.{Tells, TakeTells, TimerTells, AbandonTells}
 use Rattle.x25_link.specs.laws.RestLaw.{HasSaidAll, TakeSaysAll, PutSaysAll, TimerSaysAll, ConnectSaysAll, DisconnectSaysAll, AbandonSaysAll, NoTimerIsIdle}

@@ -8,13 +8,12 @@ use Rattle.x25_packet.specs.Spelling.{IsInRange, longest_user}
 use Rattle.x25_packet.specs.Reading.{channel_in}
 use Rattle.x25_packet.specs.Taking.{read_in}
 use Rattle.x25_packet.specs.laws.TakingLaw.{TakesInRange}
-use Rattle.x25_circuit.specs.declared.message.Message.{Message}
 use Rattle.x25_circuit.specs.declared.state.State.{State}
 use Rattle.x25_circuit.specs.declared.state.State.TheVariants.{Free, Calling, Arriving, Collision, Open, Resetting, Clearing}
 use Rattle.x25_circuit.specs.declared.params.Params.{Params}
 use Rattle.x25_circuit.specs.Params.{default_params, may_answer, said_in}
-use Rattle.x25_circuit.specs.Circuit.{Settings as CircuitSettings, Circuit, Talk, incoming}
-use Rattle.x25_circuit.specs.Message.{piece_of, no_part, joining, completed}
+use Rattle.x25_circuit.specs.Circuit.{CircuitSettings, Circuit, Talk, incoming}
+use Rattle.x25_circuit.specs.Message.{Message, piece_of, no_part, joining, completed}
 use Rattle.x25_circuit.specs.Notice.{CallRequest, PlainNotice, connected, deliveries}
 use Rattle.x25_circuit.specs.Hearing.{Answer, answers, undecoded, collides, goes, clears_for, connects, row_call, row_accept, row_clear, row_clear_conf, row_reset, row_reset_conf, row_open, row_data, row_undecoded, unless, data_ground, number_ground, takes, hears_status, confirms}
 use Rattle.x25_layer.specs.Layer.{LayerSettings, Layer, LayerAnswer, is_channel, notices_on, answers_on, drops, answers_ready, answers_restarting, answers_in, undecoded_in}
@@ -37,18 +36,8 @@ user_short false = omega arith
 
 range_short : (p : PlainPacket) → IsInRange 128 p → IsShortPacket p
 range_short (call channel called calling facilities user) r = r.4
-range_short (accept channel facilities) r = tt
-range_short (clear channel cause diagnostic) r = tt
-range_short (clear_conf channel) r = tt
-range_short (user_data channel q m ps pr user) r = tt
-range_short (rr channel pr) r = tt
-range_short (rnr channel pr) r = tt
 range_short (interrupt channel user) r = omega (arith, r.2)
-range_short (interrupt_conf channel) r = tt
-range_short (reset channel cause diagnostic) r = tt
-range_short (reset_conf channel) r = tt
-range_short (restart cause diagnostic) r = tt
-range_short restart_conf r = tt
+range_short p r = tt
 
 -- ---- the rows of a circuit
 
@@ -59,11 +48,8 @@ collides_short Dce x request short = (tt, (short, tt))
 call_short : (c : CircuitSettings) (x : Circuit) (state : State) (request : CallRequest) → length request.user ≤ 128 → AreShort (row_call c x state request).notices
 call_short c x Free request short = (short, tt)
 call_short c x Calling request short = collides_short c.role x request short
-call_short c x Arriving request short = (tt, tt)
-call_short c x Collision request short = (tt, tt)
-call_short c x Open request short = (tt, tt)
-call_short c x Resetting request short = (tt, tt)
 call_short c x Clearing request short = tt
+call_short c x state request short = (tt, tt)
 
 connects_short : (c : CircuitSettings) (x : Circuit) (answered : Params) → AreShort (connects c x answered).notices
 connects_short c x answered = test (may_answer x.params answered)
@@ -73,49 +59,26 @@ connects_short c x answered = test (may_answer x.params answered)
     test false = (tt, tt)
 
 accept_short : (c : CircuitSettings) (x : Circuit) (state : State) (facilities : List ℕ) → AreShort (row_accept c x state facilities).notices
-accept_short c x Free facilities = (tt, tt)
 accept_short c x Calling facilities = connects_short c x (said_in x.params facilities)
-accept_short c x Arriving facilities = (tt, tt)
 accept_short c x Collision facilities = connects_short c x (said_in x.params facilities)
-accept_short c x Open facilities = (tt, tt)
-accept_short c x Resetting facilities = (tt, tt)
 accept_short c x Clearing facilities = tt
+accept_short c x state facilities = (tt, tt)
 
 clear_short : (x : Circuit) (state : State) (cause diagnostic : ℕ) → AreShort (row_clear x state cause diagnostic).notices
 clear_short x Free cause diagnostic = tt
-clear_short x Calling cause diagnostic = (tt, tt)
-clear_short x Arriving cause diagnostic = (tt, tt)
-clear_short x Collision cause diagnostic = (tt, tt)
-clear_short x Open cause diagnostic = (tt, tt)
-clear_short x Resetting cause diagnostic = (tt, tt)
-clear_short x Clearing cause diagnostic = (tt, tt)
+clear_short x state cause diagnostic = (tt, tt)
 
 clear_conf_short : (c : CircuitSettings) (x : Circuit) (state : State) → AreShort (row_clear_conf c x state).notices
 clear_conf_short c x Free = (tt, tt)
-clear_conf_short c x Calling = (tt, tt)
-clear_conf_short c x Arriving = (tt, tt)
-clear_conf_short c x Collision = (tt, tt)
-clear_conf_short c x Open = (tt, tt)
-clear_conf_short c x Resetting = (tt, tt)
-clear_conf_short c x Clearing = (tt, tt)
+clear_conf_short c x state = (tt, tt)
 
 reset_short : (c : CircuitSettings) (x : Circuit) (state : State) (cause diagnostic : ℕ) → AreShort (row_reset c x state cause diagnostic).notices
-reset_short c x Free cause diagnostic = (tt, tt)
-reset_short c x Calling cause diagnostic = (tt, tt)
-reset_short c x Arriving cause diagnostic = (tt, tt)
-reset_short c x Collision cause diagnostic = (tt, tt)
-reset_short c x Open cause diagnostic = (tt, tt)
-reset_short c x Resetting cause diagnostic = (tt, tt)
 reset_short c x Clearing cause diagnostic = tt
+reset_short c x state cause diagnostic = (tt, tt)
 
 reset_conf_short : (c : CircuitSettings) (x : Circuit) (state : State) → AreShort (row_reset_conf c x state).notices
-reset_conf_short c x Free = (tt, tt)
-reset_conf_short c x Calling = (tt, tt)
-reset_conf_short c x Arriving = (tt, tt)
-reset_conf_short c x Collision = (tt, tt)
-reset_conf_short c x Open = (tt, tt)
-reset_conf_short c x Resetting = (tt, tt)
 reset_conf_short c x Clearing = tt
+reset_conf_short c x state = (tt, tt)
 
 unless_short : (c : CircuitSettings) (x : Circuit) (ground : Option ℕ) (good : Answer) → AreShort good.notices → AreShort (unless c x ground good).notices
 unless_short c x None good short = short
@@ -145,47 +108,29 @@ open_short c x t (rr channel pr) kind short = unless_short c x (number_ground t 
 open_short c x t (rnr channel pr) kind short = unless_short c x (number_ground t pr) (hears_status x t false pr) tt
 open_short c x t (interrupt channel user) kind short = (short, tt)
 open_short c x t (interrupt_conf channel) kind short = confirms_short c x t t.int_out
-open_short c x t (call channel called calling facilities user) kind short = absurd kind
-open_short c x t (accept channel facilities) kind short = absurd kind
-open_short c x t (clear channel cause diagnostic) kind short = absurd kind
-open_short c x t (clear_conf channel) kind short = absurd kind
-open_short c x t (reset channel cause diagnostic) kind short = absurd kind
-open_short c x t (reset_conf channel) kind short = absurd kind
-open_short c x t (restart cause diagnostic) kind short = absurd kind
-open_short c x t restart_conf kind short = absurd kind
+open_short c x t p kind short = absurd kind
 
 data_short : (c : CircuitSettings) (x : Circuit) (state : State) (p : PlainPacket) → IsOfData p → IsShortPacket p → AreShort (row_data c x state p).notices
-data_short c x Free p kind short = (tt, tt)
-data_short c x Calling p kind short = (tt, tt)
-data_short c x Arriving p kind short = (tt, tt)
-data_short c x Collision p kind short = (tt, tt)
 data_short c x Open p kind short = open_short c x x.talk p kind short
 data_short c x Resetting p kind short = tt
 data_short c x Clearing p kind short = tt
+data_short c x state p kind short = (tt, tt)
 
 answers_short : (c : CircuitSettings) (x : Circuit) (p : PlainPacket) → IsShortPacket p → AreShort (answers c x p).notices
 answers_short c x (call channel called calling facilities user) short = call_short c x x.state (record { called = called; calling = calling; user = user; params = said_in default_params facilities }) short
 answers_short c x (accept channel facilities) short = accept_short c x x.state facilities
 answers_short c x (clear channel cause diagnostic) short = clear_short x x.state cause diagnostic
 answers_short c x (clear_conf channel) short = clear_conf_short c x x.state
-answers_short c x (user_data channel q m ps pr user) short = data_short c x x.state (user_data channel q m ps pr user) tt short
-answers_short c x (rr channel pr) short = data_short c x x.state (rr channel pr) tt short
-answers_short c x (rnr channel pr) short = data_short c x x.state (rnr channel pr) tt short
-answers_short c x (interrupt channel user) short = data_short c x x.state (interrupt channel user) tt short
-answers_short c x (interrupt_conf channel) short = data_short c x x.state (interrupt_conf channel) tt short
 answers_short c x (reset channel cause diagnostic) short = reset_short c x x.state cause diagnostic
 answers_short c x (reset_conf channel) short = reset_conf_short c x x.state
 answers_short c x (restart cause diagnostic) short = tt
 answers_short c x restart_conf short = tt
+answers_short c x p short = data_short c x x.state p tt short
 
 undecoded_short : (c : CircuitSettings) (x : Circuit) (state : State) (e : PacketError) → AreShort (row_undecoded c x state e).notices
-undecoded_short c x Free e = (tt, tt)
-undecoded_short c x Calling e = (tt, tt)
-undecoded_short c x Arriving e = (tt, tt)
-undecoded_short c x Collision e = (tt, tt)
-undecoded_short c x Open e = (tt, tt)
 undecoded_short c x Resetting e = tt
 undecoded_short c x Clearing e = tt
+undecoded_short c x state e = (tt, tt)
 
 -- ---- the layer
 
@@ -223,17 +168,7 @@ ready_tellable c n f (reset_conf channel) short = if_tellable c channel n f (ans
 restarting_tellable : (c : LayerSettings) (n : ℕ) (f : ℕ → Circuit) (p : PlainPacket) → AreTellable c (answers_restarting n f p).notices
 restarting_tellable c n f (restart cause diagnostic) = (tt, tt)
 restarting_tellable c n f restart_conf = (tt, tt)
-restarting_tellable c n f (call channel called calling facilities user) = tt
-restarting_tellable c n f (accept channel facilities) = tt
-restarting_tellable c n f (clear channel cause diagnostic) = tt
-restarting_tellable c n f (clear_conf channel) = tt
-restarting_tellable c n f (user_data channel q m ps pr user) = tt
-restarting_tellable c n f (rr channel pr) = tt
-restarting_tellable c n f (rnr channel pr) = tt
-restarting_tellable c n f (interrupt channel user) = tt
-restarting_tellable c n f (interrupt_conf channel) = tt
-restarting_tellable c n f (reset channel cause diagnostic) = tt
-restarting_tellable c n f (reset_conf channel) = tt
+restarting_tellable c n f p = tt
 
 in_tellable : (c : LayerSettings) (busy : Bool) (n : ℕ) (f : ℕ → Circuit) (p : PlainPacket) → IsShortPacket p → AreTellable c (answers_in c busy n f p).notices
 in_tellable c true n f p short = restarting_tellable c n f p

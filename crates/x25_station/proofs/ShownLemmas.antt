@@ -9,14 +9,8 @@ use Rattle.x25_layer.specs.laws.TwoLayers.{shown}
 
 -- it looks at packet sizes and windows alone
 pub same_shown : (x y : Circuit) (request : circuit.Request) → x.params ≡ y.params → shown x request ≡ shown y request
-same_shown x y (circuit.Calls called calling user proposal) same = refl
 same_shown x y (circuit.Accepts answer) same = ap (λ (q : Params). circuit.Accepts (Some (in_brief q))) same
-same_shown x y (circuit.Clears cause diagnostic) same = refl
-same_shown x y (circuit.Sends q user) same = refl
-same_shown x y (circuit.Interrupts user) same = refl
-same_shown x y (circuit.Resets cause diagnostic) same = refl
-same_shown x y circuit.SaysReady same = refl
-same_shown x y circuit.SaysNotReady same = refl
+same_shown x y request same = refl
 
 -- those of a configured channel
 pub in_force : (configured : Bool) (o : Option Params) (p q : Params) → configured ≡ true → o ≡ (if configured then Some p else None) → unwrap_or o q ≡ p

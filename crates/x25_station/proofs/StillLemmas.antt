@@ -14,7 +14,7 @@ use Rattle.x25_link.specs.declared.phase.Phase.TheVariants.{Down, Waiting, Up, C
 use Rattle.x25_link.specs.declared.phase.Reason.{Reason}
 use Rattle.x25_link.specs.Outgoing.{waits}
 use Rattle.x25_link.specs.Station.{Side, is_up}
-use Rattle.x25_link.specs.Hearing.{Step as LinkStep}
+use Rattle.x25_link.specs.Hearing.{LinkStep}
 use Rattle.x25_link.specs.Link.{alone, take_step, timer_refusal, timer_step, connect_refusal, connect_step, disconnect_refusal, disconnect_step, abandon_step, probe_refusal, relink_refusal, relink_step}
 use Rattle.x25_link.specs.laws.NoteLaw.{Tells, PutTells}
 use Rattle.x25_circuit.specs.declared.awaits.Awaits.{Awaits}
@@ -22,7 +22,7 @@ use Rattle.x25_circuit.specs.declared.state.State.{State}
 use Rattle.x25_circuit.specs.declared.state.State.TheVariants.{Free, Calling, Arriving, Collision, Open, Resetting, Clearing}
 use Rattle.x25_circuit.specs.Awaits.{awaited_in}
 use Rattle.x25_circuit.specs.Calling.{Clears, does, clear_in}
-use Rattle.x25_circuit.specs.Circuit.{Settings as CircuitSettings, Circuit, entered}
+use Rattle.x25_circuit.specs.Circuit.{CircuitSettings, Circuit, entered}
 use Rattle.x25_circuit.specs.Params.{default_params}
 use Rattle.x25_layer.specs.declared.error.LayerError.TheVariants as layer_error
 use Rattle.x25_layer.specs.Layer.{LayerSettings, Layer, LayerAnswer, is_channel, is_ready, put_at, packet_on, restarting_from}
@@ -51,10 +51,8 @@ use Rattle.x25_station.proofs.MayLemmas.{where_holds}
 -- ---- a link that is up
 
 pub up_is : (p : Phase) → is_up p ≡ true → p ≡ Up
-up_is Down is = absurd (true≢false (sym is))
-up_is Waiting is = absurd (true≢false (sym is))
 up_is Up is = refl
-up_is Closed is = absurd (true≢false (sym is))
+up_is p is = absurd (true≢false (sym is))
 
 low_one : {A : Type 0} (n : ℕ) → n ≤ 1 → 2 ≤ n → A
 low_one n low high = absurd (omega (arith, low, high))
@@ -185,7 +183,7 @@ module _ (c : Settings) (s : Station) (h : ℕ) where
     not_asked : (entries : List StationEntry) → Goes (unless (connect_refusal s.link.phase) (led_by entries (follows c s.layer (connect_step (link_settings c) s.link))))
     not_asked entries = subst (λ (p : Phase). Goes (unless (connect_refusal p) (led_by entries (follows c s.layer (connect_step (link_settings c) s.link))))) (sym (up_is s.link.phase up)) tt
 
-goes_on : LinkLaws → (c : Settings) (s : Station) (h : ℕ) (event : timer.Event) → 2 ≤ rank c s h → Goes c s h (timer.outcome c s event)
+goes_on : LinkLaws → (c : Settings) (s : Station) (h : ℕ) (event : timer.StationEvent) → 2 ≤ rank c s h → Goes c s h (timer.outcome c s event)
 goes_on laws c s h timer.Fires high =
     unless_leads c s h laws.put high (timer_refusal s.link) (follows c s.layer (timer_step (link_settings c) s.link)) (follow_leads c s h laws.put high (timer_step (link_settings c) s.link) (laws.timer (link_settings c) s.link))
 goes_on laws c s h (timer.Comes octets) high = test (abandons c s)
@@ -313,13 +311,11 @@ oldest Waiting r b x is = not_four 1 (omega arith) is
 oldest Closed r b x is = not_four 0 (omega arith) is
 oldest Up true b x is = not_four 2 (omega arith) is
 oldest Up false false x is = not_four 0 (omega arith) is
-oldest Up false true Free is = not_four 0 (omega arith) is
 oldest Up false true Calling is = record { phase = refl; ready = refl; configured = refl; kind = in_call; state = refl; awaits = refl }
-oldest Up false true Arriving is = not_four 0 (omega arith) is
 oldest Up false true Collision is = record { phase = refl; ready = refl; configured = refl; kind = in_collision; state = refl; awaits = refl }
-oldest Up false true Open is = not_four 0 (omega arith) is
 oldest Up false true Resetting is = record { phase = refl; ready = refl; configured = refl; kind = in_reset; state = refl; awaits = refl }
 oldest Up false true Clearing is = not_four 3 (omega arith) is
+oldest Up false true x is = not_four 0 (omega arith) is
 
 clears_it : (c : CircuitSettings) (x : Circuit) (k : Kind) → rank_in (awaited_in (state_of k)) ≡ 4 → clear_in c x (state_of k) 0 0 ≡ does x Clearing default_params false (clear 1 0 0)
 clears_it c x in_call is = refl

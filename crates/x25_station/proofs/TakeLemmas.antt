@@ -7,7 +7,7 @@ use Rattle.x25_bits.specs.declared.role.Role.{Role}
 use Rattle.x25_frame.specs.Frame.{PlainFrame}
 use Rattle.x25_frame.specs.Spelling.{spelling_of}
 use Rattle.x25_link.specs.Outgoing.{waits}
-use Rattle.x25_link.specs.Station.{Settings as LinkSettings, LinkStation, is_up, fresh}
+use Rattle.x25_link.specs.Station.{LinkSettings, LinkStation, is_up, fresh}
 use Rattle.x25_link.specs.Hearing.{takes}
 use Rattle.x25_link.specs.Link.{take_step}
 use Rattle.x25_link.specs.laws.NoteLaw.{TakeTells, TakeHandsUp}

@@ -8,8 +8,8 @@ use Rattle.x25_link.specs.declared.error.LinkError.TheVariants as link_error
 use Rattle.x25_link.specs.declared.phase.Phase.{Phase}
 use Rattle.x25_link.specs.declared.phase.Phase.TheVariants.{Down, Waiting, Up, Closed}
 use Rattle.x25_link.specs.declared.phase.Reason.TheVariants.{Retries}
-use Rattle.x25_link.specs.Station.{Settings as LinkSettings, Side, with_near}
-use Rattle.x25_link.specs.Hearing.{Step as LinkStep, quiet, leaves}
+use Rattle.x25_link.specs.Station.{LinkSettings, Side, with_near}
+use Rattle.x25_link.specs.Hearing.{LinkStep, quiet, leaves}
 use Rattle.x25_link.specs.Link as link
 use Rattle.x25_link.specs.Link.{closed_by, alone, connect_refusal, disconnect_refusal, asks_again, timer_refusal, timer_step, probe_refusal, relink_refusal}
 use Rattle.x25_layer.specs.Layer.{Layer}
@@ -24,7 +24,7 @@ use Rattle.x25_station.specs.Giving.{view_given}
 use Rattle.x25_station.specs.Station.{Station, view_of}
 use Rattle.x25_station.specs.Step.{Step, Outcome, Did, Refused, layer_at, follows, unless, did, gave, connects, commands, fires, requests_of}
 use Rattle.x25_station.specs.laws.TimerLaw as law
-use Rattle.x25_station.specs.laws.TimerLaw.{Event, Comes, Asks, Fires, Watched, heeds, after, watched_by, watched_from, IsFiring, TellsLink, IsDue}
+use Rattle.x25_station.specs.laws.TimerLaw.{StationEvent, Comes, Asks, Fires, Watched, heeds, after, watched_by, watched_from, IsFiring, TellsLink, IsDue}
 use Rattle.x25_station.specs.Timer.{runs, tells_link, is_acknowledged, timer_of, pulled_timer}
 use Rattle.x25_station.specs.Pulling.{pulled}
 use Rattle.x25_station.specs.declared.timer.Timer.{Timer}
@@ -43,11 +43,11 @@ refused_heeded : (ran stands : Bool) → stands ≡ ran → heeds (timer_of ran 
 refused_heeded false stands is = refl
 refused_heeded true stands is = is
 
-marked : (s : Station) (event : Event) (o : Outcome) (stands : Bool) → stands ≡ runs s → heeds (law.timer s event o) stands ≡ runs (after s o)
+marked : (s : Station) (event : StationEvent) (o : Outcome) (stands : Bool) → stands ≡ runs s → heeds (law.timer s event o) stands ≡ runs (after s o)
 marked s event (Did step) stands is = heeded (runs s) (runs step.near) _ stands is
 marked s event (Refused e) stands is = refused_heeded (runs s) stands is
 
-from_here : (c : Settings) (events : List Event) (w : Watched) → w.stands ≡ runs w.station → let u = watched_from c events w in u.stands ≡ runs u.station
+from_here : (c : Settings) (events : List StationEvent) (w : Watched) → w.stands ≡ runs w.station → let u = watched_from c events w in u.stands ≡ runs u.station
 from_here c [] w is = is
 from_here c (event ∷ events) w is = from_here c events (watched_by c event w) (marked w.station event (law.outcome c w.station event) w.stands is)
 
@@ -115,10 +115,8 @@ fired_few c t = by (nat_lt t.near.tries c.retries)
     up = with_near t (record t.near { tries = t.near.tries + 1 })
 
     asked : (phase : Phase) → (asks_again phase up).near.outgoing.acked ≤ t.near.outgoing.acked
-    asked Down = omega arith
-    asked Waiting = omega arith
     asked Up = let same = (ready_lasts true true (with_near up (record up.near { recovery = true }))).acked in omega (arith, same)
-    asked Closed = omega arith
+    asked phase = omega arith
 
     by : (b : Bool) → (if b then quiet (asks_again t.near.phase up) else leaves Retries t).side.near.outgoing.acked ≤ t.near.outgoing.acked
     by true = asked t.near.phase
@@ -161,12 +159,12 @@ told_link (came_beside channel facilities user ∷ entries) told = told_link ent
 told_link (was_diagnosed diagnostic ∷ entries) told = told_link entries told
 told_link (was_confirmed channel name count ∷ entries) told = told_link entries told
 
-fires_due : (event : Event) → IsFiring event → law.is_firing event ≡ true
+fires_due : (event : StationEvent) → IsFiring event → law.is_firing event ≡ true
 fires_due Fires is = refl
 fires_due (Comes octets) is = absurd is
 fires_due (Asks command) is = absurd is
 
-is_due : (s : Station) (event : Event) (step : Step) → IsDue s event step
+is_due : (s : Station) (event : StationEvent) (step : Step) → IsDue s event step
     → (law.is_firing event || (tells_link step.entries || is_acknowledged s.link step.near.link)) ≡ true
 is_due s event step (inl firing) = ap (λ (b : Bool). b || (tells_link step.entries || is_acknowledged s.link step.near.link)) (fires_due event firing)
 is_due s event step (inr (inl up)) =

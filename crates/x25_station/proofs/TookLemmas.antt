@@ -1,15 +1,15 @@
 -- What the link's step and what the layer does behind it are together is what the definition says of octets that come.
-use Rattle.std.proofs.Common.{◌≡◌, ℕ, List, [], ◌++◌, map, Option, Bool, true, false, if◌then◌else◌, refl, ap, sym, subst, ◌∙◌}
+use Rattle.std.proofs.Common.{◌≡◌, ℕ, List, [], ◌++◌, map, Option, Bool, true, false, ◌&&◌, if◌then◌else◌, refl, ap, ap₂, sym, subst, ◌∙◌}
 use Rattle.std.specs.Prelude.{nat_lt}
 use Rattle.x25_frame.specs.Frame.{PlainFrame}
 use Rattle.x25_frame.specs.Spelling.{spelling_of}
 use Rattle.x25_link.specs.declared.phase.Notes.{Notes}
-use Rattle.x25_link.specs.Station.{LinkStation}
-use Rattle.x25_link.specs.Hearing.{Step as LinkStep, acknowledges}
+use Rattle.x25_link.specs.Station.{LinkStation, is_up}
+use Rattle.x25_link.specs.Hearing.{LinkStep, acknowledges}
 use Rattle.x25_link.specs.Link.{take_step, abandon_step}
 use Rattle.x25_link.specs.code.FitsLink.{ShownLink, FitsLink, FitsWhole}
 use Rattle.x25_layer.specs.declared.layer.Layer as layer_code
-use Rattle.x25_layer.specs.code.FitsLayer.{FitsLayer}
+use Rattle.x25_layer.specs.code.FitsLayer.{FitsLayer, is_full}
 use Rattle.x25_layer.specs.laws.Rounds.{Putting}
 use Rattle.x25_station.specs.declared.config.Manner.{Manner}
 use Rattle.x25_station.specs.Config.{Settings, link_settings, layer_settings, manner_of}
@@ -27,6 +27,21 @@ use Rattle.x25_station.proofs.DownLemmas.{downs, follows_down}
 -- what the layer does behind this step, by what the step handed up and noted
 abbrev pub put_behind : Settings → Bool → Station → LinkStep → Option (List ℕ) → Notes → Putting
 put_behind c wide s k o notes = layer_at (view_of (link_settings c) k.side.near) (layer_settings c) wide s.layer o notes.down notes.up
+
+-- ---- whether a count is at its most where the link is up, by what the two say of it
+
+pub abandoned : (c : Settings) (s : Station) {up full : Bool} → up ≡ is_up s.link.phase → full ≡ is_full (layer_settings c) s.layer → (up && full) ≡ true → abandons c s ≡ true
+abandoned c s up full is = sym (ap₂ (λ (a b : Bool). a && b) up full) ∙ is
+
+pub not_abandoned : (c : Settings) (s : Station) {up full : Bool} → up ≡ is_up s.link.phase → full ≡ is_full (layer_settings c) s.layer → (up && full) ≡ false → abandons c s ≡ false
+not_abandoned c s up full is = sym (ap₂ (λ (a b : Bool). a && b) up full) ∙ is
+
+pub and_left : (a b : Bool) → (a && b) ≡ true → a ≡ true
+and_left true b is = refl
+and_left false b is = is
+
+pub not_full : (up full : Bool) → up ≡ true → (up && full) ≡ false → full ≡ false
+not_full up full is both = sym (ap (λ (a : Bool). a && full) is) ∙ both
 
 pub takes_on : (c : Settings) (s : Station) (octets : List ℕ) → abandons c s ≡ false → receives c s octets ≡ follows c s.layer (take_step (link_settings c) octets s.link)
 takes_on c s octets on = ap (λ (b : Bool). follows c s.layer (if b then abandon_step (link_settings c) s.link else take_step (link_settings c) octets s.link)) on

@@ -3,7 +3,7 @@ use Rattle.std.proofs.Common.{◌≡◌, ℕ, zero, suc, ◌+◌, ◌<◌, ◌�
 use Rattle.std.proofs.lemmas.Bool.{true≢false, ltb-true, lt-ltb}
 use Rattle.std.proofs.Math.Bool.{or-true}
 use Rattle.std.proofs.lemmas.List.{length-append}
-use Rattle.x25_frame.specs.Frame.{PlainFrame, info, rr, rnr, rej, sabm, disc, ua, dm, frmr}
+use Rattle.x25_frame.specs.Frame.{PlainFrame, sabm, disc, ua}
 use Rattle.x25_frame.specs.Reading.{frame_of}
 use Rattle.x25_frame.specs.declared.error.FrameError.{FrameError}
 use Rattle.x25_packet.specs.Packet.{PlainPacket}
@@ -14,8 +14,8 @@ use Rattle.x25_link.specs.declared.phase.Phase.TheVariants.{Down, Waiting, Up, C
 use Rattle.x25_link.specs.declared.phase.Reason.{Reason}
 use Rattle.x25_link.specs.declared.phase.Reason.TheVariants.{Retries}
 use Rattle.x25_link.specs.Outgoing.{added}
-use Rattle.x25_link.specs.Station.{Settings as LinkSettings, LinkStation, Side, is_up, is_busy, with_near, with_nothing, sends, ready, may_send, send_next, pumped, owes_ready, ended}
-use Rattle.x25_link.specs.Hearing.{Step as LinkStep, quiet, leaves, other}
+use Rattle.x25_link.specs.Station.{LinkSettings, LinkStation, Side, is_up, is_busy, with_near, with_nothing, sends, ready, may_send, send_next, pumped, owes_ready, ended}
+use Rattle.x25_link.specs.Hearing.{LinkStep, quiet, leaves, other}
 use Rattle.x25_link.specs.Link.{alone, closed_by, put_step, take_step, timer_runs, timer_refusal, timer_step, asks_again, connect_refusal, connect_step, disconnect_refusal, disconnect_step, probe_refusal, relink_refusal, relink_step, abandon_step}
 use Rattle.x25_link.specs.laws.SetUp.{TakeWaits, waiting_after, waiting_up}
 use Rattle.x25_layer.specs.code.FitsLayer.{is_full}
@@ -186,15 +186,7 @@ fired c s may = subst (TakesQuietly c s 1) (sym (timer_down c s.layer s.link)) (
 nothing_heard : (read : Result PlainFrame FrameError) (s : LinkStation) → waiting_up read ≡ false → waiting_after read s ≡ s
 nothing_heard (Err e) s is = refl
 nothing_heard (Ok (ua true)) s is = absurd (true≢false is)
-nothing_heard (Ok (ua false)) s is = refl
-nothing_heard (Ok (info ns nr p packet)) s is = refl
-nothing_heard (Ok (rr command nr pf)) s is = refl
-nothing_heard (Ok (rnr command nr pf)) s is = refl
-nothing_heard (Ok (rej command nr pf)) s is = refl
-nothing_heard (Ok (sabm p)) s is = refl
-nothing_heard (Ok (disc p)) s is = refl
-nothing_heard (Ok (dm f)) s is = refl
-nothing_heard (Ok (frmr f why)) s is = refl
+nothing_heard (Ok frame) s is = refl
 
 not_up : (d : Option Reason) (u : Bool) (entries : List StationEntry) → tells_link ((entries_down d ++ entries_up u) ++ entries) ≡ false → u ≡ false
 not_up (Some reason) u entries none = absurd (true≢false none)

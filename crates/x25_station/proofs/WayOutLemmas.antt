@@ -7,7 +7,7 @@ use Rattle.x25_link.specs.declared.phase.Phase.{Phase}
 use Rattle.x25_link.specs.declared.phase.Phase.TheVariants.{Down, Waiting, Up, Closed}
 use Rattle.x25_link.specs.declared.phase.Reason.TheVariants.{Retries}
 use Rattle.x25_link.specs.Station.{LinkStation, Side, is_up, with_nothing}
-use Rattle.x25_link.specs.Hearing.{Step as LinkStep}
+use Rattle.x25_link.specs.Hearing.{LinkStep}
 use Rattle.x25_link.specs.Link.{timer_runs, timer_step, relink_refusal, relink_step}
 use Rattle.x25_link.specs.laws.SetUp.{ConnectWaits, TimerWaits, RelinkIsTwoSteps}
 use Rattle.x25_station.specs.Config.{Settings, link_settings}
@@ -18,10 +18,8 @@ use Rattle.x25_station.specs.laws.WayOutLaw.{RelinkLeadsOn, once, again, FiringL
 use Rattle.x25_station.proofs.DownLemmas.{relink_down, timer_down}
 
 refused_none : (p : Phase) → is_up p ≡ true → relink_refusal p ≡ None
-refused_none Down e = absurd (true≢false (sym e))
-refused_none Waiting e = absurd (true≢false (sym e))
 refused_none Up e = refl
-refused_none Closed e = absurd (true≢false (sym e))
+refused_none p e = absurd (true≢false (sym e))
 
 pub relink_leads_on : ConnectWaits → RelinkIsTwoSteps → RelinkLeadsOn
 relink_leads_on connects two c s up =

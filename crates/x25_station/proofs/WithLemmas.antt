@@ -9,7 +9,7 @@ use Rattle.x25_circuit.specs.declared.error.CircuitError.{CircuitError}
 use Rattle.x25_circuit.specs.declared.error.CircuitError.TheVariants as circuit_error
 use Rattle.x25_circuit.specs.Cause.{may_clear_for}
 use Rattle.x25_circuit.specs.Params.{Proposal, default_params, may_answer, field_for}
-use Rattle.x25_circuit.specs.Circuit.{Settings as CircuitSettings, Circuit}
+use Rattle.x25_circuit.specs.Circuit.{CircuitSettings, Circuit}
 use Rattle.x25_circuit.specs.Calling as circuit
 use Rattle.x25_circuit.specs.Calling.{Outcome, Done, Refused, Request, Calls, Accepts, Clears, Sends, Interrupts, Resets, SaysReady, SaysNotReady, outcome, call_in, accept_in, clear_in}
 use Rattle.x25_layer.specs.declared.error.LayerError.{LayerError}
@@ -40,22 +40,12 @@ if_puts false good e puts = tt
 call_puts : (c : CircuitSettings) (x : Circuit) (s : State) (called calling user : List ℕ) (proposal : Proposal) → Puts (call_in c x s called calling user proposal)
 call_puts c x Free called calling user proposal =
     if_puts (circuit.may_call c.long_data called calling user proposal.params) (circuit.does x Calling proposal.params true (circuit.call_sent called calling user proposal)) circuit_error.BadParameter tt
-call_puts c x Calling called calling user proposal = tt
-call_puts c x Arriving called calling user proposal = tt
-call_puts c x Collision called calling user proposal = tt
-call_puts c x Open called calling user proposal = tt
-call_puts c x Resetting called calling user proposal = tt
-call_puts c x Clearing called calling user proposal = tt
+call_puts c x s called calling user proposal = tt
 
 accept_puts : (x : Circuit) (s : State) (answer : Option Proposal) → Puts (accept_in x s answer)
 accept_puts x Arriving None = tt
 accept_puts x Arriving (Some answer) = if_puts (may_answer x.params answer.params) (circuit.does x Open answer.params false (accept 1 (field_for x.params answer))) circuit_error.BadParameter tt
-accept_puts x Free answer = tt
-accept_puts x Calling answer = tt
-accept_puts x Collision answer = tt
-accept_puts x Open answer = tt
-accept_puts x Resetting answer = tt
-accept_puts x Clearing answer = tt
+accept_puts x s answer = tt
 
 cleared : (c : CircuitSettings) (x : Circuit) (cause diagnostic : ℕ) → Puts (circuit.clear_with c x cause diagnostic)
 cleared c x cause diagnostic = if_puts (may_clear_for c.role cause) (circuit.does x Clearing default_params false (clear 1 cause diagnostic)) circuit_error.BadParameter tt
@@ -63,21 +53,12 @@ cleared c x cause diagnostic = if_puts (may_clear_for c.role cause) (circuit.doe
 clear_puts : (c : CircuitSettings) (x : Circuit) (s : State) (cause diagnostic : ℕ) → Puts (clear_in c x s cause diagnostic)
 clear_puts c x Free cause diagnostic = tt
 clear_puts c x Clearing cause diagnostic = tt
-clear_puts c x Calling cause diagnostic = cleared c x cause diagnostic
-clear_puts c x Arriving cause diagnostic = cleared c x cause diagnostic
-clear_puts c x Collision cause diagnostic = cleared c x cause diagnostic
-clear_puts c x Open cause diagnostic = cleared c x cause diagnostic
-clear_puts c x Resetting cause diagnostic = cleared c x cause diagnostic
+clear_puts c x s cause diagnostic = cleared c x cause diagnostic
 
 given_puts : (g : PlainGiven) (h : ℕ) (c : CircuitSettings) (x : Circuit) (request : Request) → suits g (Asks h request) ≡ true → Puts (outcome c x request)
 given_puts g h c x (Accepts answer) is = accept_puts x x.state answer
 given_puts g h c x (Clears cause diagnostic) is = clear_puts c x x.state cause diagnostic
-given_puts g h c x (Calls called calling user proposal) is = absurd (cc)
-given_puts g h c x (Sends marks user) is = absurd (cc)
-given_puts g h c x (Interrupts user) is = absurd (cc)
-given_puts g h c x (Resets cause diagnostic) is = absurd (cc)
-given_puts g h c x SaysReady is = absurd (cc)
-given_puts g h c x SaysNotReady is = absurd (cc)
+given_puts g h c x request is = absurd (cc)
 
 -- ---- and so has what is asked of the layer
 

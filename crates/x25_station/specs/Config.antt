@@ -1,7 +1,7 @@
 -- The settings of a station (profile), and with them those of its link and of its packet layer.
 use Rattle.std.specs.Prelude.{ℕ, Bool, nat_le, ◌&&◌, if◌then◌else◌, Option, Some, None}
 use Rattle.x25_bits.specs.declared.role.Role.{Role}
-use Rattle.x25_link.specs.Station.{Settings as LinkSettings}
+use Rattle.x25_link.specs.Station.{LinkSettings}
 use Rattle.x25_layer.specs.declared.ranges.Ranges.{Ranges}
 use Rattle.x25_layer.specs.Ranges.{are_ranges}
 use Rattle.x25_layer.specs.Layer.{LayerSettings}

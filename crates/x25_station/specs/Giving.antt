@@ -4,7 +4,7 @@ use Rattle.std.specs.Prelude.{◌==◌, Bool, true, false, not, ◌&&◌, List, 
 use Rattle.x25_packet.specs.Packet.{PlainPacket}
 use Rattle.x25_packet.specs.Spelling.{spelling_of}
 use Rattle.x25_link.specs.Outgoing.{waits}
-use Rattle.x25_link.specs.Station.{Settings as LinkSettings, LinkStation, Side, is_up}
+use Rattle.x25_link.specs.Station.{LinkSettings, LinkStation, Side, is_up}
 use Rattle.x25_link.specs.Link.{alone, put_step}
 use Rattle.x25_circuit.specs.declared.error.CircuitError.TheVariants as circuit_error
 use Rattle.x25_circuit.specs.Calling.{Accepts, Clears}

@@ -1,7 +1,7 @@
 -- What a station is sure of while octets are received.
 use Rattle.std.specs.Prelude.{◌≡◌, ◌<◌, ◌≤◌, List, [], ◌∷◌, length, map, true}
 use Rattle.x25_frame.specs.Spelling.{spelling_of}
-use Rattle.x25_link.specs.Station.{Settings as LinkSettings, Side}
+use Rattle.x25_link.specs.Station.{LinkSettings, Side}
 use Rattle.x25_link.specs.code.FitsLink.{ShownLink, LinkState, FitsWhole, limit_of, up_of, waiting_of}
 use Rattle.x25_link.specs.code.Frames.{places_left}
 use Rattle.x25_circuit.specs.Notice.{PlainNotice, incoming, interrupted}

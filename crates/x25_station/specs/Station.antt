@@ -4,7 +4,7 @@ use Rattle.x25_packet.specs.Packet.{PlainPacket}
 use Rattle.x25_packet.specs.Spelling.{spelling_of}
 use Rattle.x25_link.specs.declared.phase.Phase.TheVariants.{Down}
 use Rattle.x25_link.specs.Outgoing.{waits}
-use Rattle.x25_link.specs.Station.{Settings as LinkSettings, LinkStation, Side, with_nothing, is_up}
+use Rattle.x25_link.specs.Station.{LinkSettings, LinkStation, Side, with_nothing, is_up}
 use Rattle.x25_link.specs.Link.{alone, put_step}
 use Rattle.x25_layer.specs.Layer.{Layer, at_rest}
 use Rattle.x25_layer.specs.laws.Rounds.{LinkView}

@@ -9,7 +9,7 @@ use Rattle.x25_packet.specs.Taking.{read_in}
 use Rattle.x25_link.specs.declared.error.LinkError.{LinkError}
 use Rattle.x25_link.specs.declared.phase.Reason.{Reason}
 use Rattle.x25_link.specs.Station.{LinkStation, Side, is_up}
-use Rattle.x25_link.specs.Hearing.{Step as LinkStep}
+use Rattle.x25_link.specs.Hearing.{LinkStep}
 use Rattle.x25_link.specs.Outgoing.{waits}
 use Rattle.x25_link.specs.Link.{alone, take_step, timer_refusal, timer_step, connect_refusal, connect_step}
 use Rattle.x25_link.specs.Link.{disconnect_refusal, disconnect_step, abandon_step, probe_refusal, relink_refusal}

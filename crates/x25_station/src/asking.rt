@@ -21,9 +21,9 @@ ghost use Rattle.x25_station.specs.Step.{commands, gives, gives_said, requests};
 
 use crate::command::Cmd;
 use crate::driving::{ask, call, pull, restart, state};
-use crate::entering::enter;
+use crate::entering::name_on;
 use crate::entries::Entries;
-use crate::entry::{Asked, Entry, Said};
+use crate::entry::{Asked, Entry};
 use crate::error::StationError;
 use crate::giving::NOT_TAKEN;
 use crate::law::steps_keep_bounds;
@@ -93,7 +93,12 @@ pub(crate) fn enter_asked(layer: &Layer, entries: &mut Entries, channel: u16, re
         }) ∷ [] }
 {
     let asked = asked_of(&mut entries.memory, layer, channel, request);
-    enter(layer, &mut entries.list, channel, Said::Asked(asked));
+    let name = name_on(layer, channel);
+    entries.list.push_reserved(Entry::Asked {
+        channel,
+        name,
+        asked,
+    });
 }
 
 // Whether this may be asked: confirmation by a station that reads packets in all their forms.

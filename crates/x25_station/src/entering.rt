@@ -4,19 +4,18 @@ ghost use Rattle.std.specs.List.{sum_by};
 ghost use Rattle.x25_circuit.specs.code.Replies.{handed_over, plain_notice};
 ghost use Rattle.x25_layer.specs.Layer.{Layer as LayerState, LayerSettings, is_channel};
 ghost use Rattle.x25_layer.specs.code.FitsLayer.{FitsLayer};
-ghost use Rattle.x25_layer.specs.laws.Transcript.{name_of};
+ghost use Rattle.x25_layer.specs.laws.Transcript.{Told as WasTold, name_of};
 ghost use Rattle.x25_layer.specs.Report.{handed_over_in, plain_report};
 ghost use Rattle.x25_station.specs.Entry.{bringing, entries_beside, of_channel, station_told};
-ghost use Rattle.x25_station.specs.code.PlainEntry.{plain_entry, plain_said, plain_told};
+ghost use Rattle.x25_station.specs.code.PlainEntry.{plain_entry, plain_name, plain_told};
 ghost use Rattle.x25_station.specs.Receiving.{IsShort, AreTellable};
 ghost use Rattle.x25_station.specs.Beside.{AreFew, plain_beside};
 ghost use Rattle.x25_station.specs.code.Memory.{GrowsBy, HasPlaces};
-ghost use Rattle.x25_station.specs.code.Memory.{Lends, messages_in, messages_said, messages_told, texts_in};
-ghost use Rattle.x25_station.specs.code.Memory.{texts_said, texts_told};
+ghost use Rattle.x25_station.specs.code.Memory.{Lends, messages_in, messages_told, texts_in, texts_told};
 
 use crate::beside::Beside;
 use crate::entries::Entries;
-use crate::entry::{Entry, Said, Told};
+use crate::entry::{Entry, Told};
 use crate::memory::Memory;
 use x25_circuit::Notice;
 use x25_layer::{Layer, Report, Stretch};
@@ -29,24 +28,32 @@ const NO_NAME: Stretch = Stretch {
     resets: 0,
 };
 
-/// Enters what was said on a configured channel, under the name of its stretch, behind the other entries.
+/// The name of the stretch of a configured channel.
 #[inline(always)]
-pub(crate) fn enter(layer: &Layer, entries: &mut Vec<Entry>, channel: u16, said: Said)
+pub(crate) fn name_on(layer: &Layer, channel: u16) -> Stretch
+    ensures { (c : LayerSettings) (l : LayerState) → FitsLayer c layer.now l
+        → is_channel c.channels channel ≡ true → plain_name result ≡ name_of l channel }
+{
+    layer.name(channel).unwrap_or(NO_NAME)
+}
+
+// Enters what was reported to the user of a configured channel, behind the other entries.
+fn tell(layer: &Layer, entries: &mut Vec<Entry>, channel: u16, told: Told)
     requires { HasPlaces 1 entries.old }
     ensures few { GrowsBy 1 entries.old entries.new }
-    ensures texts { sum_by texts_in entries.new.items ≡ sum_by texts_in entries.old.items + texts_said said }
+    ensures texts { sum_by texts_in entries.new.items ≡ sum_by texts_in entries.old.items + texts_told told }
     ensures messages { sum_by messages_in entries.new.items
-        ≡ sum_by messages_in entries.old.items + messages_said said }
+        ≡ sum_by messages_in entries.old.items + messages_told told }
     ensures entered { (c : LayerSettings) (l : LayerState) → FitsLayer c layer.now l
         → is_channel c.channels channel ≡ true →
         map plain_entry entries.new.items ≡ map plain_entry entries.old.items
-        ++ of_channel (record { channel = channel; name = name_of l channel; said = plain_said said }) ∷ [] }
+        ++ of_channel (record { channel = channel; name = name_of l channel; said = WasTold (plain_told told) }) ∷ [] }
 {
-    let name = layer.name(channel).unwrap_or(NO_NAME);
-    entries.push_reserved(Entry::OnChannel {
+    let name = name_on(layer, channel);
+    entries.push_reserved(Entry::Told {
         channel,
         name,
-        said,
+        told,
     });
 }
 
@@ -76,7 +83,7 @@ fn told_of(memory: &mut Memory, notice: Notice<'_>) -> Told
         Notice::ClearDone => Told::ClearDone,
         Notice::WasReset { cause, diagnostic } => Told::WasReset { cause, diagnostic },
         Notice::ResetDone => Told::ResetDone,
-        Notice::Delivered(message) => Told::Delivered(message),
+        Notice::Delivered { marks, user } => Told::Delivered { marks, user },
         Notice::Interrupted { user } => {
             let user = memory.text(user);
             Told::Interrupted { user }
@@ -111,11 +118,11 @@ pub(crate) fn enter_told(
             notice,
         } => {
             if collided {
-                enter(layer, entries, channel, Said::Told(Told::Collided));
+                tell(layer, entries, channel, Told::Collided);
             }
             if let Some(notice) = notice {
                 let told = told_of(memory, notice);
-                enter(layer, entries, channel, Said::Told(told));
+                tell(layer, entries, channel, told);
             }
         }
         Report::Restarted { cause, diagnostic } => {

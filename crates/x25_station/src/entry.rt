@@ -1,5 +1,5 @@
 use crate::text::Text;
-use x25_circuit::{Message, Octets};
+use x25_circuit::Octets;
 use x25_layer::{Params, Stretch};
 use x25_link::Reason;
 use x25_packet::Marks;
@@ -8,12 +8,17 @@ use x25_packet::Marks;
 /// layer reported. It owns what it says, in memory of its step.
 #[derive(Debug, Drop)]
 pub enum Entry {
-    /// What the user of a channel asked, or what was reported to that user, under the name of the stretch that stood
-    /// then.
-    OnChannel {
+    /// What the user of a channel asked, under the name of the stretch that stood then.
+    Asked {
         channel: u16,
         name: Stretch,
-        said: Said,
+        asked: Asked,
+    },
+    /// What was reported to the user of a channel, under the name of the stretch that stood then.
+    Told {
+        channel: u16,
+        name: Stretch,
+        told: Told,
     },
     /// The user asked for a restart.
     RestartAsked {
@@ -58,15 +63,6 @@ pub enum Entry {
     Diagnosed {
         diagnostic: u8,
     },
-}
-
-/// What is said on a channel.
-#[derive(Debug, Drop)]
-pub enum Said {
-    /// By the user.
-    Asked(Asked),
-    /// To the user.
-    Told(Told),
 }
 
 /// What the user of a channel asked.
@@ -139,8 +135,11 @@ pub enum Told {
     },
     /// This end's reset is confirmed.
     ResetDone,
-    /// A message came.
-    Delivered(Message),
+    /// A message came: its qualifier, whether confirmation of its delivery is asked, and at most 65,535 octets.
+    Delivered {
+        marks: Marks,
+        user: Octets,
+    },
     /// An interrupt came.
     Interrupted {
         user: Text,

@@ -27,7 +27,7 @@ mod timer;
 pub use command::{CallCmd, Cmd};
 pub use config::Cfg;
 pub use entries::Entries;
-pub use entry::{Asked, Entry, Said, Told};
+pub use entry::{Asked, Entry, Told};
 pub use error::StationError;
 pub use law::{
     confirmed_is_acknowledged, deadlines_are_true, puts_are_readable,

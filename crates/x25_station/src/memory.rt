@@ -3,11 +3,11 @@ ghost use Rattle.x25_circuit.specs.code.PartialMessage.{spares};
 ghost use Rattle.x25_station.specs.code.Memory.{all_memory, messages_in};
 ghost use Rattle.x25_station.specs.code.Memory.{texts_in};
 
-use crate::entry::{Asked, Entry, Said, Told};
+use crate::entry::{Asked, Entry, Told};
 use crate::text::Text;
 use std::alloc::{AllocError, Global};
 use std::marker::Model;
-use x25_circuit::{LONGEST_MESSAGE, Message, Octets};
+use x25_circuit::{LONGEST_MESSAGE, Octets};
 use x25_packet::Halves;
 
 /// The most texts that the entries of a step have: the two addresses of a call and its user data, and the two of what
@@ -129,37 +129,42 @@ impl Memory {
         ensures messages { self.new.messages ≡ self.old.messages + messages_in entry }
     {
         match entry {
-            Entry::OnChannel {
-                said: Said::Asked(
-                    Asked::Call {
-                        called,
-                        calling,
-                        user,
-                        ..
-                    },
-                )
-                | Said::Told(
-                    Told::Incoming {
-                        called,
-                        calling,
-                        user,
-                        ..
-                    },
-                ),
+            Entry::Asked {
+                asked: Asked::Call {
+                    called,
+                    calling,
+                    user,
+                    ..
+                },
+                ..
+            }
+            | Entry::Told {
+                told: Told::Incoming {
+                    called,
+                    calling,
+                    user,
+                    ..
+                },
                 ..
             } => {
                 self.take_text(called);
                 self.take_text(calling);
                 self.take_text(user);
             }
-            Entry::OnChannel {
-                said: Said::Asked(Asked::Interrupt { user })
-                | Said::Told(Told::Interrupted { user }),
+            Entry::Asked {
+                asked: Asked::Interrupt { user },
+                ..
+            }
+            | Entry::Told {
+                told: Told::Interrupted { user },
                 ..
             } => self.take_text(user),
-            Entry::OnChannel {
-                said: Said::Asked(Asked::Send { user, .. })
-                | Said::Told(Told::Delivered(Message { user, .. })),
+            Entry::Asked {
+                asked: Asked::Send { user, .. },
+                ..
+            }
+            | Entry::Told {
+                told: Told::Delivered { user, .. },
                 ..
             } => self.message = Some(user),
             Entry::Beside {

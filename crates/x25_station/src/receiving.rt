@@ -156,18 +156,6 @@ impl Station {
         out.timer = self.timer_behind(ran, false, acknowledged, out.entries.as_slice());
     }
 
-    // Whether the link is up and a count is at its most.
-    fn is_full(&self) -> bool
-        ensures value { (c : Settings) (s : State) → FitsStation c self.now s → result ≡ abandons c s }
-        ensures up { result ≡ true → up_of self.now.link ≡ true }
-        ensures left { result ≡ false → up_of self.now.link ≡ true → IsNotFull self.now.layer }
-    {
-        if !self.link.is_up() {
-            return false;
-        }
-        self.layer.full()
-    }
-
     // A count is at its most: the octets are dropped, and the link goes down.
     #[cold]
     #[inline(never)]
@@ -191,7 +179,8 @@ impl Station {
         ensures does { Does self.old self.new out.new (Ok tt) (λ c s. Did (receives c s octets.now)) }
         ensures acknowledged { SaysAcknowledged self.old octets.now result }
     {
-        if self.is_full() {
+        let is_full = self.link.is_up() & self.layer.full();
+        if is_full {
             return self.abandon(octets, out);
         }
         steps_keep_bounds();

@@ -4,7 +4,7 @@ use crate::calls::station;
 use crate::steps::{Act, CALL, CONNECT, DCE_RESTARTS, RR_1, SETTINGS, UA, refusal};
 use std::alloc::Global;
 use x25_layer::Stretch;
-use x25_station::{Cfg, Cmd, Entry, Role, Said, Station, StationError, Step, Told};
+use x25_station::{Cfg, Cmd, Entry, Role, Station, StationError, Step, Told};
 
 /// What happens, the number of a refusal or 0, how many entries that brings, how many messages the last of these tells
 /// as confirmed, and how many on channel 1 aren't confirmed then.
@@ -104,11 +104,11 @@ fn told(step: &Step) -> usize {
 fn is_asked(step: &Step) -> bool {
     match step.entries.as_slice().first() {
         Some(
-            Entry::OnChannel {
-                said: Said::Told(Told::Delivered(message)),
+            Entry::Told {
+                told: Told::Delivered { marks, .. },
                 ..
             },
-        ) => message.marks.d,
+        ) => marks.d,
         _ => false,
     }
 }

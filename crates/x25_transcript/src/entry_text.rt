@@ -4,8 +4,8 @@ ghost use Rattle.x25_transcript.specs.EntryText.{address_text, channel_text, dig
 ghost use Rattle.x25_transcript.specs.EntryText.{given_number, given_text, params_text};
 ghost use Rattle.x25_transcript.specs.EntryText.{down_text, entry_line as line_of, entry_text, notice_text};
 ghost use Rattle.x25_transcript.specs.EntryText.{marks_text, request_text};
-ghost use Rattle.x25_transcript.specs.EntryText.{said_text, stretch_text, user_text};
-ghost use Rattle.x25_station.specs.code.PlainEntry.{plain_asked, plain_entry, plain_name, plain_said, plain_told};
+ghost use Rattle.x25_transcript.specs.EntryText.{stretch_text, user_text};
+ghost use Rattle.x25_station.specs.code.PlainEntry.{plain_asked, plain_entry, plain_name, plain_told};
 ghost use Rattle.x25_packet.specs.Spelling.{bit};
 ghost use Rattle.x25_text.specs.PacketText.{reason_text};
 ghost use Rattle.x25_text.specs.Text.{octets_text};
@@ -14,7 +14,7 @@ use std::alloc::{AllocError, Global};
 use x25_layer::{Params, Stretch};
 use x25_link::Reason;
 use x25_packet::Marks;
-use x25_station::{Asked, Entry, Role, Said, Told};
+use x25_station::{Asked, Entry, Role, Told};
 use x25_text::Text;
 
 #[inline(always)]
@@ -228,10 +228,14 @@ fn push_told(channel: u16, name: &Stretch, told: &Told, text: &mut Text) -> Resu
             push_reason(*cause, *diagnostic, text)
         }
         Told::ResetDone => push_at(b"resetdone", channel, text),
-        Told::Delivered(message) => {
-            let user = message.user.as_slice();
-            push_message(b"message", channel, name, message.marks, user, text)
-        }
+        Told::Delivered { marks, user } => push_message(
+            b"message",
+            channel,
+            name,
+            *marks,
+            user.as_slice(),
+            text,
+        ),
         Told::Interrupted { user } => {
             push_under(b"interrupt", channel, name, text)?;
             push_user(user.as_slice(), text)
@@ -241,15 +245,6 @@ fn push_told(channel: u16, name: &Stretch, told: &Told, text: &mut Text) -> Resu
             push_at(b"fault", channel, text)?;
             text.try_push_number(b" diag=", u64::from(*diagnostic))
         }
-    }
-}
-
-fn push_said(channel: u16, name: &Stretch, said: &Said, text: &mut Text) -> Result<(), AllocError>
-    ensures { OnOk result (text.new ≡ text.old ++ said_text channel (plain_name name.now) (plain_said said.now)) }
-{
-    match said {
-        Said::Asked(asked) => push_asked(channel, name, asked, text),
-        Said::Told(told) => push_told(channel, name, told, text),
     }
 }
 
@@ -311,11 +306,16 @@ fn push_entry_text(entry: &Entry, text: &mut Text) -> Result<(), AllocError>
     ensures { OnOk result (text.new ≡ text.old ++ entry_text (plain_entry entry.now)) }
 {
     match entry {
-        Entry::OnChannel {
+        Entry::Asked {
             channel,
             name,
-            said,
-        } => push_said(*channel, name, said, text),
+            asked,
+        } => push_asked(*channel, name, asked, text),
+        Entry::Told {
+            channel,
+            name,
+            told,
+        } => push_told(*channel, name, told, text),
         Entry::RestartAsked { cause, diagnostic } => {
             text.try_push(b"restart")?;
             push_given(*cause, *diagnostic, text)

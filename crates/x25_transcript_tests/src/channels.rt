@@ -1,7 +1,7 @@
 use crate::lines::is_line;
 use std::alloc::{AllocError, Global};
 use x25_layer::{Params, Stretch};
-use x25_station::{Asked, Entry, Role, Said, Text, Told};
+use x25_station::{Asked, Entry, Role, Text, Told};
 
 /// A count may have 20 digits.
 const LATE: Stretch = Stretch {
@@ -42,9 +42,25 @@ pub fn text(alloc: Global, octets: &[u8]) -> Result<Text, AllocError> {
     Ok(text)
 }
 
+fn asked(asked: Asked) -> Entry {
+    Entry::Asked {
+        channel: 16,
+        name: LATE,
+        asked,
+    }
+}
+
+fn told(told: Told) -> Entry {
+    Entry::Told {
+        channel: 16,
+        name: LATE,
+        told,
+    }
+}
+
 // A call and an interrupt of the user.
-fn calls(alloc: Global) -> Result<Said, AllocError> {
-    Ok(Said::Asked(Asked::Call {
+fn calls(alloc: Global) -> Result<Entry, AllocError> {
+    Ok(asked(Asked::Call {
         called: text(alloc, b"")?,
         calling: text(alloc, b"2")?,
         user: text(alloc, b"")?,
@@ -52,14 +68,14 @@ fn calls(alloc: Global) -> Result<Said, AllocError> {
     }))
 }
 
-fn interrupts(alloc: Global) -> Result<Said, AllocError> {
+fn interrupts(alloc: Global) -> Result<Entry, AllocError> {
     let user = text(alloc, &[0, 255])?;
-    Ok(Said::Asked(Asked::Interrupt { user }))
+    Ok(asked(Asked::Interrupt { user }))
 }
 
 // What came.
-fn is_called(alloc: Global) -> Result<Said, AllocError> {
-    Ok(Said::Told(Told::Incoming {
+fn is_called(alloc: Global) -> Result<Entry, AllocError> {
+    Ok(told(Told::Incoming {
         called: text(alloc, &[1, 2, 3])?,
         calling: text(alloc, b"")?,
         user: text(alloc, b"A")?,
@@ -67,24 +83,19 @@ fn is_called(alloc: Global) -> Result<Said, AllocError> {
     }))
 }
 
-fn is_interrupted(alloc: Global) -> Result<Said, AllocError> {
+fn is_interrupted(alloc: Global) -> Result<Entry, AllocError> {
     let user = text(alloc, &[0])?;
-    Ok(Said::Told(Told::Interrupted { user }))
+    Ok(told(Told::Interrupted { user }))
 }
 
 fn entry(alloc: Global, row: usize) -> Result<Entry, AllocError> {
-    let said = match row {
-        0 => calls(alloc)?,
-        1 => interrupts(alloc)?,
-        2 => Said::Asked(Asked::Accept { params: ONE_WINDOW }),
-        3 => is_called(alloc)?,
-        _ => is_interrupted(alloc)?,
-    };
-    Ok(Entry::OnChannel {
-        channel: 16,
-        name: LATE,
-        said,
-    })
+    match row {
+        0 => calls(alloc),
+        1 => interrupts(alloc),
+        2 => Ok(asked(Asked::Accept { params: ONE_WINDOW })),
+        3 => is_called(alloc),
+        _ => is_interrupted(alloc),
+    }
 }
 
 #[test]

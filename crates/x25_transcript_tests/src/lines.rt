@@ -1,7 +1,7 @@
 use std::alloc::{AllocError, Global};
-use x25_circuit::{Message, Octets};
+use x25_circuit::Octets;
 use x25_layer::Stretch;
-use x25_station::{Asked, Entry, Marks, Role, Said, Told};
+use x25_station::{Asked, Entry, Marks, Role, Told};
 use x25_text::Text;
 use x25_transcript::{entry_line, push_entry};
 
@@ -52,14 +52,13 @@ const LATE: Stretch = Stretch {
 
 // A message of no octets that came.
 fn delivered(alloc: Global) -> Result<Entry, AllocError> {
-    let message = Message {
-        marks: Marks::with_q(true),
-        user: Octets::new(alloc)?,
-    };
-    Ok(Entry::OnChannel {
+    Ok(Entry::Told {
         channel: 16,
         name: LATE,
-        said: Said::Told(Told::Delivered(message)),
+        told: Told::Delivered {
+            marks: Marks::with_q(true),
+            user: Octets::new(alloc)?,
+        },
     })
 }
 
@@ -74,13 +73,13 @@ fn writes_deliveries_of_larger_numbers(rt: HostRuntime) {
 
 // A message of no octets whose confirmation is asked.
 fn asking(alloc: Global) -> Result<Entry, AllocError> {
-    Ok(Entry::OnChannel {
+    Ok(Entry::Asked {
         channel: 16,
         name: LATE,
-        said: Said::Asked(Asked::Send {
+        asked: Asked::Send {
             marks: Marks { q: false, d: true },
             user: Octets::new(alloc)?,
-        }),
+        },
     })
 }
 
@@ -98,13 +97,13 @@ fn sent(alloc: Global, channel: u16, name: Stretch, count: u16) -> Result<Entry,
     let octets = vec![in alloc; 0xabu8; usize::from(count)]?;
     let mut user = Octets::new(alloc)?;
     user.set(octets.as_slice());
-    Ok(Entry::OnChannel {
+    Ok(Entry::Asked {
         channel,
         name,
-        said: Said::Asked(Asked::Send {
+        asked: Asked::Send {
             marks: Marks::with_q(true),
             user,
-        }),
+        },
     })
 }
 

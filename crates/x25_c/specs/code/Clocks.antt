@@ -17,7 +17,7 @@ use Rattle.x25_c.specs.declared.clocked.Passed.{Passed}
 use Rattle.x25_c.specs.declared.held.Held.{Held}
 use Rattle.x25_c.specs.Clocked.{Tells, due_in, event_for}
 use Rattle.x25_c.specs.Held.{IsAlone}
-use Rattle.x25_c.specs.code.Happens.{Happens}
+use Rattle.x25_c.specs.code.Happens.{HappensTo}
 
 -- what a clock sees of the station that it is given to: T1 begins where it runs
 abbrev pub seen_first : Settings → Station → Seen
@@ -56,7 +56,7 @@ passed_at h c s due = record {
 
 -- what is due is asked for, and where it isn't refused the answer tells which timer passed
 pub record Insists (old new : Held) (result : Result Unit StationError) (due : Due) : Type 0 where
-  pub happens : Happens old new result (event_for due)
+  pub happens : HappensTo old new result (event_for due)
   pub alone : IsAlone new
   pub passed : (c : Settings) (s : Station) → FitsStation c old.station s →
       MatchResult result (λ u. new.passed ≡ Some (passed_at old c s due)) (λ e. new.passed ≡ None)

@@ -15,7 +15,7 @@ use Rattle.x25_station.specs.Step.{Outcome}
 use Rattle.x25_station.specs.Timer.{standing}
 use Rattle.x25_station.specs.code.FitsStation.{FitsStation, FitsStill, IsEmpty, Leaves, Sends, Enters, Refuses}
 use Rattle.x25_station.specs.code.FitsStation.{RefusesOnly}
-use Rattle.x25_station.specs.laws.TimerLaw.{Event, Comes, Asks, Fires, outcome}
+use Rattle.x25_station.specs.laws.TimerLaw.{StationEvent, Comes, Asks, Fires, outcome}
 use Rattle.x25_clock.specs.Clock.{seen}
 use Rattle.x25_clock.specs.laws.ClockLaw.{comes}
 use Rattle.x25_c.specs.Clocked.{Heeds}
@@ -25,19 +25,19 @@ use Rattle.x25_c.specs.declared.held.Held.{Held}
 use Rattle.x25_c.specs.Held.{IsAlone}
 use Rattle.x25_c.specs.Happening.{happens, may_lack_at, timer_at_both}
 
-abbrev pub event_of : code.Happening → Event
+abbrev pub event_of : code.Happening → StationEvent
 event_of (variant.Asks asked) = Asks (command_of asked)
 event_of variant.Fires = Fires
 
 -- at an accepted event T1 becomes what the definition says, and at a refused one it is as it was
-abbrev pub IsTimer : Settings → Station → Event → Timer → Result Unit StationError → Outcome → Type 0
+abbrev pub IsTimer : Settings → Station → StationEvent → Timer → Result Unit StationError → Outcome → Type 0
 IsTimer c s event timer (Ok u) o = timer ≡ timer_at_both c s event o
 IsTimer c s event timer (Err e) o = timer ≡ standing s
 
 -- The station does what the definition says of the event and of a pull after it, and what it answers is kept. Its
 -- clock heeds both. It is refused with the definition's error, or for want of memory where that may be wanted: then the
 -- station and its clock are as before, and nothing is answered.
-pub record Happens (old new : Held) (result : Result Unit StationError) (event : Event) : Type 0 where
+pub record HappensTo (old new : Held) (result : Result Unit StationError) (event : StationEvent) : Type 0 where
   pub end : new.end ≡ old.end
   pub state : (c : Settings) (s : Station) → FitsStation c old.station s →
       Leaves c new.station result (happens c event s)
@@ -69,7 +69,7 @@ pub record Lacks (old new : Held) (result : Result Unit StationError) : Type 0 w
 
 -- a command that a text spells is done
 abbrev pub DoesCommand : Held → Held → Result Unit StationError → PlainCommand → Type 0
-DoesCommand old new result asked = (Happens old new result (Asks (command_asked asked)) ⊎ Lacks old new result)
+DoesCommand old new result asked = (HappensTo old new result (Asks (command_asked asked)) ⊎ Lacks old new result)
     × IsAlone new × (new.passed ≡ None)
 
 -- what a line commands

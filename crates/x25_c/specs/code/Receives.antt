@@ -4,7 +4,7 @@ use Rattle.x25_station.specs.code.FitsStation.{FitsStill}
 use Rattle.x25_station.specs.laws.TimerLaw.{Comes}
 use Rattle.x25_c.specs.declared.held.Held.{Held}
 use Rattle.x25_c.specs.Held.{Whole, whole_of, part_of, and_then, no_answer}
-use Rattle.x25_c.specs.code.Happens.{Happens}
+use Rattle.x25_c.specs.code.Happens.{HappensTo}
 
 -- the octets of the frame in a place, of octets of which each frame has so many
 abbrev pub frame_at : List ℕ → List ℕ → ℕ → List ℕ
@@ -20,7 +20,7 @@ abbrev pub Received : List ℕ → List ℕ → ℕ → Held → Held → Whole 
 Received octets counts zero old new whole =
     FitsStill old.station new.station × (new.end ≡ old.end) × (whole ≡ no_answer) × IsClocked old new
 Received octets counts (suc place) old new whole = (mid : Held) × (before : Whole)
-    × Received octets counts place old mid before × Happens mid new (Ok tt) (Comes (frame_at octets counts place))
+    × Received octets counts place old mid before × HappensTo mid new (Ok tt) (Comes (frame_at octets counts place))
     × (whole ≡ and_then before (part_of new.step))
 
 -- why it ended there: all came; the octets of the next aren't there; or memory is refused for what was answered before

@@ -2,8 +2,7 @@
 use Rattle.std.specs.Prelude.{ℕ, Bool, false, nat_le, if◌then◌else◌, List, [], ◌∷◌, length, take, drop}
 use Rattle.x25_packet.specs.declared.marks.Marks.{Marks}
 use Rattle.x25_packet.specs.Marks.{with_q}
-use Rattle.x25_circuit.specs.declared.message.Message.{Message}
-use Rattle.x25_circuit.specs.Message.{Piece, More, Last, piece_of}
+use Rattle.x25_circuit.specs.Message.{Message, Piece, More, Last, piece_of}
 
 -- what is left of it, where something is, and the user data of the packet that was cut off last
 pub record ShownCutter : Type 0 where

@@ -1,6 +1,6 @@
 -- What the fields of a message in part stand for.
 use Rattle.std.specs.Prelude.{◌≡◌, ℕ, ◌≤◌, List, [], Option, Some, None, is_some, Vec, vec_len, vec_capacity}
-use Rattle.x25_circuit.specs.declared.partial.PartialMessage.TheInside.{Inside}
+use Rattle.x25_circuit.specs.declared.message.PartialMessage.TheInside.{Inside}
 use Rattle.x25_circuit.specs.code.PartialMessage.{ShownPartial}
 
 -- the octets in this memory, and none where there is none

@@ -10,7 +10,7 @@ use Rattle.x25_circuit.specs.declared.notice.Reply.{Reply}
 use Rattle.x25_circuit.specs.declared.requested.Requested.{Requested}
 use Rattle.x25_circuit.specs.declared.owed.Owed.{Owed}
 pub use Rattle.x25_circuit.specs.code.Owed.{packet_owed, plain_requested}
-use Rattle.x25_circuit.specs.Circuit.{Settings, Circuit}
+use Rattle.x25_circuit.specs.Circuit.{CircuitSettings, Circuit}
 use Rattle.x25_circuit.specs.Hearing.{Answer}
 use Rattle.x25_circuit.specs.code.FitsCircuit.{FitsCircuit, user_octets}
 use Rattle.x25_circuit.specs.Notice.{PlainNotice, incoming, connected, collided, cleared, clear_done, was_reset}
@@ -28,14 +28,14 @@ plain_notice (code.Cleared cause diagnostic) = cleared cause diagnostic
 plain_notice code.ClearDone = clear_done
 plain_notice (code.WasReset cause diagnostic) = was_reset cause diagnostic
 plain_notice code.ResetDone = reset_done
-plain_notice (code.Delivered message) = delivered message
+plain_notice (code.Delivered marks user) = delivered (record { marks = marks; user = user })
 plain_notice (code.Interrupted user) = interrupted user.now
 plain_notice code.InterruptDone = interrupt_done
 plain_notice (code.Fault diagnostic) = fault diagnostic
 
 -- how many messages it hands over, with their memory
 abbrev pub handed_by : Notice → ℕ
-handed_by (code.Delivered message) = 1
+handed_by (code.Delivered marks user) = 1
 handed_by notice = 0
 
 abbrev pub handed_over : Option Notice → ℕ
@@ -79,16 +79,18 @@ pub record Says (reply : Reply) (packet : Option PlainPacket) (told : List Plain
 -- ---- a packet that came
 
 -- It is answered so, by a packet that can be spelled, and no message is handed over.
-pub record RepliesBy (old new : circuit.Circuit) (reply : Reply) (said : Settings → Circuit → Answer) : Type 0 where
-  pub next : (c : Settings) (x : Circuit) → FitsCircuit c old x → FitsCircuit c new (said c x).next
-  pub says : (c : Settings) (x : Circuit) → FitsCircuit c old x → Says reply (said c x).owed (said c x).notices
+pub record RepliesBy (old new : circuit.Circuit) (reply : Reply)
+    (said : CircuitSettings → Circuit → Answer) : Type 0 where
+  pub next : (c : CircuitSettings) (x : Circuit) → FitsCircuit c old x → FitsCircuit c new (said c x).next
+  pub says : (c : CircuitSettings) (x : Circuit) → FitsCircuit c old x → Says reply (said c x).owed (said c x).notices
   pub range : IsSendable (plain_owed reply.packet)
   pub handed : handed_over reply.notice ≡ 0
 
 -- It is answered so, and the spare memory for one message is left, or else a message is handed over.
-pub record RepliesWith (old new : circuit.Circuit) (reply : Reply) (left : ℕ) (said : Settings → Circuit → Answer)
+pub record RepliesWith (old new : circuit.Circuit) (reply : Reply) (left : ℕ)
+    (said : CircuitSettings → Circuit → Answer)
     : Type 0 where
-  pub next : (c : Settings) (x : Circuit) → FitsCircuit c old x → FitsCircuit c new (said c x).next
-  pub says : (c : Settings) (x : Circuit) → FitsCircuit c old x → Says reply (said c x).owed (said c x).notices
+  pub next : (c : CircuitSettings) (x : Circuit) → FitsCircuit c old x → FitsCircuit c new (said c x).next
+  pub says : (c : CircuitSettings) (x : Circuit) → FitsCircuit c old x → Says reply (said c x).owed (said c x).notices
   pub range : IsSendable (plain_owed reply.packet)
   pub spare : left + handed_over reply.notice ≡ 1

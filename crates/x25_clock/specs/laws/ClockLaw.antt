@@ -16,7 +16,7 @@ use Rattle.x25_clock.specs.Clock.{Deadlines, Seen, nothing_awaited, deadline, ti
 
 -- so much later an event of the station happens, and is heeded; or what is due is asked for
 pub data Moment : Type 0 where
-  Happens : (later : ℕ) → (event : timer.Event) → Moment
+  Happens : (later : ℕ) → (event : timer.StationEvent) → Moment
   IsDue : (later : ℕ) → Moment
 
 -- the station, the deadlines, and the time
@@ -25,12 +25,12 @@ pub record Watched : Type 0 where
   pub deadlines : Deadlines
   pub now : ℕ
 
-abbrev pub comes : timer.Event → Bool
+abbrev pub comes : timer.StationEvent → Bool
 comes (Comes octets) = true
 comes (Asks command) = false
 comes Fires = false
 
-abbrev pub seen_of : Settings → Station → timer.Event → Outcome → Seen
+abbrev pub seen_of : Settings → Station → timer.StationEvent → Outcome → Seen
 seen_of c s event (Did step) = record {
   timer = timer.timer s event (Did step);
   at_rest = is_at_rest step.near;
@@ -48,7 +48,7 @@ seen_of c s event (Refused e) = record {
   awaited = λ h. awaited_at (layer_settings c) s.layer h;
 }
 
-abbrev pub heeds : Settings → Times → ℕ → timer.Event → Outcome → Watched → Watched
+abbrev pub heeds : Settings → Times → ℕ → timer.StationEvent → Outcome → Watched → Watched
 heeds c times now event o w = record {
   station = timer.after w.station o;
   deadlines = heeded times now (seen_of c w.station event o) w.deadlines;

@@ -18,7 +18,7 @@ use Rattle.x25_clock.specs.laws.ClockLaw.{Watched, comes}
 use Rattle.x25_clock.specs.laws.WaitLaw.{Deed, Happens, event_of, later_by, found_by, outcome_of, all_done}
 
 -- what is seen of an event and of the station behind what is pulled then
-abbrev pub seen_pulled : Settings → Station → timer.Event → Step → Seen
+abbrev pub seen_pulled : Settings → Station → timer.StationEvent → Step → Seen
 seen_pulled c s event step = let next = (pulled c step.near).near in record {
   timer = timer_pulled (timer.timer s event (Did step)) step.near next;
   at_rest = is_at_rest next;

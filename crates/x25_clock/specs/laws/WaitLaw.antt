@@ -22,11 +22,11 @@ use Rattle.x25_clock.specs.laws.ClockLaw.{Moment, Watched, heeds, watched}
 
 -- so much later an event of the station happens; or this is due, and is asked
 pub data Deed : Type 0 where
-  Happens : (later : ℕ) → (event : timer.Event) → Deed
+  Happens : (later : ℕ) → (event : timer.StationEvent) → Deed
   IsAsked : (later : ℕ) → (due : Due) → Deed
 
 -- what is due is asked by its command, and T1 fires
-abbrev pub by_command : Option Command → timer.Event
+abbrev pub by_command : Option Command → timer.StationEvent
 by_command None = Fires
 by_command (Some command) = Asks command
 
@@ -34,7 +34,7 @@ abbrev pub later_by : Deed → ℕ
 later_by (Happens later event) = later
 later_by (IsAsked later due) = later
 
-abbrev pub event_of : Deed → timer.Event
+abbrev pub event_of : Deed → timer.StationEvent
 event_of (Happens later event) = event
 event_of (IsAsked later due) = by_command (command_for due)
 

@@ -1,6 +1,6 @@
 -- What is acknowledged to an end, the other end has handed up. ITU-T X.25 (10/96), section 4.4.1.4.
 use Rattle.std.specs.Prelude.{◌≡◌, ℕ, ◌≤◌, List, ◌++◌, length, take, Some}
-use Rattle.x25_circuit.specs.{declared.message.Message.{Message}, Message.{carried}}
+use Rattle.x25_circuit.specs.Message.{Message, carried}
 use Rattle.x25_handshakes.specs.{laws.Handshake.{state_of}, laws.Stretch.{Stretch}, laws.Layers.{LayerEvent}}
 use Rattle.x25_handshakes.specs.laws.Histories.{Histories, IsPrefix, messages, name_at, histories_run, histories_start}
 use Rattle.x25_handshakes.specs.laws.Arrivals.{open_at}

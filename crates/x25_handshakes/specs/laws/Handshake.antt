@@ -28,7 +28,7 @@ abbrev pub left : {S : Type 0} → ℕ → S → At S
 left e x = record { epoch = e; side = Left x }
 
 -- what a step leaves, the packets that it sends, and the number of the error of procedure, if it is one
-pub record Step (S P : Type 0) : Type 0 where
+pub record OwnStep (S P : Type 0) : Type 0 where
   pub next : S
   pub out : List P
   pub error : Option ℕ
@@ -52,7 +52,7 @@ pub record Beside (S T P : Type 0) : Type 0 where
   pub error : Option ℕ
 
 -- our end stepped and found this error, if it is one, and this is left on the way to it
-abbrev pub near_stepped : {S T P : Type 0} → Beside S T P → List P → Step (At S) P → Option ℕ → Beside S T P
+abbrev pub near_stepped : {S T P : Type 0} → Beside S T P → List P → OwnStep (At S) P → Option ℕ → Beside S T P
 near_stepped w back s e = record {
   near = s.next;
   peer = w.peer;

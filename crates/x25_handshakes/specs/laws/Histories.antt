@@ -1,6 +1,6 @@
 -- What each end handed down and up on a channel, written under the names of its stretches.
 use Rattle.std.specs.Prelude.{◌≡◌, ℕ, List, [], ◌∷◌, ◌++◌, if◌then◌else◌}
-use Rattle.x25_circuit.specs.{declared.message.Message.{Message}, Notice.{CallRequest}}
+use Rattle.x25_circuit.specs.{Message.{Message}, Notice.{CallRequest}}
 use Rattle.x25_bits.specs.{declared.role.Role.{Role}, declared.role.Role.TheVariants.{Dte, Dce}}
 use Rattle.x25_handshakes.specs.{laws.Handshake.{At, state_of}, laws.Stretch.{Stretch}}
 use Rattle.x25_handshakes.specs.laws.Calls.{Phase, Talking, Connection}

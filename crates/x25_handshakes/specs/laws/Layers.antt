@@ -1,7 +1,7 @@
 -- All channels of an end within the handshake of RESTART; and two ends that may each be out, with the packets on the
 -- way.
 use Rattle.std.specs.Prelude.{ℕ, suc, List, [], ◌∷◌, ◌++◌, Option, Some, None, Bool, if◌then◌else◌, ◌==◌}
-use Rattle.x25_handshakes.specs.laws.Handshake.{Side, Live, Left, At, Step, live, left, first_error}
+use Rattle.x25_handshakes.specs.laws.Handshake.{Side, Live, Left, At, OwnStep, live, left, first_error}
 use Rattle.x25_handshakes.specs.{laws.Stretch.{Packet}, laws.Calls.{Connection}}
 use Rattle.x25_handshakes.specs.laws.Channel.{channel_takes, ChannelAct, channel_acts, fresh_channel}
 use Rattle.x25_bits.specs.{declared.role.Role.{Role}, declared.role.Role.TheVariants.{Dte, Dce}}
@@ -26,10 +26,10 @@ addressed h (p ∷ o) = On h p ∷ addressed h o
 abbrev pub all_fresh : Channels
 all_fresh h = fresh_channel
 
-abbrev pub on_channel : ℕ → Channels → ℕ → Step (At Connection) Packet → Step (At Channels) LayerPacket
+abbrev pub on_channel : ℕ → Channels → ℕ → OwnStep (At Connection) Packet → OwnStep (At Channels) LayerPacket
 on_channel e x h s = record { next = live e (put x h s.next); out = addressed h s.out; error = s.error }
 
-abbrev pub layer_side_takes : Role → ℕ → Side Channels → LayerPacket → Step (At Channels) LayerPacket
+abbrev pub layer_side_takes : Role → ℕ → Side Channels → LayerPacket → OwnStep (At Channels) LayerPacket
 layer_side_takes r e (Live x) (On h p) = on_channel e x h (channel_takes r (x h) p)
 layer_side_takes r e (Live x) Restart = record { next = live (suc e) all_fresh; out = RestartConf ∷ []; error = None }
 layer_side_takes r e (Live x) RestartConf = record { next = left e x; out = Restart ∷ []; error = Some 17 }
@@ -38,7 +38,7 @@ layer_side_takes r e (Left x) Restart = record { next = live (suc e) all_fresh; 
 layer_side_takes r e (Left x) RestartConf = record { next = live (suc e) all_fresh; out = []; error = None }
 
 -- a packet taken
-abbrev pub layer_takes : Role → At Channels → LayerPacket → Step (At Channels) LayerPacket
+abbrev pub layer_takes : Role → At Channels → LayerPacket → OwnStep (At Channels) LayerPacket
 layer_takes r x p = layer_side_takes r x.epoch x.side p
 
 -- what an end may do by itself: on a channel, or to all
@@ -46,12 +46,12 @@ pub data LayerAct : Type 0 where
   OnChannel : (channel : ℕ) → (act : ChannelAct) → LayerAct
   SendsRestart : LayerAct
 
-abbrev pub layer_side_acts : ℕ → Side Channels → LayerAct → Step (At Channels) LayerPacket
+abbrev pub layer_side_acts : ℕ → Side Channels → LayerAct → OwnStep (At Channels) LayerPacket
 layer_side_acts e (Live x) (OnChannel h a) = on_channel e x h (channel_acts (x h) a)
 layer_side_acts e (Live x) SendsRestart = record { next = left e x; out = Restart ∷ []; error = None }
 layer_side_acts e (Left x) a = record { next = left e x; out = []; error = None }
 
-abbrev pub layer_acts : At Channels → LayerAct → Step (At Channels) LayerPacket
+abbrev pub layer_acts : At Channels → LayerAct → OwnStep (At Channels) LayerPacket
 layer_acts x a = layer_side_acts x.epoch x.side a
 
 -- The end that moves and the other one, each of which may be out (Left); the packets on the way from the one that
@@ -74,7 +74,7 @@ pub data Move : Type 0 where
 abbrev pub turned : Pair → Pair
 turned w = record { near = w.far; far = w.near; out = w.back; back = w.out; error = w.error }
 
-abbrev pub stepped : Pair → List LayerPacket → Step (At Channels) LayerPacket → Pair
+abbrev pub stepped : Pair → List LayerPacket → OwnStep (At Channels) LayerPacket → Pair
 stepped w back s = record {
   near = Live s.next;
   far = w.far;

@@ -3,11 +3,10 @@
 use Rattle.std.specs.Prelude.{ℕ, ◌+◌, ◌%◌, List, [], ◌∷◌, ◌++◌, length, Option, Some, None, Bool, true, false, nat_lt}
 use Rattle.std.specs.Prelude.{nat_le, if◌then◌else◌, ◌==◌}
 use Rattle.x25_packet.specs.declared.marks.Marks.{Marks}
-use Rattle.x25_circuit.specs.declared.message.Message.{Message}
-use Rattle.x25_circuit.specs.{Message.{Piece, no_part, joining, completed, piece_ground, cut, wholes}}
+use Rattle.x25_circuit.specs.{Message.{Message, Piece, no_part, joining, completed, piece_ground, cut, wholes}}
 use Rattle.x25_circuit.specs.Notice.{CallRequest}
 use Rattle.x25_window.specs.code.Modulo.{resolved}
-use Rattle.x25_handshakes.specs.laws.Handshake.{Step}
+use Rattle.x25_handshakes.specs.laws.Handshake.{OwnStep}
 use Rattle.x25_handshakes.specs.laws.Terms.{Terms}
 
 -- the packets of a channel, with what the two ends' order depends on: no channel, cause or diagnostic. A CALL has what
@@ -55,10 +54,10 @@ fresh = record {
   int_up = [];
 }
 
-abbrev pub stretch_does : Stretch → List Packet → Step Stretch Packet
+abbrev pub stretch_does : Stretch → List Packet → OwnStep Stretch Packet
 stretch_does x o = record { next = x; out = o; error = None }
 
-abbrev pub stretch_fails : Stretch → ℕ → Step Stretch Packet
+abbrev pub stretch_fails : Stretch → ℕ → OwnStep Stretch Packet
 stretch_fails x n = record { next = x; out = []; error = Some n }
 
 pub data StretchAct : Type 0 where
@@ -73,7 +72,7 @@ abbrev pub status : Bool → ℕ → Packet
 status true n = Rr (n % 8)
 status false n = Rnr (n % 8)
 
-abbrev pub sends : Terms → Stretch → Marks → List ℕ → Step Stretch Packet
+abbrev pub sends : Terms → Stretch → Marks → List ℕ → OwnStep Stretch Packet
 sends t x marks xs =
     if nat_le (length xs) t.longest
     then (if nat_lt (wholes x.rest) 8
@@ -85,7 +84,7 @@ sends t x marks xs =
     else stretch_does x [])
     else stretch_does x []
 
-abbrev pub pulls : Terms → Stretch → List Piece → Step Stretch Packet
+abbrev pub pulls : Terms → Stretch → List Piece → OwnStep Stretch Packet
 pulls t x [] = stretch_does x []
 pulls t x (p ∷ ps) =
     if x.peer_ready
@@ -98,7 +97,7 @@ pulls t x (p ∷ ps) =
     else stretch_does x [])
     else stretch_does x []
 
-abbrev pub interrupts : Stretch → List ℕ → Step Stretch Packet
+abbrev pub interrupts : Stretch → List ℕ → OwnStep Stretch Packet
 interrupts x xs =
     if nat_le 1 (length xs)
     then (if nat_le (length xs) 32
@@ -109,7 +108,7 @@ interrupts x xs =
     else stretch_does x []
 
 -- a call of the user, or a pull. A refused one changes nothing
-abbrev pub stretch_acts : Terms → Stretch → StretchAct → Step Stretch Packet
+abbrev pub stretch_acts : Terms → Stretch → StretchAct → OwnStep Stretch Packet
 stretch_acts t x (Send marks xs) = sends t x marks xs
 stretch_acts t x Pull = pulls t x x.rest
 stretch_acts t x Ready = stretch_does (record x { own_ready = true }) (Rr (length x.taken % 8) ∷ [])
@@ -125,11 +124,11 @@ data_ground longest size x s r p =
     then (if s == length x.taken % 8 then piece_ground longest size (joining no_part x.taken) p else Some 1)
     else Some 2
 
-abbrev pub by_ground : Option ℕ → Stretch → Step Stretch Packet → Step Stretch Packet
+abbrev pub by_ground : Option ℕ → Stretch → OwnStep Stretch Packet → OwnStep Stretch Packet
 by_ground None x good = good
 by_ground (Some n) x good = stretch_fails x n
 
-abbrev pub takes_data : Stretch → ℕ → Piece → Step Stretch Packet
+abbrev pub takes_data : Stretch → ℕ → Piece → OwnStep Stretch Packet
 takes_data x r p =
     stretch_does (record x {
       acked = resolved x.acked r;
@@ -137,12 +136,12 @@ takes_data x r p =
       up = x.up ++ completed (joining no_part x.taken) p;
     }) (status x.own_ready (length x.taken + 1) ∷ [])
 
-abbrev pub takes_status : Stretch → Bool → ℕ → Step Stretch Packet
+abbrev pub takes_status : Stretch → Bool → ℕ → OwnStep Stretch Packet
 takes_status x ready r = stretch_does (record x { acked = resolved x.acked r; peer_ready = ready }) []
 
 -- a packet taken in d1; by the longest message and the packet size of the direction to this end. What the levels above
 -- take is 0 here
-abbrev pub stretch_takes : ℕ → ℕ → Stretch → Packet → Step Stretch Packet
+abbrev pub stretch_takes : ℕ → ℕ → Stretch → Packet → OwnStep Stretch Packet
 stretch_takes longest size x (Data s r p) = by_ground (data_ground longest size x s r p) x (takes_data x r p)
 stretch_takes longest size x (Rr r) = by_ground (ack_ground x r) x (takes_status x true r)
 stretch_takes longest size x (Rnr r) = by_ground (ack_ground x r) x (takes_status x false r)

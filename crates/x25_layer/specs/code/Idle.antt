@@ -2,7 +2,7 @@
 use Rattle.std.specs.Prelude.{◌≡◌, ℕ, suc, ◌<◌, ◌≤◌, List, length, Some, false, slice_get, slice_index}
 use Rattle.x25_circuit.specs.declared.circuit.Circuit as circuit_code
 use Rattle.x25_circuit.specs.Awaits.{awaited_in, is_any}
-use Rattle.x25_circuit.specs.Circuit.{Settings, Circuit, waits}
+use Rattle.x25_circuit.specs.Circuit.{CircuitSettings, Circuit, waits}
 use Rattle.x25_circuit.specs.code.FitsCircuit.{FitsCircuit, waits_of}
 
 -- channels in rising order, of those from 1 up to a number
@@ -18,8 +18,8 @@ IsOutside hs h = (i : ℕ) → i < length hs → slice_index hs i ≡ h → ⊥
 -- no message waits in a circuit, and no answer is awaited
 pub record IsIdle (v : circuit_code.Circuit) : Type 0 where
   pub none : waits_of v ≡ 0
-  pub waits : (c : Settings) (x : Circuit) → FitsCircuit c v x → waits x ≡ 0
-  pub awaits : (c : Settings) (x : Circuit) → FitsCircuit c v x → is_any (awaited_in x.state) ≡ false
+  pub waits : (c : CircuitSettings) (x : Circuit) → FitsCircuit c v x → waits x ≡ 0
+  pub awaits : (c : CircuitSettings) (x : Circuit) → FitsCircuit c v x → is_any (awaited_in x.state) ≡ false
 
 -- the circuits of the other channels are idle
 abbrev pub IdleBeside : List ℕ → List circuit_code.Circuit → Type 0

@@ -4,7 +4,7 @@ use Rattle.std.specs.Prelude.{IfSome, MatchOption}
 use Rattle.x25_packet.specs.Packet.{PlainPacket}
 use Rattle.x25_packet.specs.Spelling.{spelling_of}
 use Rattle.x25_circuit.specs.declared.circuit.Circuit as circuit_code
-use Rattle.x25_circuit.specs.Circuit.{Settings, Circuit}
+use Rattle.x25_circuit.specs.Circuit.{CircuitSettings, Circuit}
 use Rattle.x25_circuit.specs.Calling.{pulled}
 use Rattle.x25_circuit.specs.code.FitsCircuit.{FitsCircuit, clears_of, resets_of}
 use Rattle.x25_layer.specs.Layer.{LayerSettings, packet_on, put_at}
@@ -21,8 +21,8 @@ IsPut false octets packet = packet ≡ None
 
 -- The next data packet of a circuit is to be put, where it may send one.
 pub record PullsOne (channel : ℕ) (old new : circuit_code.Circuit) (sheet : List ℕ) (is_put : Bool) : Type 0 where
-  pub next : (c : Settings) (x : Circuit) → FitsCircuit c old x → FitsCircuit c new (pulled c x).next
-  pub put : (c : Settings) (x : Circuit) → FitsCircuit c old x
+  pub next : (c : CircuitSettings) (x : Circuit) → FitsCircuit c old x → FitsCircuit c new (pulled c x).next
+  pub put : (c : CircuitSettings) (x : Circuit) → FitsCircuit c old x
       → IsPut is_put sheet (packet_on channel (pulled c x).packet)
   pub long : is_put ≡ true → length sheet ≤ 4099
   pub clears : clears_of new ≡ clears_of old

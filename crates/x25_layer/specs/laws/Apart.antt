@@ -8,7 +8,7 @@ use Rattle.x25_layer.specs.declared.ranges.Ranges.{Ranges}
 use Rattle.x25_layer.specs.Layer.{LayerSettings}
 use Rattle.x25_layer.specs.Calls.{LayerRequest}
 use Rattle.x25_layer.specs.laws.TwoLayers as world
-use Rattle.x25_layer.specs.laws.TwoLayers.{End, TwoLayers, Move, moves, settings_of, Event, start}
+use Rattle.x25_layer.specs.laws.TwoLayers.{End, TwoLayers, Move, moves, settings_of, EndMove, start}
 
 -- ---- one end
 
@@ -102,10 +102,10 @@ AreInOrder long_data channels (e ∷ events) ends = IsInOrder ends e
 -- ---- the same over links
 
 -- what comes is then the packet in front of those in flight
-abbrev pub over_links : ApartEvent → Event
+abbrev pub over_links : ApartEvent → EndMove
 over_links e = record { first = e.first; what = as_move e.what }
 
-abbrev pub all_over_links : List ApartEvent → List Event
+abbrev pub all_over_links : List ApartEvent → List EndMove
 all_over_links [] = []
 all_over_links (e ∷ events) = over_links e ∷ all_over_links events
 

@@ -6,11 +6,11 @@ use Rattle.x25_handshakes.specs.laws.Histories.{IsPrefix}
 use Rattle.x25_layer.specs.declared.ranges.Ranges.{Ranges}
 use Rattle.x25_layer.specs.laws.Quiet.{AreQuiet, AreNoFaults}
 use Rattle.x25_layer.specs.laws.Transcript.{Entry, under, calls_in, messages_in, interrupts_in, name_of}
-use Rattle.x25_layer.specs.laws.TwoLayers.{End, TwoLayers, Event, run, start}
+use Rattle.x25_layer.specs.laws.TwoLayers.{End, TwoLayers, EndMove, run, start}
 
 -- whatever happened to two ends
 abbrev pub Always : (TwoLayers → Type 0) → Bool → Ranges → Type 0
-Always P long_data channels = (events : List Event) → P (run long_data channels events (start long_data channels))
+Always P long_data channels = (events : List EndMove) → P (run long_data channels events (start long_data channels))
 
 -- no end told the other or its user of an error of procedure
 pub record IsQuietEnd (channels : Ranges) (e : End) : Type 0 where

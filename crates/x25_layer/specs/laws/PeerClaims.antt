@@ -14,11 +14,12 @@ use Rattle.x25_layer.specs.declared.ranges.Ranges.{Ranges}
 use Rattle.x25_layer.specs.Layer.{Layer}
 use Rattle.x25_layer.specs.laws.Transcript.{Entry, under, calls_in, messages_in, interrupts_in, name_of}
 use Rattle.x25_layer.specs.laws.Law.{IsQuietEnd}
-use Rattle.x25_layer.specs.laws.PeerJoined.{Joined, IsReached}
+use Rattle.x25_layer.specs.laws.PeerJoined.{PeerJoined, IsReached}
 
-abbrev pub WithAnyPeer : (Ranges → Joined → Type 0) → Type 0
+abbrev pub WithAnyPeer : (Ranges → PeerJoined → Type 0) → Type 0
 WithAnyPeer Holds =
-    (r : Role) (long_data : Bool) (channels : Ranges) (w : Joined) → IsReached r long_data channels w → Holds channels w
+    (r : Role) (long_data : Bool) (channels : Ranges) (w : PeerJoined) → IsReached r long_data channels w
+    → Holds channels w
 
 -- a peer's call on a channel, its stretch, and the name of that by its own counts
 abbrev pub peer_call : At PeerChannels → ℕ → PeerCall
@@ -57,13 +58,13 @@ pub record CallIsInOrder (k : ℕ) (m : Name) (entries : List Entry) (y : PeerCa
 
 -- Where both ends count alike: of a call where that is so of restarts and clears, and of a stretch where it is so of
 -- resets too.
-pub record IsInOrder (k : ℕ) (w : Joined) : Type 0 where
+pub record IsInOrder (k : ℕ) (w : PeerJoined) : Type 0 where
   pub calls : of_call (name_of w.near.layer k) ≡ of_call (peer_name w.peer k)
       → CallIsInOrder k (name_of w.near.layer k) w.near.entries (peer_call w.peer k)
   pub stretch : name_of w.near.layer k ≡ peer_name w.peer k
       → StretchIsInOrder k (name_of w.near.layer k) w.near.entries (w.near.layer.circuits k) (peer_stretch w.peer k)
 
-abbrev pub IsAllInOrder : Ranges → Joined → Type 0
+abbrev pub IsAllInOrder : Ranges → PeerJoined → Type 0
 IsAllInOrder channels w = (k : ℕ) → IsInOrder k w
 
 -- Of a stretch that is open at both ends: both count it alike, and what our user handed down in it the peer took, of
@@ -79,9 +80,9 @@ OpenHaveArrived l entries y =
     (k : ℕ) → is_open (l.circuits k) ≡ true → is_open_there y.side k ≡ true → HasArrived k l entries y
 
 -- where no packet is on the way to the peer
-abbrev pub AllHaveArrived : Ranges → Joined → Type 0
+abbrev pub AllHaveArrived : Ranges → PeerJoined → Type 0
 AllHaveArrived channels w = w.out ≡ [] → OpenHaveArrived w.near.layer w.near.entries w.peer
 
 -- our layer neither sends the peer an error of procedure nor tells its user of one
-abbrev pub FindsNoError : Ranges → Joined → Type 0
+abbrev pub FindsNoError : Ranges → PeerJoined → Type 0
 FindsNoError channels w = IsQuietEnd channels w.near

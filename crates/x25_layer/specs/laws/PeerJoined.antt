@@ -16,23 +16,23 @@ use Rattle.x25_layer.specs.laws.TwoLayers.{End, TwoLayers, Move, GoesDown, moves
 use Rattle.x25_layer.specs.laws.TwoLayers.{settings_of}
 
 -- The end of our layer, the peer, and the packets in flight from our layer and to it.
-pub record Joined : Type 0 where
+pub record PeerJoined : Type 0 where
   pub near : End
   pub peer : At PeerChannels
   pub out : List PlainPacket
   pub back : List PlainPacket
 
 -- the link has come up, and our layer has sent its RESTART
-abbrev pub start : Role → Bool → Ranges → Joined
+abbrev pub start : Role → Bool → Ranges → PeerJoined
 start r long_data channels =
     let near = started (goes_up (settings_of r long_data channels)) in
     record { near = near; peer = live 0 peer_fresh; out = near.given; back = [] }
 
 -- our layer's end, as two layers have it: a move of the near end changes nothing of the far one
-abbrev pub our_end : Joined → TwoLayers
+abbrev pub our_end : PeerJoined → TwoLayers
 our_end w = record { near = w.near; far = w.near; out = w.out; back = w.back }
 
-abbrev pub with_peer : At PeerChannels → TwoLayers → Joined
+abbrev pub with_peer : At PeerChannels → TwoLayers → PeerJoined
 with_peer y v = record { near = v.near; peer = y; out = v.out; back = v.back }
 
 -- a packet is of a channel that our layer has, or of none
@@ -43,48 +43,48 @@ abbrev pub AreConfigured : Ranges → List PlainPacket → Type 0
 AreConfigured channels [] = Unit {0}
 AreConfigured channels (p ∷ ps) = IsConfigured channels p × AreConfigured channels ps
 
--- the peer goes on to this, with these packets, as its step has it
+-- these packets are what the peer's step puts
 pub record Answers (channels : Ranges) (packets : List PlainPacket)
     (s : PeerStep (At PeerChannels) LayerPacket) : Type 0 where
   pub are : bare_layers channels.message packets ≡ s.out
   pub configured : AreConfigured channels packets
 
-abbrev pub peer_stepped : Joined → List PlainPacket → List PlainPacket → PeerStep (At PeerChannels) LayerPacket → Joined
-peer_stepped w out packets s = record w { peer = s.next; out = out; back = w.back ++ packets }
+-- What the peer may do, as it stands, with these packets in flight to it: how it stands then, which are left, and what
+-- it puts. Causes, diagnostics, addresses and user data of what it sends are free.
+pub data PeerMoves (r : Role) (channels : Ranges) (x : At PeerChannels) (out : List PlainPacket) : At PeerChannels
+    → List PlainPacket → List PlainPacket → Type 0 where
+  -- it sends a packet
+  Does : (deed : LayerDeed) (p : PlainPacket) → MayDoLayer x.side deed
+      → bare_layer channels.message p ≡ layer_packet_of x.side deed → IsConfigured channels p
+      → PeerMoves r channels x out (does_layer x.epoch x.side deed) out (p ∷ [])
+  -- it takes the packet in front
+  Hears : (p : PlainPacket) (rest packets : List PlainPacket) → out ≡ p ∷ rest
+      → Answers channels packets (layer_taking (other_role r) x.epoch x.side (bare_layer channels.message p))
+      → PeerMoves r channels x out (layer_taking (other_role r) x.epoch x.side (bare_layer channels.message p)).next
+      rest packets
+  -- it takes the first packet of a channel before those of other channels that stand in front of it
+  HearsChannel : (y : PeerChannels) (passed : List PlainPacket) (p : PlainPacket) (rest packets : List PlainPacket)
+      → x.side ≡ Live y → HasChannel p → AreElsewhere (channel_of p) (bare_layers channels.message passed)
+      → out ≡ passed ++ p ∷ rest
+      → Answers channels packets (ready_taking (other_role r) x.epoch y
+      (On (channel_of p) (bare channels.message p)))
+      → PeerMoves r channels x out (ready_taking (other_role r) x.epoch y
+      (On (channel_of p) (bare channels.message p))).next (passed ++ rest) packets
 
 abbrev pub StaysUp : Move → Type 0
 StaysUp GoesDown = ⊥
 StaysUp other = Unit {0}
 
--- What may happen next. Causes, diagnostics, addresses and user data of what the peer sends are free.
-pub data Happens (r : Role) (long_data : Bool) (channels : Ranges) (w : Joined) : Joined → Type 0 where
+-- what may happen next
+pub data Happens (r : Role) (long_data : Bool) (channels : Ranges) (w : PeerJoined) : PeerJoined → Type 0 where
   -- our layer acts, by the definition that it meets call by call: a call of the user, a pull, a packet handed up
   Ours : (move : Move) → StaysUp move
       → Happens r long_data channels w (with_peer w.peer (moves (settings_of r long_data channels) (our_end w) move))
-  -- the peer sends a packet
-  Does : (deed : LayerDeed) (p : PlainPacket) → MayDoLayer w.peer.side deed
-      → bare_layer channels.message p ≡ layer_packet_of w.peer.side deed → IsConfigured channels p
-      → Happens r long_data channels w (record w {
-        peer = does_layer w.peer.epoch w.peer.side deed;
-        back = w.back ++ p ∷ [];
-      })
-  -- it takes the packet in front
-  Hears : (p : PlainPacket) (rest packets : List PlainPacket) → w.out ≡ p ∷ rest
-      → Answers channels packets (layer_taking (other_role r) w.peer.epoch w.peer.side (bare_layer channels.message p))
-      → Happens r long_data channels w
-      (peer_stepped w rest packets (layer_taking (other_role r) w.peer.epoch w.peer.side
-      (bare_layer channels.message p)))
-  -- it takes the first packet of a channel before those of other channels that stand in front of it
-  HearsChannel : (y : PeerChannels) (passed : List PlainPacket) (p : PlainPacket) (rest packets : List PlainPacket)
-      → w.peer.side ≡ Live y → HasChannel p → AreElsewhere (channel_of p) (bare_layers channels.message passed)
-      → w.out ≡ passed ++ p ∷ rest
-      → Answers channels packets (ready_taking (other_role r) w.peer.epoch y
-      (On (channel_of p) (bare channels.message p)))
-      → Happens r long_data channels w (peer_stepped w (passed ++ rest) packets
-      (ready_taking (other_role r) w.peer.epoch y (On (channel_of p) (bare channels.message p))))
+  Theirs : (y : At PeerChannels) (out packets : List PlainPacket) → PeerMoves r channels w.peer w.out y out packets
+      → Happens r long_data channels w (record w { peer = y; out = out; back = w.back ++ packets })
 
 -- what is reached, event by event
-pub data IsReached (r : Role) (long_data : Bool) (channels : Ranges) : Joined → Type 0 where
+pub data IsReached (r : Role) (long_data : Bool) (channels : Ranges) : PeerJoined → Type 0 where
   at_start : IsReached r long_data channels (start r long_data channels)
-  goes_on : (w v : Joined) → IsReached r long_data channels w → Happens r long_data channels w v
+  goes_on : (w v : PeerJoined) → IsReached r long_data channels w → Happens r long_data channels w v
       → IsReached r long_data channels v

@@ -1,7 +1,7 @@
 -- The transcript of a layer: what its users asked and were told on each channel, each entry under the name of its
 -- stretch.
 use Rattle.std.specs.Prelude.{ℕ, List, [], ◌∷◌, ◌++◌, ◌==◌, if◌then◌else◌}
-use Rattle.x25_circuit.specs.declared.message.Message.{Message}
+use Rattle.x25_circuit.specs.Message.{Message}
 use Rattle.x25_circuit.specs.Notice.{CallRequest, PlainNotice, incoming, delivered, interrupted}
 use Rattle.x25_circuit.specs.Calling.{Request, Calls, Sends, Interrupts, request_of}
 use Rattle.x25_handshakes.specs.laws.Names.{Name, both, same_name}

@@ -80,7 +80,7 @@ pub data Move : Type 0 where
   -- the link goes down
   GoesDown : Move
 
-pub record Event : Type 0 where
+pub record EndMove : Type 0 where
   pub first : Bool
   pub what : Move
 
@@ -168,12 +168,12 @@ settings_of role long_data channels = record {
 }
 
 -- the first end is the DTE
-abbrev pub happens : Bool → Ranges → TwoLayers → Event → TwoLayers
+abbrev pub happens : Bool → Ranges → TwoLayers → EndMove → TwoLayers
 happens long_data channels w e =
     if e.first then moves (settings_of Dte long_data channels) w e.what
     else turned (moves (settings_of Dce long_data channels) (turned w) e.what)
 
-abbrev pub run : Bool → Ranges → List Event → TwoLayers → TwoLayers
+abbrev pub run : Bool → Ranges → List EndMove → TwoLayers → TwoLayers
 run long_data channels [] w = w
 run long_data channels (e ∷ events) w = run long_data channels events (happens long_data channels w e)
 

@@ -6,8 +6,8 @@ use Rattle.x25_frame.specs.Reading.{frame_of}
 use Rattle.x25_link.specs.declared.phase.Phase.{Phase}
 use Rattle.x25_link.specs.declared.phase.Phase.TheVariants.{Down, Waiting, Up, Closed}
 use Rattle.x25_link.specs.declared.phase.Reason.TheVariants.{Dm}
-use Rattle.x25_link.specs.Station.{Settings, LinkStation, Side, is_up, is_busy, wanted, with_near, sends, ready, next_frame, send_next, may_send, pumped, owes_ready, finished, ended}
-use Rattle.x25_link.specs.Hearing.{Step, quiet, leaves, other, is_valid, acknowledged, is_taken, takes, answers, passes_over, rejects_gap, hears_info, peer_is, goes_back, polls, row_of_frame}
+use Rattle.x25_link.specs.Station.{LinkSettings, LinkStation, Side, is_up, is_busy, wanted, with_near, sends, ready, next_frame, send_next, may_send, pumped, owes_ready, finished, ended}
+use Rattle.x25_link.specs.Hearing.{LinkStep, quiet, leaves, other, is_valid, acknowledged, is_taken, takes, answers, passes_over, rejects_gap, hears_info, peer_is, goes_back, polls, row_of_frame}
 use Rattle.x25_link.specs.Link.{alone, closed_by, hears, declines, when_down, fires, asks_again, take_step}
 use Rattle.x25_link.specs.laws.WindowLaw.{IsOut}
 use Rattle.x25_link.specs.laws.AnswerLaw.{says, AreNext, weight_of, weight_if, once_taken, busy_after, Outcome, Answers, Asks, TimerAsks, heard, goes_on_from, PollIsAnswered, FinalEndsRecovery, ReadyIsHeard, RejGoesBack, IsTakenUp, WantedIsTaken, passed_over, OtherIsPassedOver, asks, Declines, OutDeclines, DmLeavesUp}
@@ -133,7 +133,7 @@ module _ (t : Side) where
 -- ---- from a row to the step
 
 -- a row that sends `first` and leaves the station as the outcome says
-answers_from : (k : ℕ) (s : LinkStation) (o : Outcome) (t : Side) (step : Step) → step.notes ≡ record { down = None; up = false } → GoesOn t step.side → is_up t.near.phase ≡ true
+answers_from : (k : ℕ) (s : LinkStation) (o : Outcome) (t : Side) (step : LinkStep) → step.notes ≡ record { down = None; up = false } → GoesOn t step.side → is_up t.near.phase ≡ true
     → t.near.recovery ≡ o.recovery → t.near.peer_busy ≡ o.peer_busy → t.near.tries ≡ o.tries → t.near.taken ≡ o.taken → t.near.outgoing.given ≡ s.outgoing.given
     → t.near.outgoing.acked ≡ o.acked → t.near.outgoing.place ≡ o.place → t.out ≡ o.first → t.near.said_busy ≡ o.said_busy → Answers s o (closed_by k step)
 answers_from k s o t step silent goes up recovery peer_busy tries taken given acked place first said =
@@ -155,7 +155,7 @@ answers_from k s o t step silent goes up recovery peer_busy tries taken given ac
       quiet = silent;
     }
 
-row_is : (c : Settings) (octets : List ℕ) (s : LinkStation) → s.phase ≡ Up → (frame : PlainFrame) → frame_of (other c.role) c.longest octets ≡ Ok frame
+row_is : (c : LinkSettings) (octets : List ℕ) (s : LinkStation) → s.phase ≡ Up → (frame : PlainFrame) → frame_of (other c.role) c.longest octets ≡ Ok frame
     → take_step c octets s ≡ closed_by c.window (row_of_frame c octets frame (alone s))
 row_is c octets s up frame is = rw (up, is) refl
 
@@ -175,7 +175,7 @@ ready_by false pf k s o u e up recovery peer_busy tries taken given acked place 
 
 -- ---- RR, RNR and REJ
 
-poll_row : (c : Settings) (octets : List ℕ) (s : LinkStation) (busy : Bool) (nr : ℕ) → s.phase ≡ Up → is_valid nr s ≡ true
+poll_row : (c : LinkSettings) (octets : List ℕ) (s : LinkStation) (busy : Bool) (nr : ℕ) → s.phase ≡ Up → is_valid nr s ≡ true
     → Answers s (record (goes_on_from nr s) { peer_busy = busy; said_busy = is_busy s; first = says (is_busy s) false (wanted s) true ∷ [] }) (closed_by c.window (row_of_frame c octets (says busy true nr true) (alone s)))
 poll_row c octets s true nr up valid = rw valid (ready_by (is_busy s) true c.window s _ (told true nr s) refl (ap is_up up) refl refl refl refl refl refl refl refl refl)
 poll_row c octets s false nr up valid = rw valid (ready_by (is_busy s) true c.window s _ (told false nr s) refl (ap is_up up) refl refl refl refl refl refl refl refl refl)
@@ -189,7 +189,7 @@ still : (k : ℕ) (s : LinkStation) (o : Outcome) (t : Side) → is_up t.near.ph
     → t.near.outgoing.given ≡ s.outgoing.given → t.near.outgoing.acked ≡ o.acked → t.near.outgoing.place ≡ o.place → t.out ≡ o.first → t.near.said_busy ≡ o.said_busy → Answers s o (closed_by k (quiet t))
 still k s o t = answers_from k s o t (quiet t) refl (G-stays t)
 
-final_row : (c : Settings) (octets : List ℕ) (s : LinkStation) (busy : Bool) (nr : ℕ) → s.phase ≡ Up → is_valid nr s ≡ true
+final_row : (c : LinkSettings) (octets : List ℕ) (s : LinkStation) (busy : Bool) (nr : ℕ) → s.phase ≡ Up → is_valid nr s ≡ true
     → Answers s (record (goes_on_from nr s) { recovery = false; peer_busy = busy; tries = 0; place = heard nr s }) (closed_by c.window (row_of_frame c octets (says busy false nr true) (alone s)))
 final_row c octets s true nr up valid = rw valid (still c.window s _ (polls false true (told true nr s)) (ap is_up up) refl refl refl refl refl refl refl refl refl)
 final_row c octets s false nr up valid = rw valid (still c.window s _ (polls false true (told false nr s)) (ap is_up up) refl refl refl refl refl refl refl refl refl)
@@ -198,7 +198,7 @@ pub final_ends_recovery : FinalEndsRecovery
 final_ends_recovery busy nr c octets s up is valid =
     subst (Answers s (record (goes_on_from nr s) { recovery = false; peer_busy = busy; tries = 0; place = heard nr s })) (sym (row_is c octets s up (says busy false nr true) is)) (final_row c octets s busy nr up valid)
 
-ready_row : (c : Settings) (octets : List ℕ) (s : LinkStation) (busy command : Bool) (nr : ℕ) → s.phase ≡ Up → is_valid nr s ≡ true
+ready_row : (c : LinkSettings) (octets : List ℕ) (s : LinkStation) (busy command : Bool) (nr : ℕ) → s.phase ≡ Up → is_valid nr s ≡ true
     → Answers s (record (goes_on_from nr s) { peer_busy = busy }) (closed_by c.window (row_of_frame c octets (says busy command nr false) (alone s)))
 ready_row c octets s true true nr up valid = rw valid (still c.window s _ (told true nr s) (ap is_up up) refl refl refl refl refl refl refl refl refl)
 ready_row c octets s true false nr up valid = rw valid (still c.window s _ (told true nr s) (ap is_up up) refl refl refl refl refl refl refl refl refl)
@@ -209,7 +209,7 @@ pub ready_is_heard : ReadyIsHeard
 ready_is_heard busy command nr c octets s up is valid =
     subst (Answers s (record (goes_on_from nr s) { peer_busy = busy })) (sym (row_is c octets s up (says busy command nr false) is)) (ready_row c octets s busy command nr up valid)
 
-rej_row : (c : Settings) (octets : List ℕ) (s : LinkStation) (command : Bool) (nr : ℕ) → s.phase ≡ Up → is_valid nr s ≡ true
+rej_row : (c : LinkSettings) (octets : List ℕ) (s : LinkStation) (command : Bool) (nr : ℕ) → s.phase ≡ Up → is_valid nr s ≡ true
     → Answers s (record (goes_on_from nr s) { peer_busy = false; place = heard nr s }) (closed_by c.window (row_of_frame c octets (rej command nr false) (alone s)))
 rej_row c octets s true nr up valid = rw valid (still c.window s _ (goes_back (told false nr s)) (ap is_up up) refl refl refl refl refl refl refl refl refl)
 rej_row c octets s false nr up valid = rw valid (still c.window s _ (goes_back (told false nr s)) (ap is_up up) refl refl refl refl refl refl refl refl refl)
@@ -231,12 +231,12 @@ sent_first k u frame one none =
 
 -- the I frame is answered by the one that goes, or by RR
 taken_by : (goes : Bool) (k nr : ℕ) (packet : List ℕ) (s : LinkStation) → s.phase ≡ Up → is_busy s ≡ false → may_send k (takes packet (acknowledged nr (alone s))).near ≡ goes
-    → (let step : Step = record { side = answers k false (takes packet (acknowledged nr (alone s))); packet = Some packet; notes = record { down = None; up = false } } in
+    → (let step : LinkStep = record { side = answers k false (takes packet (acknowledged nr (alone s))); packet = Some packet; notes = record { down = None; up = false } } in
     IsTakenUp s packet (once_taken goes nr false packet s) (closed_by k step))
 taken_by true k nr packet s up free may =
     let u = takes packet (acknowledged nr (alone s)) in
     let goes : GoesOn u (send_next u) = G-send_next u k u may (G-stays u) in
-    let step : Step = record { side = send_next u; packet = Some packet; notes = record { down = None; up = false } } in
+    let step : LinkStep = record { side = send_next u; packet = Some packet; notes = record { down = None; up = false } } in
     rw may (record {
       answers = answers_from k s (once_taken true nr false packet s) u step refl goes (ap is_up up) refl refl refl refl refl refl refl refl refl;
       packet = refl;
@@ -246,7 +246,7 @@ taken_by true k nr packet s up free may =
 taken_by false k nr packet s up free may =
     let u = takes packet (acknowledged nr (alone s)) in
     let v : Side = sends (rr false (wanted u.near) false) (with_near u (record u.near { said_busy = false })) in
-    let step : Step = record { side = v; packet = Some packet; notes = record { down = None; up = false } } in
+    let step : LinkStep = record { side = v; packet = Some packet; notes = record { down = None; up = false } } in
     rw (may, free) (record {
       answers = answers_from k s (once_taken false nr false packet s) v step refl (G-stays v) (ap is_up up) refl refl refl refl refl refl refl refl refl;
       packet = refl;
@@ -260,7 +260,7 @@ wanted_row k ns nr true packet s up is =
     let u = takes packet (acknowledged nr (alone s)) in
     let free : is_busy s ≡ false = not-true _ (and_parts (not (is_busy s)) _ is).0 in
     let v : Side = sends (rr false (wanted u.near) true) (with_near u (record u.near { said_busy = false })) in
-    let step : Step = record { side = v; packet = Some packet; notes = record { down = None; up = false } } in (
+    let step : LinkStep = record { side = v; packet = Some packet; notes = record { down = None; up = false } } in (
       true,
       rw (is, free) (record {
         answers = answers_from k s (once_taken true nr true packet s) v step refl (G-stays v) (ap is_up up) refl refl refl refl refl refl refl refl refl;
@@ -274,13 +274,13 @@ wanted_row k ns nr false packet s up is =
     let free : is_busy s ≡ false = not-true _ (and_parts (not (is_busy s)) _ is).0 in
     (may_send k u.near, rw is (taken_by (may_send k u.near) k nr packet s up free refl))
 
-info_row : (c : Settings) (octets : List ℕ) (ns nr : ℕ) (p : Bool) (packet : List ℕ) (s : LinkStation) → s.phase ≡ Up → frame_of (other c.role) c.longest octets ≡ Ok (info ns nr p packet) → is_valid nr s ≡ true
+info_row : (c : LinkSettings) (octets : List ℕ) (ns nr : ℕ) (p : Bool) (packet : List ℕ) (s : LinkStation) → s.phase ≡ Up → frame_of (other c.role) c.longest octets ≡ Ok (info ns nr p packet) → is_valid nr s ≡ true
     → take_step c octets s ≡ closed_by c.window (hears_info c.window ns p packet (acknowledged nr (alone s)))
 info_row c octets ns nr p packet s up is valid = row_is c octets s up (info ns nr p packet) is ∙ rw valid refl
 
 pub wanted_is_taken : WantedIsTaken
 wanted_is_taken ns nr p packet c octets s up is valid wants =
-    subst (λ (step : Step). (goes : Bool) × IsTakenUp s packet (once_taken goes nr p packet s) step) (sym (info_row c octets ns nr p packet s up is valid)) (wanted_row c.window ns nr p packet s up wants)
+    subst (λ (step : LinkStep). (goes : Bool) × IsTakenUp s packet (once_taken goes nr p packet s) step) (sym (info_row c octets ns nr p packet s up is valid)) (wanted_row c.window ns nr p packet s up wants)
 
 -- ---- any other I frame
 
@@ -306,10 +306,10 @@ other_is_passed_over ns nr p packet c octets s up is valid other_one =
 
 -- ---- timer T1
 
-fires_is : (c : Settings) (s : LinkStation) → s.phase ≡ Up → s.tries < c.retries → fires c (alone s) ≡ quiet (ready true true (alone (record s { tries = s.tries + 1; recovery = true })))
+fires_is : (c : LinkSettings) (s : LinkStation) → s.phase ≡ Up → s.tries < c.retries → fires c (alone s) ≡ quiet (ready true true (alone (record s { tries = s.tries + 1; recovery = true })))
 fires_is c s up few = rw (lt-ltb _ _ few) (ap (λ (p : Phase). quiet (asks_again p (with_near (alone s) (record s { tries = s.tries + 1 })))) up)
 
-asks_by : (b : Bool) (c : Settings) (s : LinkStation) → s.phase ≡ Up → is_busy s ≡ b → s.tries < c.retries → Asks s (closed_by c.window (fires c (alone s)))
+asks_by : (b : Bool) (c : LinkSettings) (s : LinkStation) → s.phase ≡ Up → is_busy s ≡ b → s.tries < c.retries → Asks s (closed_by c.window (fires c (alone s)))
 asks_by b c s up e few =
     subst (Asks s) (sym (closed_stays c.window (fires c (alone s)) (fires_settled c (alone s)) (fires_calm c (alone s))))
     (subst (Asks s) (sym (fires_is c s up few)) (asked b e))
@@ -358,7 +358,7 @@ closed_declines (ua f) s e = true_false (sym e)
 closed_declines (dm f) s e = true_false (sym e)
 closed_declines (frmr f why) s e = true_false (sym e)
 
-out_row : (c : Settings) (octets : List ℕ) (p : Phase) (s : LinkStation) → IsOut p → (frame : PlainFrame) → asks frame ≡ true → Declines s (hears c octets (Ok frame) p (alone s))
+out_row : (c : LinkSettings) (octets : List ℕ) (p : Phase) (s : LinkStation) → IsOut p → (frame : PlainFrame) → asks frame ≡ true → Declines s (hears c octets (Ok frame) p (alone s))
 out_row c octets Down s out frame e = down_declines frame s e
 out_row c octets Waiting s out frame e = absurd out
 out_row c octets Up s out frame e = absurd out
@@ -367,11 +367,11 @@ out_row c octets Closed s out frame e = closed_declines frame s e
 pub out_declines : OutDeclines
 out_declines c octets s out frame is e =
     let h = out_row c octets s.phase s out frame e in
-    let step : Step = hears c octets (Ok frame) s.phase (alone s) in
+    let step : LinkStep = hears c octets (Ok frame) s.phase (alone s) in
     let off : is_up step.side.near.phase ≡ false = ap (λ (z : LinkStation). is_up z.phase) h.near ∙ out_is_not_up s.phase out in
     rw is (subst (Declines s) (sym (closed_stays c.window step (rw off refl) (rw off refl))) h)
 
 pub dm_leaves_up : DmLeavesUp
 dm_leaves_up c octets s up f is =
     let h : take_step c octets s ≡ leaves Dm (alone s) = row_is c octets s up (dm f) is ∙ closed_stays c.window (leaves Dm (alone s)) refl refl in
-    (ap (λ (z : Step). z.side.near) h, ap (λ (z : Step). z.side.out) h)
+    (ap (λ (z : LinkStep). z.side.near) h, ap (λ (z : LinkStep). z.side.out) h)

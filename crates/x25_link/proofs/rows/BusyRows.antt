@@ -9,8 +9,8 @@ use Rattle.x25_frame.specs.declared.error.FrameError.TheVariants.{Short, BadFcs,
 use Rattle.x25_link.specs.declared.phase.Phase.{Phase}
 use Rattle.x25_link.specs.declared.phase.Phase.TheVariants.{Up}
 use Rattle.x25_link.specs.declared.phase.Reason.TheVariants.{Disc, Dm, FrmrSent, FrmrGot, Reset, Retries}
-use Rattle.x25_link.specs.Station.{Settings, LinkStation, Side, is_busy, wanted, with_near, sends, ready, next_frame, send_next, may_send, pumped, owes_ready, finished, ended}
-use Rattle.x25_link.specs.Hearing.{Step, quiet, leaves, other, is_valid, acknowledged, is_taken, takes, answers, passes_over, peer_is, goes_back, polls, row_of_frame, row_of}
+use Rattle.x25_link.specs.Station.{LinkSettings, LinkStation, Side, is_busy, wanted, with_near, sends, ready, next_frame, send_next, may_send, pumped, owes_ready, finished, ended}
+use Rattle.x25_link.specs.Hearing.{LinkStep, quiet, leaves, other, is_valid, acknowledged, is_taken, takes, answers, passes_over, peer_is, goes_back, polls, row_of_frame, row_of}
 use Rattle.x25_link.specs.Link.{alone, hears, puts, fires, asks_again}
 use Rattle.x25_link.specs.laws.NoteLaw.{IsQuiet}
 use Rattle.x25_link.specs.laws.BusyLaw.{said_last, says_free, NoInfo, Says, TakeSaysBusy, PutSaysBusy, TimerSaysBusy}
@@ -131,14 +131,14 @@ module _ (before : Bool) where
 
 -- ---- rows
 
-abbrev Row : LinkStation → Step → Type 0
+abbrev Row : LinkStation → LinkStep → Type 0
 Row s step = IsQuiet step → S s.said_busy step.side
 
-row_if : (s : LinkStation) (b : Bool) (x y : Step) → Row s x → Row s y → (let z : Step = if b then x else y in Row s z)
+row_if : (s : LinkStation) (b : Bool) (x y : LinkStep) → Row s x → Row s y → (let z : LinkStep = if b then x else y in Row s z)
 row_if s true x y f g = f
 row_if s false x y f g = g
 
-frame_row : (c : Settings) (octets : List ℕ) (frame : PlainFrame) (s : LinkStation) → Row s (row_of_frame c octets frame (alone s))
+frame_row : (c : LinkSettings) (octets : List ℕ) (frame : PlainFrame) (s : LinkStation) → Row s (row_of_frame c octets frame (alone s))
 frame_row c octets (info ns nr p packet) s =
     let u = acknowledged nr (alone s) in
     let begins = S-begins s.said_busy u refl refl in
@@ -160,7 +160,7 @@ frame_row c octets (ua f) s = λ _. S-begins s.said_busy (alone s) refl refl
 frame_row c octets (dm f) s = λ e. noted_quiet Dm false e
 frame_row c octets (frmr f why) s = λ e. noted_quiet FrmrGot false e
 
-read_row : (c : Settings) (octets : List ℕ) (read : Result PlainFrame FrameError) (s : LinkStation) → Row s (row_of c octets read (alone s))
+read_row : (c : LinkSettings) (octets : List ℕ) (read : Result PlainFrame FrameError) (s : LinkStation) → Row s (row_of c octets read (alone s))
 read_row c octets (Ok frame) s = frame_row c octets frame s
 read_row c octets (Err Short) s = λ _. S-begins s.said_busy (alone s) refl refl
 read_row c octets (Err BadFcs) s = λ _. S-begins s.said_busy (alone s) refl refl
@@ -169,7 +169,7 @@ read_row c octets (Err (Undefined control)) s = λ e. noted_quiet FrmrSent false
 read_row c octets (Err (NoInfoAllowed control)) s = λ e. noted_quiet FrmrSent false e
 read_row c octets (Err TooLong) s = λ e. noted_quiet FrmrSent false e
 
-hears_row : (c : Settings) (octets : List ℕ) (read : Result PlainFrame FrameError) (s : LinkStation) (p : Phase) → p ≡ Up → Row s (hears c octets read p (alone s))
+hears_row : (c : LinkSettings) (octets : List ℕ) (read : Result PlainFrame FrameError) (s : LinkStation) (p : Phase) → p ≡ Up → Row s (hears c octets read p (alone s))
 hears_row c octets read s p is = subst (λ (z : Phase). Row s (hears c octets read z (alone s))) (sym is) (read_row c octets read s)
 
 -- ---- the laws

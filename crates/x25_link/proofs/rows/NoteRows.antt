@@ -14,8 +14,8 @@ use Rattle.x25_link.specs.declared.phase.Reason.{Reason}
 use Rattle.x25_link.specs.declared.phase.Reason.TheVariants.{Disc, Dm, FrmrSent, FrmrGot, Retries, Counts, Local, Reset}
 use Rattle.x25_link.specs.declared.phase.Notes.{Notes}
 use Rattle.x25_link.specs.Outgoing.{no_packet, waits}
-use Rattle.x25_link.specs.Station.{Settings, LinkStation, Side, lists_of, no_packets, fresh, is_up, is_busy, with_near, sends, ready, send_next, may_send, pumped, owes_ready, ended}
-use Rattle.x25_link.specs.Hearing.{Step, quiet, leaves, other, rejects, is_valid, acknowledged, is_taken, takes, answers, passes_over, reject_of, hears_info, peer_is, goes_back, polls, numbered, row_of_frame, row_of}
+use Rattle.x25_link.specs.Station.{LinkSettings, LinkStation, Side, lists_of, no_packets, fresh, is_up, is_busy, with_near, sends, ready, send_next, may_send, pumped, owes_ready, ended}
+use Rattle.x25_link.specs.Hearing.{LinkStep, quiet, leaves, other, rejects, is_valid, acknowledged, is_taken, takes, answers, passes_over, reject_of, hears_info, peer_is, goes_back, polls, numbered, row_of_frame, row_of}
 use Rattle.x25_link.specs.Link.{alone, closed_by, hears, puts, connects, asks_again, fires, disconnects, when_down, when_waiting, relinks}
 use Rattle.x25_link.specs.laws.SetUp.{reset_from}
 use Rattle.x25_link.specs.laws.NoteLaw.{Tells, Continues, HandsUp, TakeTells, TakeContinues, TakeHandsUp, TimerTells, TimerContinues, PutTells, ConnectTells, DisconnectTells, AbandonTells, RelinkTells}
@@ -49,7 +49,7 @@ ended_waits k t =
     let sent = ended_sent k t in
     omega arith
 
-tells_from : (k : ℕ) (s : LinkStation) (step : Step) → Tells s step → Tells s (closed_by k step)
+tells_from : (k : ℕ) (s : LinkStation) (step : LinkStep) → Tells s step → Tells s (closed_by k step)
 tells_from k s step h =
     let phase = ended_phase k step.side in
     let lists = ended_lists k step.side in
@@ -64,7 +64,7 @@ tells_from k s step h =
       empty = λ e low none. lists ∙ h.empty e low none;
     }
 
-continues_from : (k : ℕ) (s : LinkStation) (step : Step) → Continues s step → Continues s (closed_by k step)
+continues_from : (k : ℕ) (s : LinkStation) (step : LinkStep) → Continues s step → Continues s (closed_by k step)
 continues_from k s step h =
     let lists = ended_lists k step.side in
     record {
@@ -75,7 +75,7 @@ continues_from k s step h =
       acked = λ e. subst (λ n. s.outgoing.acked ≤ n) (sym (ap (λ x. x.acked) lists)) (h.acked e);
     }
 
-hands_from : (k : ℕ) (s : LinkStation) (step : Step) → HandsUp s step → HandsUp s (closed_by k step)
+hands_from : (k : ℕ) (s : LinkStation) (step : LinkStep) → HandsUp s step → HandsUp s (closed_by k step)
 hands_from k s step h = record {
   up = h.up;
   few = h.few;
@@ -111,7 +111,7 @@ leaves_continues s reason t = record {
 }
 
 sets_up_tells : (s : LinkStation) (down : Option Reason) (out : List PlainFrame) → down ≡ reset_from s.phase
-    → Tells s (let step : Step = record { side = record { near = fresh; out = out }; packet = None; notes = record { down = down; up = true } } in step)
+    → Tells s (let step : LinkStep = record { side = record { near = fresh; out = out }; packet = None; notes = record { down = down; up = true } } in step)
 sets_up_tells s down out same = record {
   fresh_up = λ _. refl;
   after_down = λ _. same;
@@ -122,7 +122,7 @@ sets_up_tells s down out same = record {
 }
 
 sets_up_continues : (s : LinkStation) (down : Option Reason) (out : List PlainFrame)
-    → Continues s (let step : Step = record { side = record { near = fresh; out = out }; packet = None; notes = record { down = down; up = true } } in step)
+    → Continues s (let step : LinkStep = record { side = record { near = fresh; out = out }; packet = None; notes = record { down = down; up = true } } in step)
 sets_up_continues s down out = record {
   phase = λ e. up_quiet down e;
   given = λ e. up_quiet down e;
@@ -176,7 +176,7 @@ heard_same : (s : LinkStation) (nr : ℕ) → Same s [] (acknowledged nr (alone 
 heard_same s nr = record { phase = refl; given = refl; taken = sym (append-nil s.taken); acked = omega arith; sent = omega arith }
 
 quiet_tells : (s : LinkStation) (t : Side) (packet : Option (List ℕ)) → is_up t.near.phase ≡ is_up s.phase → (is_up s.phase ≡ false → lists_of s ≡ no_packets → lists_of t.near ≡ no_packets)
-    → Tells s (let step : Step = record { side = t; packet = packet; notes = record { down = None; up = false } } in step)
+    → Tells s (let step : LinkStep = record { side = t; packet = packet; notes = record { down = None; up = false } } in step)
 quiet_tells s t packet same empty = record {
   fresh_up = λ e. true_false (sym e);
   after_down = λ e. true_false (sym e);
@@ -188,11 +188,11 @@ quiet_tells s t packet same empty = record {
 
 -- in Up
 up_tells : (s : LinkStation) (t : Side) (packet : Option (List ℕ)) (more : List (List ℕ)) → s.phase ≡ Up → Same s more t
-    → Tells s (let step : Step = record { side = t; packet = packet; notes = record { down = None; up = false } } in step)
+    → Tells s (let step : LinkStep = record { side = t; packet = packet; notes = record { down = None; up = false } } in step)
 up_tells s t packet more e h = quiet_tells s t packet (ap is_up h.phase) (λ low _. true_false (sym (ap is_up e) ∙ low))
 
 quiet_continues : (s : LinkStation) (t : Side) (packet : Option (List ℕ)) → Same s (option_to_list packet) t
-    → Continues s (let step : Step = record { side = t; packet = packet; notes = record { down = None; up = false } } in step)
+    → Continues s (let step : LinkStep = record { side = t; packet = packet; notes = record { down = None; up = false } } in step)
 quiet_continues s t packet h =
     let given = ap length h.given in
     let sent = h.sent in
@@ -214,12 +214,12 @@ still_continues s t e =
 
 -- ---- both laws of a row, and what it hands up
 
-pub record RowTells (s : LinkStation) (step : Step) : Type 0 where
+pub record RowTells (s : LinkStation) (step : LinkStep) : Type 0 where
   pub tells : Tells s step
   pub continues : Continues s step
   pub hands : HandsUp s step
 
-hands_none : (s : LinkStation) (step : Step) → step.packet ≡ None → HandsUp s step
+hands_none : (s : LinkStation) (step : LinkStep) → step.packet ≡ None → HandsUp s step
 hands_none s step e = record { up = λ x f. never x (sym e ∙ f); few = λ x f. never x (sym e ∙ f); few_after = λ x f. never x (sym e ∙ f); quiet = λ x f. never x (sym e ∙ f) }
   where
     never : {A : Type 0} (x : List ℕ) → (let p : Option (List ℕ) = None in p) ≡ Some x → A
@@ -238,16 +238,16 @@ row_same : (s : LinkStation) (t : Side) → s.phase ≡ Up → Same s [] t → R
 row_same s t e h = record { tells = up_tells s t None [] e h; continues = quiet_continues s t None h; hands = hands_none s (quiet t) refl }
 
 row_sets_up : (s : LinkStation) (down : Option Reason) (out : List PlainFrame) → down ≡ reset_from s.phase
-    → RowTells s (let step : Step = record { side = record { near = fresh; out = out }; packet = None; notes = record { down = down; up = true } } in step)
+    → RowTells s (let step : LinkStep = record { side = record { near = fresh; out = out }; packet = None; notes = record { down = down; up = true } } in step)
 row_sets_up s down out same = record { tells = sets_up_tells s down out same; continues = sets_up_continues s down out; hands = hands_none s _ refl }
 
-row_if : (s : LinkStation) (b : Bool) (x y : Step) → RowTells s x → RowTells s y → RowTells s (if b then x else y)
+row_if : (s : LinkStation) (b : Bool) (x y : LinkStep) → RowTells s x → RowTells s y → RowTells s (if b then x else y)
 row_if s true x y f g = f
 row_if s false x y f g = g
 
 -- ---- Up
 
-row_numbered : (c : Settings) (octets : List ℕ) (nr : ℕ) (row : Side → Step) (s : LinkStation) → RowTells s (row (acknowledged nr (alone s))) → RowTells s (numbered c octets nr row (alone s))
+row_numbered : (c : LinkSettings) (octets : List ℕ) (nr : ℕ) (row : Side → LinkStep) (s : LinkStation) → RowTells s (row (acknowledged nr (alone s))) → RowTells s (numbered c octets nr row (alone s))
 row_numbered c octets nr row s h =
     row_if s (is_valid nr s) (row (acknowledged nr (alone s))) (rejects c octets 8 (alone s)) h (row_leaves s FrmrSent (sends (reject_of c octets 8 s) (alone s)))
 
@@ -269,7 +269,7 @@ info_tells k ns nr p packet s false e is =
     let t = acknowledged nr (alone s) in
     rw is (row_same s (passes_over p t) e (S-passes_over s [] p t (heard_same s nr)))
 
-frame_tells : (c : Settings) (octets : List ℕ) (frame : PlainFrame) (s : LinkStation) → s.phase ≡ Up → RowTells s (row_of_frame c octets frame (alone s))
+frame_tells : (c : LinkSettings) (octets : List ℕ) (frame : PlainFrame) (s : LinkStation) → s.phase ≡ Up → RowTells s (row_of_frame c octets frame (alone s))
 frame_tells c octets (info ns nr p packet) s e = row_numbered c octets nr (hears_info c.window ns p packet) s (info_tells c.window ns nr p packet s _ e refl)
 frame_tells c octets (rr command nr pf) s e =
     row_numbered c octets nr (λ u. quiet (polls command pf (peer_is false u))) s
@@ -286,7 +286,7 @@ frame_tells c octets (ua f) s e = row_still s (alone s) refl
 frame_tells c octets (dm f) s e = row_leaves s Dm (alone s)
 frame_tells c octets (frmr f why) s e = row_leaves s FrmrGot (alone s)
 
-read_tells : (c : Settings) (octets : List ℕ) (read : Result PlainFrame FrameError) (s : LinkStation) → s.phase ≡ Up → RowTells s (row_of c octets read (alone s))
+read_tells : (c : LinkSettings) (octets : List ℕ) (read : Result PlainFrame FrameError) (s : LinkStation) → s.phase ≡ Up → RowTells s (row_of c octets read (alone s))
 read_tells c octets (Ok frame) s e = frame_tells c octets frame s e
 read_tells c octets (Err Short) s e = row_still s (alone s) refl
 read_tells c octets (Err BadFcs) s e = row_still s (alone s) refl
@@ -324,7 +324,7 @@ waiting_tells (ua false) s e = row_still s (alone s) refl
 waiting_tells (dm f) s e = row_still s (alone s) refl
 waiting_tells (frmr f why) s e = row_still s (alone s) refl
 
-hears_tells : (c : Settings) (octets : List ℕ) (read : Result PlainFrame FrameError) (p : Phase) (s : LinkStation) → s.phase ≡ p → RowTells s (hears c octets read p (alone s))
+hears_tells : (c : LinkSettings) (octets : List ℕ) (read : Result PlainFrame FrameError) (p : Phase) (s : LinkStation) → s.phase ≡ p → RowTells s (hears c octets read p (alone s))
 hears_tells c octets (Ok frame) Down s e = down_tells frame s e
 hears_tells c octets (Err x) Down s e = row_still s (alone s) refl
 hears_tells c octets (Ok frame) Waiting s e = waiting_tells frame s e
@@ -335,7 +335,7 @@ hears_tells c octets (Err x) Closed s e = row_still s (alone s) refl
 
 -- ---- calls
 
-take_row : (c : Settings) (octets : List ℕ) (s : LinkStation) → RowTells s (hears c octets (frame_of (other c.role) c.longest octets) s.phase (alone s))
+take_row : (c : LinkSettings) (octets : List ℕ) (s : LinkStation) → RowTells s (hears c octets (frame_of (other c.role) c.longest octets) s.phase (alone s))
 take_row c octets s = hears_tells c octets (frame_of (other c.role) c.longest octets) s.phase s refl
 
 pub take_tells : TakeTells
@@ -361,7 +361,7 @@ asks_tells s n Down e = row_quiet s n (ap is_up e)
 asks_tells s n Waiting e = row_quiet s n (ap is_up e)
 asks_tells s n Closed e = row_quiet s n (ap is_up e)
 
-timer_by : (b : Bool) (c : Settings) (s : LinkStation) → nat_lt s.tries c.retries ≡ b → RowTells s (fires c (alone s))
+timer_by : (b : Bool) (c : LinkSettings) (s : LinkStation) → nat_lt s.tries c.retries ≡ b → RowTells s (fires c (alone s))
 timer_by true c s is = rw is (asks_tells s (s.tries + 1) s.phase refl)
 timer_by false c s is = rw is (row_leaves s Retries (alone s))
 
@@ -377,7 +377,7 @@ put_tells c packet s up = tells_from c.window s (puts packet (alone s)) (quiet_t
 pub connect_tells : ConnectTells
 connect_tells c s e = tells_from c.window s (connects (alone s)) (quiet_tells s _ None (sym (ap is_up e)) (λ _ none. none))
 
-disconnect_by : (b : Bool) (c : Settings) (s : LinkStation) → is_up s.phase ≡ b → Tells s (disconnects (alone s))
+disconnect_by : (b : Bool) (c : LinkSettings) (s : LinkStation) → is_up s.phase ≡ b → Tells s (disconnects (alone s))
 disconnect_by true c s e = rw e (record {
   fresh_up = λ f. true_false (sym f);
   after_down = λ f. true_false (sym f);

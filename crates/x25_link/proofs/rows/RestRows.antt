@@ -10,8 +10,8 @@ use Rattle.x25_link.specs.declared.phase.Phase.{Phase}
 use Rattle.x25_link.specs.declared.phase.Phase.TheVariants.{Down, Waiting, Up, Closed}
 use Rattle.x25_link.specs.declared.phase.Reason.TheVariants.{Retries, Counts}
 use Rattle.x25_link.specs.Outgoing.{waits, is_open}
-use Rattle.x25_link.specs.Station.{Settings, LinkStation, Side, is_up, is_busy, with_near, ready, send_next, may_send, pumped, owes_ready, ended}
-use Rattle.x25_link.specs.Hearing.{Step, quiet, leaves, other, is_valid, acknowledged, is_taken, takes, answers, passes_over, peer_is, goes_back, polls, row_of_frame, row_of}
+use Rattle.x25_link.specs.Station.{LinkSettings, LinkStation, Side, is_up, is_busy, with_near, ready, send_next, may_send, pumped, owes_ready, ended}
+use Rattle.x25_link.specs.Hearing.{LinkStep, quiet, leaves, other, is_valid, acknowledged, is_taken, takes, answers, passes_over, peer_is, goes_back, polls, row_of_frame, row_of}
 use Rattle.x25_link.specs.Link.{alone, closed_by, hears, when_down, when_waiting, puts, fires, asks_again, connects, disconnects, timer_runs, is_idle}
 use Rattle.x25_link.specs.laws.RestLaw.{HasSaidAll, TakeSaysAll, PutSaysAll, TimerSaysAll, ConnectSaysAll, DisconnectSaysAll, AbandonSaysAll, NoTimerIsIdle, AllHeardIsRest, RestIsAllHeard}
 use Rattle.x25_link.proofs.EndLemmas.{true_false, closed_is, ended_settled, ended_calm}
@@ -56,14 +56,14 @@ L-polls true false t h = h
 L-polls false true t h = omega arith
 L-polls false false t h = h
 
-low_step : (b : Bool) (x y : Step) → Low x.side → Low y.side → (let z : Step = if b then x else y in Low z.side)
+low_step : (b : Bool) (x y : LinkStep) → Low x.side → Low y.side → (let z : LinkStep = if b then x else y in Low z.side)
 low_step true x y f g = f
 low_step false x y f g = g
 
 none_low : 0 ≤ 0
 none_low = omega arith
 
-frame_low : (c : Settings) (octets : List ℕ) (frame : PlainFrame) (t : Side) → Low t → Low (row_of_frame c octets frame t).side
+frame_low : (c : LinkSettings) (octets : List ℕ) (frame : PlainFrame) (t : Side) → Low t → Low (row_of_frame c octets frame t).side
 frame_low c octets (info ns nr p packet) t h =
     let u = acknowledged nr t in
     low_step (is_valid nr t.near) _ _ (low_step (is_taken ns u.near) _ _ (L-answers c.window p (takes packet u) (L-acknowledged nr t)) (L-passes_over p u (L-acknowledged nr t))) none_low
@@ -76,7 +76,7 @@ frame_low c octets (ua f) t h = h
 frame_low c octets (dm f) t h = none_low
 frame_low c octets (frmr f why) t h = none_low
 
-read_low : (c : Settings) (octets : List ℕ) (read : Result PlainFrame FrameError) (t : Side) → Low t → Low (row_of c octets read t).side
+read_low : (c : LinkSettings) (octets : List ℕ) (read : Result PlainFrame FrameError) (t : Side) → Low t → Low (row_of c octets read t).side
 read_low c octets (Ok frame) t h = frame_low c octets frame t h
 read_low c octets (Err Short) t h = h
 read_low c octets (Err BadFcs) t h = h
@@ -108,7 +108,7 @@ waiting_low (ua false) t h = h
 waiting_low (dm f) t h = h
 waiting_low (frmr f why) t h = h
 
-hears_low : (c : Settings) (octets : List ℕ) (read : Result PlainFrame FrameError) (p : Phase) (t : Side) → Low t → Low (hears c octets read p t).side
+hears_low : (c : LinkSettings) (octets : List ℕ) (read : Result PlainFrame FrameError) (p : Phase) (t : Side) → Low t → Low (hears c octets read p t).side
 hears_low c octets (Ok frame) Down t h = down_low frame t h
 hears_low c octets (Err x) Down t h = h
 hears_low c octets (Ok frame) Waiting t h = waiting_low frame t h
@@ -119,13 +119,13 @@ hears_low c octets (Err x) Closed t h = h
 
 -- ---- after each step
 
-says_all : (k : ℕ) (step : Step) → k ≤ 7 → Low step.side → HasSaidAll k (closed_by k step).side.near
+says_all : (k : ℕ) (step : LinkStep) → k ≤ 7 → Low step.side → HasSaidAll k (closed_by k step).side.near
 says_all k step small h = record { low = L-ended k step.side h; settled = ended_settled k step.side small h; calm = ended_calm k step.side }
 
 -- nothing may go where the station isn't Up
-off_says_all : (k : ℕ) (step : Step) → is_up step.side.near.phase ≡ false → Low step.side → HasSaidAll k (closed_by k step).side.near
+off_says_all : (k : ℕ) (step : LinkStep) → is_up step.side.near.phase ≡ false → Low step.side → HasSaidAll k (closed_by k step).side.near
 off_says_all k step off h =
-    subst (λ (z : Step). HasSaidAll k z.side.near) (sym (closed_stays k step (rw off refl) (rw off refl))) (record { low = h; settled = rw off refl; calm = rw off refl })
+    subst (λ (z : LinkStep). HasSaidAll k z.side.near) (sym (closed_stays k step (rw off refl) (rw off refl))) (record { low = h; settled = rw off refl; calm = rw off refl })
 
 pub take_says_all : TakeSaysAll
 take_says_all c octets s small h = says_all c.window (hears c octets (frame_of (other c.role) c.longest octets) s.phase (alone s)) small (hears_low c octets (frame_of (other c.role) c.longest octets) s.phase (alone s) h)

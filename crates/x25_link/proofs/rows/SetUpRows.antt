@@ -8,23 +8,23 @@ use Rattle.x25_link.specs.declared.phase.Phase.TheVariants.{Down, Waiting, Up, C
 use Rattle.x25_link.specs.declared.phase.Reason.{Reason}
 use Rattle.x25_link.specs.declared.phase.Reason.TheVariants.{Retries, Counts}
 use Rattle.x25_link.specs.Outgoing.{no_packet}
-use Rattle.x25_link.specs.Station.{Settings, LinkStation, is_up, may_send, owes_ready, fresh, with_nothing}
-use Rattle.x25_link.specs.Hearing.{Step, quiet, leaves, row_of}
+use Rattle.x25_link.specs.Station.{LinkSettings, LinkStation, is_up, may_send, owes_ready, fresh, with_nothing}
+use Rattle.x25_link.specs.Hearing.{LinkStep, quiet, leaves, row_of}
 use Rattle.x25_link.specs.Link.{alone, closed_by, hears, goes_up, connects, fires, disconnects, asks_again, when_waiting, when_down}
 use Rattle.x25_link.specs.laws.SetUp.{Is, waiting_after, waiting_sends, waiting_up, TakesPart, reset_from, TakeWaits, TakeSetsUp, ConnectWaits, TimerWaits, DisconnectWaits, RelinkIsTwoSteps}
 use Rattle.x25_link.proofs.EndLemmas.{none_open, ended_stays}
 use Rattle.x25_link.proofs.rows.WindowRows.{closed_stays}
 
-is_from : (k : ℕ) (near : LinkStation) (out : List PlainFrame) (down : Option Reason) (up : Bool) (step : Step) → may_send k step.side.near ≡ false → owes_ready step.side.near ≡ false
+is_from : (k : ℕ) (near : LinkStation) (out : List PlainFrame) (down : Option Reason) (up : Bool) (step : LinkStep) → may_send k step.side.near ≡ false → owes_ready step.side.near ≡ false
     → Is near out down up step → Is near out down up (closed_by k step)
 is_from k near out down up step settled calm h = subst (Is near out down up) (sym (closed_stays k step settled calm)) h
 
 -- nothing may go where the station isn't Up
-idle_from : (k : ℕ) (near : LinkStation) (out : List PlainFrame) (down : Option Reason) (up : Bool) (step : Step) → is_up step.side.near.phase ≡ false → Is near out down up step
+idle_from : (k : ℕ) (near : LinkStation) (out : List PlainFrame) (down : Option Reason) (up : Bool) (step : LinkStep) → is_up step.side.near.phase ≡ false → Is near out down up step
     → Is near out down up (closed_by k step)
 idle_from k near out down up step low h = is_from k near out down up step (rw low refl) (rw low refl) h
 
-fresh_from : (k : ℕ) (out : List PlainFrame) (down : Option Reason) (step : Step) → Is fresh out down true step → Is fresh out down true (closed_by k step)
+fresh_from : (k : ℕ) (out : List PlainFrame) (down : Option Reason) (step : LinkStep) → Is fresh out down true step → Is fresh out down true (closed_by k step)
 fresh_from k out down step h =
     is_from k fresh out down true step (ap (may_send k) h.near ∙ none_open k no_packet (omega arith)) (ap owes_ready h.near) h
 
@@ -33,7 +33,7 @@ fresh_from k out down step h =
 nothing_waits : (k : ℕ) (s : LinkStation) → s.phase ≡ Waiting → Is s [] None false (closed_by k (quiet (alone s)))
 nothing_waits k s e = idle_from k _ _ _ _ (quiet (alone s)) (ap is_up e) (record { near = refl; out = refl; packet = refl; down = refl; up = refl })
 
-waits_row : (c : Settings) (octets : List ℕ) (s : LinkStation) → s.phase ≡ Waiting → (read : Result PlainFrame FrameError)
+waits_row : (c : LinkSettings) (octets : List ℕ) (s : LinkStation) → s.phase ≡ Waiting → (read : Result PlainFrame FrameError)
     → Is (waiting_after read s) (waiting_sends read) None (waiting_up read) (closed_by c.window (hears c octets read Waiting (alone s)))
 waits_row c octets s e (Ok (info ns nr p x)) = nothing_waits c.window s e
 waits_row c octets s e (Ok (rr command nr pf)) = nothing_waits c.window s e
@@ -55,7 +55,7 @@ take_waits c octets s e read is =
 
 -- ---- SABM in Down and in Up
 
-sets_up_row : (c : Settings) (octets : List ℕ) (s : LinkStation) (p : Bool) (phase : Phase) → TakesPart phase
+sets_up_row : (c : LinkSettings) (octets : List ℕ) (s : LinkStation) (p : Bool) (phase : Phase) → TakesPart phase
     → Is fresh (ua p ∷ []) (reset_from phase) true (closed_by c.window (hears c octets (Ok (sabm p)) phase (alone s)))
 sets_up_row c octets s p Down h = fresh_from c.window _ _ (when_down (sabm p) (alone s)) (record { near = refl; out = refl; packet = refl; down = refl; up = refl })
 sets_up_row c octets s p Waiting h = absurd h
@@ -70,7 +70,7 @@ take_sets_up c octets s h p is = rw is (sets_up_row c octets s p s.phase h)
 pub connect_waits : ConnectWaits
 connect_waits c s e = idle_from c.window _ _ _ _ (connects (alone s)) refl (record { near = refl; out = refl; packet = refl; down = refl; up = refl })
 
-timer_by : (b : Bool) (c : Settings) (s : LinkStation) → s.phase ≡ Waiting → nat_lt s.tries c.retries ≡ b
+timer_by : (b : Bool) (c : LinkSettings) (s : LinkStation) → s.phase ≡ Waiting → nat_lt s.tries c.retries ≡ b
     → Is (if b then record s { tries = suc s.tries } else with_nothing Down s.tries) (if b then sabm true ∷ [] else []) (if b then None else Some Retries) false (closed_by c.window (fires c (alone s)))
 timer_by true c s e is =
     let u : LinkStation = record s { tries = s.tries + 1 } in

@@ -2,8 +2,8 @@
 use Rattle.std.proofs.Common.{◌≡◌, [], ◌∷◌, ◌++◌, true, false, Ok, refl}
 use Rattle.x25_bits.specs.declared.role.Role.TheVariants.{Dte, Dce}
 use Rattle.x25_frame.specs.Frame.{info, rr, rej, dm, frmr}
-use Rattle.x25_link.specs.Station.{Settings, fresh, with_nothing, pumped}
-use Rattle.x25_link.specs.Hearing.{Step, row_of, row_of_frame}
+use Rattle.x25_link.specs.Station.{LinkSettings, fresh, with_nothing, pumped}
+use Rattle.x25_link.specs.Hearing.{LinkStep, row_of, row_of_frame}
 use Rattle.x25_link.specs.declared.phase.Phase.TheVariants.{Down}
 use Rattle.x25_link.specs.Link.{alone, put_step, timer_step, closed_by, when_down}
 use Rattle.x25_link.specs.laws.RestLaw.{IsAtRest}
@@ -19,7 +19,7 @@ taken : (let s = closed_by 7 (row_of_frame (record { role = Dce; window = 7; lon
 unfolding pumped
 taken = refl
 
-three : (let c : Settings = record { role = Dte; window = 2; longest = 4099; retries = 10 } in
+three : (let c : LinkSettings = record { role = Dte; window = 2; longest = 4099; retries = 10 } in
     let a = put_step c (5 ∷ []) fresh in let b = put_step c (6 ∷ []) a.side.near in let d = put_step c (7 ∷ []) b.side.near in
     a.side.out ++ b.side.out ++ d.side.out) ≡ info 0 0 false (5 ∷ []) ∷ info 1 0 false (6 ∷ []) ∷ []
 unfolding pumped
@@ -27,10 +27,10 @@ three = refl
 
 -- ---- a lost frame comes again: T1 runs out, the poll is answered by F=1, and the frame goes again
 
-abbrev far : Settings
+abbrev far : LinkSettings
 far = record { role = Dce; window = 7; longest = 4099; retries = 10 }
 
-abbrev asked : Step
+abbrev asked : LinkStep
 asked = timer_step far (put_step far (5 ∷ []) fresh).side.near
 
 polls_once : asked.side.out ≡ rr true 0 true ∷ []
@@ -46,7 +46,7 @@ unfolding pumped
 goes_again = refl
 
 -- it is heard: the station is idle, and timer T1 doesn't run any more
-abbrev heard_last : Step
+abbrev heard_last : LinkStep
 heard_last = closed_by 7 (row_of_frame far [] (rr false 1 false) (alone (put_step far (5 ∷ []) fresh).side.near))
 
 at_rest : IsAtRest heard_last.side.near

@@ -12,11 +12,11 @@ use Rattle.x25_link.specs.declared.phase.Phase.TheVariants.{Down, Waiting, Up, C
 use Rattle.x25_link.specs.declared.phase.Reason.{Reason}
 use Rattle.x25_link.specs.declared.phase.Reason.TheVariants.{Retries, Disc, Dm, FrmrSent, FrmrGot, Reset, Local, Counts}
 use Rattle.x25_link.specs.Outgoing.{no_packet}
-use Rattle.x25_link.specs.Station.{Settings, LinkStation, Side, is_up, with_near, sends, ready, may_send, owes_ready}
-use Rattle.x25_link.specs.Hearing.{Step, quiet, leaves, other, rejects, is_valid, acknowledged, is_taken, takes, hears_info, peer_is, goes_back, polls, numbered, row_of_frame, row_of}
+use Rattle.x25_link.specs.Station.{LinkSettings, LinkStation, Side, is_up, with_near, sends, ready, may_send, owes_ready}
+use Rattle.x25_link.specs.Hearing.{LinkStep, quiet, leaves, other, rejects, is_valid, acknowledged, is_taken, takes, hears_info, peer_is, goes_back, polls, numbered, row_of_frame, row_of}
 use Rattle.x25_link.specs.Link.{alone, closed_by, hears, puts, asks_again, fires, disconnects, when_down}
 use Rattle.x25_window.specs.laws.Window.{after}
-use Rattle.x25_window.specs.laws.Window.Step.{Hear, Take}
+use Rattle.x25_window.specs.laws.Window.EndStep.{Hear, Take}
 use Rattle.x25_link.specs.laws.WindowMachine.{Window, Input, hands_down, receives, nothing, rests}
 use Rattle.x25_link.specs.laws.WindowLaw.{IsRunning, brought_by, window_of}
 use Rattle.x25_link.specs.laws.WindowLaw.{after_input, MayHandUp, if_valid, ending_of_frame, ending_of, ends_in, AreLast, Stays, Ends, Follows, TakeFollows, PutFollows, TimerFollows, DisconnectFollows, AbandonFollows, IsOut, sets_up, StaysOut, TakeStaysOut, ClosesOut, DisconnectStaysOut}
@@ -25,25 +25,25 @@ use Rattle.x25_link.proofs.WindowLemmas.{KeptAt, Kept, K-ready, K-ended, K-answe
 
 -- ---- from a row to the step
 
-pub record RowKept (k : ℕ) (input : Input) (s : LinkStation) (step : Step) : Type 0 where
+pub record RowKept (k : ℕ) (input : Input) (s : LinkStation) (step : LinkStep) : Type 0 where
   pub kept : KeptAt k (after_input input step.packet (window_of k s)) (is_up step.side.near.phase) step.side.near.outgoing step.side.near.taken step.side.out
   pub hands_up : MayHandUp input step.packet (window_of k s)
   pub quiet : step.notes ≡ record { down = None; up = false }
 
-stays_from : (k : ℕ) (input : Input) (s : LinkStation) (step : Step) → RowKept k input s step → Stays k input s (closed_by k step)
+stays_from : (k : ℕ) (input : Input) (s : LinkStation) (step : LinkStep) → RowKept k input s step → Stays k input s (closed_by k step)
 stays_from k input s step row =
     let h = K-ended k (after_input input step.packet (window_of k s)) step.side row.kept in
     record { up = h.up; sound = h.sound; hands_up = row.hands_up; sends = h.runs; quiet = row.quiet }
 
-pub closed_stays : (k : ℕ) (step : Step) → may_send k step.side.near ≡ false → owes_ready step.side.near ≡ false → closed_by k step ≡ step
-closed_stays k step settled calm = ap (λ (u : Side). let z : Step = record { side = u; packet = step.packet; notes = step.notes } in z) (ended_stays k step.side settled calm)
+pub closed_stays : (k : ℕ) (step : LinkStep) → may_send k step.side.near ≡ false → owes_ready step.side.near ≡ false → closed_by k step ≡ step
+closed_stays k step settled calm = ap (λ (u : Side). let z : LinkStep = record { side = u; packet = step.packet; notes = step.notes } in z) (ended_stays k step.side settled calm)
 
-ends_from : (k : ℕ) (reason : Reason) (step : Step) → may_send k step.side.near ≡ false → owes_ready step.side.near ≡ false → Ends reason step → Ends reason (closed_by k step)
+ends_from : (k : ℕ) (reason : Reason) (step : LinkStep) → may_send k step.side.near ≡ false → owes_ready step.side.near ≡ false → Ends reason step → Ends reason (closed_by k step)
 ends_from k reason step settled calm ends = subst (Ends reason) (sym (closed_stays k step settled calm)) ends
 
 -- ---- rows
 
-rejects_ends : (c : Settings) (octets : List ℕ) (why : ℕ) (s : LinkStation) → Ends FrmrSent (closed_by c.window (rejects c octets why (alone s)))
+rejects_ends : (c : LinkSettings) (octets : List ℕ) (why : ℕ) (s : LinkStation) → Ends FrmrSent (closed_by c.window (rejects c octets why (alone s)))
 rejects_ends c octets why s =
     ends_from c.window FrmrSent (rejects c octets why (alone s)) refl refl
     (record { frames = (_, _, refl); packet = refl; phase = refl; outgoing = refl; taken = refl; noted = refl })
@@ -87,7 +87,7 @@ info_kept k ns nr p packet s false is running valid =
       quiet = refl;
     })
 
-numbered_by : (c : Settings) (octets : List ℕ) (nr : ℕ) (row : Side → Step) (input : Input) (s : LinkStation) (b : Bool) → is_valid nr s ≡ b
+numbered_by : (c : LinkSettings) (octets : List ℕ) (nr : ℕ) (row : Side → LinkStep) (input : Input) (s : LinkStation) (b : Bool) → is_valid nr s ≡ b
     → (is_valid nr s ≡ true → RowKept c.window input s (row (acknowledged nr (alone s))))
     → Follows (if_valid nr (window_of c.window s)) c.window input s (closed_by c.window (numbered c octets nr row (alone s)))
 numbered_by c octets nr row input s true valid kept =
@@ -102,7 +102,7 @@ quiet_follows : (k : ℕ) (input : Input) (s : LinkStation) → after_input inpu
 quiet_follows k input s same running =
     stays_from k input s (quiet (alone s)) (record { kept = rw same (start k input s running); hands_up = tt; quiet = refl })
 
-frame_follows : (c : Settings) (octets : List ℕ) (frame : PlainFrame) (s : LinkStation) → IsRunning c.window s
+frame_follows : (c : LinkSettings) (octets : List ℕ) (frame : PlainFrame) (s : LinkStation) → IsRunning c.window s
     → Follows (ending_of_frame frame (window_of c.window s)) c.window (receives frame) s (closed_by c.window (row_of_frame c octets frame (alone s)))
 frame_follows c octets (info ns nr p packet) s running =
     numbered_by c octets nr (hears_info c.window ns p packet) (receives (info ns nr p packet)) s _ refl
@@ -122,17 +122,17 @@ frame_follows c octets (rej command nr pf) s running =
       quiet = refl;
     })
 frame_follows c octets (sabm p) s running =
-    let step : Step = row_of_frame c octets (sabm p) (alone s) in
+    let step : LinkStep = row_of_frame c octets (sabm p) (alone s) in
     ends_from c.window Reset step (none_open c.window no_packet (omega arith)) refl
     (record { frames = (p, refl); packet = refl; phase = refl; outgoing = refl; taken = refl; noted = refl })
 frame_follows c octets (disc p) s running =
-    let step : Step = row_of_frame c octets (disc p) (alone s) in
+    let step : LinkStep = row_of_frame c octets (disc p) (alone s) in
     ends_from c.window Disc step refl refl (record { frames = (p, refl); packet = refl; phase = refl; outgoing = refl; taken = refl; noted = refl })
 frame_follows c octets (ua f) s running = quiet_follows c.window (receives (ua f)) s refl running
 frame_follows c octets (dm f) s running = leaves_ends c.window Dm s refl refl
 frame_follows c octets (frmr f why) s running = leaves_ends c.window FrmrGot s refl refl
 
-read_follows : (c : Settings) (octets : List ℕ) (read : Result PlainFrame FrameError) (s : LinkStation) → IsRunning c.window s
+read_follows : (c : LinkSettings) (octets : List ℕ) (read : Result PlainFrame FrameError) (s : LinkStation) → IsRunning c.window s
     → Follows (ending_of read (window_of c.window s)) c.window (brought_by read) s (closed_by c.window (row_of c octets read (alone s)))
 read_follows c octets (Ok frame) s running = frame_follows c octets frame s running
 read_follows c octets (Err Short) s running = quiet_follows c.window nothing s refl running
@@ -168,7 +168,7 @@ put_follows c packet s running =
       quiet = refl;
     })
 
-timer_by : (b : Bool) (c : Settings) (s : LinkStation) → nat_lt s.tries c.retries ≡ b → IsRunning c.window s
+timer_by : (b : Bool) (c : LinkSettings) (s : LinkStation) → nat_lt s.tries c.retries ≡ b → IsRunning c.window s
     → Follows (if b then None else Some Retries) c.window nothing s (closed_by c.window (fires c (alone s)))
 timer_by true c s is running =
     let k = c.window in
@@ -187,7 +187,7 @@ timer_follows c s running = timer_by _ c s refl running
 
 pub disconnect_follows : DisconnectFollows
 disconnect_follows c s running =
-    let step : Step = disconnects (alone s) in
+    let step : LinkStep = disconnects (alone s) in
     ends_from c.window Local step refl refl (record { frames = refl; packet = refl; phase = refl; outgoing = refl; taken = refl; noted = rw running.up refl })
 
 pub abandon_follows : AbandonFollows
@@ -207,7 +207,7 @@ out_settled k s h = rw (out_is_not_up s.phase h) refl
 out_calm : (s : LinkStation) → IsOut s.phase → owes_ready s ≡ false
 out_calm s h = rw (out_is_not_up s.phase h) refl
 
-out_from : (k : ℕ) (step : Step) → StaysOut step → StaysOut (closed_by k step)
+out_from : (k : ℕ) (step : LinkStep) → StaysOut step → StaysOut (closed_by k step)
 out_from k step h = subst StaysOut (sym (closed_stays k step (out_settled k step.side.near h.out) (out_calm step.side.near h.out))) h
 
 -- the same station, with DM or nothing
@@ -227,7 +227,7 @@ down_out (ua f) s h e = declines_out (ua f) false s h
 down_out (dm f) s h e = declines_out (dm f) false s h
 down_out (frmr f why) s h e = declines_out (frmr f why) false s h
 
-hears_out : (c : Settings) (octets : List ℕ) (read : Result PlainFrame FrameError) (p : Phase) (s : LinkStation) → IsOut p → IsOut s.phase → sets_up read ≡ false
+hears_out : (c : LinkSettings) (octets : List ℕ) (read : Result PlainFrame FrameError) (p : Phase) (s : LinkStation) → IsOut p → IsOut s.phase → sets_up read ≡ false
     → StaysOut (hears c octets read p (alone s))
 hears_out c octets (Ok frame) Down s h g e = down_out frame s g e
 hears_out c octets (Err x) Down s h g e = record { out = g; frames = tt; packet = refl; quiet = refl }
@@ -242,5 +242,5 @@ take_stays_out c octets s out e =
 
 pub disconnect_stays_out : DisconnectStaysOut
 disconnect_stays_out c s out =
-    let step : Step = disconnects (alone s) in
+    let step : LinkStep = disconnects (alone s) in
     subst ClosesOut (sym (closed_stays c.window step refl refl)) (record { phase = refl; frames = refl; packet = refl; quiet = rw (out_is_not_up s.phase out) refl })

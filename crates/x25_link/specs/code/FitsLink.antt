@@ -6,8 +6,8 @@ use Rattle.x25_link.specs.declared.error.LinkError.{LinkError}
 use Rattle.x25_link.specs.declared.heard.Heard.{Heard}
 use Rattle.x25_link.specs.declared.station.LinkStation.{LinkStation as StationCode}
 use Rattle.x25_link.specs.Outgoing.{waits}
-use Rattle.x25_link.specs.Station.{Settings, LinkStation, Lists, lists_of, is_up, may_send, owes_ready}
-use Rattle.x25_link.specs.Hearing.{Step, acknowledges}
+use Rattle.x25_link.specs.Station.{LinkSettings, LinkStation, Lists, lists_of, is_up, may_send, owes_ready}
+use Rattle.x25_link.specs.Hearing.{LinkStep, acknowledges}
 use Rattle.x25_link.specs.Link.{RefusesOnly, put_step}
 use Rattle.x25_link.specs.code.Fits.{FitsStation}
 
@@ -27,13 +27,13 @@ abbrev pub waiting_of : ShownLink → ℕ
 waiting_of v = length v.station.outgoing.queue
 
 -- between calls nothing is left to be sent
-pub record FitsLink (c : Settings) (v : ShownLink) (s : LinkStation) : Type 0 where
+pub record FitsLink (c : LinkSettings) (v : ShownLink) (s : LinkStation) : Type 0 where
   pub near : FitsStation c v.station s
   pub settled : may_send c.window s ≡ false
   pub calm : owes_ready s ≡ false
 
 -- what is heard is that step's: the packet handed up, what is noted, and whether frames are acknowledged
-pub record IsHeard (s : LinkStation) (heard : Heard) (step : Step) : Type 0 where
+pub record IsHeard (s : LinkStation) (heard : Heard) (step : LinkStep) : Type 0 where
   pub packet : option_copied heard.packet ≡ step.packet
   pub notes : heard.notes ≡ step.notes
   pub acknowledged : heard.acknowledged ≡ acknowledges s step
@@ -42,20 +42,22 @@ pub record IsHeard (s : LinkStation) (heard : Heard) (step : Step) : Type 0 wher
 -- step's, and what is heard is that step's; its frames, nine at most, are those that `swap_frames` will hand out. Where
 -- it is refused the link is as before.
 pub record Does (old new : ShownLink) (result : Result Heard LinkError) (refusal : LinkStation → Option LinkError)
-    (step : Settings → LinkStation → Step) : Type 0 where
-  pub state : (c : Settings) (s : LinkStation) → FitsLink c old s → OnOk result (FitsLink c new (step c s).side.near)
-  pub frames : (c : Settings) (s : LinkStation) → FitsLink c old s →
+    (step : LinkSettings → LinkStation → LinkStep) : Type 0 where
+  pub state : (c : LinkSettings) (s : LinkStation) → FitsLink c old s
+      → OnOk result (FitsLink c new (step c s).side.near)
+  pub frames : (c : LinkSettings) (s : LinkStation) → FitsLink c old s →
       OnOk result (new.frames ≡ map (spelling_of c.role) (step c s).side.out)
-  pub heard : (c : Settings) (s : LinkStation) → FitsLink c old s → IfOk result (λ heard. IsHeard s heard (step c s))
+  pub heard : (c : LinkSettings) (s : LinkStation) → FitsLink c old s
+      → IfOk result (λ heard. IsHeard s heard (step c s))
   pub few : OnOk result (length new.frames ≤ 9)
-  pub refused : (c : Settings) (s : LinkStation) → FitsLink c old s → RefusesOnly (refusal s) result
+  pub refused : (c : LinkSettings) (s : LinkStation) → FitsLink c old s → RefusesOnly (refusal s) result
   pub err : OnErr result (new ≡ old)
 
 -- ---- a link in one value
 
 -- what it stands for: its settings, the station, and the frames that `swap_frames` will hand out
 pub record LinkState : Type 0 where
-  pub settings : Settings
+  pub settings : LinkSettings
   pub station : LinkStation
   pub kept : List (List ℕ)
 

@@ -7,8 +7,8 @@ use Rattle.x25_frame.specs.Frame.{PlainFrame, info, rr, rnr, rej, dm}
 use Rattle.x25_frame.specs.Reading.{frame_of}
 use Rattle.x25_window.specs.code.Modulo.{resolved}
 use Rattle.x25_link.specs.declared.phase.Phase.TheVariants.{Down, Up}
-use Rattle.x25_link.specs.Station.{Settings, LinkStation, with_nothing, is_up, is_busy, wanted}
-use Rattle.x25_link.specs.Hearing.{Step, other, is_valid, is_taken}
+use Rattle.x25_link.specs.Station.{LinkSettings, LinkStation, with_nothing, is_up, is_busy, wanted}
+use Rattle.x25_link.specs.Hearing.{LinkStep, other, is_valid, is_taken}
 use Rattle.x25_link.specs.Link.{take_step, timer_step}
 use Rattle.x25_link.specs.laws.WindowLaw.{IsOut}
 
@@ -49,7 +49,7 @@ pub record Outcome : Type 0 where
   pub place : ℕ
   pub first : List PlainFrame
 
-pub record Answers (s : LinkStation) (o : Outcome) (step : Step) : Type 0 where
+pub record Answers (s : LinkStation) (o : Outcome) (step : LinkStep) : Type 0 where
   pub up : is_up step.side.near.phase ≡ true
   pub recovery : step.side.near.recovery ≡ o.recovery
   pub peer_busy : step.side.near.peer_busy ≡ o.peer_busy
@@ -68,14 +68,14 @@ pub record Answers (s : LinkStation) (o : Outcome) (step : Step) : Type 0 where
 -- ---- timer T1 (section 2.4.5.9)
 
 -- Below N2 tries, one poll is sent, RR or RNR with V(R), and recovery begins. No number moves.
-pub record Asks (s : LinkStation) (step : Step) : Type 0 where
+pub record Asks (s : LinkStation) (step : LinkStep) : Type 0 where
   pub near : step.side.near ≡ record s { tries = s.tries + 1; recovery = true; said_busy = is_busy s }
   pub out : step.side.out ≡ says (is_busy s) true (wanted s) true ∷ []
   pub packet : step.packet ≡ None
   pub quiet : step.notes ≡ record { down = None; up = false }
 
 abbrev pub TimerAsks : Type 0
-TimerAsks = (c : Settings) (s : LinkStation) → s.phase ≡ Up → s.tries < c.retries → Asks s (timer_step c s)
+TimerAsks = (c : LinkSettings) (s : LinkStation) → s.phase ≡ Up → s.tries < c.retries → Asks s (timer_step c s)
 
 -- ---- numbered frames
 
@@ -100,8 +100,8 @@ goes_on_from nr s = record {
 }
 
 -- octets that spell this frame, with a valid N(R), come while the station is Up
-abbrev pub Hears : ℕ → PlainFrame → (LinkStation → Step → Type 0) → Type 0
-Hears nr frame Then = (c : Settings) (octets : List ℕ) (s : LinkStation) → s.phase ≡ Up
+abbrev pub Hears : ℕ → PlainFrame → (LinkStation → LinkStep → Type 0) → Type 0
+Hears nr frame Then = (c : LinkSettings) (octets : List ℕ) (s : LinkStation) → s.phase ≡ Up
     → frame_of (other c.role) c.longest octets ≡ Ok frame → is_valid nr s ≡ true → Then s (take_step c octets s)
 
 -- A poll: the first answer is RR or RNR with F=1 and V(R) (section 2.4.5.9).
@@ -132,7 +132,7 @@ RejGoesBack = (command : Bool) (nr : ℕ) → Hears nr (rej command nr false)
 -- ---- I frames
 
 -- It is taken and handed up, no REJ condition stands, and at least one frame with the new V(R) goes.
-pub record IsTakenUp (s : LinkStation) (x : List ℕ) (o : Outcome) (step : Step) : Type 0 where
+pub record IsTakenUp (s : LinkStation) (x : List ℕ) (o : Outcome) (step : LinkStep) : Type 0 where
   pub answers : Answers s o step
   pub packet : step.packet ≡ Some x
   pub rejecting : step.side.near.rejecting ≡ false
@@ -182,22 +182,23 @@ asks (rnr command nr pf) = if command then pf else false
 asks (rej command nr pf) = if command then pf else false
 asks frame = false
 
-pub record Declines (s : LinkStation) (step : Step) : Type 0 where
+pub record Declines (s : LinkStation) (step : LinkStep) : Type 0 where
   pub near : step.side.near ≡ s
   pub out : step.side.out ≡ dm true ∷ []
   pub packet : step.packet ≡ None
   pub quiet : step.notes ≡ record { down = None; up = false }
 
 abbrev pub OutDeclines : Type 0
-OutDeclines = (c : Settings) (octets : List ℕ) (s : LinkStation) → IsOut s.phase → (frame : PlainFrame)
+OutDeclines = (c : LinkSettings) (octets : List ℕ) (s : LinkStation) → IsOut s.phase → (frame : PlainFrame)
     → frame_of (other c.role) c.longest octets ≡ Ok frame → asks frame ≡ true
     → Declines s (take_step c octets s)
 
 -- DM takes Up away, and nothing is sent
 abbrev pub DmLeavesUp : Type 0
-DmLeavesUp = (c : Settings) (octets : List ℕ) (s : LinkStation) → s.phase ≡ Up → (f : Bool)
+DmLeavesUp = (c : LinkSettings) (octets : List ℕ) (s : LinkStation) → s.phase ≡ Up → (f : Bool)
     → frame_of (other c.role) c.longest octets ≡ Ok (dm f)
-    → (let step : Step = take_step c octets s in (step.side.near ≡ with_nothing Down s.tries) × (step.side.out ≡ []))
+    → (let step : LinkStep = take_step c octets s in (step.side.near ≡ with_nothing Down s.tries)
+    × (step.side.out ≡ []))
 
 -- the laws together
 pub record AnswerLaws : Type 0 where

@@ -2,8 +2,8 @@
 -- 2.4.5.5, 2.4.5.7 and 2.4.5.8.
 use Rattle.std.specs.Prelude.{◌≡◌, Bool, true, false, List, [], ◌∷◌, ℕ}
 use Rattle.x25_frame.specs.Frame.{PlainFrame, info, rr, rnr, rej}
-use Rattle.x25_link.specs.Station.{Settings, LinkStation, is_up, is_busy}
-use Rattle.x25_link.specs.Hearing.{Step}
+use Rattle.x25_link.specs.Station.{LinkSettings, LinkStation, is_up, is_busy}
+use Rattle.x25_link.specs.Hearing.{LinkStep}
 use Rattle.x25_link.specs.Link.{take_step, put_step, timer_step}
 use Rattle.x25_link.specs.laws.NoteLaw.{IsQuiet}
 
@@ -32,19 +32,19 @@ pub record Says (before now busy peer_busy : Bool) (out : List PlainFrame) : Typ
   pub free : says_free out ≡ true → busy ≡ false
   pub held : peer_busy ≡ true → NoInfo out
 
-abbrev pub SaysWhetherBusy : LinkStation → Step → Type 0
+abbrev pub SaysWhetherBusy : LinkStation → LinkStep → Type 0
 SaysWhetherBusy s step =
     Says s.said_busy step.side.near.said_busy (is_busy step.side.near) step.side.near.peer_busy step.side.out
 
 abbrev pub TakeSaysBusy : Type 0
-TakeSaysBusy = (c : Settings) (octets : List ℕ) (s : LinkStation) → is_up s.phase ≡ true
+TakeSaysBusy = (c : LinkSettings) (octets : List ℕ) (s : LinkStation) → is_up s.phase ≡ true
     → IsQuiet (take_step c octets s) → SaysWhetherBusy s (take_step c octets s)
 
 abbrev pub PutSaysBusy : Type 0
-PutSaysBusy = (c : Settings) (packet : List ℕ) (s : LinkStation) → SaysWhetherBusy s (put_step c packet s)
+PutSaysBusy = (c : LinkSettings) (packet : List ℕ) (s : LinkStation) → SaysWhetherBusy s (put_step c packet s)
 
 abbrev pub TimerSaysBusy : Type 0
-TimerSaysBusy = (c : Settings) (s : LinkStation) → is_up s.phase ≡ true → IsQuiet (timer_step c s)
+TimerSaysBusy = (c : LinkSettings) (s : LinkStation) → is_up s.phase ≡ true → IsQuiet (timer_step c s)
     → SaysWhetherBusy s (timer_step c s)
 
 -- the laws together

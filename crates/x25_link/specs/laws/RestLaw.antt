@@ -1,6 +1,6 @@
 -- Each step of a station leaves nothing that it may send, and no RR that it owes; and when a station is at rest.
 use Rattle.std.specs.Prelude.{◌≡◌, ℕ, ◌≤◌, true, false, List}
-use Rattle.x25_link.specs.Station.{Settings, LinkStation, is_up, may_send, owes_ready}
+use Rattle.x25_link.specs.Station.{LinkSettings, LinkStation, is_up, may_send, owes_ready}
 use Rattle.x25_link.specs.Link.{take_step, put_step, timer_step, timer_runs, connect_step, disconnect_step}
 use Rattle.x25_link.specs.Link.{abandon_step, is_idle}
 use Rattle.x25_link.specs.laws.WindowLaw.{IsSound}
@@ -19,26 +19,27 @@ pub record IsAtRest (s : LinkStation) : Type 0 where
 -- ---- after each step
 
 abbrev pub TakeSaysAll : Type 0
-TakeSaysAll = (c : Settings) (octets : List ℕ) (s : LinkStation) → c.window ≤ 7 → s.outgoing.acked ≤ s.outgoing.place
+TakeSaysAll = (c : LinkSettings) (octets : List ℕ) (s : LinkStation) → c.window ≤ 7
+    → s.outgoing.acked ≤ s.outgoing.place
     → HasSaidAll c.window (take_step c octets s).side.near
 
 abbrev pub PutSaysAll : Type 0
-PutSaysAll = (c : Settings) (packet : List ℕ) (s : LinkStation) → c.window ≤ 7 → s.outgoing.acked ≤ s.outgoing.place
+PutSaysAll = (c : LinkSettings) (packet : List ℕ) (s : LinkStation) → c.window ≤ 7 → s.outgoing.acked ≤ s.outgoing.place
     → HasSaidAll c.window (put_step c packet s).side.near
 
 abbrev pub TimerSaysAll : Type 0
-TimerSaysAll = (c : Settings) (s : LinkStation) → c.window ≤ 7 → s.outgoing.acked ≤ s.outgoing.place
+TimerSaysAll = (c : LinkSettings) (s : LinkStation) → c.window ≤ 7 → s.outgoing.acked ≤ s.outgoing.place
     → HasSaidAll c.window (timer_step c s).side.near
 
 abbrev pub ConnectSaysAll : Type 0
-ConnectSaysAll = (c : Settings) (s : LinkStation) → s.outgoing.acked ≤ s.outgoing.place
+ConnectSaysAll = (c : LinkSettings) (s : LinkStation) → s.outgoing.acked ≤ s.outgoing.place
     → HasSaidAll c.window (connect_step c s).side.near
 
 abbrev pub DisconnectSaysAll : Type 0
-DisconnectSaysAll = (c : Settings) (s : LinkStation) → HasSaidAll c.window (disconnect_step c s).side.near
+DisconnectSaysAll = (c : LinkSettings) (s : LinkStation) → HasSaidAll c.window (disconnect_step c s).side.near
 
 abbrev pub AbandonSaysAll : Type 0
-AbandonSaysAll = (c : Settings) (s : LinkStation) → HasSaidAll c.window (abandon_step c s).side.near
+AbandonSaysAll = (c : LinkSettings) (s : LinkStation) → HasSaidAll c.window (abandon_step c s).side.near
 
 -- ---- at rest
 

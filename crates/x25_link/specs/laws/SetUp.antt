@@ -8,13 +8,13 @@ use Rattle.x25_link.specs.declared.phase.Phase.{Phase}
 use Rattle.x25_link.specs.declared.phase.Phase.TheVariants.{Down, Waiting, Up, Closed}
 use Rattle.x25_link.specs.declared.phase.Reason.{Reason}
 use Rattle.x25_link.specs.declared.phase.Reason.TheVariants.{Retries, Reset}
-use Rattle.x25_link.specs.Station.{Settings, LinkStation, fresh, with_nothing}
-use Rattle.x25_link.specs.Hearing.{Step, other}
+use Rattle.x25_link.specs.Station.{LinkSettings, LinkStation, fresh, with_nothing}
+use Rattle.x25_link.specs.Hearing.{LinkStep, other}
 use Rattle.x25_link.specs.Link.{take_step, timer_step, connect_step, disconnect_step, abandon_step, relink_step}
 
 -- the station after a step, what was sent, and whether the link went down and up; nothing is handed up
 pub record Is (station : LinkStation) (frames : List PlainFrame) (ends : Option Reason) (begins : Bool)
-    (step : Step) : Type 0 where
+    (step : LinkStep) : Type 0 where
   pub near : step.side.near ≡ station
   pub out : step.side.out ≡ frames
   pub packet : step.packet ≡ None
@@ -40,7 +40,7 @@ waiting_up (Ok frame) = false
 waiting_up (Err e) = false
 
 abbrev pub TakeWaits : Type 0
-TakeWaits = (c : Settings) (octets : List ℕ) (s : LinkStation) → s.phase ≡ Waiting
+TakeWaits = (c : LinkSettings) (octets : List ℕ) (s : LinkStation) → s.phase ≡ Waiting
     → (read : Result PlainFrame FrameError) → read ≡ frame_of (other c.role) c.longest octets →
     Is (waiting_after read s) (waiting_sends read) None (waiting_up read) (take_step c octets s)
 
@@ -58,33 +58,33 @@ reset_from Up = Some Reset
 reset_from phase = None
 
 abbrev pub TakeSetsUp : Type 0
-TakeSetsUp = (c : Settings) (octets : List ℕ) (s : LinkStation) → TakesPart s.phase → (p : Bool)
+TakeSetsUp = (c : LinkSettings) (octets : List ℕ) (s : LinkStation) → TakesPart s.phase → (p : Bool)
     → frame_of (other c.role) c.longest octets ≡ Ok (sabm p) →
     Is fresh (ua p ∷ []) (reset_from s.phase) true (take_step c octets s)
 
 -- ---- connect, timer T1 and disconnect
 
 abbrev pub ConnectWaits : Type 0
-ConnectWaits = (c : Settings) (s : LinkStation) → s.phase ≡ Down
+ConnectWaits = (c : LinkSettings) (s : LinkStation) → s.phase ≡ Down
     → Is (record s { phase = Waiting; tries = 0 }) (sabm true ∷ []) None false (connect_step c s)
 
 abbrev pub TimerWaits : Type 0
-TimerWaits = (c : Settings) (s : LinkStation) → s.phase ≡ Waiting →
+TimerWaits = (c : LinkSettings) (s : LinkStation) → s.phase ≡ Waiting →
     Is (if nat_lt s.tries c.retries then record s { tries = suc s.tries } else with_nothing Down s.tries)
     (if nat_lt s.tries c.retries then sabm true ∷ [] else [])
     (if nat_lt s.tries c.retries then None else Some Retries) false (timer_step c s)
 
 abbrev pub DisconnectWaits : Type 0
-DisconnectWaits = (c : Settings) (s : LinkStation) → s.phase ≡ Waiting
+DisconnectWaits = (c : LinkSettings) (s : LinkStation) → s.phase ≡ Waiting
     → Is (with_nothing Closed s.tries) (disc true ∷ []) None false (disconnect_step c s)
 
 -- relink is abandon, and then connect
-pub record IsTwoSteps (c : Settings) (s : LinkStation) : Type 0 where
+pub record IsTwoSteps (c : LinkSettings) (s : LinkStation) : Type 0 where
   pub abandoned : (abandon_step c s).side ≡ record { near = with_nothing Down s.tries; out = [] }
   pub connected : (relink_step c s).side ≡ (connect_step c (with_nothing Down s.tries)).side
 
 abbrev pub RelinkIsTwoSteps : Type 0
-RelinkIsTwoSteps = (c : Settings) (s : LinkStation) → IsTwoSteps c s
+RelinkIsTwoSteps = (c : LinkSettings) (s : LinkStation) → IsTwoSteps c s
 
 -- the laws together
 pub record SetUpLaws : Type 0 where

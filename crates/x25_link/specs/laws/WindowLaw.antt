@@ -13,11 +13,11 @@ use Rattle.x25_link.specs.declared.phase.Phase.TheVariants.{Down, Waiting, Up, C
 use Rattle.x25_link.specs.declared.phase.Reason.{Reason}
 use Rattle.x25_link.specs.declared.phase.Reason.TheVariants.{Retries, Disc, Dm, FrmrSent, FrmrGot, Reset, Local, Counts}
 use Rattle.x25_link.specs.Outgoing.{Outgoing, no_packet}
-use Rattle.x25_link.specs.Station.{Settings, LinkStation, is_up}
-use Rattle.x25_link.specs.Hearing.{Step, other}
+use Rattle.x25_link.specs.Station.{LinkSettings, LinkStation, is_up}
+use Rattle.x25_link.specs.Hearing.{LinkStep, other}
 use Rattle.x25_link.specs.Link.{take_step, put_step, timer_step, disconnect_step, abandon_step}
 use Rattle.x25_window.specs.laws.Window.{after}
-use Rattle.x25_window.specs.laws.Window.Step.{HandDown, Hear, Take}
+use Rattle.x25_window.specs.laws.Window.EndStep.{HandDown, Hear, Take}
 use Rattle.x25_link.specs.laws.WindowMachine.{Window, Input, hands_down, receives, nothing, Runs}
 
 -- ---- a station as a window machine
@@ -130,7 +130,7 @@ AreLast Counts frames = frames ≡ []
 -- ---- steps in Up
 
 -- the station stays Up: what is brought is heard and taken, and then frames are sent
-pub record Stays (k : ℕ) (input : Input) (s : LinkStation) (step : Step) : Type 0 where
+pub record Stays (k : ℕ) (input : Input) (s : LinkStation) (step : LinkStep) : Type 0 where
   pub up : is_up step.side.near.phase ≡ true
   pub sound : IsSound k step.side.near.outgoing
   pub hands_up : MayHandUp input step.packet (window_of k s)
@@ -138,7 +138,7 @@ pub record Stays (k : ℕ) (input : Input) (s : LinkStation) (step : Step) : Typ
   pub quiet : step.notes ≡ record { down = None; up = false }
 
 -- Up is left, or begins afresh: nothing is handed up, and all lists are empty
-pub record Ends (reason : Reason) (step : Step) : Type 0 where
+pub record Ends (reason : Reason) (step : LinkStep) : Type 0 where
   pub frames : AreLast reason step.side.out
   pub packet : step.packet ≡ None
   pub phase : step.side.near.phase ≡ ends_in reason
@@ -147,28 +147,28 @@ pub record Ends (reason : Reason) (step : Step) : Type 0 where
   pub noted : step.notes.down ≡ Some reason
 
 -- it is left exactly where there is a reason
-abbrev pub Follows : Option Reason → ℕ → Input → LinkStation → Step → Type 0
+abbrev pub Follows : Option Reason → ℕ → Input → LinkStation → LinkStep → Type 0
 Follows None k input s step = Stays k input s step
 Follows (Some reason) k input s step = Ends reason step
 
 abbrev pub TakeFollows : Type 0
-TakeFollows = (c : Settings) (octets : List ℕ) (s : LinkStation) → IsRunning c.window s
+TakeFollows = (c : LinkSettings) (octets : List ℕ) (s : LinkStation) → IsRunning c.window s
     → (read : Result PlainFrame FrameError) → read ≡ frame_of (other c.role) c.longest octets →
     Follows (ending_of read (window_of c.window s)) c.window (brought_by read) s (take_step c octets s)
 
 abbrev pub PutFollows : Type 0
-PutFollows = (c : Settings) (packet : List ℕ) (s : LinkStation) → IsRunning c.window s
+PutFollows = (c : LinkSettings) (packet : List ℕ) (s : LinkStation) → IsRunning c.window s
     → Stays c.window (hands_down packet) s (put_step c packet s)
 
 abbrev pub TimerFollows : Type 0
-TimerFollows = (c : Settings) (s : LinkStation) → IsRunning c.window s
+TimerFollows = (c : LinkSettings) (s : LinkStation) → IsRunning c.window s
     → Follows (if nat_lt s.tries c.retries then None else Some Retries) c.window nothing s (timer_step c s)
 
 abbrev pub DisconnectFollows : Type 0
-DisconnectFollows = (c : Settings) (s : LinkStation) → IsRunning c.window s → Ends Local (disconnect_step c s)
+DisconnectFollows = (c : LinkSettings) (s : LinkStation) → IsRunning c.window s → Ends Local (disconnect_step c s)
 
 abbrev pub AbandonFollows : Type 0
-AbandonFollows = (c : Settings) (s : LinkStation) → IsRunning c.window s → Ends Counts (abandon_step c s)
+AbandonFollows = (c : LinkSettings) (s : LinkStation) → IsRunning c.window s → Ends Counts (abandon_step c s)
 
 -- ---- steps of a station that is out
 
@@ -190,26 +190,26 @@ AreDeclining (dm f ∷ frames) = AreDeclining frames
 AreDeclining (frame ∷ frames) = ⊥
 
 -- only DM is sent, and nothing is handed up or noted
-pub record StaysOut (step : Step) : Type 0 where
+pub record StaysOut (step : LinkStep) : Type 0 where
   pub out : IsOut step.side.near.phase
   pub frames : AreDeclining step.side.out
   pub packet : step.packet ≡ None
   pub quiet : step.notes ≡ record { down = None; up = false }
 
 abbrev pub TakeStaysOut : Type 0
-TakeStaysOut = (c : Settings) (octets : List ℕ) (s : LinkStation) → IsOut s.phase
+TakeStaysOut = (c : LinkSettings) (octets : List ℕ) (s : LinkStation) → IsOut s.phase
     → sets_up (frame_of (other c.role) c.longest octets) ≡ false →
     StaysOut (take_step c octets s)
 
 -- DISC alone is sent
-pub record ClosesOut (step : Step) : Type 0 where
+pub record ClosesOut (step : LinkStep) : Type 0 where
   pub phase : step.side.near.phase ≡ Closed
   pub frames : step.side.out ≡ disc true ∷ []
   pub packet : step.packet ≡ None
   pub quiet : step.notes ≡ record { down = None; up = false }
 
 abbrev pub DisconnectStaysOut : Type 0
-DisconnectStaysOut = (c : Settings) (s : LinkStation) → IsOut s.phase → ClosesOut (disconnect_step c s)
+DisconnectStaysOut = (c : LinkSettings) (s : LinkStation) → IsOut s.phase → ClosesOut (disconnect_step c s)
 
 -- the laws together
 pub record StationLaws : Type 0 where

@@ -2,8 +2,8 @@
 -- it sends, and runs that only send. ITU-T X.25 (10/96), sections 2.3.2 and 2.4.5.
 use Rattle.std.specs.Prelude.{◌≡◌, ℕ, ◌%◌, false, List, [], ◌∷◌, ◌++◌, Option, Some, None}
 use Rattle.x25_frame.specs.Frame.{PlainFrame, info, rr, rnr, rej}
-use Rattle.x25_window.specs.laws.Window.{End, Step, Numbered, Frame, Allows, after, frames_of}
-use Rattle.x25_window.specs.laws.Window.Step.{Send, Tell}
+use Rattle.x25_window.specs.laws.Window.{End, EndStep, Numbered, Frame, Allows, after, frames_of}
+use Rattle.x25_window.specs.laws.Window.EndStep.{Send, Tell}
 
 abbrev pub Window : Type 0
 Window = End (List ℕ)
@@ -39,7 +39,7 @@ ShowAll (frame ∷ frames) [] = ⊥
 
 -- ---- runs
 
-abbrev pub IsSent : Step (List ℕ) → Type 0
+abbrev pub IsSent : EndStep (List ℕ) → Type 0
 IsSent (Send n) = Unit {0}
 IsSent Tell = Unit {0}
 IsSent step = ⊥
@@ -47,6 +47,6 @@ IsSent step = ⊥
 -- from one state to another by steps that send, with the frames that show what they send
 pub data Runs (from : Window) : Window → List PlainFrame → Type 0 where
   rests : Runs from from []
-  goes_on : (w : Window) (before : List PlainFrame) (step : Step (List ℕ)) (frames : List PlainFrame)
+  goes_on : (w : Window) (before : List PlainFrame) (step : EndStep (List ℕ)) (frames : List PlainFrame)
       → Runs from w before
       → IsSent step → Allows w step → ShowAll frames (frames_of w step) → Runs from (after w step) (before ++ frames)

@@ -4,7 +4,7 @@ use Rattle.std.specs.Prelude.{◌≡◌, ℕ, ◌≤◌, List, [], ◌∷◌, So
 use Rattle.x25_station.specs.Config.{Settings}
 use Rattle.x25_station.specs.Step.{Outcome, Did, Refused}
 use Rattle.x25_station.specs.laws.SettledLaw.{IsSettled}
-use Rattle.x25_station.specs.laws.TimerLaw.{Event}
+use Rattle.x25_station.specs.laws.TimerLaw.{StationEvent}
 use Rattle.x25_clock.specs.declared.due.Due.{Due}
 use Rattle.x25_clock.specs.declared.times.Times.{Times}
 use Rattle.x25_clock.specs.Clock.{due_of}
@@ -27,7 +27,7 @@ done_with_pull c times deed w = all_done c times (with_pull deed (outcome_of c d
 
 -- of an event that a line asks for
 abbrev pub EventIsDone : Type 0
-EventIsDone = (c : Settings) (times : Times) (event : Event) (w : Timed) → c.window ≤ 7 → IsSettled c w.station
+EventIsDone = (c : Settings) (times : Times) (event : StationEvent) (w : Timed) → c.window ≤ 7 → IsSettled c w.station
     → watched_in (act_turn c times w (event_act c w.station event)).next
     ≡ done_with_pull c times (Happens 0 event) (watched_in w)
 

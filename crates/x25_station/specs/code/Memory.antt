@@ -5,8 +5,6 @@ use Rattle.std.specs.List.{sum_by}
 use Rattle.x25_circuit.specs.Calling.{Request, Calls, Sends, Interrupts}
 use Rattle.x25_station.specs.declared.entry.Entry.{Entry}
 use Rattle.x25_station.specs.declared.entry.Entry.TheVariants as entry
-use Rattle.x25_station.specs.declared.entry.Said.{Said}
-use Rattle.x25_station.specs.declared.entry.Said.TheVariants as said
 use Rattle.x25_station.specs.declared.entry.Asked.{Asked}
 use Rattle.x25_station.specs.declared.entry.Asked.TheVariants as asked
 use Rattle.x25_station.specs.declared.entry.Told.{Told}
@@ -33,12 +31,9 @@ texts_told (told.Incoming called calling user params) = 3
 texts_told (told.Interrupted user) = 1
 texts_told _ = 0
 
-abbrev pub texts_said : Said → ℕ
-texts_said (said.Asked what) = texts_asked what
-texts_said (said.Told what) = texts_told what
-
 abbrev pub texts_in : Entry → ℕ
-texts_in (entry.OnChannel channel name what) = texts_said what
+texts_in (entry.Asked channel name what) = texts_asked what
+texts_in (entry.Told channel name what) = texts_told what
 texts_in (entry.Beside channel facilities user) = 2
 texts_in _ = 0
 
@@ -47,15 +42,12 @@ messages_asked (asked.Send marks user) = 1
 messages_asked _ = 0
 
 abbrev pub messages_told : Told → ℕ
-messages_told (told.Delivered message) = 1
+messages_told (told.Delivered marks user) = 1
 messages_told _ = 0
 
-abbrev pub messages_said : Said → ℕ
-messages_said (said.Asked what) = messages_asked what
-messages_said (said.Told what) = messages_told what
-
 abbrev pub messages_in : Entry → ℕ
-messages_in (entry.OnChannel channel name what) = messages_said what
+messages_in (entry.Asked channel name what) = messages_asked what
+messages_in (entry.Told channel name what) = messages_told what
 messages_in _ = 0
 
 -- ---- requests of which the memory has room for a copy

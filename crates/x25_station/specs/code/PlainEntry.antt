@@ -7,11 +7,9 @@ use Rattle.x25_circuit.specs.Calling.{Request, Calls, Accepts, Clears, Sends, In
 use Rattle.x25_circuit.specs.Calling.{SaysNotReady}
 use Rattle.x25_handshakes.specs.laws.Names.{Name}
 use Rattle.x25_layer.specs.declared.stretch.Stretch.{Stretch}
-use Rattle.x25_layer.specs.laws.Transcript as layer
+use Rattle.x25_layer.specs.laws.Transcript as said
 use Rattle.x25_station.specs.declared.entry.Entry.{Entry}
 use Rattle.x25_station.specs.declared.entry.Entry.TheVariants as code
-use Rattle.x25_station.specs.declared.entry.Said.{Said}
-use Rattle.x25_station.specs.declared.entry.Said.TheVariants as said
 use Rattle.x25_station.specs.declared.entry.Asked.{Asked}
 use Rattle.x25_station.specs.declared.entry.Asked.TheVariants as asked
 use Rattle.x25_station.specs.declared.entry.Told.{Told}
@@ -43,18 +41,16 @@ plain_told (told.Cleared cause diagnostic) = cleared cause diagnostic
 plain_told told.ClearDone = clear_done
 plain_told (told.WasReset cause diagnostic) = was_reset cause diagnostic
 plain_told told.ResetDone = reset_done
-plain_told (told.Delivered message) = delivered message
+plain_told (told.Delivered marks user) = delivered (record { marks = marks; user = user })
 plain_told (told.Interrupted user) = interrupted user
 plain_told told.InterruptDone = interrupt_done
 plain_told (told.Fault diagnostic) = fault diagnostic
 
-abbrev pub plain_said : Said → layer.Said
-plain_said (said.Asked what) = layer.Asked (plain_asked what)
-plain_said (said.Told what) = layer.Told (plain_told what)
-
 abbrev pub plain_entry : Entry → StationEntry
-plain_entry (code.OnChannel channel name what) = of_channel
-    (record { channel = channel; name = plain_name name; said = plain_said what })
+plain_entry (code.Asked channel name what) = of_channel
+    (record { channel = channel; name = plain_name name; said = said.Asked (plain_asked what) })
+plain_entry (code.Told channel name what) = of_channel
+    (record { channel = channel; name = plain_name name; said = said.Told (plain_told what) })
 plain_entry (code.RestartAsked cause diagnostic) = restart_asked cause diagnostic
 plain_entry code.ConnectAsked = connect_asked
 plain_entry code.DisconnectAsked = disconnect_asked

@@ -68,5 +68,5 @@ IsTold c s h (Refused e) = Unit {0}
 
 -- Whatever comes and whatever is asked, of a channel that awaits an answer, or where a restart is under way.
 abbrev pub EndIsTold : Type 0
-EndIsTold = (c : Settings) (s : Station) (h : ℕ) (event : timer.Event) → 2 ≤ rank c s h
+EndIsTold = (c : Settings) (s : Station) (h : ℕ) (event : timer.StationEvent) → 2 ≤ rank c s h
     → IsTold c s h (timer.outcome c s event)

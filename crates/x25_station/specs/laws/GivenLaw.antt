@@ -8,7 +8,7 @@ use Rattle.x25_given.specs.Given.{PlainGiven, may_give}
 use Rattle.x25_given.specs.Writing.{fields, write, written}
 use Rattle.x25_link.specs.Link.{alone, put_refusal, put_step}
 use Rattle.x25_link.specs.Outgoing.{waits}
-use Rattle.x25_link.specs.Station.{Settings as LinkSettings, LinkStation, Side}
+use Rattle.x25_link.specs.Station.{LinkSettings, LinkStation, Side}
 use Rattle.x25_layer.specs.Layer.{Layer, LayerAnswer}
 use Rattle.x25_layer.specs.Calls.{LayerRequest}
 use Rattle.x25_layer.specs.laws.RoundLaw.{moves_all, pulls_of, AreChannels}

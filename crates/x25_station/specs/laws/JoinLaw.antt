@@ -4,8 +4,8 @@ use Rattle.std.specs.Prelude.{◌≡◌, ℕ, ◌≤◌, ◌==◌, true, false, 
 use Rattle.x25_packet.specs.Packet.{PlainPacket, restart}
 use Rattle.x25_packet.specs.Taking.{read_in}
 use Rattle.x25_link.specs.Outgoing.{waits}
-use Rattle.x25_link.specs.Station.{Settings as LinkSettings, LinkStation, Side, fresh}
-use Rattle.x25_link.specs.Hearing.{Step as LinkStep}
+use Rattle.x25_link.specs.Station.{LinkSettings, LinkStation, Side, fresh}
+use Rattle.x25_link.specs.Hearing.{LinkStep}
 use Rattle.x25_link.specs.laws.NoteLaw.{IsQuiet}
 use Rattle.x25_link.specs.Link.{alone, put_refusal, take_step}
 use Rattle.x25_link.specs.declared.phase.Reason.{Reason}

@@ -8,9 +8,9 @@ use Rattle.x25_packet.specs.Taking.{read_in}
 use Rattle.x25_circuit.specs.Calling.{Request, Calls, Clears, Sends, Interrupts, Resets}
 use Rattle.x25_layer.specs.declared.ranges.Ranges.{Ranges}
 use Rattle.x25_layer.specs.Calls.{LayerRequest, Asks, Dials, Restarts, PullsAll}
-use Rattle.x25_layer.specs.laws.TwoLayers.{TwoLayers, Move, Requests, Event, run, start}
+use Rattle.x25_layer.specs.laws.TwoLayers.{TwoLayers, Move, Requests, EndMove, run, start}
 use Rattle.x25_bits.specs.declared.role.Role.{Role}
-use Rattle.x25_layer.specs.laws.PeerJoined.{Joined, Happens, Ours, start as joined_start}
+use Rattle.x25_layer.specs.laws.PeerJoined.{PeerJoined, Happens, Ours, start as joined_start}
 use Rattle.x25_station.specs.Command.{may_ask}
 use Rattle.x25_station.specs.Config.{longest_packet}
 
@@ -50,32 +50,32 @@ abbrev pub MovesOctets : Bool → Move → Type 0
 MovesOctets wide (Requests is_full request) = RequestsOctets request × (may_ask wide request ≡ true)
 MovesOctets wide move = Unit {0}
 
-abbrev pub BringOctets : Bool → List Event → Type 0
+abbrev pub BringOctets : Bool → List EndMove → Type 0
 BringOctets wide [] = Unit {0}
 BringOctets wide (e ∷ events) = MovesOctets wide e.what × BringOctets wide events
 
 -- whatever happens to two layers of at most 4,095 channels
 abbrev pub PutsAreReadable : Type 0
 PutsAreReadable =
-    (wide long_data : Bool) (channels : Ranges) → channels.count ≤ 4095 → (events : List Event)
+    (wide long_data : Bool) (channels : Ranges) → channels.count ≤ 4095 → (events : List EndMove)
     → BringOctets wide events →
     let w : TwoLayers = run long_data channels events (start long_data channels) in
     AreReadable wide long_data w.near.given × AreReadable wide long_data w.far.given
 
 -- ---- a layer beside any peer
 
-abbrev pub BringsOctets : {r : Role} {long_data : Bool} {channels : Ranges} {w v : Joined} → Bool
+abbrev pub BringsOctets : {r : Role} {long_data : Bool} {channels : Ranges} {w v : PeerJoined} → Bool
     → Happens r long_data channels w v → Type 0
 BringsOctets wide (Ours move stays) = MovesOctets wide move
 BringsOctets wide other = Unit {0}
 
 -- what is reached where the user hands down octets
-pub data IsReachedByOctets (wide : Bool) (r : Role) (long_data : Bool) (channels : Ranges) : Joined → Type 0 where
+pub data IsReachedByOctets (wide : Bool) (r : Role) (long_data : Bool) (channels : Ranges) : PeerJoined → Type 0 where
   at_start : IsReachedByOctets wide r long_data channels (joined_start r long_data channels)
-  goes_on : (w v : Joined) → IsReachedByOctets wide r long_data channels w → (h : Happens r long_data channels w v)
+  goes_on : (w v : PeerJoined) → IsReachedByOctets wide r long_data channels w → (h : Happens r long_data channels w v)
       → BringsOctets wide h → IsReachedByOctets wide r long_data channels v
 
 abbrev pub PutsBesidePeersAreReadable : Type 0
 PutsBesidePeersAreReadable =
-    (wide : Bool) (r : Role) (long_data : Bool) (channels : Ranges) → channels.count ≤ 4095 → (w : Joined)
+    (wide : Bool) (r : Role) (long_data : Bool) (channels : Ranges) → channels.count ≤ 4095 → (w : PeerJoined)
     → IsReachedByOctets wide r long_data channels w → AreReadable wide long_data w.near.given

@@ -27,7 +27,7 @@ abbrev pub NewIsSettled : Type 0
 NewIsSettled = (c : Settings) → IsSettled c new_station
 
 abbrev pub StaysSettled : Type 0
-StaysSettled = (c : Settings) (s : Station) (event : timer.Event) → c.window ≤ 7 → IsSettled c s
+StaysSettled = (c : Settings) (s : Station) (event : timer.StationEvent) → c.window ≤ 7 → IsSettled c s
     → SettledBy c (timer.outcome c s event)
 
 abbrev pub SettledAsks : Type 0

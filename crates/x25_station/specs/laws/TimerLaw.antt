@@ -14,22 +14,22 @@ use Rattle.x25_station.specs.Step.{Step, Outcome, Did, Refused, receives, comman
 use Rattle.x25_station.specs.Timer.{runs, timer_at, timer_pulled}
 
 -- octets come, the user commands, or T1 fires
-pub data Event : Type 0 where
-  Comes : (octets : List ℕ) → Event
-  Asks : (command : Command) → Event
-  Fires : Event
+pub data StationEvent : Type 0 where
+  Comes : (octets : List ℕ) → StationEvent
+  Asks : (command : Command) → StationEvent
+  Fires : StationEvent
 
-abbrev pub outcome : Settings → Station → Event → Outcome
+abbrev pub outcome : Settings → Station → StationEvent → Outcome
 outcome c s (Comes octets) = Did (receives c s octets)
 outcome c s (Asks command) = commands c s command
 outcome c s Fires = fires c s
 
-abbrev pub is_firing : Event → Bool
+abbrev pub is_firing : StationEvent → Bool
 is_firing (Comes octets) = false
 is_firing (Asks command) = false
 is_firing Fires = true
 
-abbrev pub timer : Station → Event → Outcome → Timer
+abbrev pub timer : Station → StationEvent → Outcome → Timer
 timer s event o = timer_at s (is_firing event) o
 
 -- whether the deadline stands behind what T1 becomes
@@ -47,26 +47,27 @@ abbrev pub after : Station → Outcome → Station
 after s (Did step) = step.near
 after s (Refused e) = s
 
-abbrev pub watched_by : Settings → Event → Watched → Watched
+abbrev pub watched_by : Settings → StationEvent → Watched → Watched
 watched_by c event w =
     let o = outcome c w.station event in
     record { station = after w.station o; stands = heeds (timer w.station event o) w.stands }
 
 -- a station that never was up, and then any events, the first one first
-abbrev pub watched_from : Settings → List Event → Watched → Watched
+abbrev pub watched_from : Settings → List StationEvent → Watched → Watched
 watched_from c [] w = w
 watched_from c (event ∷ events) w = watched_from c events (watched_by c event w)
 
-abbrev pub watched : Settings → List Event → Watched
+abbrev pub watched : Settings → List StationEvent → Watched
 watched c events = watched_from c events (record { station = new_station; stands = false })
 
 -- the deadline stands exactly while T1 runs
 abbrev pub DeadlineIsTrue : Type 0
-DeadlineIsTrue = (c : Settings) (events : List Event) → let w = watched c events in w.stands ≡ runs w.station
+DeadlineIsTrue = (c : Settings) (events : List StationEvent) → let w = watched c events in w.stands ≡ runs w.station
 
 -- so one who fires where it stands is never refused
 abbrev pub FiringIsTaken : Type 0
-FiringIsTaken = (c : Settings) (events : List Event) → let w = watched c events in w.stands ≡ true → (step : Step)
+FiringIsTaken = (c : Settings) (events : List StationEvent) → let w = watched c events in w.stands ≡ true
+    → (step : Step)
     × (fires c w.station ≡ Did step)
 
 -- and one who fires where T1 is off is
@@ -80,7 +81,7 @@ PullIsHeeded = (c : Settings) (s : Station) (first : Timer) (stands : Bool) → 
 
 -- ---- where T1 is due to begin anew
 
-abbrev pub IsFiring : Event → Type 0
+abbrev pub IsFiring : StationEvent → Type 0
 IsFiring Fires = Unit {0}
 IsFiring event = ⊥
 
@@ -92,17 +93,17 @@ TellsLink (link_down reason ∷ entries) = Unit {0}
 TellsLink (entry ∷ entries) = TellsLink entries
 
 -- the step was a firing, told LinkUp or LinkDown, or more of the frames sent are acknowledged behind it
-abbrev pub IsDue : Station → Event → Step → Type 0
+abbrev pub IsDue : Station → StationEvent → Step → Type 0
 IsDue s event step = IsFiring event
     ⊎ (TellsLink step.entries ⊎ (s.link.outgoing.acked < step.near.link.outgoing.acked))
 
 -- T1 begins anew, where it runs, at an accepted event at which it is due to,
 abbrev pub BeginsWhereDue : Type 0
-BeginsWhereDue = (c : Settings) (s : Station) (event : Event) (step : Step) → outcome c s event ≡ Did step
+BeginsWhereDue = (c : Settings) (s : Station) (event : StationEvent) (step : Step) → outcome c s event ≡ Did step
     → IsDue s event step → runs step.near ≡ true → timer s event (Did step) ≡ Begins
 
 -- and at such an event and a pull behind it.
 abbrev pub BeginsBehindPull : Type 0
-BeginsBehindPull = (c : Settings) (s : Station) (event : Event) (step : Step) → outcome c s event ≡ Did step
+BeginsBehindPull = (c : Settings) (s : Station) (event : StationEvent) (step : Step) → outcome c s event ≡ Did step
     → IsDue s event step → let next = (pulled c step.near).near in runs next ≡ true
     → timer_pulled (timer s event (Did step)) step.near next ≡ Begins

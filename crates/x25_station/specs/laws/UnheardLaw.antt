@@ -19,7 +19,7 @@ MayAsk Up = Unit {0}
 MayAsk Closed = ⊥
 
 -- octets come while UA is awaited alone
-abbrev pub IsUnheard : Station → timer.Event → Type 0
+abbrev pub IsUnheard : Station → timer.StationEvent → Type 0
 IsUnheard s (Comes octets) = s.link.phase ≡ Waiting
 IsUnheard s (Asks command) = Unit {0}
 IsUnheard s Fires = Unit {0}
@@ -33,7 +33,7 @@ tries_for Disconnects = 0
 tries_for Probes = 1
 tries_for Relinks = 0
 
-abbrev pub takes : timer.Event → ℕ
+abbrev pub takes : timer.StationEvent → ℕ
 takes (Comes octets) = 0
 takes (Asks command) = tries_for command
 takes Fires = 1
@@ -52,5 +52,5 @@ AsksOn c s count (Did step) = tells_link step.entries ≡ false → step.near.li
 AsksOn c s count (Refused e) = Unit {0}
 
 abbrev pub UnheardAsksOn : Type 0
-UnheardAsksOn = (c : Settings) (s : Station) (event : timer.Event) → MayAsk s.link.phase → IsUnheard s event
+UnheardAsksOn = (c : Settings) (s : Station) (event : timer.StationEvent) → MayAsk s.link.phase → IsUnheard s event
     → AsksOn c s (takes event) (timer.outcome c s event)

@@ -100,5 +100,5 @@ LeadsOn c s h (Refused e) = Unit {0}
 -- Whatever comes and whatever is asked, a channel of rank 2 or more awaits what it did, or its rank is lower, or the
 -- step tells LinkUp or LinkDown.
 abbrev pub NothingLeadsBack : Type 0
-NothingLeadsBack = (c : Settings) (s : Station) (h : ℕ) (event : timer.Event) → 2 ≤ rank c s h
+NothingLeadsBack = (c : Settings) (s : Station) (h : ℕ) (event : timer.StationEvent) → 2 ≤ rank c s h
     → LeadsOn c s h (timer.outcome c s event)

@@ -18,29 +18,29 @@ pub record End (T : Type 0) : Type 0 where
 abbrev pub fresh_end : {T : Type 0} → ℕ → End T
 fresh_end k = record { window = k; given = []; acked = 0; sent = 0; taken = [] }
 
-pub data Step (T : Type 0) : Type 0 where
+pub data EndStep (T : Type 0) : Type 0 where
   -- an item is handed down
-  HandDown : (item : T) → Step T
+  HandDown : (item : T) → EndStep T
   -- the I frame of this number is sent, for the first time or again
-  Send : (number : ℕ) → Step T
+  Send : (number : ℕ) → EndStep T
   -- a frame without an item is sent
-  Tell : Step T
+  Tell : EndStep T
   -- an N(R) comes
-  Hear : (ack : ℕ) → Step T
+  Hear : (ack : ℕ) → EndStep T
   -- an item with this N(S) comes, and is taken
-  Take : (number : ℕ) → (item : T) → Step T
+  Take : (number : ℕ) → (item : T) → EndStep T
 
 -- The frame of number n may be sent from the first that isn't acknowledged to the first that was never sent, fewer than
 -- k at a time. An N(R) is valid where it stands for a number from the first that isn't acknowledged to the highest sent
 -- plus one. Only the item whose N(S) is V(R) modulo 8 may be taken.
-abbrev pub Allows : {T : Type 0} → End T → Step T → Type 0
+abbrev pub Allows : {T : Type 0} → End T → EndStep T → Type 0
 Allows e (HandDown item) = Unit {0}
 Allows e (Send n) = (e.acked ≤ n) × (n ≤ e.sent) × (n < e.acked + e.window) × (n < length e.given)
 Allows e Tell = Unit {0}
 Allows e (Hear ack) = resolved e.acked ack ≤ e.sent
 Allows e (Take number item) = number ≡ length e.taken % 8
 
-abbrev pub after : {T : Type 0} → End T → Step T → End T
+abbrev pub after : {T : Type 0} → End T → EndStep T → End T
 after e (HandDown item) = record {
   window = e.window;
   given = e.given
@@ -93,7 +93,7 @@ abbrev pub frame_of : {T : Type 0} → End T → Option (Numbered T) → Frame T
 frame_of e carried = record { carried = carried; ack = length e.taken; top = e.sent }
 
 -- the frames that a step sends
-abbrev pub frames_of : {T : Type 0} → End T → Step T → List (Frame T)
+abbrev pub frames_of : {T : Type 0} → End T → EndStep T → List (Frame T)
 frames_of e (HandDown item) = []
 frames_of e (Send n) = frame_of (after e (Send n)) (numbered n (slice_get e.given n)) ∷ []
 frames_of e Tell = frame_of e None ∷ []

@@ -22,13 +22,13 @@ returns-in-Some-clause-entered c = λ c' l fits reported.
     (elim c.if-collided.branch [
       | then-collided w ↦
           ap (λ es. map plain_entry es.items) w.entries-is
-          ∙ w.enter.ensures.entered c' l fits (first_tellable c' h c.in-Channel.collided c.in-Channel.notice w.if-collided.true all).0
+          ∙ w.tell.ensures.entered c' l fits (first_tellable c' h c.in-Channel.collided c.in-Channel.notice w.if-collided.true all).0
           ∙ ap (λ (b : Bool). before ++ (if b then entry_told l (on_channel h collided) ∷ [] else [])) (sym w.if-collided.true)
       | else-collided w ↦
           ap (λ es. map plain_entry es.items) w.entries-is
           ∙ sym (append-nil before)
           ∙ ap (λ (b : Bool). before ++ (if b then entry_told l (on_channel h collided) ∷ [] else [])) (sym w.if-collided.false)
     ])
-    (c.enter-in-Some.ensures.entered c' l fits tellable.0
+    (c.tell-in-Some.ensures.entered c' l fits tellable.0
     ∙ ap (λ (p : PlainNotice). map plain_entry c.if-collided.entries.items ++ entry_told l (on_channel h p) ∷ []) (c.told_of-told.ensures.told tellable.1))
     ∙ ap (λ (r : Report). before ++ station_told l (plain_report r)) (sym c.in-Channel.is)

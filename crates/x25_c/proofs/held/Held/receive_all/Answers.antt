@@ -2,7 +2,7 @@ use Rattle.std.proofs.Common.{◌∙◌, arith, refl, subst, sym}
 use Rattle.std.specs.Prelude.{Ok}
 use Rattle.x25_station.specs.code.FitsStation.{FitsStation}
 use Rattle.x25_station.specs.laws.TimerLaw.{Comes}
-use Rattle.x25_c.specs.code.Happens.{Happens}
+use Rattle.x25_c.specs.code.Happens.{HappensTo}
 use Rattle.x25_c.proofs.ReceiveLemmas.{ends_all, ends_full, ends_short, from_before, its_octets, one_more, sum_more, where_ok}
 use Rattle.x25_c.proofs.held.Held.receive_all.Goals as goal
 
@@ -26,7 +26,7 @@ loop-place-preserved c =
       sum_more counts place c.loop-place.at c.loop-place-test.true i.1,
       one_more octets counts place _ c.loop-place.self c.keep.new.self c.take.new.self i.2 c.keep.ensures.whole
           (where_ok c.keep.result _ (sym c.is_err.ensures.value ∙ c.if-is_err.false) c.keep.ensures.kept) (λ c' s fits. subst (λ v. FitsStation c' v s) (sym c.keep.ensures.station) fits) c.keep.ensures.end c.keep.ensures.time c.keep.ensures.clock
-          (subst (λ f. Happens c.keep.new.self c.take.new.self (Ok tt) (Comes f)) (its_octets octets counts place c.loop-place.at _ i.1 refl) c.take.ensures.happens) c.take.ensures.earlier,
+          (subst (λ f. HappensTo c.keep.new.self c.take.new.self (Ok tt) (Comes f)) (its_octets octets counts place c.loop-place.at _ i.1 refl) c.take.ensures.happens) c.take.ensures.earlier,
       c.take.ensures.passed ∙ c.keep.ensures.passed ∙ i.3,
     )
 

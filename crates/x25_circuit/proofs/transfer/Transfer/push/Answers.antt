@@ -1,6 +1,5 @@
 use Rattle.std.proofs.Common.{rules, ◌≡◌, ◌++◌, ◌∷◌, [], List, sym, ap, ◌∙◌}
-use Rattle.x25_circuit.specs.Message.{Piece, cut, cut_all}
-use Rattle.x25_circuit.specs.declared.message.Message.{Message}
+use Rattle.x25_circuit.specs.Message.{Message, Piece, cut, cut_all}
 use Rattle.x25_circuit.specs.Queue.{waiting}
 use Rattle.x25_circuit.proofs.MessageLemmas.{cut_all_push}
 use Rattle.x25_circuit.proofs.NumbersLemmas.{asked_more}

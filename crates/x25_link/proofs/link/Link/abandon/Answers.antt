@@ -1,6 +1,6 @@
 use Rattle.std.proofs.Common.{rules, sym, ◌∙◌, [], arith, ap, length, refl}
 use Rattle.x25_link.specs.declared.phase.Reason.TheVariants.{Counts}
-use Rattle.x25_link.specs.Hearing.{Step, leaves}
+use Rattle.x25_link.specs.Hearing.{LinkStep, leaves}
 use Rattle.x25_link.specs.Link.{alone}
 use Rattle.x25_link.proofs.AckedLemmas.{closed_same}
 use Rattle.x25_link.proofs.LinkLemmas.{begins, closed_state, closed_out}
@@ -10,15 +10,15 @@ pub returns : goal.returns
 returns c = record {
   state = λ d s fits.
       let heard = c.leave.ensures.step d _ _ (alone s) (begins d _ _ _ s c.self.view_is fits c.clear.ensures) in
-      let step : Step = leaves Counts (alone s) in
+      let step : LinkStep = leaves Counts (alone s) in
       closed_state d _ step.side heard.side.near refl refl;
   frames = λ d s fits.
       let heard = c.leave.ensures.step d _ _ (alone s) (begins d _ _ _ s c.self.view_is fits c.clear.ensures) in
-      let step : Step = leaves Counts (alone s) in
+      let step : LinkStep = leaves Counts (alone s) in
       closed_out d [] _ step.side refl refl heard.side.out;
   heard = λ d s fits.
       let heard = c.leave.ensures.step d _ _ (alone s) (begins d _ _ _ s c.self.view_is fits c.clear.ensures) in
-      let step : Step = leaves Counts (alone s) in
+      let step : LinkStep = leaves Counts (alone s) in
       record { packet = heard.packet; notes = heard.notes; acknowledged = heard.acknowledged ∙ sym (closed_same s d.window step) };
   few = omega (arith, ap length c.clear.ensures);
   refused = search rules;

@@ -1,5 +1,5 @@
 use Rattle.std.proofs.Common.{rules, sym, ◌∙◌, [], ap, length, arith, refl}
-use Rattle.x25_link.specs.Hearing.{Step}
+use Rattle.x25_link.specs.Hearing.{LinkStep}
 use Rattle.x25_link.specs.Link.{alone, connects}
 use Rattle.x25_link.proofs.AckedLemmas.{closed_same, none_again}
 use Rattle.x25_link.proofs.LinkLemmas.{begins, closed_state, closed_out}
@@ -9,11 +9,11 @@ pub returns : goal.returns
 returns c = record {
   state = λ d s fits.
       let heard = c.connect.ensures.step d _ (alone s) (begins d _ _ _ s c.self.view_is fits c.clear.ensures) in
-      let step : Step = connects (alone s) in
+      let step : LinkStep = connects (alone s) in
       closed_state d _ step.side heard.near refl refl;
   frames = λ d s fits.
       let heard = c.connect.ensures.step d _ (alone s) (begins d _ _ _ s c.self.view_is fits c.clear.ensures) in
-      let step : Step = connects (alone s) in
+      let step : LinkStep = connects (alone s) in
       closed_out d [] _ step.side refl refl heard.out;
   heard = λ d s fits. record {
     packet = rw c.quiet.ensures.packet refl;

@@ -1,5 +1,5 @@
 use Rattle.std.proofs.Common.{rules, sym, ◌∙◌, [], ap, length, arith, refl}
-use Rattle.x25_link.specs.Hearing.{Step}
+use Rattle.x25_link.specs.Hearing.{LinkStep}
 use Rattle.x25_link.specs.Link.{alone, relinks}
 use Rattle.x25_link.proofs.AckedLemmas.{closed_same}
 use Rattle.x25_link.proofs.LinkLemmas.{begins, closed_state, closed_out}
@@ -9,15 +9,15 @@ pub returns : goal.returns
 returns c = record {
   state = λ d s fits.
       let heard = c.relink.ensures.step d _ (alone s) (begins d _ _ _ s c.self.view_is fits c.clear.ensures) in
-      let step : Step = relinks (alone s) in
+      let step : LinkStep = relinks (alone s) in
       closed_state d _ step.side heard.side.near refl refl;
   frames = λ d s fits.
       let heard = c.relink.ensures.step d _ (alone s) (begins d _ _ _ s c.self.view_is fits c.clear.ensures) in
-      let step : Step = relinks (alone s) in
+      let step : LinkStep = relinks (alone s) in
       closed_out d [] _ step.side refl refl heard.side.out;
   heard = λ d s fits.
       let heard = c.relink.ensures.step d _ (alone s) (begins d _ _ _ s c.self.view_is fits c.clear.ensures) in
-      let step : Step = relinks (alone s) in
+      let step : LinkStep = relinks (alone s) in
       record { packet = heard.packet; notes = heard.notes; acknowledged = heard.acknowledged ∙ sym (closed_same s d.window step) };
   few = omega (arith, c.relink.ensures.one, ap length c.clear.ensures);
   refused = search rules;

@@ -1,5 +1,5 @@
 use Rattle.std.proofs.Common.{arith, ◌≡◌, length, [], ◌++◌, map, ap, ◌∙◌}
-use Rattle.x25_link.specs.Hearing.{Step as LinkStep}
+use Rattle.x25_link.specs.Hearing.{LinkStep}
 use Rattle.x25_link.specs.Link.{abandon_step}
 use Rattle.x25_station.specs.Entry.{entries_down}
 use Rattle.x25_station.specs.code.PlainEntry.{plain_entry}

@@ -1,18 +1,24 @@
 use Rattle.std.proofs.Common.{◌≡◌, ◌-◌, ◌≤◌, length, All, option_copied, arith, ap, sym, ◌∙◌}
 use Rattle.x25_link.specs.declared.phase.Notes.{Notes}
-use Rattle.x25_link.specs.Hearing.{Step as LinkStep}
+use Rattle.x25_link.specs.Hearing.{LinkStep}
 use Rattle.x25_link.specs.Link.{take_step}
 use Rattle.x25_link.specs.code.FitsLink.{FitsWhole, up_of}
 use Rattle.x25_layer.specs.Full.{IsNotFull}
 use Rattle.x25_station.specs.Receiving.{CanPut, kept_of}
-use Rattle.x25_station.specs.Config.{link_settings}
+use Rattle.x25_station.specs.Config.{link_settings, layer_settings}
 use Rattle.x25_station.specs.Station.{all_put}
 use Rattle.x25_station.specs.Step.{receives}
 use Rattle.x25_station.proofs.FrameLemmas.{few_heard}
 use Rattle.x25_station.proofs.OutcomeLemmas.{still_meant}
 use Rattle.x25_station.proofs.TakeLemmas.{up_can_put, handed_can_put, handed_was_up, put_by_meaning, least_by_meaning, up_by_meaning, few_made, if_some}
-use Rattle.x25_station.proofs.TookLemmas.{put_behind, took_fits, took_sends, took_enters, took_acknowledged}
+use Rattle.x25_station.proofs.TookLemmas.{abandoned, not_abandoned, not_full, and_left, put_behind, took_fits, took_sends, took_enters, took_acknowledged}
 use Rattle.x25_station.proofs.station.Station.take.Goals as goal
+
+pub abandon-requires-clause-up : goal.abandon-requires-clause-up
+abandon-requires-clause-up c = sym c.is_up.ensures.value ∙ and_left c.is_up.result c.full.result c.if-is_full.true
+
+pub abandon-requires-clause-full : goal.abandon-requires-clause-full
+abandon-requires-clause-full c = λ c' s fits. abandoned c' s (c.is_up.ensures.state (link_settings c') s.link fits.link) (c.full.ensures.value (layer_settings c') s.layer fits.layer) c.if-is_full.true
 
 pub follow-requires-clause-up : goal.follow-requires-clause-up
 follow-requires-clause-up c = λ is. put_by_meaning _ c.take-heard.new.self _ c.args.self.now.meant (λ c' s fits.
@@ -27,13 +33,13 @@ follow-requires-clause-put c = if_some c.take-heard.result.packet (λ x. CanPut 
 
 pub follow-requires-clause-left : goal.follow-requires-clause-left
 follow-requires-clause-left c = if_some c.take-heard.result.packet (λ x. IsNotFull c.args.self.now.layer) (λ p is.
-    (c.is_full.ensures.left c.if-is_full.false (up_by_meaning _ _ (up_of c.args.self.now.link) c.args.self.now.meant (λ c' s fits.
+    c.full.ensures.left (not_full c.is_up.result c.full.result (c.is_up.ensures.value ∙ up_by_meaning _ _ (up_of c.args.self.now.link) c.args.self.now.meant (λ c' s fits.
     let lk = link_settings c' in
     handed_was_up c.notes_what_changes.ensures.take_hands_up c' c.args.self.now.link c.args.octets.now s.link p.now fits.link
-    (sym ((c.take-heard.ensures.heard lk s.link fits.link).packet) ∙ ap option_copied is)))))
+    (sym ((c.take-heard.ensures.heard lk s.link fits.link).packet) ∙ ap option_copied is))) c.if-is_full.false))
 
-pub invariant_of-self : goal.invariant_of-self
-invariant_of-self c = record {
+pub invariant_of-self-2 : goal.invariant_of-self-2
+invariant_of-self-2 c = record {
   meant = still_meant _ _ _ _ c.args.self.now.meant (λ c' s fits.
       let lk = link_settings c' in
       let k : LinkStep = take_step lk c.args.octets.now s.link in
@@ -41,7 +47,7 @@ invariant_of-self c = record {
       let whole : FitsWhole c.take-heard.new.self (kept_of lk k.side) = record { link = c.take-heard.ensures.state lk s.link fits.link; kept = c.take-heard.ensures.frames lk s.link fits.link } in (
         c',
         (receives c' s c.args.octets.now).near,
-        took_fits c' fits.same s c.args.octets.now (option_copied c.take-heard.result.packet) c.take-heard.result.notes c.follow.new.link c.swap_frames.new.self c.follow.new.layer (sym (c.is_full.ensures.value c' s fits) ∙ c.if-is_full.false) (heard.packet, heard.notes)
+        took_fits c' fits.same s c.args.octets.now (option_copied c.take-heard.result.packet) c.take-heard.result.notes c.follow.new.link c.swap_frames.new.self c.follow.new.layer (not_abandoned c' s (c.is_up.ensures.state (link_settings c') s.link fits.link) (c.full.ensures.value (layer_settings c') s.layer fits.layer) c.if-is_full.false) (heard.packet, heard.notes)
             (c.follow.ensures.puts.link c' s.layer k.side fits.layer whole) (c.follow.ensures.puts.layer c' s.layer k.side fits.layer whole) (ap (λ l. l.station) c.swap_frames.ensures.link) (ap (λ l. l.frames) c.swap_frames.ensures.link ∙ c.requires.frames)
             (c.steps_keep_bounds.ensures.receive c' s c.args.octets.now fits.kept),
       ));
@@ -54,7 +60,7 @@ returns-clause-does c = record {
       let k : LinkStep = take_step lk c.args.octets.now s.link in
       let heard = c.take-heard.ensures.heard lk s.link fits.link in
       let whole : FitsWhole c.take-heard.new.self (kept_of lk k.side) = record { link = c.take-heard.ensures.state lk s.link fits.link; kept = c.take-heard.ensures.frames lk s.link fits.link } in
-      took_fits c' fits.same s c.args.octets.now (option_copied c.take-heard.result.packet) c.take-heard.result.notes c.follow.new.link c.swap_frames.new.self c.follow.new.layer (sym (c.is_full.ensures.value c' s fits) ∙ c.if-is_full.false) (heard.packet, heard.notes)
+      took_fits c' fits.same s c.args.octets.now (option_copied c.take-heard.result.packet) c.take-heard.result.notes c.follow.new.link c.swap_frames.new.self c.follow.new.layer (not_abandoned c' s (c.is_up.ensures.state (link_settings c') s.link fits.link) (c.full.ensures.value (layer_settings c') s.layer fits.layer) c.if-is_full.false) (heard.packet, heard.notes)
       (c.follow.ensures.puts.link c' s.layer k.side fits.layer whole) (c.follow.ensures.puts.layer c' s.layer k.side fits.layer whole) (ap (λ l. l.station) c.swap_frames.ensures.link) (ap (λ l. l.frames) c.swap_frames.ensures.link ∙ c.requires.frames)
       (c.steps_keep_bounds.ensures.receive c' s c.args.octets.now fits.kept);
   frames = λ c' s fits.
@@ -64,13 +70,13 @@ returns-clause-does c = record {
       let whole : FitsWhole c.take-heard.new.self (kept_of lk k.side) = record { link = c.take-heard.ensures.state lk s.link fits.link; kept = c.take-heard.ensures.frames lk s.link fits.link } in
       let link = c.follow.ensures.puts.link c' s.layer k.side fits.layer whole in
       c.swap_frames.ensures.frames
-      ∙ took_sends c' fits.same s c.args.octets.now (option_copied c.take-heard.result.packet) c.take-heard.result.notes _ (sym (c.is_full.ensures.value c' s fits) ∙ c.if-is_full.false) (heard.packet, heard.notes) link.kept;
+      ∙ took_sends c' fits.same s c.args.octets.now (option_copied c.take-heard.result.packet) c.take-heard.result.notes _ (not_abandoned c' s (c.is_up.ensures.state (link_settings c') s.link fits.link) (c.full.ensures.value (layer_settings c') s.layer fits.layer) c.if-is_full.false) (heard.packet, heard.notes) link.kept;
   entries = λ c' s fits.
       let lk = link_settings c' in
       let k : LinkStep = take_step lk c.args.octets.now s.link in
       let heard = c.take-heard.ensures.heard lk s.link fits.link in
       let whole : FitsWhole c.take-heard.new.self (kept_of lk k.side) = record { link = c.take-heard.ensures.state lk s.link fits.link; kept = c.take-heard.ensures.frames lk s.link fits.link } in
-      took_enters c' fits.same s c.args.octets.now (option_copied c.take-heard.result.packet) c.take-heard.result.notes _ (sym (c.is_full.ensures.value c' s fits) ∙ c.if-is_full.false) (heard.packet, heard.notes)
+      took_enters c' fits.same s c.args.octets.now (option_copied c.take-heard.result.packet) c.take-heard.result.notes _ (not_abandoned c' s (c.is_up.ensures.state (link_settings c') s.link fits.link) (c.full.ensures.value (layer_settings c') s.layer fits.layer) c.if-is_full.false) (heard.packet, heard.notes)
       (c.follow.ensures.entries c' s.layer k.side fits.layer whole);
   refused = λ c' s fits. tt;
   stays = λ c' s fits. tt;
@@ -93,4 +99,4 @@ pub returns-clause-acknowledged : goal.returns-clause-acknowledged
 returns-clause-acknowledged c = λ c' s fits.
     let lk = link_settings c' in
     let heard = c.take-heard.ensures.heard lk s.link fits.link in
-    heard.acknowledged ∙ took_acknowledged c' s c.args.octets.now (sym (c.is_full.ensures.value c' s fits) ∙ c.if-is_full.false)
+    heard.acknowledged ∙ took_acknowledged c' s c.args.octets.now (not_abandoned c' s (c.is_up.ensures.state (link_settings c') s.link fits.link) (c.full.ensures.value (layer_settings c') s.layer fits.layer) c.if-is_full.false)
