@@ -3,7 +3,7 @@ use Rattle.std.proofs.Common.{◌≡◌, ℕ, nat_le, Bool, true, false, cond, L
 use Rattle.x25_bits.specs.declared.role.Role.{Role}
 use Rattle.x25_bits.specs.declared.role.Role.TheVariants.{Dte, Dce}
 use Rattle.x25_station.specs.laws.ReadLaw.{RequestsOctets}
-use Rattle.x25_station.specs.laws.TimerLaw.{Event, Asks, Fires}
+use Rattle.x25_station.specs.laws.TimerLaw.{StationEvent, Asks, Fires}
 use Rattle.x25_script.specs.ScriptLine.{PlainCommand, call, clear, send, interrupt, reset, restart, with_given, PlainLine, command, t1, is_taken, taken}
 use Rattle.std.specs.Option.{unwrap_or}
 use Rattle.x25_script.specs.Reading.{line_in}
@@ -15,7 +15,7 @@ use Rattle.x25_pipe.specs.Pipe.{is_same, script_event, read_event, event_in}
 use Rattle.x25_world.specs.laws.Claims.{CommandsOctets}
 use Rattle.std.specs.Prelude.{option_and_then}
 
-abbrev pub AsksOctets : Option Event → Type 0
+abbrev pub AsksOctets : Option StationEvent → Type 0
 AsksOctets (Some (Asks asked)) = CommandsOctets asked
 AsksOctets event = Unit {0}
 
@@ -41,7 +41,7 @@ handed (reset channel g) h = (given g.cause h.0, given g.diagnostic h.1)
 handed (restart g) h = (given g.cause h.0, given g.diagnostic h.1)
 handed asked h = tt
 
-only_octets : (b : Bool) (event : Event) → AsksOctets (Some event) → AsksOctets (cond b (Some event) None)
+only_octets : (b : Bool) (event : StationEvent) → AsksOctets (Some event) → AsksOctets (cond b (Some event) None)
 only_octets true event h = h
 only_octets false event h = tt
 
@@ -78,7 +78,7 @@ of_sent reads wide Dte text (Some (Dce, octets)) = tt
 of_sent reads wide Dce text (Some (Dte, octets)) = tt
 of_sent reads wide Dce text (Some (Dce, octets)) = tt
 
-of_short : (b : Bool) (event : Option Event) → AsksOctets event → AsksOctets (cond b event None)
+of_short : (b : Bool) (event : Option StationEvent) → AsksOctets event → AsksOctets (cond b event None)
 of_short true event h = h
 of_short false event h = tt
 

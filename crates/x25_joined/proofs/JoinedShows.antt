@@ -1,5 +1,6 @@
 -- Two joined programs and a world of two stations, as one of the ends sees them: what one act of the programs is in the world.
-use Rattle.std.proofs.Common.{◌≡◌, ◌∙◌, ℕ, zero, suc, Bool, true, false, ◌&&◌, ◌||◌, nat_lt, cond, List, [], ◌∷◌, ◌++◌, length, take, drop, map, remove, All, Option, Some, None, append_assoc, append-nil, ap, ap₂, sym, subst, refl}
+use Rattle.std.proofs.Common.{◌≡◌, ◌∙◌, ◌≤◌, ℕ, zero, suc, Bool, true, false, ◌&&◌, ◌||◌, nat_lt, cond, List, [], ◌∷◌, ◌++◌, length, take, drop, map, remove, All, Option, Some, None, append_assoc, append-nil, ap, ap₂, sym, subst, refl, arith}
+use Rattle.std.proofs.lemmas.Bool.{ltb-false}
 use Rattle.std.proofs.lemmas.List.{map-append}
 use Rattle.std.proofs.lemmas.List.Elements.{All-nil, All-cons, All-head, All-tail, All-append, All-take, All-drop}
 use Rattle.x25_bits.specs.Role.{other}
@@ -7,7 +8,7 @@ use Rattle.x25_bits.specs.declared.role.Role.{Role}
 use Rattle.x25_bits.specs.declared.role.Role.TheVariants.{Dte, Dce}
 use Rattle.x25_frame.specs.Spelling.{spelling_of}
 use Rattle.x25_link.specs.Station.{awaits_ua}
-use Rattle.x25_line.specs.laws.Stations.{is_visible, replaced}
+use Rattle.x25_line.specs.{laws.Stations.{is_visible}, laws.Loss.{replaced}}
 use Rattle.x25_script.specs.laws.ReadingLaw.{ReadsOctets}
 use Rattle.x25_io.specs.Lines.{IsOpen}
 use Rattle.x25_station.specs.declared.config.Cfg.{Cfg}
@@ -17,7 +18,7 @@ use Rattle.x25_station.specs.Entry.{StationEntry}
 use Rattle.x25_station.specs.Config.{Settings, settings_from}
 use Rattle.x25_station.specs.Station.{Station}
 use Rattle.x25_station.specs.Step.{Step, Outcome, Did, Refused, commands, fires, receives}
-use Rattle.x25_station.specs.laws.TimerLaw.{Event, Comes, Asks, Fires}
+use Rattle.x25_station.specs.laws.TimerLaw.{StationEvent, Comes, Asks, Fires}
 use Rattle.x25_pipe.specs.Pipe.{pulled_behind, and_pulls, with_pulls, event_in, turn, piped}
 use Rattle.x25_world.specs.SetUp.{carries}
 use Rattle.x25_world.specs.declared.set_up.SetUpFrame.TheVariants.{Sabm, Ua}
@@ -89,10 +90,23 @@ tap_new from (t ∷ tap) fs h = tap_new from tap fs h.1
 tap_new from [] [] h = All-nil AreOfFrame
 tap_new from [] (f ∷ fs) h = All-cons AreOfFrame f fs h.0 (tap_new from [] fs h.1)
 
-replaced_fit : (xs : List (List ℕ)) (place : ℕ) (octets : List ℕ) → All AreOfFrame xs → AreOfFrame octets → All AreOfFrame (replaced xs place octets)
+replaced_fit : (xs : List (List ℕ)) (place : ℕ) (octets : List ℕ) → All AreOfFrame xs → AreOfFrame octets → All AreOfFrame (replaced xs place (λ _. octets))
 replaced_fit [] place octets h f = h
 replaced_fit (x ∷ xs) zero octets h f = All-cons AreOfFrame octets xs f (All-tail AreOfFrame x xs h)
-replaced_fit (x ∷ xs) (suc place) octets h f = All-cons AreOfFrame x (replaced xs place octets) (All-head AreOfFrame x xs h) (replaced_fit xs place octets (All-tail AreOfFrame x xs h) f)
+replaced_fit (x ∷ xs) (suc place) octets h f = All-cons AreOfFrame x (replaced xs place (λ _. octets)) (All-head AreOfFrame x xs h) (replaced_fit xs place octets (All-tail AreOfFrame x xs h) f)
+
+-- past the end of a line none is lost and none damaged
+
+none_lost : (xs : List (List ℕ)) (place : ℕ) → length xs ≤ place → remove xs place ≡ xs
+none_lost [] zero past = refl
+none_lost [] (suc place) past = refl
+none_lost (x ∷ xs) zero past = absurd (omega (arith, past))
+none_lost (x ∷ xs) (suc place) past = ap (λ l. x ∷ l) (none_lost xs place (omega (arith, past)))
+
+none_damaged : (xs : List (List ℕ)) (place : ℕ) (octets : List ℕ) → length xs ≤ place → replaced xs place (λ _. octets) ≡ xs
+none_damaged [] place octets past = refl
+none_damaged (x ∷ xs) zero octets past = absurd (omega (arith, past))
+none_damaged (x ∷ xs) (suc place) octets past = ap (λ l. x ∷ l) (none_damaged xs place octets (omega (arith, past)))
 
 -- a step and then another, with the same left on the line to the end, are one of both
 two_steps : (c : Settings) (w : World) (back : List (List ℕ)) (step more : Step) → after_step c (after_step c w back step) back more ≡ after_step c w back (pulled_behind step (Did more))
@@ -214,7 +228,7 @@ module _ (cfg : Cfg) (end : Role) (w : World) (fits : Fits w) where
         (ap (λ (b : Bool). cond b (Declined error.OnLine) (of_station c w (fires c w.near))) (in_time free) ∙ ap (of_station c w) is) tt
     fired line (Refused e) none asks free is = nothing_happens line none (line_refused c w.near line Fires e asks is)
 
-    asked : (line : List ℕ) (event : Option Event) → IsOpen line → event_in cfg.wide end line ≡ event → IsNoFrame event → IsInTime c j event → AsksOctets event → Mirrors cfg end w (reads c j j.back (line ++ 10 ∷ []))
+    asked : (line : List ℕ) (event : Option StationEvent) → IsOpen line → event_in cfg.wide end line ≡ event → IsNoFrame event → IsInTime c j event → AsksOctets event → Mirrors cfg end w (reads c j j.back (line ++ 10 ∷ []))
     asked line None none asks no_frame free octets = nothing_happens line none (line_none c w.near line asks)
     asked line (Some (Comes x)) none asks no_frame free octets = absurd no_frame
     asked line (Some (Asks command)) none asks no_frame free octets = commanded line command (commands c w.near command) none asks octets refl
@@ -242,8 +256,8 @@ module _ (cfg : Cfg) (end : Role) (w : World) (fits : Fits w) where
     same_place : (place : ℕ) → nat_lt place (length w.back) ≡ nat_lt place (length j.back)
     same_place place = ap (λ (back : List (List ℕ)). nat_lt place (length back)) h.back
 
-    lost : (place : ℕ) (b : Bool) → nat_lt place (length j.back) ≡ b → Mirrors cfg end w (cond b (on_line j (remove j.back place)) j)
-    lost place false is = stays h
+    lost : (place : ℕ) (b : Bool) → nat_lt place (length j.back) ≡ b → Mirrors cfg end w (on_line j (remove j.back place))
+    lost place false is = subst (λ (back : List (List ℕ)). Mirrors cfg end w (on_line j back)) (sym (none_lost j.back place (ltb-false place (length j.back) is))) (stays h)
     lost place true is =
         moves (world.Loses place) (world.on_line w (remove w.back place))
         (ap (λ (b : Bool). cond b (Happened (world.on_line w (remove w.back place))) (Declined error.NoSuchFrame)) (same_place place ∙ is)) tt
@@ -253,14 +267,14 @@ module _ (cfg : Cfg) (end : Role) (w : World) (fits : Fits w) where
           back = All-append AreOfFrame (take place w.back) (drop (suc place) w.back) (All-take AreOfFrame place w.back fits.back) (All-drop AreOfFrame (suc place) w.back fits.back);
         })
 
-    damaged : (place : ℕ) (octets : List ℕ) (b : Bool) → is_visible octets ≡ true → AreOfFrame octets → nat_lt place (length j.back) ≡ b → Mirrors cfg end w (cond b (on_line j (replaced j.back place octets)) j)
-    damaged place octets false seen fit is = stays h
+    damaged : (place : ℕ) (octets : List ℕ) (b : Bool) → is_visible octets ≡ true → AreOfFrame octets → nat_lt place (length j.back) ≡ b → Mirrors cfg end w (on_line j (replaced j.back place (λ _. octets)))
+    damaged place octets false seen fit is = subst (λ (back : List (List ℕ)). Mirrors cfg end w (on_line j back)) (sym (none_damaged j.back place octets (ltb-false place (length j.back) is))) (stays h)
     damaged place octets true seen fit is =
-        let there = world.on_line w (replaced w.back place octets) in
+        let there = world.on_line w (replaced w.back place (λ _. octets)) in
         moves (world.Damages place octets) there
         (ap (λ (b : Bool). cond b (cond (is_visible octets) (Happened there) (Declined error.Unseen)) (Declined error.NoSuchFrame)) (same_place place ∙ is)
         ∙ ap (λ (b : Bool). cond b (Happened there) (Declined error.Unseen)) seen) tt
-        (changed (replaced w.back place octets) (replaced j.back place octets) (ap (λ (back : List (List ℕ)). replaced back place octets) h.back))
+        (changed (replaced w.back place (λ _. octets)) (replaced j.back place (λ _. octets)) (ap (λ (back : List (List ℕ)). replaced back place (λ _. octets)) h.back))
         (λ tap. record { out = fits.out; back = replaced_fit w.back place octets fits.back fit })
 
     -- ---- each act

@@ -17,7 +17,7 @@ use Rattle.x25_station.specs.Entry.{StationEntry}
 use Rattle.x25_station.specs.Config.{Settings, settings_from, config_refusal}
 use Rattle.x25_station.specs.Station.{Station, new_station}
 use Rattle.x25_station.specs.Step.{Step, Outcome, Did, Refused, link_receives, receives, commands, fires}
-use Rattle.x25_station.specs.laws.TimerLaw.{Event, Comes, Asks, Fires, outcome}
+use Rattle.x25_station.specs.laws.TimerLaw.{StationEvent, Comes, Asks, Fires, outcome}
 use Rattle.x25_pipe.specs.Pipe.{Saying, pulled_behind, and_pulls, with_pulls, event_in, turn, piped}
 use Rattle.x25_world.specs.laws.Claims.{ups_in}
 use Rattle.x25_world.specs.laws.TapOctets.{AreOfFrame}
@@ -188,7 +188,7 @@ module _ (c : Settings) (p : Program) (k : Kept c p) where
           lines again))
 
   -- a step of its own accord
-  acts : (line : List ℕ) → IsOpen line → (event : Event) → event_in c.wide c.role line ≡ Some event → (step : Step) → outcome c s event ≡ Did step
+  acts : (line : List ℕ) → IsOpen line → (event : StationEvent) → event_in c.wide c.role line ≡ Some event → (step : Step) → outcome c s event ≡ Did step
       → ups_in step.entries ≡ 0 → beside.StationDoes c w (acted c w step) → Kept c (reads c p (line ++ 10 ∷ []) p.back p.met)
   acts line none event asks step is ups does =
       something_happens line none false p.back p.met step (line_did c s line event (and_pulls c step) asks (ap (with_pulls c) is)) (omega (arith, ups))
@@ -215,7 +215,7 @@ module _ (c : Settings) (p : Program) (k : Kept c p) where
       acts line none Fires asks step is (fires_ups c s step is)
       (beside.Fires step is (λ waiting. (let d = due waiting in record { sabm = d.sabm; ua = d.ua; crossing = d.crossing })))
 
-  asked_kept : (line : List ℕ) (event : Option Event) → IsOpen line → event_in c.wide c.role line ≡ event → IsNoFrame event → IsInTime c p event → AsksOctets event → Kept c (reads c p (line ++ 10 ∷ []) p.back p.met)
+  asked_kept : (line : List ℕ) (event : Option StationEvent) → IsOpen line → event_in c.wide c.role line ≡ event → IsNoFrame event → IsInTime c p event → AsksOctets event → Kept c (reads c p (line ++ 10 ∷ []) p.back p.met)
   asked_kept line None none asks no_frame due octets = nothing_happens line none (line_none c s line asks)
   asked_kept line (Some (Comes x)) none asks no_frame due octets = absurd no_frame
   asked_kept line (Some (Asks asked)) none asks no_frame due octets = commanded line asked (commands c s asked) none asks octets refl
@@ -254,8 +254,8 @@ module _ (c : Settings) (p : Program) (k : Kept c p) where
       (beside.Links links (record { does = happens.does; left = happens.left; puts = happens.puts })) refl refl refl
   elsewhere v (beside.Comes packet octets rest stand is reads) =
       passes (record w { theirs = v.theirs; peer = v.peer }) (beside.Comes packet octets rest stand is reads) refl refl refl
-  elsewhere v (beside.LayerMoves near u happens all stand of_peer reads) =
-      passes (record w { theirs = v.theirs; peer = v.peer }) (beside.LayerMoves near u happens all stand of_peer reads) refl refl refl
+  elsewhere v (beside.LayerMoves y passed packets all stand may reads) =
+      passes (record w { theirs = v.theirs; peer = v.peer }) (beside.LayerMoves y passed packets all stand may reads) refl refl refl
 
 -- ---- all that happens
 

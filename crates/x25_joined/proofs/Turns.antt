@@ -6,7 +6,7 @@ use Rattle.x25_station.specs.Config.{Settings}
 use Rattle.x25_station.specs.Station.{Station}
 use Rattle.x25_station.specs.Step.{Step, Outcome, Did, Refused}
 use Rattle.x25_station.specs.laws.TimerLaw as timer
-use Rattle.x25_station.specs.laws.TimerLaw.{Event}
+use Rattle.x25_station.specs.laws.TimerLaw.{StationEvent}
 use Rattle.x25_station.specs.Timer.{standing}
 use Rattle.x25_station.specs.declared.timer.Timer.{Timer}
 use Rattle.x25_station.specs.declared.error.StationError.{StationError}
@@ -69,23 +69,23 @@ module _ (c : Settings) (s : Station) where
   refused : (t : Timer) (e : StationError) (o : Outcome) → o ≡ Refused e → TurnIs (turn_of c t s o) s [] []
   refused t e o is = subst (λ (o : Outcome). TurnIs (turn_of c t s o) s [] []) (sym is) (marked_is c t s (refuses e ∷ []) [] [] refl refl)
 
-  of_asked : (line : List ℕ) (asked : Option Event) (next : Station) (entries : List StationEntry) (frames : List (List ℕ)) → event_in c.wide c.role line ≡ asked → TurnIs (asked_turn c s asked) next entries frames
+  of_asked : (line : List ℕ) (asked : Option StationEvent) (next : Station) (entries : List StationEntry) (frames : List (List ℕ)) → event_in c.wide c.role line ≡ asked → TurnIs (asked_turn c s asked) next entries frames
       → TurnIs (turn c line s) next entries frames
   unfolding turn
-  of_asked line asked next entries frames is h = subst (λ (o : Option Event). TurnIs (asked_turn c s o) next entries frames) (sym is) h
+  of_asked line asked next entries frames is h = subst (λ (o : Option StationEvent). TurnIs (asked_turn c s o) next entries frames) (sym is) h
 
-  of_event : (event : Event) (next : Station) (entries : List StationEntry) (frames : List (List ℕ)) → TurnIs (pulling_turn c s event (timer.outcome c s event)) next entries frames
+  of_event : (event : StationEvent) (next : Station) (entries : List StationEntry) (frames : List (List ℕ)) → TurnIs (pulling_turn c s event (timer.outcome c s event)) next entries frames
       → TurnIs (asked_turn c s (Some event)) next entries frames
   unfolding event_turn
   of_event event next entries frames h = h
 
   -- a line that asks for a step, which is then one with its pulls; for one that is refused; or for nothing
 
-  pub line_did : (line : List ℕ) (event : Event) (step : Step) → event_in c.wide c.role line ≡ Some event → with_pulls c (timer.outcome c s event) ≡ Did step
+  pub line_did : (line : List ℕ) (event : StationEvent) (step : Step) → event_in c.wide c.role line ≡ Some event → with_pulls c (timer.outcome c s event) ≡ Did step
       → TurnIs (turn c line s) step.near step.entries (map (spelling_of c.role) step.out)
   line_did line event step asks is = of_asked line (Some event) step.near step.entries (map (spelling_of c.role) step.out) asks (of_event event step.near step.entries (map (spelling_of c.role) step.out) (did (timer_with_pulls c s event (timer.outcome c s event)) step (with_pulls c (timer.outcome c s event)) is))
 
-  pub line_refused : (line : List ℕ) (event : Event) (e : StationError) → event_in c.wide c.role line ≡ Some event → timer.outcome c s event ≡ Refused e → TurnIs (turn c line s) s [] []
+  pub line_refused : (line : List ℕ) (event : StationEvent) (e : StationError) → event_in c.wide c.role line ≡ Some event → timer.outcome c s event ≡ Refused e → TurnIs (turn c line s) s [] []
   line_refused line event e asks is = of_asked line (Some event) s [] [] asks (of_event event s [] [] (refused (timer_with_pulls c s event (timer.outcome c s event)) e (with_pulls c (timer.outcome c s event)) (ap (with_pulls c) is)))
 
   pub line_none : (line : List ℕ) → event_in c.wide c.role line ≡ None → TurnIs (turn c line s) s [] []

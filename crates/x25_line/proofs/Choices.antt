@@ -1,6 +1,6 @@
 -- What is refused, or isn't so, changes nothing.
 use Rattle.std.proofs.Common.{◌≡◌, Bool, true, false, if◌then◌else◌, Option, Some, None, refl}
-use Rattle.x25_link.specs.{declared.error.LinkError.{LinkError}, Station.{Settings, LinkStation, is_up}, Hearing.{Step}}
+use Rattle.x25_link.specs.{declared.error.LinkError.{LinkError}, Station.{LinkSettings, LinkStation, is_up}, Hearing.{LinkStep}}
 use Rattle.x25_link.specs.Link.{timer_refusal, connect_refusal, disconnect_refusal}
 use Rattle.x25_line.specs.laws.Stations.{Act, T1, Connect, Disconnect, Abandon, Probe, unless, own_act}
 
@@ -19,13 +19,14 @@ pub unless_both : {W X : Type 0} (A : W → X → Type 0) (o : Option LinkError)
 unless_both A (Some e) h k = h
 unless_both A None h k = k
 
+-- what holds both where the first are taken and where the second are
 pub if_both : {W X : Type 0} (A : W → X → Type 0) (b : Bool) {w v : W} {x y : X} → A w x → A v y → A (if b then v else w) (if b then y else x)
 if_both A true h k = k
 if_both A false h k = h
 
 -- so they do by the acts by which a station takes no octets and is given no packet
-pub own_both : {W X : Type 0} (A : W → X → Type 0) (c : Settings) (s : LinkStation) (w : W) (x : X) (done : Step → W) (goes : Step → X) → A w x
-    → ((step : Step) → A (done step) (goes step)) → (a : Act)
+pub own_both : {W X : Type 0} (A : W → X → Type 0) (c : LinkSettings) (s : LinkStation) (w : W) (x : X) (done : LinkStep → W) (goes : LinkStep → X) → A w x
+    → ((step : LinkStep) → A (done step) (goes step)) → (a : Act)
     → A (own_act c s w done a) (own_act c s x goes a)
 own_both A c s w x done goes h k T1 = unless_both A (timer_refusal s) h (k _)
 own_both A c s w x done goes h k Connect = unless_both A (connect_refusal s.phase) h (k _)

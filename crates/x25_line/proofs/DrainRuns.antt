@@ -5,7 +5,7 @@ use Rattle.std.specs.Prelude.{◌==◌}
 use Rattle.x25_bits.specs.declared.role.Role.{Role}
 use Rattle.x25_frame.specs.{Frame.{PlainFrame, info}, Spelling.{spelling_of}, Reading.{frame_of}, laws.ReadingLaw.{ReadsSpelled}}
 use Rattle.x25_frame.specs.declared.error.FrameError.{FrameError}
-use Rattle.x25_link.specs.{Station.{Settings, LinkStation}, Hearing.{other}, Link.{take_step}}
+use Rattle.x25_link.specs.{Station.{LinkSettings, LinkStation}, Hearing.{other}, Link.{take_step}}
 use Rattle.x25_line.specs.laws.Stations.{Deliver, LinkEvent, Near, Far}
 use Rattle.x25_line.specs.laws.Sessions.{Entry, Meeting, Sessions, sent_in, begun_by, after_step, delivered, acts, swapped, run}
 use Rattle.x25_line.specs.{laws.StationClaims.{AreJoined}, Healing.{IsDelivery, EachFindsIn, SessionsDrainEnd, SomeSessionsDrain}, laws.LawsBelow.{HealingLaws}}
@@ -109,19 +109,19 @@ falls_by back j (suc i) n m le high = omega (arith, most_more back j i m (omega 
 abbrev pub Enough : ℕ → Sessions → Type 0
 Enough back w = 4 * (length w.near.station.outgoing.given + length w.far.station.outgoing.given) + 2 ≤ back
 
-abbrev heap : ℕ → Settings → Settings → Sessions → ℕ
+abbrev heap : ℕ → LinkSettings → LinkSettings → Sessions → ℕ
 heap back c d w =
     line_weight back w.near.station.outgoing.acked (other d.role) d.longest w.out
     + line_weight back w.far.station.outgoing.acked (other c.role) c.longest w.back
     + station_weight back w.far.station.outgoing.acked w.near.station + station_weight back w.near.station.outgoing.acked w.far.station
 
-abbrev to_change : Settings → Settings → Sessions → ℕ
+abbrev to_change : LinkSettings → LinkSettings → Sessions → ℕ
 to_change c d w = changes w.near.station + changes w.far.station + 2 * asks_on (other d.role) d.longest w.out + 2 * asks_on (other c.role) c.longest w.back
 
-abbrev pub at_most : ℕ → Settings → Settings → Sessions → ℕ
+abbrev pub at_most : ℕ → LinkSettings → LinkSettings → Sessions → ℕ
 at_most back c d w = most back (to_change c d w) (heap back c d w)
 
-most_swapped : (back : ℕ) (c d : Settings) (w : Sessions) → at_most back d c (swapped w) ≡ at_most back c d w
+most_swapped : (back : ℕ) (c d : LinkSettings) (w : Sessions) → at_most back d c (swapped w) ≡ at_most back c d w
 most_swapped back c d w =
     let one : to_change d c (swapped w) ≡ to_change c d w = omega arith in
     let two : heap back d c (swapped w) ≡ heap back c d w = omega arith in
@@ -129,7 +129,7 @@ most_swapped back c d w =
 
 -- ---- one delivery to the near end
 
-pub record Falls (back : ℕ) (c d : Settings) (w v : Sessions) : Type 0 where
+pub record Falls (back : ℕ) (c d : LinkSettings) (w v : Sessions) : Type 0 where
   pub fit : Fit c d v
   pub enough : Enough back v
   pub less : at_most back c d v + 1 ≤ at_most back c d w
@@ -138,7 +138,7 @@ no_more : {old new : List (List ℕ)} → (new ≡ old) ⊎ (new ≡ []) → len
 no_more (inl same) = omega (arith, ap length same)
 no_more (inr none) = omega (arith, ap length none)
 
-module _ (reads : ReadsSpelled) (laws : HealingLaws) {c d : Settings} (joined : AreJoined c d) (back : ℕ) where
+module _ (reads : ReadsSpelled) (laws : HealingLaws) {c d : LinkSettings} (joined : AreJoined c d) (back : ℕ) where
   -- the front octets are taken
   takes_front : (w : Sessions) → Fit c d w → Enough back w → (e : Entry) (es : List Entry) (met : List Meeting) → w.back ≡ e ∷ es
       → Falls back c d w (after_step c w es met [] (take_step c e.octets w.near.station))
@@ -231,7 +231,7 @@ module _ (reads : ReadsSpelled) (laws : HealingLaws) {c d : Settings} (joined : 
       by [] is = absurd (finds is)
       by (e ∷ es) is = takes_front w fit enough e es _ is
 
-module _ (reads : ReadsSpelled) (laws : HealingLaws) {c d : Settings} (joined : AreJoined c d) (back : ℕ) where
+module _ (reads : ReadsSpelled) (laws : HealingLaws) {c d : LinkSettings} (joined : AreJoined c d) (back : ℕ) where
   far_falls : (w : Sessions) → Fit c d w → Enough back w → (w.out ≡ [] → ⊥) → Falls back c d w (swapped (acts d Deliver (swapped w)))
   far_falls w fit enough finds =
       let f = near_falls reads laws (joined_swapped joined) back (swapped w) (fit.1, fit.0) (omega (arith, enough)) finds in

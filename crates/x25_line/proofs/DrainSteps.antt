@@ -7,8 +7,8 @@ use Rattle.x25_link.proofs.EndLemmas.{true_false}
 use Rattle.x25_frame.specs.{Frame.{PlainFrame, info, rr, rnr, rej, sabm, disc, ua, dm}, Spelling.{is_command, poll_or_final}, Reading.{frame_of}}
 use Rattle.x25_frame.specs.{declared.error.FrameError.{FrameError}, declared.error.FrameError.TheVariants.{Undefined, NoInfoAllowed, TooLong}}
 use Rattle.x25_link.specs.{declared.phase.Phase.{Phase}, declared.phase.Phase.TheVariants.{Down, Waiting, Up, Closed}}
-use Rattle.x25_link.specs.Station.{Settings, LinkStation, Side, with_nothing, sends, ended}
-use Rattle.x25_link.specs.Hearing.{Step, quiet, other, is_valid, acknowledged, hears_info, peer_is, goes_back, polls, numbered, rejects, reject_of}
+use Rattle.x25_link.specs.Station.{LinkSettings, LinkStation, Side, with_nothing, sends, ended}
+use Rattle.x25_link.specs.Hearing.{LinkStep, quiet, other, is_valid, acknowledged, hears_info, peer_is, goes_back, polls, numbered, rejects, reject_of}
 use Rattle.x25_link.specs.{Hearing.{row_of_frame, row_of}, Link.{alone, hears, declines, when_down, when_waiting, take_step}, laws.AnswerLaw.{heard}}
 use Rattle.x25_line.proofs.StationSends.{AllWithin}
 use Rattle.x25_line.proofs.DrainWeights.{more_if, times_more, seven_times, ready_weight, rej_weight, weight, read_weight, weights, to_take, station_weight}
@@ -80,7 +80,7 @@ asking_weight back low some (sabm p) e = omega arith
 asking_weight back low some (disc p) e = omega arith
 asking_weight back low some f e = true_false (sym e)
 
-module _ (c : Settings) (n1 back low : ℕ) (s : LinkStation) (small : c.window ≤ 7) (within : AllWithin n1 s.outgoing.given)
+module _ (c : LinkSettings) (n1 back low : ℕ) (s : LinkStation) (small : c.window ≤ 7) (within : AllWithin n1 s.outgoing.given)
     (heavy : 4 * length s.outgoing.given + 2 ≤ back) (low_place : s.outgoing.acked ≤ s.outgoing.place) where
   some : 2 ≤ back
   some = omega (arith, heavy)
@@ -186,12 +186,12 @@ module _ (c : Settings) (n1 back low : ℕ) (s : LinkStation) (small : c.window 
       anew cost 0 s.tries Down (reject_of c octets why s ∷ []) (omega (arith, le)) (record { in_range = tt; carries = refl; within = tt; asks_not = refl }, tt)
       (omega (arith, ap phase_weight up))
 
-  numbered_took : (octets : List ℕ) (nr cost : ℕ) (row : Side → Step) → 1 ≤ cost → s.phase ≡ Up
+  numbered_took : (octets : List ℕ) (nr cost : ℕ) (row : Side → LinkStep) → 1 ≤ cost → s.phase ≡ Up
       → ((t : Side) → W (heard nr s) before t → (n : ℕ) × (n + 1 ≤ cost + before) × W (heard nr s) n (row t).side)
       → T cost 0 (numbered c octets nr row (alone s)).side
   numbered_took octets nr cost row le up does = by (is_valid nr s) refl
     where
-      by : (b : Bool) → is_valid nr s ≡ b → T cost 0 (let z : Step = if b then row (acknowledged nr (alone s)) else rejects c octets 8 (alone s) in z.side)
+      by : (b : Bool) → is_valid nr s ≡ b → T cost 0 (let z : LinkStep = if b then row (acknowledged nr (alone s)) else rejects c octets 8 (alone s) in z.side)
       by true valid =
           let r = does (acknowledged nr (alone s)) (hears_number nr) in
           went cost nr r.1 valid r.2

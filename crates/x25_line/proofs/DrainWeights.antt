@@ -6,13 +6,15 @@ use Rattle.x25_frame.specs.{Frame.{PlainFrame, info, rr, rnr, rej, sabm, disc}, 
 use Rattle.x25_frame.specs.declared.error.FrameError.{FrameError}
 use Rattle.x25_link.specs.{declared.phase.Phase.{Phase}, Outgoing.{Outgoing}}
 use Rattle.x25_link.specs.Station.{LinkStation, Side, is_up, is_busy, wanted, with_near, sends, ready, next_frame, send_next, may_send, pumped, owes_ready}
-use Rattle.x25_link.specs.{Station.{finished, ended}, Hearing.{Step, is_taken, takes, answers, rejects_gap, passes_over, hears_info, peer_is, goes_back, polls}}
+use Rattle.x25_link.specs.Station.{finished, ended}
+use Rattle.x25_link.specs.Hearing.{LinkStep, is_taken, takes, answers, rejects_gap, passes_over, hears_info, peer_is, goes_back, polls}
 use Rattle.x25_link.proofs.EndLemmas.{open_is}
 use Rattle.x25_line.specs.laws.StationClaims.{Each}
 use Rattle.x25_line.proofs.{Lists.{each_append}, StationSends.{AllWithin}}
 
 -- ---- what frames weigh
 
+-- n where it is so, and else nothing
 abbrev pub more_if : ℕ → Bool → ℕ
 more_if n true = n
 more_if n false = 0
@@ -50,10 +52,12 @@ weight back low (sabm p) = 2
 weight back low (disc p) = 2
 weight back low frame = 1
 
+-- what octets weigh that are read as this
 abbrev pub read_weight : ℕ → ℕ → Result PlainFrame FrameError → ℕ
 read_weight back low (Ok frame) = weight back low frame
 read_weight back low (Err e) = 1
 
+-- what all frames weigh
 abbrev pub weights : ℕ → ℕ → List PlainFrame → ℕ
 weights back low [] = 0
 weights back low (f ∷ fs) = weight back low f + weights back low fs
@@ -77,6 +81,7 @@ abbrev pub asks_set_up : PlainFrame → ℕ
 asks_set_up (sabm p) = 1
 asks_set_up frame = 0
 
+-- its octets are read as this frame, and it is no SABM
 pub record IsSpelled (n1 : ℕ) (f : PlainFrame) : Type 0 where
   pub in_range : IsInRange f
   pub carries : MayCarry f (information_of f)
@@ -273,8 +278,8 @@ module _ (n1 k back low a top : ℕ) (gs : List (List ℕ)) (p : Phase) (small :
         spelled = h.spelled;
       }
 
-  side_if : (n : ℕ) (b : Bool) (x y : Step) → (b ≡ true → Weighs n x.side) → (b ≡ false → Weighs n y.side)
-      → (let z : Step = if b then x else y in Weighs n z.side)
+  side_if : (n : ℕ) (b : Bool) (x y : LinkStep) → (b ≡ true → Weighs n x.side) → (b ≡ false → Weighs n y.side)
+      → (let z : LinkStep = if b then x else y in Weighs n z.side)
   side_if n true x y f g = f refl
   side_if n false x y f g = g refl
 

@@ -3,7 +3,7 @@ use Rattle.std.proofs.Common.{◌≡◌, ℕ, List, [], ◌∷◌, ◌++◌, ◌
 use Rattle.std.proofs.lemmas.Bool.{le-ltb, eqb-true, and_parts}
 use Rattle.std.specs.Prelude.{◌&&◌, ◌==◌}
 use Rattle.x25_frame.specs.{Frame.{PlainFrame}, laws.ReadingLaw.{ReadsSpelled}}
-use Rattle.x25_link.specs.{Outgoing.{waits}, Station.{Settings, LinkStation, is_up, is_busy, wanted}, Hearing.{Step, other}}
+use Rattle.x25_link.specs.{Outgoing.{waits}, Station.{LinkSettings, LinkStation, is_up, is_busy, wanted}, Hearing.{LinkStep, other}}
 use Rattle.x25_link.specs.{declared.error.LinkError.{LinkError}, Link.{take_step, timer_refusal, timer_step}, laws.RestLaw.{IsAtRest}, laws.AnswerLaw.{says}}
 use Rattle.x25_link.specs.laws.BusyLaw.{BusyLaws}
 use Rattle.x25_link.proofs.EndLemmas.{busy_is}
@@ -60,7 +60,7 @@ begins_near {s} {t} all (stays rest) (stays far_rest) = resent_first (all rest) 
 -- ---- worlds
 
 -- Each end is Up, in this session, and in a phase; one of them isn't busy.
-pub record HealsBoth (n m : ℕ) (c d : Settings) (w : Sessions) : Type 0 where
+pub record HealsBoth (n m : ℕ) (c d : LinkSettings) (w : Sessions) : Type 0 where
   pub near_on : is_up w.near.station.phase ≡ true
   pub far_on : is_up w.far.station.phase ≡ true
   pub near_begun : w.near.begun ≡ n
@@ -73,7 +73,7 @@ pub record HealsBoth (n m : ℕ) (c d : Settings) (w : Sessions) : Type 0 where
   pub near : Phases w.near.station w.far.station there behind
   pub far : Phases w.far.station w.near.station behind there
 
-pub both_turned : {n m : ℕ} {c d : Settings} {w : Sessions} → HealsBoth n m c d w → HealsBoth m n d c (swapped w)
+pub both_turned : {n m : ℕ} {c d : LinkSettings} {w : Sessions} → HealsBoth n m c d w → HealsBoth m n d c (swapped w)
 both_turned h = record {
   near_on = h.far_on;
   far_on = h.near_on;
@@ -89,11 +89,11 @@ both_turned h = record {
 }
 
 -- in a world that events lead to
-abbrev pub HealsAt : ℕ → ℕ → Settings → Settings → Sessions → Type 0
+abbrev pub HealsAt : ℕ → ℕ → LinkSettings → LinkSettings → Sessions → Type 0
 HealsAt n m c d w = Reached c d w × HealsBoth n m c d w
 
 module _ (reads : ReadsSpelled) (laws : HealingLaws) (busy_laws : BusyLaws) where
-  both_comes : {n m : ℕ} {c d : Settings} → AreJoined c d → {w : Sessions} → Sound c d w → SentWhole d.longest (acts c Deliver w).sent → HealsBoth n m c d w
+  both_comes : {n m : ℕ} {c d : LinkSettings} → AreJoined c d → {w : Sessions} → Sound c d w → SentWhole d.longest (acts c Deliver w).sent → HealsBoth n m c d w
       → HealsBoth n m c d (acts c Deliver w)
   both_comes {n} {m} {c} {d} joined {w} sound whole h = by w.back refl whole h.behind h.back h.near h.far
     where
@@ -110,7 +110,7 @@ module _ (reads : ReadsSpelled) (laws : HealingLaws) (busy_laws : BusyLaws) wher
       by (e ∷ es) is whole [] back near far = absurd back
       by (e ∷ es) is whole (g ∷ gs) back near far =
           let o = e.octets in
-          let step : Step = take_step c o s in
+          let step : LinkStep = take_step c o s in
           let k : Beside c s t g o = record {
             up = h.near_on;
             read = back.0;
@@ -134,12 +134,12 @@ module _ (reads : ReadsSpelled) (laws : HealingLaws) (busy_laws : BusyLaws) wher
             far = (far_hears c laws busy_laws o s t h.there gs g k far).phase;
           }
 
-  pub both_near : (n m : ℕ) (c d : Settings) → AreJoined c d → (w : Sessions) → HealsAt n m c d w → HealsAt n m c d (acts c Deliver w)
+  pub both_near : (n m : ℕ) (c d : LinkSettings) → AreJoined c d → (w : Sessions) → HealsAt n m c d w → HealsAt n m c d (acts c Deliver w)
   both_near n m c d joined w (r, h) =
       let after = then_happens (Near Deliver) tt r in
       (after, both_comes joined (sound_at reads laws c d joined w r h.near_on h.far_on) (whole_at reads laws c d joined (acts c Deliver w) after) h)
 
-  pub both_far : (n m : ℕ) (c d : Settings) → AreJoined c d → (w : Sessions) → HealsAt n m c d w → HealsAt n m c d (swapped (acts d Deliver (swapped w)))
+  pub both_far : (n m : ℕ) (c d : LinkSettings) → AreJoined c d → (w : Sessions) → HealsAt n m c d w → HealsAt n m c d (swapped (acts d Deliver (swapped w)))
   both_far n m c d joined w (r, h) =
       let after = then_happens (Far Deliver) tt r in
       let v : Sessions = acts d Deliver (swapped w) in
@@ -147,7 +147,7 @@ module _ (reads : ReadsSpelled) (laws : HealingLaws) (busy_laws : BusyLaws) wher
       let whole : SentWhole c.longest v.sent = subst (λ k. SentWhole k v.sent) (sym joined.longest) (whole_at reads laws c d joined (swapped v) after) in
       (after, both_turned (both_comes (joined_swapped joined) sound whole (both_turned h)))
 
-  has_all : {c d : Settings} {v : Sessions} → Sound c d v → IsAtRest v.near.station → HasAll v.near.station v.far.station
+  has_all : {c d : LinkSettings} {v : Sessions} → Sound c d v → IsAtRest v.near.station → HasAll v.near.station v.far.station
   has_all {c} {d} {v} h rest =
       let t = laws.rest.only_then v.near.station rest in
       let k = counted h in
@@ -164,7 +164,7 @@ module _ (reads : ReadsSpelled) (laws : HealingLaws) (busy_laws : BusyLaws) wher
   far_stays None w v same = same
 
   -- both fire
-  pub begins : {c d : Settings} → AreJoined c d → {w : Sessions} → Reached c d w → IsDrained w → HasTries c.retries w.near.station
+  pub begins : {c d : LinkSettings} → AreJoined c d → {w : Sessions} → Reached c d w → IsDrained w → HasTries c.retries w.near.station
       → HasTries d.retries w.far.station → OneIsFree w.near.station w.far.station
       → HealsAt w.near.begun w.far.begun c d (after_firings c d w)
   begins {c} {d} joined {w} r drained near_may far_may free = (after, by k.near k.far)
@@ -215,7 +215,7 @@ module _ (reads : ReadsSpelled) (laws : HealingLaws) (busy_laws : BusyLaws) wher
   -- ---- once nothing is on the line any more
 
   -- an end is at rest, or the other is busy
-  rests_near : {c d : Settings} → AreJoined c d → {v : Sessions} → Sound c d v → Phases v.near.station v.far.station [] [] → IsAtRest v.near.station
+  rests_near : {c d : LinkSettings} → AreJoined c d → {v : Sessions} → Sound c d v → Phases v.near.station v.far.station [] [] → IsAtRest v.near.station
       ⊎ (is_busy v.far.station ≡ true)
   rests_near joined b (inl h) = absurd h.asks
   rests_near joined b (inr (inl h)) = absurd h.brings
@@ -232,7 +232,7 @@ module _ (reads : ReadsSpelled) (laws : HealingLaws) (busy_laws : BusyLaws) wher
   both_rest s t (inl free) (inr busy) (inr near_busy) = not_both (is_busy s) near_busy free
   both_rest s t (inr free) (inr busy) (inr near_busy) = not_both (is_busy t) busy free
 
-  pub both_settle : {n m : ℕ} {c d : Settings} → AreJoined c d → {v : Sessions} → HealsAt n m c d v → IsDrained v → IsAtRest v.near.station
+  pub both_settle : {n m : ℕ} {c d : LinkSettings} → AreJoined c d → {v : Sessions} → HealsAt n m c d v → IsDrained v → IsAtRest v.near.station
       × IsAtRest v.far.station
   both_settle {c = c} {d} joined {v} (r, h) after =
       let s = v.near.station in
@@ -244,6 +244,6 @@ module _ (reads : ReadsSpelled) (laws : HealingLaws) (busy_laws : BusyLaws) wher
       let sound = sound_at reads laws c d joined v r h.near_on h.far_on in
       both_rest s t h.one_free (rests_near joined sound near) (rests_near (joined_swapped joined) (sound_swapped sound) far)
 
-  pub deliveries_heal : (n m : ℕ) (c d : Settings) → AreJoined c d → (es : List LinkEvent) (w : Sessions) → Each IsDelivery es → HealsAt n m c d w
+  pub deliveries_heal : (n m : ℕ) (c d : LinkSettings) → AreJoined c d → (es : List LinkEvent) (w : Sessions) → Each IsDelivery es → HealsAt n m c d w
       → HealsAt n m c d (run c d es w)
   deliveries_heal n m c d joined = deliveries_keep (HealsAt n m c d) c d (both_near n m c d joined) (both_far n m c d joined)

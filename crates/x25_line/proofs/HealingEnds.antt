@@ -4,7 +4,7 @@ use Rattle.std.proofs.{Common.{arith}, lemmas.Bool.{ltb-true, ltb-false}}
 use Rattle.std.specs.Prelude.{nat_lt}
 use Rattle.x25_frame.specs.{Frame.{PlainFrame, sabm}, laws.ReadingLaw.{ReadsSpelled}}
 use Rattle.x25_link.specs.{declared.phase.Phase.{Phase}, declared.phase.Phase.TheVariants.{Down, Waiting, Up}, declared.phase.Reason.TheVariants.{Retries}}
-use Rattle.x25_link.specs.{Station.{Settings, LinkStation, is_up, is_busy, wanted, with_nothing}, Hearing.{Step, other}, Link.{timer_step, timer_runs}}
+use Rattle.x25_link.specs.{Station.{LinkSettings, LinkStation, is_up, is_busy, wanted, with_nothing}, Hearing.{LinkStep, other}, Link.{timer_step, timer_runs}}
 use Rattle.x25_link.specs.{laws.SetUp.{Is}, laws.WindowMachine.{nothing}, laws.WindowLaw.{Follows, IsOut}, laws.RestLaw.{IsAtRest}, laws.AnswerLaw.{says}}
 use Rattle.x25_line.specs.{laws.Stations.{T1, LinkEvent}, laws.Sessions.{SessionEnd, Sessions, begun_by, acts, swapped, run}}
 use Rattle.x25_line.specs.{laws.StationClaims.{AreJoined, IsWhole, AreWhole}, Healing.{IsDelivery, HasTries}, laws.SessionClaims.{Each}}
@@ -38,19 +38,19 @@ off_sets_up (asks waits) = (tt, tt)
 off_sets_up (out gone) = tt
 
 -- it goes on where it had tries left, and is as busy
-pub record WentOn (c : Settings) (e : SessionEnd) (s : LinkStation) (fs : List PlainFrame) : Type 0 where
+pub record WentOn (c : LinkSettings) (e : SessionEnd) (s : LinkStation) (fs : List PlainFrame) : Type 0 where
   pub tries : HasTries c.retries e.station
   pub busy : is_busy s ≡ is_busy e.station
   pub is : GoesOn s fs
 
-pub record WentOff (c : Settings) (e : SessionEnd) (s : LinkStation) (fs : List PlainFrame) : Type 0 where
+pub record WentOff (c : LinkSettings) (e : SessionEnd) (s : LinkStation) (fs : List PlainFrame) : Type 0 where
   pub had_none : HasTries c.retries e.station → ⊥
   pub is : IsOff s fs
 
-abbrev pub Fired : Settings → SessionEnd → LinkStation → List PlainFrame → Type 0
+abbrev pub Fired : LinkSettings → SessionEnd → LinkStation → List PlainFrame → Type 0
 Fired c e s fs = WentOn c e s fs ⊎ WentOff c e s fs
 
-record HasFired (c d : Settings) (w x : Sessions) : Type 0 where
+record HasFired (c d : LinkSettings) (w x : Sessions) : Type 0 where
   pub frames : List PlainFrame
   pub is : Fired c w.near x.near.station frames
   pub out : Reads (other d.role) d.longest x.out frames
@@ -58,12 +58,12 @@ record HasFired (c d : Settings) (w x : Sessions) : Type 0 where
   pub far : x.far ≡ w.far
   pub begun : x.near.begun ≡ w.near.begun
 
-module _ (c d : Settings) (joined : AreJoined c d) (reads : ReadsSpelled) (laws : HealingLaws) where
+module _ (c d : LinkSettings) (joined : AreJoined c d) (reads : ReadsSpelled) (laws : HealingLaws) where
   module _ (w : Sessions) (empty : w.out ≡ []) where
     abbrev s : LinkStation
     s = w.near.station
 
-    abbrev step : Step
+    abbrev step : LinkStep
     step = timer_step c s
 
     none : Reads (other d.role) d.longest w.out []
@@ -143,14 +143,14 @@ module _ (c d : Settings) (joined : AreJoined c d) (reads : ReadsSpelled) (laws 
             (inr (record { had_none = λ has. not_both (is_up s.phase) has.up (ap is_up is); is = out (subst IsOut (sym is) tt) }))
 
 -- both ends fire
-abbrev pub after_firings : Settings → Settings → Sessions → Sessions
+abbrev pub after_firings : LinkSettings → LinkSettings → Sessions → Sessions
 after_firings c d w = swapped (acts d T1 (swapped (acts c T1 w)))
 
-abbrev pub RestOrOut : Settings → Settings → List LinkEvent → Sessions → Type 0
+abbrev pub RestOrOut : LinkSettings → LinkSettings → List LinkEvent → Sessions → Type 0
 RestOrOut c d es v = (let u = run c d es v in RestsOrOut u.near.station × RestsOrOut u.far.station)
 
 -- both ends, and the frames between them
-pub record BothFired (c d : Settings) (w v : Sessions) : Type 0 where
+pub record BothFired (c d : LinkSettings) (w v : Sessions) : Type 0 where
   pub there : List PlainFrame
   pub behind : List PlainFrame
   pub near : Fired c w.near v.near.station there
@@ -161,7 +161,7 @@ pub record BothFired (c d : Settings) (w v : Sessions) : Type 0 where
   pub far_begun : v.far.begun ≡ w.far.begun
 
 module _ (reads : ReadsSpelled) (laws : HealingLaws) where
-  pub both_fire : {c d : Settings} → AreJoined c d → {w : Sessions} → IsInOrderIfUp c w.near.station → IsInOrderIfUp d w.far.station → IsDrained w
+  pub both_fire : {c d : LinkSettings} → AreJoined c d → {w : Sessions} → IsInOrderIfUp c w.near.station → IsInOrderIfUp d w.far.station → IsDrained w
       → BothFired c d w (after_firings c d w)
   both_fire {c} {d} joined {w} near_in far_in was =
       let x : Sessions = acts c T1 w in
@@ -186,8 +186,8 @@ module _ (reads : ReadsSpelled) (laws : HealingLaws) where
   parts (stays rest) (out gone) = rests rest gone
 
   -- from any two ends, where two that are Up and have tries left come to rest
-  pub rest_or_out : (c d : Settings) → AreJoined c d → (w : Sessions) → IsInOrderIfUp c w.near.station → IsInOrderIfUp d w.far.station → IsDrained w → (es : List LinkEvent)
-      → Each IsDelivery es
+  pub rest_or_out : (c d : LinkSettings) → AreJoined c d → (w : Sessions) → IsInOrderIfUp c w.near.station → IsInOrderIfUp d w.far.station → IsDrained w
+      → (es : List LinkEvent) → Each IsDelivery es
       → IsDrained (run c d es (after_firings c d w))
       → (HasTries c.retries w.near.station → HasTries d.retries w.far.station → RestOrOut c d es (after_firings c d w))
       → RestOrOut c d es (after_firings c d w)

@@ -9,6 +9,7 @@ use Rattle.x25_line.proofs.Lists.{each_append}
 
 -- ---- what octets on a line read as
 
+-- the octets on a line read as these frames
 abbrev pub Reads : Role → ℕ → List Entry → List PlainFrame → Type 0
 Reads from n1 [] [] = Unit {0}
 Reads from n1 (e ∷ es) (f ∷ fs) = (frame_of from n1 e.octets ≡ Ok f) × Reads from n1 es fs
@@ -51,6 +52,7 @@ ahead_low n (rej command nr pf ∷ fs) {m} h = ahead_low n fs h.1
 ahead_low n (rnr command nr pf ∷ fs) {m} h = ahead_low n fs h.1
 ahead_low n (frame ∷ fs) h = absurd h
 
+-- frames that go on from n to m, and behind them frames that go on from m to k
 pub ahead_more : (n m k : ℕ) (fs es : List PlainFrame) → Ahead n fs m → Ahead m es k → Ahead n (fs ++ es) k
 ahead_more n m k [] es h g = rw h g
 ahead_more n m k (info ns nr p x ∷ fs) es h g = (h.0, h.1, ahead_more (n + 1) m k fs es h.2 g)
@@ -68,6 +70,7 @@ next_ahead r n (frame ∷ fs) m h = absurd h
 
 -- ---- the same without I frames, as in recovery, or while the peer is busy
 
+-- RR, RNR and REJ that ask for no answer
 abbrev pub IsMild : PlainFrame → Type 0
 IsMild (rr command nr pf) = (command && pf) ≡ false
 IsMild (rnr command nr pf) = (command && pf) ≡ false
@@ -116,6 +119,7 @@ next_no_final r n (frame ∷ fs) m h = absurd h
 
 -- ---- frames back: I frames and RR, none with F=1, the last of which has the number r, where `nr` came before them
 
+-- none is final, and the last N(R), or nr where there is none, is r modulo 8
 abbrev pub LastTells : ℕ → ℕ → List PlainFrame → Type 0
 LastTells r nr [] = nr ≡ r % 8
 LastTells r nr (info ns n p x ∷ gs) = (p ≡ false) × LastTells r n gs

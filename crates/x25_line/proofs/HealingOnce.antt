@@ -1,7 +1,8 @@
 -- A link that is set up once heals as one over sessions does: where both ends are Up, no end ever awaited UA, so timer T1 was timely.
 use Rattle.std.proofs.Common.{◌≡◌, List, ℕ, [], ◌∷◌, length, inl, inr, true, false, refl, sym, ap, ◌∙◌, subst, arith}
 use Rattle.x25_frame.specs.laws.ReadingLaw.{ReadsSpelled}
-use Rattle.x25_link.specs.{declared.phase.Phase.TheVariants.{Waiting}, Station.{Settings, LinkStation, is_up}, laws.RestLaw.{IsAtRest}, laws.BusyLaw.{BusyLaws}}
+use Rattle.x25_link.specs.{declared.phase.Phase.TheVariants.{Waiting}, Station.{LinkSettings, LinkStation, is_up}, laws.RestLaw.{IsAtRest}}
+use Rattle.x25_link.specs.laws.BusyLaw.{BusyLaws}
 use Rattle.x25_line.specs.laws.Stations.{Stations, Act, T1, LinkEvent, Near, Far, acts, stations_swapped, happens, run, start}
 use Rattle.x25_line.specs.{laws.StationClaims.{AreJoined, IsSetUpOnce}, laws.Line.{Line, line_swapped}, laws.SessionClaims.{octets_of}}
 use Rattle.x25_line.specs.{laws.Sessions.{Entry, Sessions, AreTimely, IsTimelyAt, from_set_up, swapped}, laws.WholeNumbers.{machine_run, machine_at_start}}
@@ -22,7 +23,7 @@ abbrev AreUp : Stations → Type 0
 AreUp w = (is_up w.near.station.phase ≡ true) × (is_up w.far.station.phase ≡ true)
 
 module _ (reads : ReadsSpelled) (laws : HealingLaws) where
-  up_before : {c d : Settings} (a : Act) {w : Stations} {l : Line (List ℕ)} → Joint c d w l → (acts c a w).near.came_up ≡ false
+  up_before : {c d : LinkSettings} (a : Act) {w : Stations} {l : Line (List ℕ)} → Joint c d w l → (acts c a w).near.came_up ≡ false
       → is_up (acts c a w).near.station.phase ≡ true → is_up w.near.station.phase ≡ true
   up_before a {w} h once = of_act laws.sessions.laws {Q = λ place v. is_up v.near.station.phase ≡ true → is_up w.near.station.phase ≡ true} (record {
     fits = h.near;
@@ -36,7 +37,7 @@ module _ (reads : ReadsSpelled) (laws : HealingLaws) where
     loses = λ i less up. up;
   }) a once
 
-  were_up : {c d : Settings} → AreJoined c d → (e : LinkEvent) {w : Stations} {l : Line (List ℕ)} → Joint c d w l → IsSetUpOnce (happens c d e w)
+  were_up : {c d : LinkSettings} → AreJoined c d → (e : LinkEvent) {w : Stations} {l : Line (List ℕ)} → Joint c d w l → IsSetUpOnce (happens c d e w)
       → AreUp (happens c d e w) → AreUp w
   were_up {c} {d} joined (Near a) {w} h once up =
       (up_before a h once.near up.0, ap (λ e. is_up e.station.phase) (sym (each_hands_one c d (Near a) w).far) ∙ up.1)
@@ -44,7 +45,8 @@ module _ (reads : ReadsSpelled) (laws : HealingLaws) where
       (ap (λ e. is_up e.station.phase) (sym (each_hands_one c d (Far a) w).far) ∙ up.0, up_before a (joint_swapped joined.longest h) once.far up.1)
 
   -- an end that is Up awaits no UA, so its timer T1 is timely
-  timely_run : {c d : Settings} → AreJoined c d → (es : List LinkEvent) {v : Sessions} {w : Stations} {l : Line (List ℕ)} → Alike IsFirst ⊥ v w → Joint c d w l
+  timely_run : {c d : LinkSettings} → AreJoined c d → (es : List LinkEvent) {v : Sessions} {w : Stations} {l : Line (List ℕ)} → Alike IsFirst ⊥ v w
+      → Joint c d w l
       → IsSetUpOnce (run c d es w) → AreUp (run c d es w) → AreUp w × AreTimely c d es v
   timely_run joined [] alike h once up = (up, tt)
   timely_run {c} {d} joined (e ∷ es) {v} {w} alike h once up =
@@ -62,27 +64,27 @@ module _ (reads : ReadsSpelled) (laws : HealingLaws) where
 
   -- ---- an end that rests has handed all up
 
-  healed : {c d : Settings} {w : Stations} → Holds c d w → IsAtRest w.near.station → IsHealed w.near w.far
+  healed : {c d : LinkSettings} {w : Stations} → Holds c d w → IsAtRest w.near.station → IsHealed w.near w.far
   healed {w = w} holds rest =
       let t = laws.rest.only_then w.near.station rest in
       let acked = idle_all w.near.station rest.idle (up_of holds.1.near t.0).sound.sent_high ∙ ap length ((holds_lists holds).0.given t.0) in
       record { rest = rest; handed_up = (holds_order holds).0.idle rest.idle; acked = acked; sent = sym t.3 ∙ acked }
 
-holds_swapped : {c d : Settings} → AreJoined c d → {w : Stations} → Holds c d w → Holds d c (stations_swapped w)
+holds_swapped : {c d : LinkSettings} → AreJoined c d → {w : Stations} → Holds c d w → Holds d c (stations_swapped w)
 holds_swapped joined holds = (line_swapped holds.0, joint_swapped joined.longest holds.1)
 
 none_on : (es : List Entry) → octets_of es ≡ [] → es ≡ []
 none_on [] none = refl
 none_on (e ∷ es) none = absurd (omega (arith, ap length none))
 
-free_run : (c d : Settings) (es : List LinkEvent) {v : Sessions} {w : Stations} → Alike IsFirst ⊥ v w → FreeThroughout c d es w
+free_run : (c d : LinkSettings) (es : List LinkEvent) {v : Sessions} {w : Stations} → Alike IsFirst ⊥ v w → FreeThroughout c d es w
     → SessionsFreeThroughout c d es v
 free_run c d [] h free = rw (sym h.near.station, sym h.far.station) free
 free_run c d (e ∷ es) h free = (rw (sym h.near.station, sym h.far.station) free.0, free_run c d es (happens_alike first_lasts c d e h) free.1)
 
 -- ---- after these events
 
-module _ (reads : ReadsSpelled) (laws : HealingLaws) (busy_laws : BusyLaws) (c d : Settings) (joined : AreJoined c d) (events : List LinkEvent)
+module _ (reads : ReadsSpelled) (laws : HealingLaws) (busy_laws : BusyLaws) (c d : LinkSettings) (joined : AreJoined c d) (events : List LinkEvent)
     (once : IsSetUpOnce (run c d events start)) where
   abbrev w : Stations
   w = run c d events start

@@ -1,10 +1,10 @@
 -- How an end heals after its firing, where one of the two may be busy, told of two stations and the frames between them. Its poll is on the line, then
 -- the answer; then what isn't acknowledged goes again, or waits until the other end is heard to be busy no more.
-use Rattle.std.proofs.Common.{◌≡◌, ℕ, ◌+◌, ◌%◌, ◌≤◌, List, [], ◌∷◌, ◌++◌, ◌⊎◌, inl, inr, length, max, Bool, true, false, if◌then◌else◌, Ok, None, Some, refl, sym, ap}
-use Rattle.std.proofs.{Common.{◌∙◌, subst, arith, length-append}, lemmas.Bool.{ltb-false, le-ltb, eq-eqb}}
+use Rattle.std.proofs.Common.{◌≡◌, ℕ, ◌+◌, ◌%◌, ◌≤◌, List, [], ◌∷◌, ◌++◌, ◌⊎◌, inl, inr, length, max, Bool, true, false, if◌then◌else◌, Ok, None, Some}
+use Rattle.std.proofs.{Common.{refl, sym, ap, ◌∙◌, subst, arith, length-append}, lemmas.Bool.{ltb-false, le-ltb, eq-eqb}}
 use Rattle.std.specs.Prelude.{not}
 use Rattle.x25_frame.specs.{Frame.{PlainFrame, info, rr, rnr, rej}, Reading.{frame_of}}
-use Rattle.x25_link.specs.{Station.{Settings, LinkStation, is_up, is_busy, wanted}, Hearing.{Step, other, is_valid, is_taken}, Link.{take_step}}
+use Rattle.x25_link.specs.{Station.{LinkSettings, LinkStation, is_up, is_busy, wanted}, Hearing.{LinkStep, other, is_valid, is_taken}, Link.{take_step}}
 use Rattle.x25_link.specs.laws.AnswerLaw.{says, AreNext, Outcome, Answers, heard, goes_on_from, confirms, once_taken, busy_after, passed_over}
 use Rattle.x25_link.specs.laws.BusyLaw.{Says, BusyLaws, NoInfo}
 use Rattle.x25_line.specs.{laws.LawsBelow.{HealingLaws}, laws.StationClaims.{number_in}}
@@ -107,6 +107,7 @@ pub record Polled (s t : LinkStation) (fs gs : List PlainFrame) : Type 0 where
   pub acked : s.outgoing.acked ≡ length t.taken
   pub told : t.said_busy ≡ true
 
+-- where an end stands as it heals
 abbrev pub Phases : LinkStation → LinkStation → List PlainFrame → List PlainFrame → Type 0
 Phases s t fs gs = Polling s fs gs ⊎ (Answered s t fs gs ⊎ (Resent s t fs gs ⊎ (Withheld s t fs gs ⊎ Polled s t fs gs)))
 
@@ -204,25 +205,25 @@ confirms_next r n m false next h = (refl, refl, refl, h)
 
 -- ---- a frame comes to an end that is Up, beside another
 
-pub record Beside (c : Settings) (s t : LinkStation) (f : PlainFrame) (octets : List ℕ) : Type 0 where
+pub record Beside (c : LinkSettings) (s t : LinkStation) (f : PlainFrame) (octets : List ℕ) : Type 0 where
   pub up : is_up s.phase ≡ true
   pub read : frame_of (other c.role) c.longest octets ≡ Ok f
   pub well : number_in (Ok f) ≡ Some f → HearsWell s t (number_of f)
   pub all : (nr : ℕ) → nr ≡ length t.taken % 8 → heard nr s ≡ length t.taken
 
 -- what the end becomes and sends, and its phase; and the phase of the other end
-pub record Went (s t : LinkStation) (fs gs : List PlainFrame) (step : Step) : Type 0 where
+pub record Went (s t : LinkStation) (fs gs : List PlainFrame) (step : LinkStep) : Type 0 where
   pub o : Outcome
   pub answers : Answers s o step
   pub phase : Phases step.side.near t (fs ++ step.side.out) gs
 
-pub record OtherWent (s t : LinkStation) (fs gs : List PlainFrame) (step : Step) : Type 0 where
+pub record OtherWent (s t : LinkStation) (fs gs : List PlainFrame) (step : LinkStep) : Type 0 where
   pub o : Outcome
   pub answers : Answers s o step
   pub phase : Phases t step.side.near gs (fs ++ step.side.out)
 
-module _ (c : Settings) (laws : HealingLaws) (busy_laws : BusyLaws) (octets : List ℕ) (s t : LinkStation) where
-  abbrev step : Step
+module _ (c : LinkSettings) (laws : HealingLaws) (busy_laws : BusyLaws) (octets : List ℕ) (s t : LinkStation) where
+  abbrev step : LinkStep
   step = take_step c octets s
 
   abbrev z : LinkStation
@@ -398,8 +399,8 @@ module _ (c : Settings) (laws : HealingLaws) (busy_laws : BusyLaws) (octets : Li
       → Told (hears_busy true (g ∷ gs)) t → IsNear fs gs
   withheld_hears fs gs hs (info ns nr true x) k h tells told = not_both true refl tells.0
   withheld_hears fs gs hs (info ns nr false x) k h tells told =
-      withholds_on k.up (subst (Hears nr) h.peer_busy (hears_info ns nr x k.up k.read (k.well refl).valid)) (k.well refl) h.recovery h.place h.acked h.mild tells.1
-      told
+      withholds_on k.up (subst (Hears nr) h.peer_busy (hears_info ns nr x k.up k.read (k.well refl).valid)) (k.well refl) h.recovery h.place h.acked
+      h.mild tells.1 told
   withheld_hears fs gs hs (rr true nr true) k h tells told =
       goes_on (hears_poll false nr k.up k.read (k.well refl).valid) h.recovery (subst (Ahead r fs) (sym h.place) (mild_ahead r fs h.mild)) (k.well refl).high
       tells.1 (k.all nr) (free_again nr gs tells.1 told)

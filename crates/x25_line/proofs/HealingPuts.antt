@@ -4,7 +4,8 @@ use Rattle.std.proofs.{Common.{subst, arith, length-append, append-nil}, lemmas.
 use Rattle.std.specs.Prelude.{nat_le}
 use Rattle.x25_frame.specs.{Frame.{PlainFrame}, laws.ReadingLaw.{ReadsSpelled}}
 use Rattle.x25_link.specs.{declared.error.LinkError.{LinkError}, Outgoing.{waits, is_open}}
-use Rattle.x25_link.specs.{Station.{Settings, LinkStation, Side, is_up, is_busy, may_send, send_next}, Hearing.{Step, other}, Link.{put_step, put_refusal}}
+use Rattle.x25_link.specs.{Station.{LinkSettings, LinkStation, Side, is_up, is_busy, may_send, send_next}, Hearing.{LinkStep, other}}
+use Rattle.x25_link.specs.Link.{put_step, put_refusal}
 use Rattle.x25_link.specs.{laws.AnswerLaw.{AreNext}, laws.BusyLaw.{Says, BusyLaws}}
 use Rattle.x25_link.proofs.EndLemmas.{open_is, closed_is, with_packet, put_once, busy_is}
 use Rattle.x25_line.specs.{laws.Stations.{Put, Deliver, LinkEvent, Near, Far}, laws.Sessions.{Sessions, after_step, unless, acts, swapped, run}}
@@ -122,7 +123,7 @@ module _ (s z : LinkStation) (es : List PlainFrame) (p : TakesDown s (record { n
       by (inr (inr (inr (inl h)))) = inr (inr (inr (inl (withheld_more more h))))
       by (inr (inr (inr (inr h)))) = absurd (unsaid h.told)
 
-module _ (reads : ReadsSpelled) (busy_laws : BusyLaws) {c d : Settings} (joined : AreJoined c d) where
+module _ (reads : ReadsSpelled) (busy_laws : BusyLaws) {c d : LinkSettings} (joined : AreJoined c d) where
   -- what a packet that is put makes of the world
   record WasPut (w v : Sessions) : Type 0 where
     pub next : List PlainFrame
@@ -151,7 +152,7 @@ module _ (reads : ReadsSpelled) (busy_laws : BusyLaws) {c d : Settings} (joined 
       s : LinkStation
       s = w.near.station
 
-      step : Step
+      step : LinkStep
       step = put_step c packet s
 
       v : Sessions
@@ -176,13 +177,13 @@ module _ (reads : ReadsSpelled) (busy_laws : BusyLaws) {c d : Settings} (joined 
 
 module _ (reads : ReadsSpelled) (laws : HealingLaws) (busy_laws : BusyLaws) where
   -- what stays where a packet is put while both ends are Up
-  record PutAt (c d : Settings) (w v : Sessions) : Type 0 where
+  record PutAt (c d : LinkSettings) (w v : Sessions) : Type 0 where
     pub near_on : is_up v.near.station.phase ≡ true
     pub far_on : is_up v.far.station.phase ≡ true
     pub before : AreFree v.near.station v.far.station → AreFree w.near.station w.far.station
     pub heals : (n m : ℕ) → HealsBoth n m c d w → AreFree v.near.station v.far.station → HealsBoth n m c d v
 
-  put_at : {c d : Settings} → AreJoined c d → (packet : List ℕ) {w : Sessions} → Sound c d w → SentWhole d.longest (acts c (Put packet) w).sent
+  put_at : {c d : LinkSettings} → AreJoined c d → (packet : List ℕ) {w : Sessions} → Sound c d w → SentWhole d.longest (acts c (Put packet) w).sent
       → PutAt c d w (acts c (Put packet) w)
   put_at {c} {d} joined packet {w} h whole = record { near_on = near_on; far_on = far_on; before = before; heals = heals }
     where
@@ -223,7 +224,7 @@ module _ (reads : ReadsSpelled) (laws : HealingLaws) (busy_laws : BusyLaws) wher
             far = rw p.far far;
           }
 
-  module _ {c d : Settings} (joined : AreJoined c d) where
+  module _ {c d : LinkSettings} (joined : AreJoined c d) where
     -- a packet that is put in a world that events lead to
     record WentOn (w v : Sessions) : Type 0 where
       pub reached : Reached c d v

@@ -4,13 +4,14 @@ use Rattle.std.proofs.lemmas.Bool.{and_right}
 use Rattle.std.specs.Prelude.{nat_lt}
 use Rattle.x25_frame.specs.Reading.{frame_of}
 use Rattle.x25_link.specs.{declared.phase.Phase.{Phase}, declared.phase.Phase.TheVariants.{Down, Up}, declared.phase.Reason.TheVariants.{Retries}}
-use Rattle.x25_link.specs.{Station.{Settings, LinkStation, Side, is_busy, with_near, with_nothing, fresh, ended}, Hearing.{Step, quiet, leaves, other}}
+use Rattle.x25_link.specs.{Station.{LinkSettings, LinkStation, Side, is_busy, with_near, with_nothing, fresh, ended}, Hearing.{LinkStep, quiet, leaves, other}}
 use Rattle.x25_link.specs.{Link.{alone, puts, fires, asks_again, connects, disconnects, take_step}, laws.LinkLaws.{ended_lists}, laws.RestLaw.{HasSaidAll}}
 use Rattle.x25_line.specs.{laws.Stations.{LinkEvent, Near, Far}, laws.Sessions.{Sessions, acts, swapped, run, IsStart}, laws.StationClaims.{AreJoined}}
 use Rattle.x25_line.specs.laws.LawsBelow.{HealingLaws}
 use Rattle.x25_line.proofs.{StationSends.{AllWithin, within_push}, DrainSteps.{took}, sessions.Acts.{Keeps, act_stays}}
 
-run_stays : {c d : Settings} {P Q : LinkStation → Type 0} → Keeps c P → Keeps d Q → (es : List LinkEvent) (w : Sessions) → P w.near.station → Q w.far.station
+run_stays : {c d : LinkSettings} {P Q : LinkStation → Type 0} → Keeps c P → Keeps d Q → (es : List LinkEvent) (w : Sessions) → P w.near.station
+    → Q w.far.station
     → (let v = run c d es w in P v.near.station × Q v.far.station)
 run_stays near far [] w h k = (h, k)
 run_stays {c} {d} {P} {Q} near far (Near a ∷ es) w h k =
@@ -26,7 +27,8 @@ pub record IsFit (k n1 : ℕ) (s : LinkStation) : Type 0 where
   pub said : HasSaidAll k s
   pub within : AllWithin n1 s.outgoing.given
 
-abbrev pub Fit : Settings → Settings → Sessions → Type 0
+-- both ends are so
+abbrev pub Fit : LinkSettings → LinkSettings → Sessions → Type 0
 Fit c d w = IsFit c.window d.longest w.near.station × IsFit d.window c.longest w.far.station
 
 within_of : (n1 : ℕ) {old : List (List ℕ)} (new : List (List ℕ)) → (new ≡ old) ⊎ (new ≡ []) → AllWithin n1 old → AllWithin n1 new
@@ -46,13 +48,13 @@ asks_within n1 Up t h = side_if n1 (is_busy t.near) _ _ h h
 asks_within n1 p t h = h
 
 fires_within : (n1 : ℕ) (b : Bool) (s : LinkStation) → AllWithin n1 s.outgoing.given
-    → (let z : Step = if b then quiet (asks_again s.phase (with_near (alone s) (record s { tries = s.tries + 1 }))) else leaves Retries (alone s) in
+    → (let z : LinkStep = if b then quiet (asks_again s.phase (with_near (alone s) (record s { tries = s.tries + 1 }))) else leaves Retries (alone s) in
     AllWithin n1 z.side.near.outgoing.given)
 fires_within n1 true s h = asks_within n1 s.phase (with_near (alone s) (record s { tries = s.tries + 1 })) h
 fires_within n1 false s h = tt
 
 module _ (laws : HealingLaws) where
-  pub keeps_fit : (c : Settings) (n1 : ℕ) → c.window ≤ 7 → c.longest ≡ n1 → Keeps c (IsFit c.window n1)
+  pub keeps_fit : (c : LinkSettings) (n1 : ℕ) → c.window ≤ 7 → c.longest ≡ n1 → Keeps c (IsFit c.window n1)
   keeps_fit c n1 small longest = record {
     takes = λ o s h.
         let t = took c n1 (4 * length s.outgoing.given + 2) 0 s small h.within (omega arith) h.said.low o (frame_of (other c.role) c.longest o) refl in
@@ -79,7 +81,7 @@ module _ (laws : HealingLaws) where
       subst (λ w. IsFit k n1 w.near.station × IsFit k n1 w.far.station) (sym is) (up, up)
 
   -- after any events both stations have said all that they may, and hold no packet that is too long
-  pub fit_from : {c d : Settings} → AreJoined c d → {begin : Sessions} → IsStart begin → (events : List LinkEvent)
+  pub fit_from : {c d : LinkSettings} → AreJoined c d → {begin : Sessions} → IsStart begin → (events : List LinkEvent)
       → Fit c d (run c d events begin)
   fit_from {c} {d} joined {begin} is events =
       run_stays (keeps_fit c d.longest joined.near_high joined.longest) (keeps_fit d c.longest joined.far_high (sym joined.longest)) events begin

@@ -6,8 +6,8 @@ use Rattle.x25_bits.specs.declared.role.Role.{Role}
 use Rattle.x25_frame.specs.{Frame.{PlainFrame, info, rr, rnr, rej, sabm, disc, ua, dm, frmr}, Spelling.{is_command, poll_or_final}}
 use Rattle.x25_frame.specs.laws.ReadingLaw.{ReadsSpelled}
 use Rattle.x25_link.specs.{declared.phase.Phase.{Phase}, declared.phase.Phase.TheVariants.{Down, Waiting, Up, Closed}, Outgoing.{waits}}
-use Rattle.x25_link.specs.Station.{Settings, LinkStation, Side, is_up, is_busy, wanted, with_nothing, fresh, sends, ready, may_send, owes_ready, finished}
-use Rattle.x25_link.specs.{Station.{ended}, Hearing.{Step, quiet, other, is_valid, acknowledged, peer_is, polls, rejects, row_of_frame}}
+use Rattle.x25_link.specs.Station.{LinkSettings, LinkStation, Side, is_up, is_busy, wanted, with_nothing, fresh, sends, ready, may_send, owes_ready, finished}
+use Rattle.x25_link.specs.{Station.{ended}, Hearing.{LinkStep, quiet, other, is_valid, acknowledged, peer_is, polls, rejects, row_of_frame}}
 use Rattle.x25_link.specs.{Link.{alone, hears, declines, when_down, when_waiting, take_step, timer_runs}, laws.SetUp.{waiting_after, waiting_sends}}
 use Rattle.x25_link.specs.{laws.WindowLaw.{IsOut}, laws.RestLaw.{IsAtRest}, laws.AnswerLaw.{says, asks}}
 use Rattle.x25_link.proofs.EndLemmas.{none_open, not_open, pumped_stays}
@@ -157,19 +157,19 @@ blank_polls false true t h out = record {
 }
 blank_polls false false t h out = record { near = inl h; out = out }
 
-blank_row : (c : Settings) (octets : List ℕ) (command pf : Bool) (nr : ℕ) (s : LinkStation) → IsBlank s
+blank_row : (c : LinkSettings) (octets : List ℕ) (command pf : Bool) (nr : ℕ) (s : LinkStation) → IsBlank s
     → IsCalm (row_of_frame c octets (rr command nr pf) (alone s)).side
 blank_row c octets command pf nr s h = by (is_valid nr s) refl
   where
     by : (b : Bool) → is_valid nr s ≡ b
-        → IsCalm (let z : Step = if b then quiet (polls command pf (peer_is false (acknowledged nr (alone s)))) else rejects c octets 8 (alone s) in z.side)
+        → IsCalm (let z : LinkStep = if b then quiet (polls command pf (peer_is false (acknowledged nr (alone s)))) else rejects c octets 8 (alone s) in z.side)
     by true valid =
         let high = leb-true _ _ valid in
         blank_polls command pf (peer_is false (acknowledged nr (alone s)))
         (record { up = h.up; given = h.given; acked = omega (arith, high, h.sent); sent = h.sent; recovery = h.recovery; peer_busy = refl }) tt
     by false invalid = record { near = inr refl; out = (refl, tt) }
 
-calm_up : (c : Settings) (octets : List ℕ) (f : PlainFrame) {s : LinkStation} → IsBlank s → IsOfSetUp f → IsCalm (row_of_frame c octets f (alone s)).side
+calm_up : (c : LinkSettings) (octets : List ℕ) (f : PlainFrame) {s : LinkStation} → IsBlank s → IsOfSetUp f → IsCalm (row_of_frame c octets f (alone s)).side
 calm_up c octets (sabm p) h is = begun tt
 calm_up c octets (ua f) h is = record { near = inl h; out = tt }
 calm_up c octets (dm f) h is = record { near = inr refl; out = tt }
@@ -181,7 +181,7 @@ blank_of : (s : LinkStation) → is_up s.phase ≡ true → IsBlankOrOff s → I
 blank_of s up (inl h) = h
 blank_of s up (inr off) = not_both (is_up s.phase) up off
 
-calm_hears : (c : Settings) (octets : List ℕ) (f : PlainFrame) (s : LinkStation) → IsBlankOrOff s → IsOfSetUp f → (p : Phase) → s.phase ≡ p
+calm_hears : (c : LinkSettings) (octets : List ℕ) (f : PlainFrame) (s : LinkStation) → IsBlankOrOff s → IsOfSetUp f → (p : Phase) → s.phase ≡ p
     → IsCalm (hears c octets (Ok f) p (alone s)).side
 calm_hears c octets f s h is Down phase = calm_down f s (ap is_up phase) is
 calm_hears c octets f s h is Waiting phase = calm_waiting f s (ap is_up phase) is
@@ -240,17 +240,17 @@ poll_off false n s = (refl, refl, refl)
 
 -- ---- worlds
 
-pub record Settling (c d : Settings) (w : Sessions) : Type 0 where
+pub record Settling (c d : LinkSettings) (w : Sessions) : Type 0 where
   pub there : List PlainFrame
   pub behind : List PlainFrame
   pub out : Reads (other d.role) d.longest w.out there
   pub back : Reads (other c.role) c.longest w.back behind
   pub is : Settles w.near.station w.far.station there behind
 
-turned : {c d : Settings} {w : Sessions} → Settling c d w → Settling d c (swapped w)
+turned : {c d : LinkSettings} {w : Sessions} → Settling c d w → Settling d c (swapped w)
 turned {w = w} h = record { there = h.behind; behind = h.there; out = h.back; back = h.out; is = settles_turned h.is }
 
-module _ (c d : Settings) (joined : AreJoined c d) (reads : ReadsSpelled) (laws : HealingLaws) where
+module _ (c d : LinkSettings) (joined : AreJoined c d) (reads : ReadsSpelled) (laws : HealingLaws) where
   module _ (w : Sessions) (h : Settling c d w) where
     abbrev s : LinkStation
     s = w.near.station
@@ -331,7 +331,7 @@ module _ (c d : Settings) (joined : AreJoined c d) (reads : ReadsSpelled) (laws 
   ]
 
 -- ends that settle have settled once nothing is on the line
-pub settle : (c d : Settings) → AreJoined c d → ReadsSpelled → HealingLaws → (es : List LinkEvent) → Each IsDelivery es → (w : Sessions) → Settling c d w
+pub settle : (c d : LinkSettings) → AreJoined c d → ReadsSpelled → HealingLaws → (es : List LinkEvent) → Each IsDelivery es → (w : Sessions) → Settling c d w
     → (let v = run c d es w in IsDrained v → RestsOrOut v.near.station × RestsOrOut v.far.station)
 settle c d joined reads laws es are w first drained = settled (other d.role) (other c.role) d.longest c.longest (rw (sym drained.out) h.out)
     (rw (sym drained.back) h.back) h.is

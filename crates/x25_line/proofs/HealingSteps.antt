@@ -3,7 +3,7 @@ use Rattle.std.proofs.Common.{◌≡◌, ℕ, ◌+◌, ◌%◌, ◌≤◌, List,
 use Rattle.std.proofs.lemmas.Bool.{le-leb}
 use Rattle.x25_frame.specs.{Frame.{PlainFrame, info, rr, rnr, rej}, Reading.{frame_of}, laws.ReadingLaw.{ReadsSpelled}}
 use Rattle.x25_window.specs.{code.Modulo.{resolved}, laws.Window.{Frame}}
-use Rattle.x25_link.specs.{Station.{Settings, LinkStation, is_up}, Hearing.{other, is_valid}, Link.{timer_runs, timer_step}}
+use Rattle.x25_link.specs.{Station.{LinkSettings, LinkStation, is_up}, Hearing.{other, is_valid}, Link.{timer_runs, timer_step}}
 use Rattle.x25_link.specs.{laws.WindowMachine.{Shows, ShowAll}, laws.WindowLaw.{IsSound}, laws.RestLaw.{HasSaidAll, IsAtRest}, laws.AnswerLaw.{heard}}
 use Rattle.x25_line.specs.laws.StationClaims.{AreJoined, number_in, AreWhole}
 use Rattle.x25_line.specs.laws.Sessions.{Entry, Sessions, sent_in, IsStart, after_step, acts, swapped, happens, run, IsTimely, IsTimelyAt}
@@ -15,23 +15,24 @@ use Rattle.x25_line.proofs.{sessions.SessionRuns.{HeldOf, held_swapped, througho
 
 -- ---- worlds that events lead to
 
-pub record Reached (c d : Settings) (w : Sessions) : Type 0 where
+pub record Reached (c d : LinkSettings) (w : Sessions) : Type 0 where
   pub begin : Sessions
   pub start : IsStart begin
   pub events : List LinkEvent
   pub timely : AreTimely c d events begin
   pub is : run c d events begin ≡ w
 
-pub links_append : (c d : Settings) (es fs : List LinkEvent) (w : Sessions) → run c d (es ++ fs) w ≡ run c d fs (run c d es w)
+pub links_append : (c d : LinkSettings) (es fs : List LinkEvent) (w : Sessions) → run c d (es ++ fs) w ≡ run c d fs (run c d es w)
 links_append c d [] fs w = refl
 links_append c d (e ∷ es) fs w = links_append c d es fs (happens c d e w)
 
-pub timely_append : (c d : Settings) (es fs : List LinkEvent) (w : Sessions) → AreTimely c d es w → AreTimely c d fs (run c d es w) → AreTimely c d (es ++ fs) w
+pub timely_append : (c d : LinkSettings) (es fs : List LinkEvent) (w : Sessions) → AreTimely c d es w → AreTimely c d fs (run c d es w)
+    → AreTimely c d (es ++ fs) w
 timely_append c d [] fs w h g = g
 timely_append c d (e ∷ es) fs w h g = (h.0, timely_append c d es fs (happens c d e w) h.1 g)
 
 -- a world that was reached, after one more event
-pub then_happens : {c d : Settings} (e : LinkEvent) {w : Sessions} → IsTimelyAt c d e w → Reached c d w → Reached c d (happens c d e w)
+pub then_happens : {c d : LinkSettings} (e : LinkEvent) {w : Sessions} → IsTimelyAt c d e w → Reached c d w → Reached c d (happens c d e w)
 then_happens {c} {d} e timely r = record {
   begin = r.begin;
   start = r.start;
@@ -41,17 +42,18 @@ then_happens {c} {d} e timely r = record {
 }
 
 -- timer T1 is timely where the end is Up
-pub timely_up : (c d : Settings) (w : Sessions) → is_up w.near.station.phase ≡ true → IsTimely c d T1 w
+pub timely_up : (c d : LinkSettings) (w : Sessions) → is_up w.near.station.phase ≡ true → IsTimely c d T1 w
 timely_up c d w up = λ waits. not_both (is_up w.near.station.phase) up (ap is_up waits)
 
-pub at_reached : (Holds : Settings → Settings → Sessions → Type 0) → Throughout Holds → {c d : Settings} → AreJoined c d → {w : Sessions} → Reached c d w
+pub at_reached : (Holds : LinkSettings → LinkSettings → Sessions → Type 0) → Throughout Holds → {c d : LinkSettings} → AreJoined c d → {w : Sessions}
+    → Reached c d w
     → Holds c d w
 at_reached Holds always {c} {d} joined r = subst (Holds c d) r.is (always c d joined r.begin r.start r.events r.timely)
 
 -- ---- both ends are Up
 
 -- the machine is behind, and both ends have said all that they may
-pub record Sound (c d : Settings) (w : Sessions) : Type 0 where
+pub record Sound (c d : LinkSettings) (w : Sessions) : Type 0 where
   pub line : Line (List ℕ)
   pub kept : Kept line
   pub near : AsUp c w.near.station line.near
@@ -61,7 +63,7 @@ pub record Sound (c d : Settings) (w : Sessions) : Type 0 where
   pub near_said : HasSaidAll c.window w.near.station
   pub far_said : HasSaidAll d.window w.far.station
 
-pub sound_swapped : {c d : Settings} {w : Sessions} → Sound c d w → Sound d c (swapped w)
+pub sound_swapped : {c d : LinkSettings} {w : Sessions} → Sound c d w → Sound d c (swapped w)
 sound_swapped h = record {
   line = line_swapped h.line;
   kept = Kept-swapped h.kept;
@@ -74,12 +76,12 @@ sound_swapped h = record {
 }
 
 -- an end that is Up has numbers in order, and has said all that it may
-pub record IsInOrderIfUp (c : Settings) (s : LinkStation) : Type 0 where
+pub record IsInOrderIfUp (c : LinkSettings) (s : LinkStation) : Type 0 where
   pub sound : is_up s.phase ≡ true → IsSound c.window s.outgoing
   pub said : HasSaidAll c.window s
 
 -- so it is at rest where timer T1 doesn't run
-pub stopped_rests : HealingLaws → {c : Settings} → 1 ≤ c.window → {s : LinkStation} → IsInOrderIfUp c s → is_up s.phase ≡ true
+pub stopped_rests : HealingLaws → {c : LinkSettings} → 1 ≤ c.window → {s : LinkStation} → IsInOrderIfUp c s → is_up s.phase ≡ true
     → timer_runs s.phase s ≡ false → IsAtRest s
 stopped_rests laws {c} low {s} h up stopped = record { idle = laws.rest.no_timer c.window s low (h.sound up) h.said up stopped; no_timer = stopped }
 
@@ -87,7 +89,7 @@ stopped_rests laws {c} low {s} h up stopped = record { idle = laws.rest.no_timer
 abbrev pub SentWhole : ℕ → List PlainFrame → Type 0
 SentWhole n1 frames = (given : List (List ℕ)) × AreWhole n1 given frames
 
-module _ (reads : ReadsSpelled) (laws : HealingLaws) (c d : Settings) (joined : AreJoined c d) (w : Sessions) (r : Reached c d w) where
+module _ (reads : ReadsSpelled) (laws : HealingLaws) (c d : LinkSettings) (joined : AreJoined c d) (w : Sessions) (r : Reached c d w) where
   held : HeldOf c d w
   held = at_reached HeldOf (throughout reads laws.sessions) joined r
 
@@ -112,6 +114,7 @@ module _ (reads : ReadsSpelled) (laws : HealingLaws) (c d : Settings) (joined : 
         far_said = fit.1.said;
       }
 
+  -- each end has said what it has to, and counts soundly where it is Up
   pub in_order_at : IsInOrderIfUp c w.near.station × IsInOrderIfUp d w.far.station
   in_order_at = (
     record { sound = λ up. (up_in_session c d w held.1 up).running.sound; said = fit.0.said },
@@ -127,7 +130,7 @@ pub record Counted (k : ℕ) (near far : LinkStation) : Type 0 where
   pub taken : length far.taken ≤ near.outgoing.sent
   pub room : near.outgoing.sent ≤ near.outgoing.acked + k
 
-pub counted : {c d : Settings} {w : Sessions} → Sound c d w → Counted c.window w.near.station w.far.station
+pub counted : {c d : LinkSettings} {w : Sessions} → Sound c d w → Counted c.window w.near.station w.far.station
 counted h =
     let u = h.near in
     let v = h.far in
@@ -138,7 +141,8 @@ counted h =
     record { acked = omega (arith, bounds.0, acked, taken); taken = omega (arith, bounds.1, sent, taken); room = u.sound.room }
 
 -- the number that stands for all that the far end has taken
-pub all_heard : {c d : Settings} → AreJoined c d → {near far : LinkStation} → Counted c.window near far → (nr : ℕ) → nr ≡ length far.taken % 8 → heard nr near
+pub all_heard : {c d : LinkSettings} → AreJoined c d → {near far : LinkStation} → Counted c.window near far → (nr : ℕ) → nr ≡ length far.taken % 8
+    → heard nr near
     ≡ length far.taken
 all_heard joined {near} {far} n nr is =
     ap (resolved near.outgoing.acked) is ∙ resolved_is near.outgoing.acked (length far.taken) n.acked (omega (arith, joined.near_high, n.taken, n.room))
@@ -165,7 +169,7 @@ pub record HearsWell (s other : LinkStation) (nr : ℕ) : Type 0 where
   pub low : s.outgoing.acked ≤ heard nr s
   pub high : heard nr s ≤ length other.taken
 
-pub hears_well : (c d : Settings) (w : Sessions) → Sound c d w → (f : PlainFrame) (e : Entry) (es : List Entry) → w.back ≡ e ∷ es
+pub hears_well : (c d : LinkSettings) (w : Sessions) → Sound c d w → (f : PlainFrame) (e : Entry) (es : List Entry) → w.back ≡ e ∷ es
     → frame_of (other c.role) c.longest e.octets ≡ Ok f → number_in (Ok f) ≡ Some f → HearsWell w.near.station w.far.station (number_of f)
 hears_well c d w h f front_entry es is read is_numbered =
     let u = h.near in
@@ -197,7 +201,7 @@ pub record IsDrained (w : Sessions) : Type 0 where
   pub back : w.back ≡ []
 
 -- what each delivery keeps stays through all
-pub deliveries_keep : (P : Sessions → Type 0) (c d : Settings) → ((w : Sessions) → P w → P (acts c Deliver w))
+pub deliveries_keep : (P : Sessions → Type 0) (c d : LinkSettings) → ((w : Sessions) → P w → P (acts c Deliver w))
     → ((w : Sessions) → P w → P (swapped (acts d Deliver (swapped w))))
     → (es : List LinkEvent) (w : Sessions) → Each IsDelivery es → P w → P (run c d es w)
 deliveries_keep P c d near far [] w are h = h
@@ -207,16 +211,16 @@ deliveries_keep P c d near far (Near a ∷ es) w are h = absurd are.0
 deliveries_keep P c d near far (Far a ∷ es) w are h = absurd are.0
 
 -- what is put may be read at the other end
-pub reads_put : ReadsSpelled → {c d : Settings} → AreJoined c d → (given : List (List ℕ)) (session : ℕ) (es : List Entry) (fs gs : List PlainFrame)
+pub reads_put : ReadsSpelled → {c d : LinkSettings} → AreJoined c d → (given : List (List ℕ)) (session : ℕ) (es : List Entry) (fs gs : List PlainFrame)
     → AreWhole d.longest given gs
     → Reads (other d.role) d.longest es fs → Reads (other d.role) d.longest (es ++ sent_in session c.role gs) (fs ++ gs)
 reads_put reads {d = d} joined given session es fs gs whole read =
     rw (sym joined.near_role) (reads_more reads (other d.role) d.longest given session es fs gs read whole)
 
 -- T1 doesn't run: nothing changes
-pub refused : (c : Settings) (w : Sessions) → timer_runs w.near.station.phase w.near.station ≡ false → acts c T1 w ≡ w
+pub refused : (c : LinkSettings) (w : Sessions) → timer_runs w.near.station.phase w.near.station ≡ false → acts c T1 w ≡ w
 refused c w stopped = rw stopped refl
 
-pub fires_is : (c : Settings) (w : Sessions) → timer_runs w.near.station.phase w.near.station ≡ true → acts c T1 w
+pub fires_is : (c : LinkSettings) (w : Sessions) → timer_runs w.near.station.phase w.near.station ≡ true → acts c T1 w
     ≡ after_step c w w.back w.met [] (timer_step c w.near.station)
 fires_is c w running = rw running refl

@@ -4,7 +4,7 @@ use Rattle.std.proofs.{Common.{◌∙◌, sym, ap}, lemmas.Grind.{common_steps},
 use Rattle.std.proofs.lemmas.Option.{slice_get_within, get_or_from_slice_get}
 use Rattle.std.specs.List.{slice_get}
 use Rattle.x25_window.specs.{code.Modulo.{resolved}, laws.Window.{End, Frame, Numbered, Allows, after, frames_of, numbered}}
-use Rattle.x25_window.specs.laws.Window.Step.{HandDown, Send, Tell, Hear, Take}
+use Rattle.x25_window.specs.laws.Window.EndStep.{HandDown, Send, Tell, Hear, Take}
 use Rattle.x25_line.specs.laws.Line.{Line, Move, MayTake, FrontMayBeTaken, AllowsMove, line_swapped, takes_item, front_arrived, moved}
 use Rattle.x25_line.specs.laws.Line.Move.{HandsDown, Sends, Tells, Arrives, Loses}
 use Rattle.x25_line.specs.laws.InWindow.{IsSentInWindow, IsNear, AllInWindow, Rising, WayInWindow, InWindow}
@@ -40,6 +40,7 @@ module _ {T : Type 0} where
   abbrev pub Kept : Line T → Type 0
   Kept w = BothWays w.near w.far (length w.near.taken) (length w.far.taken) w.out w.back
 
+  -- both ways, as the other end has them
   pub Kept-swapped : {w : Line T} → Kept w → Kept (line_swapped w)
   Kept-swapped h = record { from_near = h.from_far; from_far = h.from_near }
 
@@ -229,6 +230,7 @@ module _ {T : Type 0} where
         from_far = Way-told (length g.taken) None g.sent (omega arith) (omega arith) h.from_far;
       }
 
+  -- what is kept of both ways stays so by each move that the window machine allows
   pub Kept-moved : (m : Move T) {w : Line T} → AllowsMove w m → Kept w → Kept (moved m w)
   Kept-moved (HandsDown x) {w} ok h = rw (append-nil w.out) (record { from_near = Way-hand x h.from_near; from_far = h.from_far })
   Kept-moved (Sends n) {w} ok h = item-sent n ok h

@@ -1,8 +1,7 @@
 -- What a line that loses or damages one is then, and what still holds of each on it.
-use Rattle.std.proofs.Common.{◌≡◌, ℕ, zero, suc, List, [], ◌∷◌, length, remove, true, refl}
-use Rattle.x25_line.specs.{laws.Loss.{LessAt, nothing, gone, hurt, deeper, IsSeen}, laws.StationClaims.{Each}, laws.Stations.{is_visible, replaced}}
+use Rattle.std.proofs.Common.{ℕ, zero, suc, List, [], ◌∷◌, length}
+use Rattle.x25_line.specs.{laws.Loss.{LessAt, nothing, gone, hurt, deeper, remove, replaced}, laws.StationClaims.{Each}, laws.Stations.{IsSeen}}
 use Rattle.x25_line.specs.{laws.Sessions.{Entry}, laws.PeerSessions.{IsSeenIn}, laws.SessionClaims.{octets_of}}
-use Rattle.x25_line.specs.laws.Sessions as sessions
 
 module _ {T : Type 0} {Damage : T → T → Type 0} where
   -- it loses none
@@ -10,11 +9,18 @@ module _ {T : Type 0} {Damage : T → T → Type 0} where
   untouched [] = nothing 0
   untouched (x ∷ xs) = deeper (length xs) x xs xs (untouched xs)
 
+  -- one is lost
   pub removes : (xs : List T) (i : ℕ) → LessAt Damage i xs (remove xs i)
   removes [] zero = nothing 0
   removes [] (suc i) = nothing (suc i)
   removes (x ∷ xs) zero = gone x xs
   removes (x ∷ xs) (suc i) = deeper i x xs (remove xs i) (removes xs i)
+
+  -- one is damaged
+  pub replaces : (damaged : T → T) → ((x : T) → Damage x (damaged x)) → (xs : List T) (i : ℕ) → LessAt Damage i xs (replaced xs i damaged)
+  replaces damaged hurts [] i = nothing i
+  replaces damaged hurts (x ∷ xs) zero = hurt x (damaged x) xs (hurts x)
+  replaces damaged hurts (x ∷ xs) (suc i) = deeper i x xs (replaced xs i damaged) (replaces damaged hurts xs i)
 
   -- what holds of each, where it holds of what comes in the place of another
   pub each_less : (P : T → Type 0) → ((x y : T) → Damage x y → P x → P y) → {i : ℕ} {xs ys : List T} → LessAt Damage i xs ys → Each P xs → Each P ys
@@ -22,16 +28,6 @@ module _ {T : Type 0} {Damage : T → T → Type 0} where
   each_less P hurts (gone x xs) h = h.1
   each_less P hurts (hurt x y xs damage) h = (hurts x y damage h.0, h.1)
   each_less P hurts (deeper j x xs ys l) h = (h.0, each_less P hurts l h.1)
-
-pub replaces : (o : List ℕ) → is_visible o ≡ true → (os : List (List ℕ)) (i : ℕ) → LessAt IsSeen i os (replaced os i o)
-replaces o visible [] i = nothing i
-replaces o visible (x ∷ os) zero = hurt x o os visible
-replaces o visible (x ∷ os) (suc i) = deeper i x os (replaced os i o) (replaces o visible os i)
-
-pub replaces_in : (o : List ℕ) → is_visible o ≡ true → (es : List Entry) (i : ℕ) → LessAt IsSeenIn i es (sessions.replaced es i o)
-replaces_in o visible [] i = nothing i
-replaces_in o visible (e ∷ es) zero = hurt e (record { session = e.session; octets = o }) es (refl, visible)
-replaces_in o visible (e ∷ es) (suc i) = deeper i e es (sessions.replaced es i o) (replaces_in o visible es i)
 
 -- the same of the octets alone
 pub octets_less : {i : ℕ} {es fs : List Entry} → LessAt IsSeenIn i es fs → LessAt IsSeen i (octets_of es) (octets_of fs)

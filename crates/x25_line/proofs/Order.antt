@@ -111,6 +111,7 @@ starts =
     } in
     record { there = []; here = []; ways = record { from_near = way; from_far = way }; out_bears = none; back_bears = none }
 
+-- the same, as the other end has it
 pub hold_turned : {p q : Peer} {out back : List Told} → Hold p q out back → Hold q p back out
 hold_turned h =
     record {
@@ -265,6 +266,7 @@ valid_front p q out rest t h = go h.here h.back_bears h.ways.from_near
 
 -- ---- no fault is found where an N(R) is valid, and where nothing comes that is answered by FRMR
 
+-- one where the link is left by an FRMR of the station's own
 abbrev pub by_frmr : Option Reason → ℕ
 by_frmr (Some FrmrSent) = 1
 by_frmr reason = 0
@@ -273,6 +275,7 @@ valid_none : (b : Bool) → b ≡ true → by_frmr (if b then None else Some Frm
 valid_none true is = refl
 valid_none false is = cc
 
+-- what isn't odd, with a valid N(R) where it has one, is no ground for an FRMR
 pub no_fault : (r : Result PlainFrame FrameError) (v : Window) → (said r ≡ OddSaid → ⊥)
     → ((carried : Option Carried) (nr : ℕ) → said r ≡ Tells carried nr → resolved v.acked nr ≤ v.sent) → by_frmr (ending_of r v) ≡ 0
 no_fault (Ok (info ns nr p x)) v never valid = valid_none (nat_le (resolved v.acked nr) v.sent) (le-leb _ _ (valid _ nr refl))

@@ -3,9 +3,9 @@ use Rattle.std.proofs.Common.{◌≡◌, ℕ, ◌≤◌, List, [], ◌∷◌, �
 use Rattle.x25_bits.specs.declared.role.Role.{Role}
 use Rattle.x25_frame.specs.{Reading.{frame_of}, laws.ReadingLaw.{ReadsSpelled}}
 use Rattle.x25_window.specs.code.Modulo.{resolved}
-use Rattle.x25_link.specs.{Station.{Settings, fresh}, Hearing.{other}}
-use Rattle.x25_line.specs.{laws.Stations.{StationEnd, Act, Near, acts}, laws.StationClaims.{Each, InOrder, HandsOne}}
-use Rattle.x25_line.specs.{laws.LawsBelow.{Laws}, laws.Loss.{LessAt, nothing, gone, hurt, deeper, IsSeen}}
+use Rattle.x25_link.specs.{Station.{LinkSettings, fresh}, Hearing.{other}}
+use Rattle.x25_line.specs.{laws.Stations.{StationEnd, Act, Near, acts, IsSeen}, laws.StationClaims.{Each, InOrder, HandsOne}}
+use Rattle.x25_line.specs.{laws.LawsBelow.{Laws}, laws.Loss.{LessAt, nothing, gone, hurt, deeper}}
 use Rattle.x25_line.specs.laws.PeerJoined.{JoinedOnce, our_end, with_peer, HappensOnce, Ours, HandsDown, Sends, Hears, Loses, ReachedOnce, at_start}
 use Rattle.x25_line.specs.{laws.PeerJoined.{goes_on}, laws.PeerClaims.{WithAnyPeer, WithAnyLapbPeer, KeepsOrder, FindsNoFault}}
 use Rattle.x25_line.proofs.{Lists.{each_append}, Losses.{each_less}, sessions.Letters.{visible_said, visible_fine}, Kept.{Way}}
@@ -39,7 +39,7 @@ module _ (from : Role) (n1 : ℕ) where
 
 -- ---- a station and a peer q
 
-module _ (Odd : Type 0) (c : Settings) (q : Peer) where
+module _ (Odd : Type 0) (c : LinkSettings) (q : Peer) where
   -- the station is the peer p
   record IsWith (os : List (List ℕ)) (p : Peer) (out : List (List ℕ)) : Type 0 where
     pub hold : Hold p q (tolds c.role c.longest out) (tolds (other c.role) c.longest os)
@@ -79,11 +79,11 @@ module _ (Odd : Type 0) (c : Settings) (q : Peer) where
 
 -- ---- whatever happens
 
-abbrev JoinedHolds : Type 0 → Settings → JoinedOnce → Type 0
+abbrev JoinedHolds : Type 0 → LinkSettings → JoinedOnce → Type 0
 JoinedHolds Odd c w = Seen c (Odd → ⊥) (IsWith Odd c w.peer) (our_end w)
 
 -- once the peer is q, with these lines
-after : (Odd : Type 0) {c : Settings} {w : JoinedOnce} (h : JoinedHolds Odd c w) {q : Peer} (out back : List (List ℕ))
+after : (Odd : Type 0) {c : LinkSettings} {w : JoinedOnce} (h : JoinedHolds Odd c w) {q : Peer} (out back : List (List ℕ))
     → Hold q h.peer (tolds (other c.role) c.longest back) (tolds c.role c.longest out)
     → ((Odd → ⊥) → Each (IsFine (other c.role) c.longest) back) → JoinedHolds Odd c (record { near = w.near; peer = q; out = out; back = back })
 after Odd h out back hold lapb = seen_so refl h (record { hold = hold_turned hold; lapb = lapb })
@@ -92,13 +92,13 @@ after Odd h out back hold lapb = seen_so refl h (record { hold = hold_turned hol
 sends_odd : (Odd : Type 0) (p q : Peer) {s : Said} → MaySay Odd p s q → (Odd → ⊥) → s ≡ OddSaid → ⊥
 sends_odd Odd p q may never is = (let odd = subst (λ x. MaySay Odd p x q) is may in never odd.0)
 
-once_before : (Odd : Type 0) {c : Settings} {w v : JoinedOnce} → HappensOnce Odd c w v → v.near.came_up ≡ false → w.near.came_up ≡ false
+once_before : (Odd : Type 0) {c : LinkSettings} {w v : JoinedOnce} → HappensOnce Odd c w v → v.near.came_up ≡ false → w.near.came_up ≡ false
 once_before Odd {c} {w} (Ours act) once =
     let hands : HandsOne act (our_end w) (acts c act (our_end w)) = each_hands_one c c (Near act) (our_end w) in
     noted_before act w.near.came_up (acts c act (our_end w)).near.came_up hands.came_up once
 once_before Odd other once = once
 
-module _ (Odd : Type 0) (c : Settings) (w : JoinedOnce) (h : JoinedHolds Odd c w) where
+module _ (Odd : Type 0) (c : LinkSettings) (w : JoinedOnce) (h : JoinedHolds Odd c w) where
   abbrev backs : List Told
   backs = tolds (other c.role) c.longest w.back
 
@@ -128,13 +128,13 @@ abbrev taker : Peer → StationEnd
 taker p = record { station = fresh; down = []; up = p.taken; reasons = []; came_up = false }
 
 module _ (reads : ReadsSpelled) (laws : Laws) where
-  ours : (Odd : Type 0) (c : Settings) → c.window ≤ 7 → (w : JoinedOnce) → JoinedHolds Odd c w → (act : Act) → (acts c act (our_end w)).near.came_up ≡ false
+  ours : (Odd : Type 0) (c : LinkSettings) → c.window ≤ 7 → (w : JoinedOnce) → JoinedHolds Odd c w → (act : Act) → (acts c act (our_end w)).near.came_up ≡ false
       → JoinedHolds Odd c (with_peer w.peer (acts c act (our_end w)))
   ours Odd c high w h act once =
       let k = peer_acts c high reads laws (Odd → ⊥) (IsWith Odd c w.peer) (station_may Odd c w.peer) act (our_end w) h once in
       seen_so refl k k.reached
 
-  reached_holds : (Odd : Type 0) {c : Settings} → c.window ≤ 7 → {w : JoinedOnce} → ReachedOnce Odd c w → w.near.came_up ≡ false → JoinedHolds Odd c w
+  reached_holds : (Odd : Type 0) {c : LinkSettings} → c.window ≤ 7 → {w : JoinedOnce} → ReachedOnce Odd c w → w.near.came_up ≡ false → JoinedHolds Odd c w
   reached_holds Odd {c} high at_start once = start_seen (record { hold = starts; lapb = λ lapb. tt })
   reached_holds Odd {c} high {w} (goes_on v u r event) once =
       let h = reached_holds Odd high r (once_before Odd event once) in
@@ -142,7 +142,7 @@ module _ (reads : ReadsSpelled) (laws : Laws) where
 
   -- ---- the claims
 
-  holds_claims : (Odd : Type 0) (c : Settings) → c.window ≤ 7 → (w : JoinedOnce) → JoinedHolds Odd c w → KeepsOrder w
+  holds_claims : (Odd : Type 0) (c : LinkSettings) → c.window ≤ 7 → (w : JoinedOnce) → JoinedHolds Odd c w → KeepsOrder w
   holds_claims Odd c high w h =
       let p = h.peer in
       let q = w.peer in

@@ -2,7 +2,7 @@
 use Rattle.std.proofs.Common.{◌≡◌, ℕ, List, [], ◌∷◌, length, false, refl, sym, subst}
 use Rattle.std.specs.Prelude.{nat_le}
 use Rattle.x25_frame.specs.laws.ReadingLaw.{ReadsSpelled}
-use Rattle.x25_link.specs.{Station.{Settings}, Link.{put_refusal}}
+use Rattle.x25_link.specs.{Station.{LinkSettings}, Link.{put_refusal}}
 use Rattle.x25_line.specs.laws.Stations.{StationEnd, Stations, Act, Put, Deliver, Lose, Damage, LinkEvent, Near, Far, after_step, delivered, is_visible, acts}
 use Rattle.x25_line.specs.{laws.Stations.{stations_swapped, happens, run}, laws.StationClaims.{AreJoined, IsSetUpOnce, Always}}
 use Rattle.x25_line.specs.{laws.StationPeers.{AreBothPeers}, laws.Peer.{Peer}, laws.LawsBelow.{Laws}}
@@ -16,11 +16,11 @@ use Rattle.x25_line.proofs.{StationEvents.{each_hands_one}, StationRuns.{joined_
 abbrev SameBut : Peer → Stations → Stations → Type 0
 SameBut p w v = with_peer p w ≡ with_peer p v
 
-alike_delivered : (c : Settings) (p : Peer) (w : Stations) (os : List (List ℕ)) → SameBut p (delivered c os w) (delivered c os (our_end (with_peer p w)))
+alike_delivered : (c : LinkSettings) (p : Peer) (w : Stations) (os : List (List ℕ)) → SameBut p (delivered c os w) (delivered c os (our_end (with_peer p w)))
 alike_delivered c p w [] = refl
 alike_delivered c p w (o ∷ os) = refl
 
-alike : (c : Settings) (p : Peer) (a : Act) (w : Stations) → SameBut p (acts c a w) (acts c a (our_end (with_peer p w)))
+alike : (c : LinkSettings) (p : Peer) (a : Act) (w : Stations) → SameBut p (acts c a w) (acts c a (our_end (with_peer p w)))
 alike c p (Put packet) w = if_both (SameBut p) (nat_le (length packet) c.longest) refl (unless_both (SameBut p) (put_refusal w.near.station) refl refl)
 alike c p Deliver w = alike_delivered c p w w.back
 alike c p (Lose i) w = refl
@@ -30,18 +30,18 @@ alike c p act w = (let x = our_end (with_peer p w) in
 
 -- ---- one station sees the other as a peer
 
-abbrev IsPeerOf : Settings → StationEnd → List (List ℕ) → Peer → List (List ℕ) → Type 0
+abbrev IsPeerOf : LinkSettings → StationEnd → List (List ℕ) → Peer → List (List ℕ) → Type 0
 IsPeerOf c near os p out = ReachedOnce ⊥ c (record { near = near; peer = p; out = os; back = out })
 
 -- the near end of w, with settings d, seen by the far end, with settings c
-abbrev SeenBy : Settings → Settings → Stations → Type 0
+abbrev SeenBy : LinkSettings → LinkSettings → Stations → Type 0
 SeenBy c d w = Seen d ⊥ (IsPeerOf c w.far) w
 
 -- each sees the other
-abbrev Both : Settings → Settings → Stations → Type 0
+abbrev Both : LinkSettings → LinkSettings → Stations → Type 0
 Both c d w = SeenBy d c w × SeenBy c d (stations_swapped w)
 
-peer_may : {c d : Settings} → AreJoined c d → (near : StationEnd) → MayDo d ⊥ (IsPeerOf c near)
+peer_may : {c d : LinkSettings} → AreJoined c d → (near : StationEnd) → MayDo d ⊥ (IsPeerOf c near)
 peer_may {c} {d} joined near = record {
   handed = λ os p out packet short h. goes_on _ _ h (HandsDown packet);
   sends = λ os p q out octets may next h. goes_on _ _ h (Sends octets q (rw (sym (there joined octets)) may));
@@ -51,18 +51,18 @@ peer_may {c} {d} joined near = record {
 }
 
 module _ (reads : ReadsSpelled) (laws : Laws) where
-  act_both : {c d : Settings} → AreJoined c d → (a : Act) {w : Stations} → (acts c a w).near.came_up ≡ false → Both c d w → Both c d (acts c a w)
+  act_both : {c d : LinkSettings} → AreJoined c d → (a : Act) {w : Stations} → (acts c a w).near.came_up ≡ false → Both c d w → Both c d (acts c a w)
   act_both {c} {d} joined a {w} once (own, other_one) =
       let far = (each_hands_one c d (Near a) w).far in (
         rw far (peer_acts c joined.near_high reads laws ⊥ (IsPeerOf d w.far) (peer_may (joined_swapped joined) w.far) a w own once),
         seen_so far other_one (subst (ReachedOnce ⊥ c) (sym (alike c other_one.peer a w)) (goes_on _ _ other_one.reached (Ours a))),
       )
 
-  event_both : {c d : Settings} → AreJoined c d → (e : LinkEvent) {w : Stations} → IsSetUpOnce (happens c d e w) → Both c d w → Both c d (happens c d e w)
+  event_both : {c d : LinkSettings} → AreJoined c d → (e : LinkEvent) {w : Stations} → IsSetUpOnce (happens c d e w) → Both c d w → Both c d (happens c d e w)
   event_both joined (Near a) once h = act_both joined a once.near h
   event_both joined (Far a) once h = (let k = act_both (joined_swapped joined) a once.far (h.1, h.0) in (k.1, k.0))
 
-  run_both : {c d : Settings} → AreJoined c d → (es : List LinkEvent) {w : Stations} → IsSetUpOnce (run c d es w) → Both c d w → Both c d (run c d es w)
+  run_both : {c d : LinkSettings} → AreJoined c d → (es : List LinkEvent) {w : Stations} → IsSetUpOnce (run c d es w) → Both c d w → Both c d (run c d es w)
   run_both joined [] once h = h
   run_both {c} {d} joined (e ∷ es) {w} once h = run_both joined es once (event_both joined e (once_before c d es (happens c d e w) once) h)
 

@@ -1,14 +1,14 @@
 -- The laws of healing: what rest shows; whatever the two ends are on a drained line, with one busy end, and while packets are put.
 use Rattle.std.proofs.Common.{◌≡◌, ℕ, List, [], ◌∷◌, inl, refl, sym, ap, ◌∙◌}
 use Rattle.x25_frame.specs.laws.ReadingLaw.{ReadsSpelled}
-use Rattle.x25_link.specs.{Station.{Settings}, Hearing.{Step}, Link.{take_step, timer_step, timer_refusal}}
+use Rattle.x25_link.specs.{Station.{LinkSettings}, Hearing.{LinkStep}, Link.{take_step, timer_step, timer_refusal}}
 use Rattle.x25_link.specs.{laws.RestLaw.{IsAtRest}, laws.BusyLaw.{BusyLaws}}
 use Rattle.x25_line.specs.{laws.Stations.{Deliver, T1}, laws.Sessions.{Entry, Meeting, Sessions, begun_by, after_step, delivered, acts, swapped, run}}
 use Rattle.x25_line.specs.{laws.StationClaims.{AreJoined}, laws.SessionClaims.{Throughout, IdleHasArrived}, Healing.{EachRestShows, SessionsHealUnlessBothBusy}}
 use Rattle.x25_line.specs.{laws.LawsBelow.{HealingLaws}, laws.HealingPuts.{SessionsHaveArrived, PutsHealSessions}}
 use Rattle.x25_line.proofs.{Choices.{unless_by}, sessions.SessionHeld.{extended_nil}, sessions.TwoSessions.{idle_has_arrived}}
-use Rattle.x25_line.proofs.{HealingSteps.{IsDrained, Reached, at_reached, in_order_at, stopped_rests, deliveries_keep}, HealingEnds.{after_firings, rest_or_out}}
-use Rattle.x25_line.proofs.{HealingBoth.{HealsAt, begins, both_settle, deliveries_heal}, HealingPuts.{puts_run}}
+use Rattle.x25_line.proofs.{HealingSteps.{IsDrained, Reached, at_reached, in_order_at, stopped_rests, deliveries_keep}}
+use Rattle.x25_line.proofs.{HealingEnds.{after_firings, rest_or_out}, HealingBoth.{HealsAt, begins, both_settle, deliveries_heal}, HealingPuts.{puts_run}}
 
 -- ---- firings and deliveries hand nothing down
 
@@ -22,14 +22,14 @@ then_hand h k = record { near = λ n. k.near n ∙ h.near n; far = λ n. k.far n
 hand_turned : (w : Sessions) {u : Sessions} → HandNothingDown (swapped w) u → HandNothingDown w (swapped u)
 hand_turned w h = record { near = h.far; far = h.near }
 
-step_hands : (c : Settings) (w : Sessions) (es : List Entry) (met : List Meeting) (step : Step) → HandNothingDown w (after_step c w es met [] step)
+step_hands : (c : LinkSettings) (w : Sessions) (es : List Entry) (met : List Meeting) (step : LinkStep) → HandNothingDown w (after_step c w es met [] step)
 step_hands c w es met step = record { near = extended_nil w.near.down (begun_by step.notes.up w.near.begun); far = λ _. refl }
 
-fire_hands : (c : Settings) (w : Sessions) → HandNothingDown w (acts c T1 w)
+fire_hands : (c : LinkSettings) (w : Sessions) → HandNothingDown w (acts c T1 w)
 fire_hands c w = unless_by (HandNothingDown w) (timer_refusal w.near.station) (record { near = λ _. refl; far = λ _. refl })
     (λ _. step_hands c w w.back w.met (timer_step c w.near.station))
 
-deliver_hands : (c : Settings) (w : Sessions) → HandNothingDown w (acts c Deliver w)
+deliver_hands : (c : LinkSettings) (w : Sessions) → HandNothingDown w (acts c Deliver w)
 deliver_hands c w = by w.back
   where
     by : (es : List Entry) → HandNothingDown w (delivered c es w)
@@ -48,7 +48,7 @@ each_rest_shows reads laws c d joined begin is events timely =
 
 module _ (reads : ReadsSpelled) (laws : HealingLaws) (busy_laws : BusyLaws) where
   -- two ends that have come to rest in their sessions have handed up all
-  arrive : (c d : Settings) → AreJoined c d → (w v : Sessions) → HealsAt w.near.begun w.far.begun c d v → IsAtRest v.near.station × IsAtRest v.far.station
+  arrive : (c d : LinkSettings) → AreJoined c d → (w v : Sessions) → HealsAt w.near.begun w.far.begun c d v → IsAtRest v.near.station × IsAtRest v.far.station
       → SessionsHaveArrived w v
   arrive c d joined w v (r, h) rest =
       let arrived = at_reached IdleHasArrived (idle_has_arrived reads laws.sessions) joined r in

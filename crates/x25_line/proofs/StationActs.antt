@@ -4,13 +4,13 @@ use Rattle.std.proofs.{Common.{sym, ap}, Common.{◌∙◌, subst}, lemmas.Bool.
 use Rattle.std.specs.Prelude.{nat_le, nat_lt}
 use Rattle.x25_frame.specs.{Frame.{PlainFrame, sabm}, Reading.{frame_of}, declared.error.FrameError.{FrameError}}
 use Rattle.x25_link.specs.{declared.phase.Phase.{Phase}, declared.phase.Phase.TheVariants.{Down, Waiting, Up, Closed}}
-use Rattle.x25_link.specs.{declared.phase.Reason.TheVariants.{Retries}, Station.{Settings, LinkStation, is_up, with_nothing}, Hearing.{Step, other}}
+use Rattle.x25_link.specs.{declared.phase.Reason.TheVariants.{Retries}, Station.{LinkSettings, LinkStation, is_up, with_nothing}, Hearing.{LinkStep, other}}
 use Rattle.x25_link.specs.Link.{take_step, put_step, put_refusal, timer_step, timer_refusal, timer_runs, connect_step, connect_refusal, disconnect_step}
 use Rattle.x25_link.specs.{Link.{disconnect_refusal, abandon_step}, laws.WindowMachine.{Window, nothing}, laws.SetUp.{Is, TakesPart}}
 use Rattle.x25_link.specs.laws.WindowLaw.{Stays, Follows, IsOut, StaysOut}
 use Rattle.x25_line.specs.laws.Stations.{Stations, Act, Put, Deliver, T1, Connect, Disconnect, Abandon, Probe, Lose, Damage, after_step, unless, delivered}
-use Rattle.x25_line.specs.{laws.Stations.{replaced, is_visible, acts}, laws.WholeNumbers.{place_taken}, laws.Said.{sabm_of, said}, laws.LawsBelow.{Laws}}
-use Rattle.x25_line.specs.laws.Loss.{LessAt, IsSeen}
+use Rattle.x25_line.specs.{laws.Stations.{is_visible, IsSeen, acts}, laws.WholeNumbers.{place_taken}, laws.Said.{sabm_of, said}, laws.LawsBelow.{Laws}}
+use Rattle.x25_line.specs.laws.Loss.{LessAt, replaced}
 use Rattle.x25_line.proofs.{Choices.{unless_by, if_by}, Losses.{removes, replaces}, StationLines.{AreParting}}
 use Rattle.x25_line.proofs.StationSteps.{out_not_up, AsUp, IsAway, FitsEnd, up_of, not_both, stays_out, in_vain, Parts, ends_parts, declining_parting}
 use Rattle.x25_line.proofs.StationHears.{sabm_or_not, sets_none_up}
@@ -20,7 +20,7 @@ use Rattle.x25_line.proofs.StationAway.{closed_takes, waits_on, waiting_parting,
 -- (`takes`), a packet is handed down (`puts`), or nothing is brought (`rests`); steps that part, with octets taken off the line
 -- (`passes`) or none (`parts`); what happens to the line to it; and nothing (`still`, and `none_comes` where no octets are there). Q is of
 -- the place at which octets are taken off that line, and of what comes of it.
-pub record OfSteps (c : Settings) (w : Stations) (e : Window) (Q : Option ℕ → Stations → Type 0) : Type 0 where
+pub record OfSteps (c : LinkSettings) (w : Stations) (e : Window) (Q : Option ℕ → Stations → Type 0) : Type 0 where
   pub fits : FitsEnd c w.near.station e
   pub still : Q None w
   pub none_comes : w.back ≡ [] → Q (Some 0) w
@@ -28,12 +28,12 @@ pub record OfSteps (c : Settings) (w : Stations) (e : Window) (Q : Option ℕ �
       → Q (Some 0) (after_step c w os [] (take_step c o w.near.station))
   pub puts : (packet : List ℕ) → AsUp c w.near.station e → length packet ≤ c.longest
       → Q None (after_step c w w.back (packet ∷ []) (put_step c packet w.near.station))
-  pub rests : (step : Step) → AsUp c w.near.station e → Stays c.window nothing w.near.station step → Q None (after_step c w w.back [] step)
-  pub parts : (step : Step) → Parts w.near.station step → Q None (after_step c w w.back [] step)
-  pub passes : (o : List ℕ) (os : List (List ℕ)) → w.back ≡ o ∷ os → (step : Step) → Parts w.near.station step → Q (Some 0) (after_step c w os [] step)
+  pub rests : (step : LinkStep) → AsUp c w.near.station e → Stays c.window nothing w.near.station step → Q None (after_step c w w.back [] step)
+  pub parts : (step : LinkStep) → Parts w.near.station step → Q None (after_step c w w.back [] step)
+  pub passes : (o : List ℕ) (os : List (List ℕ)) → w.back ≡ o ∷ os → (step : LinkStep) → Parts w.near.station step → Q (Some 0) (after_step c w os [] step)
   pub loses : (i : ℕ) {os : List (List ℕ)} → LessAt IsSeen i w.back os → Q (Some i) (record w { back = os })
 
-module _ {c : Settings} (laws : Laws) {w : Stations} {e : Window} {Q : Option ℕ → Stations → Type 0} (k : OfSteps c w e Q) where
+module _ {c : LinkSettings} (laws : Laws) {w : Stations} {e : Window} {Q : Option ℕ → Stations → Type 0} (k : OfSteps c w e Q) where
   abbrev s : LinkStation
   s = w.near.station
 
@@ -44,7 +44,7 @@ module _ {c : Settings} (laws : Laws) {w : Stations} {e : Window} {Q : Option �
       r : Result PlainFrame FrameError
       r = frame_of (other c.role) c.longest o
 
-      step : Step
+      step : LinkStep
       step = take_step c o s
 
       not_up : step.notes.up ≡ false
@@ -97,7 +97,7 @@ module _ {c : Settings} (laws : Laws) {w : Stations} {e : Window} {Q : Option �
       go (inr away) = rw away.away k.still
 
   -- a station that isn't Up sends SABM or DISC, and notes nothing
-  asks_parts : {near : LinkStation} {frames : List PlainFrame} {step : Step} → is_up s.phase ≡ false → Is near frames None false step
+  asks_parts : {near : LinkStation} {frames : List PlainFrame} {step : LinkStep} → is_up s.phase ≡ false → Is near frames None false step
       → AreParting frames → IsAway near → Parts s step
   asks_parts {frames = frames} {step} off i parting away =
       record {
@@ -115,7 +115,7 @@ module _ {c : Settings} (laws : Laws) {w : Stations} {e : Window} {Q : Option �
       by true stays = k.rests (timer_step c s) u stays
       by false ends = k.parts (timer_step c s) (ends_parts u.up tt (laws.timer_tells c s) ends)
 
-  waiting_timer : IsAway s → s.phase ≡ Waiting → (b : Bool) {step : Step}
+  waiting_timer : IsAway s → s.phase ≡ Waiting → (b : Bool) {step : LinkStep}
       → Is (if b then record s { tries = suc s.tries } else with_nothing Down s.tries) (if b then sabm true ∷ [] else []) (if b then None else Some Retries)
       false step → Parts s step
   waiting_timer away phase true {step} i = asks_parts (ap is_up phase) i tt (record { away = away.away; empty = away.empty })
@@ -183,6 +183,6 @@ module _ {c : Settings} (laws : Laws) {w : Stations} {e : Window} {Q : Option �
   of_act (Lose i) once = k.loses i (removes w.back i)
   of_act (Damage i octets) once = by (is_visible octets) refl
     where
-      by : (b : Bool) → is_visible octets ≡ b → Q (if b then Some i else None) (if b then record w { back = replaced w.back i octets } else w)
-      by true visible = k.loses i (replaces octets visible w.back i)
+      by : (b : Bool) → is_visible octets ≡ b → Q (if b then Some i else None) (if b then record w { back = replaced w.back i (λ _. octets) } else w)
+      by true visible = k.loses i (replaces (λ _. octets) (λ _. visible) w.back i)
       by false visible = k.still

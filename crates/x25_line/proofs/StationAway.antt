@@ -6,8 +6,8 @@ use Rattle.x25_frame.specs.{Frame.{PlainFrame, info, rr, rnr, rej, ua, dm, frmr}
 use Rattle.x25_frame.specs.{declared.error.FrameError.{FrameError}, declared.error.FrameError.TheVariants.{Undefined, NoInfoAllowed, TooLong}}
 use Rattle.x25_link.specs.{declared.phase.Phase.{Phase}, declared.phase.Phase.TheVariants.{Down, Up, Closed}, declared.phase.Reason.TheVariants.{FrmrSent}}
 use Rattle.x25_link.specs.{declared.phase.Notes.{Notes}, laws.NoteLaw.{IsQuiet}}
-use Rattle.x25_link.specs.Station.{Settings, LinkStation, Side, is_up, sends, pumped, pumped_once, ended}
-use Rattle.x25_link.specs.Hearing.{Step, quiet, other, rejects, is_valid, acknowledged, hears_info, peer_is, goes_back, polls}
+use Rattle.x25_link.specs.Station.{LinkSettings, LinkStation, Side, is_up, sends, pumped, pumped_once, ended}
+use Rattle.x25_link.specs.Hearing.{LinkStep, quiet, other, rejects, is_valid, acknowledged, hears_info, peer_is, goes_back, polls}
 use Rattle.x25_link.specs.{Link.{alone, closed_by, hears, take_step, connect_refusal}, laws.SetUp.{waiting_after, waiting_sends, waiting_up, TakesPart}}
 use Rattle.x25_link.specs.laws.WindowLaw.{window_of, ending_of, IsOut, StaysOut}
 use Rattle.x25_line.proofs.{StationLines.{AreParting}, StationSteps.{out_not_up, not_both}}
@@ -22,10 +22,10 @@ pumped_still (suc n) k t off = ap (pumped_once k) (pumped_still n k t off) ∙ o
     once : pumped_once k t ≡ t
     once = rw off refl
 
-pub closed_still : (k : ℕ) (step : Step) → is_up step.side.near.phase ≡ false → closed_by k step ≡ step
+pub closed_still : (k : ℕ) (step : LinkStep) → is_up step.side.near.phase ≡ false → closed_by k step ≡ step
 closed_still k step off =
     let still : ended k step.side ≡ step.side = rw (pumped_still 7 k step.side off, off) refl in
-    ap (λ t. let z : Step = record { side = t; packet = step.packet; notes = step.notes } in z) still
+    ap (λ t. let z : LinkStep = record { side = t; packet = step.packet; notes = step.notes } in z) still
 
 -- ---- whatever comes, a station that is Closed stays so
 
@@ -33,17 +33,18 @@ declines_out : (b : Bool) (s : LinkStation) → IsOut s.phase → StaysOut (quie
 declines_out true s out = record { out = out; frames = tt; packet = refl; quiet = refl }
 declines_out false s out = record { out = out; frames = tt; packet = refl; quiet = refl }
 
-closed_row : (c : Settings) (octets : List ℕ) (s : LinkStation) → IsOut s.phase → (read : Result PlainFrame FrameError)
+closed_row : (c : LinkSettings) (octets : List ℕ) (s : LinkStation) → IsOut s.phase → (read : Result PlainFrame FrameError)
     → StaysOut (hears c octets read Closed (alone s))
 closed_row c octets s out (Ok frame) = declines_out (is_command frame && poll_or_final frame) s out
 closed_row c octets s out (Err e) = record { out = out; frames = tt; packet = refl; quiet = refl }
 
-pub closed_takes : (c : Settings) (octets : List ℕ) (s : LinkStation) → s.phase ≡ Closed → StaysOut (take_step c octets s)
+-- a station that is closed stays out, whatever comes
+pub closed_takes : (c : LinkSettings) (octets : List ℕ) (s : LinkStation) → s.phase ≡ Closed → StaysOut (take_step c octets s)
 closed_takes c octets s is =
     let read = frame_of (other c.role) c.longest octets in
     let out : StaysOut (hears c octets read s.phase (alone s)) =
     subst (λ p. StaysOut (hears c octets read p (alone s))) (sym is) (closed_row c octets s (subst IsOut (sym is) tt) read) in
-    let step : Step = hears c octets read s.phase (alone s) in
+    let step : LinkStep = hears c octets read s.phase (alone s) in
     subst StaysOut (sym (closed_still c.window step (out_not_up step.side.near.phase out.out))) out
 
 -- ---- what comes while UA is awaited, other than that
@@ -53,11 +54,12 @@ pub waits_on : (read : Result PlainFrame FrameError) (s : LinkStation) → waiti
 waits_on (Ok (ua true)) s e = not_both true refl e
 waits_on read s e = refl
 
+-- a station that awaits UA answers by no frame with an N(R)
 pub waiting_parting : (read : Result PlainFrame FrameError) → AreParting (waiting_sends read)
 waiting_parting (Ok (info ns nr p x)) = tt
 waiting_parting read = tt
 
-pub quiet_by : (step : Step) → step.notes.down ≡ None → step.notes.up ≡ false → IsQuiet step
+pub quiet_by : (step : LinkStep) → step.notes.down ≡ None → step.notes.up ≡ false → IsQuiet step
 quiet_by step down up =
     ap (λ reason. let n : Notes = record { down = reason; up = step.notes.up } in n) down
     ∙ ap (λ b. let n : Notes = record { down = None; up = b } in n) up
@@ -86,12 +88,12 @@ same_length b f xs ys e = ap (λ fs. octets_in fs) e
     octets_in (frmr g zs ∷ fs) = length zs
     octets_in fs = 0
 
-module _ (c : Settings) (octets : List ℕ) (s : LinkStation) (f : Bool) (why : List ℕ) where
+module _ (c : LinkSettings) (octets : List ℕ) (s : LinkStation) (f : Bool) (why : List ℕ) where
   rejected : (ground : ℕ) → (closed_by c.window (rejects c octets ground (alone s))).side.out ≡ frmr f why ∷ [] → length why ≡ 3
   rejected ground out = sym (same_length _ f _ why (sym (ap (λ z. z.side.out) (closed_still c.window (rejects c octets ground (alone s)) refl)) ∙ out))
 
   -- a frame whose N(R) is invalid
-  invalid : (nr : ℕ) (row : Side → Step) (b : Bool) → is_valid nr s ≡ b → (if b then None else Some FrmrSent) ≡ Some FrmrSent
+  invalid : (nr : ℕ) (row : Side → LinkStep) (b : Bool) → is_valid nr s ≡ b → (if b then None else Some FrmrSent) ≡ Some FrmrSent
       → (closed_by c.window (if b then row (acknowledged nr (alone s)) else rejects c octets 8 (alone s))).side.out ≡ frmr f why ∷ [] → length why ≡ 3
   invalid nr row true test is out = absurd (cc)
   invalid nr row false test is out = rejected 8 out
@@ -108,7 +110,7 @@ module _ (c : Settings) (octets : List ℕ) (s : LinkStation) (f : Bool) (why : 
   frmr_row r is out = cc
 
 -- the information field of a FRMR that a station sends has three octets
-pub frmr_three : (c : Settings) (octets : List ℕ) (s : LinkStation) → s.phase ≡ Up → (r : Result PlainFrame FrameError) → r
+pub frmr_three : (c : LinkSettings) (octets : List ℕ) (s : LinkStation) → s.phase ≡ Up → (r : Result PlainFrame FrameError) → r
     ≡ frame_of (other c.role) c.longest octets → (f : Bool) (why : List ℕ)
     → ending_of r (window_of c.window s) ≡ Some FrmrSent → (take_step c octets s).side.out ≡ frmr f why ∷ [] → length why ≡ 3
 frmr_three c octets s up r read f why is out =

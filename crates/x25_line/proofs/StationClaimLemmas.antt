@@ -4,7 +4,7 @@ use Rattle.std.proofs.{lemmas.Bool.{eqb-true, and_parts}, lemmas.List.{take-appe
 use Rattle.std.specs.Prelude.{◌&&◌}
 use Rattle.x25_frame.specs.laws.ReadingLaw.{ReadsSpelled}
 use Rattle.x25_window.specs.laws.Window.{End, Frame}
-use Rattle.x25_link.specs.{Outgoing.{waits}, Station.{Settings, LinkStation, is_up, lists_of, no_packets}, Link.{is_idle}}
+use Rattle.x25_link.specs.{Outgoing.{waits}, Station.{LinkSettings, LinkStation, is_up, lists_of, no_packets}, Link.{is_idle}}
 use Rattle.x25_line.specs.{laws.InWindow.{IsPrefix}, laws.Line.{Line}, laws.Stations.{StationEnd, Stations, start}}
 use Rattle.x25_line.specs.laws.WholeNumbers.{machine_run, machine_at_start, MachineGoesAlong}
 use Rattle.x25_line.specs.laws.StationClaims.{AreJoined, Always, InOrder, BothInOrder, HasItsLists, BothHaveTheirLists, BothNoteTheirEnds, IsBehind}
@@ -24,6 +24,7 @@ acked_begins a down up begins le =
     let same : take a down ≡ take a up = sym (ap (take a) begins ∙ take_of_take a (length up) down le) in
     (drop a up, ap (λ ys. ys ++ drop a up) same ∙ take-append-drop a up)
 
+-- an idle station has the acknowledgement of all that was handed down
 pub idle_all : (s : LinkStation) → is_idle s ≡ true → s.outgoing.sent ≤ length s.outgoing.given → s.outgoing.acked ≡ length s.outgoing.given
 idle_all s idle high =
     let outer = and_parts (is_up s.phase) (waits s.outgoing == 0 && s.outgoing.acked == s.outgoing.sent) idle in
@@ -32,7 +33,7 @@ idle_all s idle high =
     let all : s.outgoing.acked ≡ s.outgoing.sent = eqb-true s.outgoing.acked s.outgoing.sent inner.1 in
     omega (arith, none, all, high)
 
-pub in_order : (c : Settings) (giver taker : StationEnd) (e : End (List ℕ)) (taken : List (List ℕ)) (told : ℕ)
+pub in_order : (c : LinkSettings) (giver taker : StationEnd) (e : End (List ℕ)) (taken : List (List ℕ)) (told : ℕ)
     (there back : List (Frame (List ℕ)))
     → FitsEnd c giver.station e → Way e taken told there back → giver.down ≡ e.given → taker.up ≡ taken → InOrder giver taker
 in_order c giver taker e taken told there back fits way is_down is_up_list =
@@ -60,7 +61,8 @@ in_order c giver taker e taken told there back fits way is_down is_up_list =
         is_up_list ∙ way.begins ∙ take_all (length taken) e.given
         (omega (arith, bounds.0, idle_all giver.station idle u.sound.sent_high, (ap (λ z. z.acked) u.same), ap (λ z. length z.given) u.same)) ∙ sym is_down
 
-has_lists : {c : Settings} (giver : StationEnd) {e : End (List ℕ)} → FitsEnd c giver.station e → giver.down ≡ e.given → giver.up ≡ e.taken → HasItsLists giver
+has_lists : {c : LinkSettings} (giver : StationEnd) {e : End (List ℕ)} → FitsEnd c giver.station e → giver.down ≡ e.given → giver.up ≡ e.taken
+    → HasItsLists giver
 has_lists {c} giver {e} fits is_down is_up_list =
     record {
       given = λ is_on. ap (λ z. z.given) (up_of fits is_on).same ∙ sym is_down;
@@ -74,7 +76,7 @@ has_lists {c} giver {e} fits is_down is_up_list =
 
 -- ---- as long as the link isn't set up anew
 
-pub holds_order : {c d : Settings} {w : Stations} → Holds c d w → BothInOrder c d w
+pub holds_order : {c d : LinkSettings} {w : Stations} → Holds c d w → BothInOrder c d w
 holds_order {c} {d} {w} holds =
     let l = holds.0 in
     let h = holds.1 in (
@@ -82,13 +84,13 @@ holds_order {c} {d} {w} holds =
       in_order d w.far w.near l.far l.near.taken (length l.near.taken) l.back l.out h.far h.kept.from_far h.far_has.down h.near_has.up,
     )
 
-pub holds_lists : {c d : Settings} {w : Stations} → Holds c d w → BothHaveTheirLists c d w
+pub holds_lists : {c d : LinkSettings} {w : Stations} → Holds c d w → BothHaveTheirLists c d w
 holds_lists {c} {d} {w} holds =
     let l = holds.0 in
     let h = holds.1 in
     (has_lists w.near h.near h.near_has.down h.near_has.up, has_lists w.far h.far h.far_has.down h.far_has.up)
 
-pub is_behind : {c d : Settings} {w : Stations} {l : Line (List ℕ)} → Joint c d w l → IsBehind c d w l
+pub is_behind : {c d : LinkSettings} {w : Stations} {l : Line (List ℕ)} → Joint c d w l → IsBehind c d w l
 is_behind {c} {d} {w} {l} h = record {
   reached = h.reached;
   near = record { given = h.near_has.down; taken = h.near_has.up; numbers = λ is_on. (up_of h.near is_on).same };
@@ -98,10 +100,10 @@ is_behind {c} {d} {w} {l} h = record {
   window = InWindow-from_Kept l h.kept;
 }
 
-pub holds_window : {c d : Settings} {w : Stations} → Holds c d w → AreInWindow c d w
+pub holds_window : {c d : LinkSettings} {w : Stations} → Holds c d w → AreInWindow c d w
 holds_window holds = (holds.0, is_behind holds.1)
 
-pub holds_whole : {c d : Settings} → AreJoined c d → {w : Stations} → Holds c d w → AllSentAreWhole c d w
+pub holds_whole : {c d : LinkSettings} → AreJoined c d → {w : Stations} → Holds c d w → AllSentAreWhole c d w
 holds_whole joined holds = rw joined.longest holds.1.whole
 
 module _ (reads : ReadsSpelled) (laws : Laws) where

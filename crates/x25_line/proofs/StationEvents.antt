@@ -1,7 +1,7 @@
 -- What one event hands up and down, and whether it notes LinkUp, by cases of the event.
 use Rattle.std.proofs.Common.{◌≡◌, ℕ, List, [], ◌∷◌, length, Bool, true, false, if◌then◌else◌, Option, Some, None, refl, sym, ap, ◌∙◌, append-nil}
 use Rattle.std.specs.Prelude.{nat_le, nat_lt, ◌||◌}
-use Rattle.x25_link.specs.{declared.error.LinkError.{LinkError}, Station.{Settings, LinkStation, is_up}, Hearing.{Step}}
+use Rattle.x25_link.specs.{declared.error.LinkError.{LinkError}, Station.{LinkSettings, LinkStation, is_up}, Hearing.{LinkStep}}
 use Rattle.x25_link.specs.Link.{put_step, put_refusal, timer_step, timer_refusal, connect_step, connect_refusal, disconnect_step, disconnect_refusal}
 use Rattle.x25_link.specs.Link.{abandon_step}
 use Rattle.x25_line.specs.laws.Stations.{Stations, Act, Put, Deliver, T1, Connect, Disconnect, Abandon, Probe, Lose, Damage, Near, Far, after_step, unless}
@@ -22,7 +22,7 @@ pub or_false : (b : Bool) → (b || false) ≡ b
 or_false true = refl
 or_false false = refl
 
-step_hands_nothing : (c : Settings) (w : Stations) (back : List (List ℕ)) (step : Step) → step.packet ≡ None → step.notes.up ≡ false
+step_hands_nothing : (c : LinkSettings) (w : Stations) (back : List (List ℕ)) (step : LinkStep) → step.packet ≡ None → step.notes.up ≡ false
     → HandsNothing w (after_step c w back [] step)
 step_hands_nothing c w back step none low =
     record {
@@ -32,24 +32,24 @@ step_hands_nothing c w back step none low =
       far = refl;
     }
 
-packet_if : (b : Bool) (x y : Step) → x.packet ≡ None → y.packet ≡ None → (if b then x else y).packet ≡ None
+packet_if : (b : Bool) (x y : LinkStep) → x.packet ≡ None → y.packet ≡ None → (if b then x else y).packet ≡ None
 packet_if true x y e f = e
 packet_if false x y e f = f
 
-up_if : (b : Bool) (x y : Step) → x.notes.up ≡ false → y.notes.up ≡ false → (if b then x else y).notes.up ≡ false
+up_if : (b : Bool) (x y : LinkStep) → x.notes.up ≡ false → y.notes.up ≡ false → (if b then x else y).notes.up ≡ false
 up_if true x y e f = e
 up_if false x y e f = f
 
-pub timer_packet : (c : Settings) (s : LinkStation) → (timer_step c s).packet ≡ None
+pub timer_packet : (c : LinkSettings) (s : LinkStation) → (timer_step c s).packet ≡ None
 timer_packet c s = packet_if (nat_lt s.tries c.retries) _ _ refl refl
 
-pub timer_up : (c : Settings) (s : LinkStation) → (timer_step c s).notes.up ≡ false
+pub timer_up : (c : LinkSettings) (s : LinkStation) → (timer_step c s).notes.up ≡ false
 timer_up c s = up_if (nat_lt s.tries c.retries) _ _ refl refl
 
 -- ---- acts that take no octets and are given no packet, in any world
 
-pub own_by : {W : Type 0} (Q : W → Type 0) (c : Settings) (s : LinkStation) (w : W) (done : Step → W) → Q w
-    → ((step : Step) → step.packet ≡ None → step.notes.up ≡ false → Q (done step)) → (a : Act) → Q (own_act c s w done a)
+pub own_by : {W : Type 0} (Q : W → Type 0) (c : LinkSettings) (s : LinkStation) (w : W) (done : LinkStep → W) → Q w
+    → ((step : LinkStep) → step.packet ≡ None → step.notes.up ≡ false → Q (done step)) → (a : Act) → Q (own_act c s w done a)
 own_by Q c s w done still goes T1 = unless_by Q (timer_refusal s) still (λ _. goes (timer_step c s) (timer_packet c s) (timer_up c s))
 own_by Q c s w done still goes Connect = unless_by Q (connect_refusal s.phase) still (λ _. goes (connect_step c s) refl refl)
 own_by Q c s w done still goes Disconnect = unless_by Q (disconnect_refusal s.phase) still (λ _. goes (disconnect_step c s) refl refl)
@@ -59,20 +59,20 @@ own_by Q c s w done still goes act = still
 
 -- ---- what one event hands up and down
 
-put_hands : (o : Option LinkError) (c : Settings) (packet : List ℕ) (w : Stations)
+put_hands : (o : Option LinkError) (c : LinkSettings) (packet : List ℕ) (w : Stations)
     → HandsOne (Put packet) w (unless o w (after_step c w w.back (packet ∷ []) (put_step c packet w.near.station)))
 put_hands (Some e) c packet w = record { up = refl; down = (false, refl); came_up = refl; far = refl }
 put_hands None c packet w = record { up = append-nil w.near.up; down = (true, refl); came_up = or_false w.near.came_up; far = refl }
 
-put_by : (b : Bool) (c : Settings) (packet : List ℕ) (w v : Stations) → HandsOne (Put packet) w v → HandsOne (Put packet) w (if b then v else w)
+put_by : (b : Bool) (c : LinkSettings) (packet : List ℕ) (w v : Stations) → HandsOne (Put packet) w v → HandsOne (Put packet) w (if b then v else w)
 put_by true c packet w v h = h
 put_by false c packet w v h = record { up = refl; down = (false, refl); came_up = refl; far = refl }
 
-deliver_hands : (c : Settings) (os : List (List ℕ)) (w : Stations) → HandsOne Deliver w (delivered c os w)
+deliver_hands : (c : LinkSettings) (os : List (List ℕ)) (w : Stations) → HandsOne Deliver w (delivered c os w)
 deliver_hands c [] w = record { up = (None, sym (append-nil w.near.up)); down = refl; came_up = (false, sym (or_false w.near.came_up)); far = refl }
 deliver_hands c (o ∷ os) w = record { up = (_, refl); down = append-nil w.near.down; came_up = (_, refl); far = refl }
 
-acts_hands : (c : Settings) (a : Act) (w : Stations) → HandsOne a w (acts c a w)
+acts_hands : (c : LinkSettings) (a : Act) (w : Stations) → HandsOne a w (acts c a w)
 acts_hands c (Put packet) w =
     put_by (nat_le (length packet) c.longest) c packet w
     (unless (put_refusal w.near.station) w (after_step c w w.back (packet ∷ []) (put_step c packet w.near.station)))

@@ -3,9 +3,10 @@ use Rattle.std.proofs.Common.{◌≡◌, ◌≤◌, ◌%◌, ℕ, List, [], ◌�
 use Rattle.std.proofs.{Common.{Ok, Err, refl, sym, ap, ◌∙◌, arith, append-nil}, lemmas.List.{length_push}}
 use Rattle.std.specs.Prelude.{option_to_list}
 use Rattle.x25_frame.specs.{Frame.{PlainFrame, info, rr, rnr, rej, sabm}, declared.error.FrameError.{FrameError}, declared.error.FrameError.TheVariants.{Short}}
-use Rattle.x25_window.specs.{code.Modulo.{resolved}, laws.Window.{after}, laws.Window.Step.{Hear, Take}}
-use Rattle.x25_link.specs.{declared.phase.Reason.{Reason}, declared.phase.Reason.TheVariants.{Disc, FrmrSent, Reset, Local}, Station.{Settings, LinkStation}}
-use Rattle.x25_link.specs.{Hearing.{Step}, laws.WindowMachine.{Window, Input, receives}}
+use Rattle.x25_window.specs.{code.Modulo.{resolved}, laws.Window.{after}, laws.Window.EndStep.{Hear, Take}}
+use Rattle.x25_link.specs.{declared.phase.Reason.{Reason}, declared.phase.Reason.TheVariants.{Disc, FrmrSent, Reset, Local}}
+use Rattle.x25_link.specs.Station.{LinkSettings, LinkStation}
+use Rattle.x25_link.specs.{Hearing.{LinkStep}, laws.WindowMachine.{Window, Input, receives}}
 use Rattle.x25_link.specs.laws.WindowLaw.{window_of, brought_by, after_input, MayHandUp, ending_of, Stays, IsSound, sets_up}
 use Rattle.x25_line.specs.{laws.Said.{Said, Tells, said, sabm_of, disc_of}, laws.Peer.{Peer, MayHear, MayMake, hearing, taking, IsWanted}}
 use Rattle.x25_line.proofs.{StationSays.{machine_of}, StationSends.{AllWithin}, StationSteps.{no_packet_of}}
@@ -21,6 +22,7 @@ sets_none_up r h = refl
 
 -- ---- why Up is left
 
+-- one where the station leaves Up as DISC comes, and else none
 abbrev pub by_disc : Option Reason → ℕ
 by_disc (Some Disc) = 1
 by_disc reason = 0
@@ -59,7 +61,7 @@ passes p (Tells None nr) = (false, refl)
 passes p (Tells (Some c) nr) = (false, false, tt, refl)
 passes p s = refl
 
-module _ (d : Settings) where
+module _ (d : LinkSettings) where
   -- a station that is Up, and what is known of it as a peer
   pub record UpFacts (s : LinkStation) (p : Peer) : Type 0 where
     pub same : machine_of d.window p ≡ window_of d.window s
@@ -69,7 +71,7 @@ module _ (d : Settings) where
     pub within : AllWithin d.longest p.given
 
   -- the peer once it heard what reads as r, of which the station made this step
-  pub record Hears (r : Result PlainFrame FrameError) (s : LinkStation) (p : Peer) (step : Step) : Type 0 where
+  pub record Hears (r : Result PlainFrame FrameError) (s : LinkStation) (p : Peer) (step : LinkStep) : Type 0 where
     pub input : Input
     pub stays : Stays d.window input s step
     pub peer : Peer
@@ -80,7 +82,7 @@ module _ (d : Settings) where
     pub given : peer.given ≡ p.given
     pub taken : peer.taken ≡ p.taken ++ option_to_list step.packet
 
-module _ {d : Settings} {s : LinkStation} {p : Peer} (facts : UpFacts d s p) (step : Step) where
+module _ {d : LinkSettings} {s : LinkStation} {p : Peer} (facts : UpFacts d s p) (step : LinkStep) where
   abbrev k : ℕ
   k = d.window
 
@@ -155,6 +157,7 @@ module _ {d : Settings} {s : LinkStation} {p : Peer} (facts : UpFacts d s p) (st
             taken = ap (λ z. p.taken ++ z ∷ []) may.1 ∙ sym (ap (λ o. p.taken ++ option_to_list o) some);
           }
 
+  -- where the station stays Up, what it hears is what a peer may hear
   pub stays_hears : (r : Result PlainFrame FrameError) → sabm_of (said r) ≡ 0 → Stays k (brought_by r) s step → Hears d r s p step
   stays_hears (Ok (info ns nr pf x)) no_sabm stays = carries ns nr pf x stays
   stays_hears (Ok (rr command nr pf)) no_sabm stays = tells (rr command nr pf) nr (λ packet. refl) (λ y never. never) (true, refl) stays

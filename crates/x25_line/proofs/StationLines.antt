@@ -9,8 +9,8 @@ use Rattle.x25_frame.specs.{Reading.{frame_of, addressed_frame}, declared.error.
 use Rattle.x25_frame.specs.{declared.error.FrameError.TheVariants.{Short, BadFcs, Undefined, NoInfoAllowed, TooLong}, laws.ReadingLaw.{ReadsSpelled}}
 use Rattle.x25_window.specs.laws.Window.{Numbered, Frame}
 use Rattle.x25_link.specs.laws.WindowMachine.{ShowsItem, Shows, ShowAll}
-use Rattle.x25_line.specs.laws.Loss.{LessAt, nothing, gone, hurt, deeper, IsSeen}
-use Rattle.x25_line.specs.{laws.Stations.{is_visible}, laws.StationClaims.{number_in, numbered_on, NoFrmr, Each, IsHandedDown, IsWhole, AreWhole}}
+use Rattle.x25_line.specs.laws.Loss.{LessAt, nothing, gone, hurt, deeper}
+use Rattle.x25_line.specs.{laws.Stations.{is_visible, IsSeen}, laws.StationClaims.{number_in, numbered_on, NoFrmr, Each, IsHandedDown, IsWhole, AreWhole}}
 use Rattle.x25_line.specs.laws.WholeNumbers.{first_of, one_more, behind, place_of, taken_out}
 use Rattle.x25_line.proofs.Lists.{each_map, each_over}
 
@@ -29,6 +29,7 @@ pub record Front (f : PlainFrame) (rest : List PlainFrame) (bs : List (Frame (Li
   pub shows : Shows f frame
   pub rest_shows : ShowAll rest others
 
+-- the frame in front, and what it shows in the window machine
 pub front_of : (f : PlainFrame) (rest : List PlainFrame) (bs : List (Frame (List ℕ))) → ShowAll (f ∷ rest) bs → Front f rest bs
 front_of f rest [] h = absurd h
 front_of f rest (g ∷ gs) h = record { frame = g; others = gs; is = refl; shows = h.0; rest_shows = h.1 }
@@ -174,6 +175,7 @@ either_way xs ys x h = elim (Contains-append_cases xs ys x h) [
 ]
 
 module _ (reads : ReadsSpelled) (from : Role) (n1 : ℕ) where
+  -- octets that spell such a frame are read as it
   pub good_reads : {f : PlainFrame} → IsGood n1 f → frame_of from n1 (spelling_of from f) ≡ Ok f
   good_reads {f} h = reads from n1 f (spelling_of from f) (record { in_range = h.in_range; carries = h.carries; within = h.within; spelling = refl })
 
@@ -187,6 +189,7 @@ module _ (reads : ReadsSpelled) (from : Role) (n1 : ℕ) where
   pub part_reads : {f : PlainFrame} → IsPart f → frame_of from n1 (spelling_of from f) ≡ Ok f
   part_reads {f} h = reads from n1 f (spelling_of from f) (record { in_range = h.in_range; carries = h.carries; within = h.within n1; spelling = refl })
 
+  -- none of them has an N(R)
   pub parting_numbered : (fs : List PlainFrame) → Each IsPart fs → numbered_on from n1 (map (spelling_of from) fs) ≡ []
   parting_numbered [] h = refl
   parting_numbered (f ∷ fs) h = rw (part_reads h.0, h.0.none) (parting_numbered fs h.1)

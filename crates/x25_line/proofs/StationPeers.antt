@@ -3,9 +3,9 @@ use Rattle.std.proofs.Common.{◌≡◌, ℕ, ◌+◌, ◌≤◌, List, [], ◌�
 use Rattle.std.proofs.Common.{append-nil}
 use Rattle.std.specs.Prelude.{option_to_list}
 use Rattle.x25_frame.specs.{Frame.{PlainFrame}, Reading.{frame_of}, laws.ReadingLaw.{ReadsSpelled}, declared.error.FrameError.{FrameError}}
-use Rattle.x25_window.specs.{laws.Window.{after}, laws.Window.Step.{HandDown}}
-use Rattle.x25_link.specs.{declared.phase.Reason.{Reason}, declared.phase.Reason.TheVariants.{FrmrSent, Reset}, Station.{Settings, LinkStation, is_up}}
-use Rattle.x25_link.specs.{Hearing.{Step, other}, Link.{take_step, put_step}, laws.WindowMachine.{Window, Input, hands_down, nothing}}
+use Rattle.x25_window.specs.{laws.Window.{after}, laws.Window.EndStep.{HandDown}}
+use Rattle.x25_link.specs.{declared.phase.Reason.{Reason}, declared.phase.Reason.TheVariants.{FrmrSent, Reset}, Station.{LinkSettings, LinkStation, is_up}}
+use Rattle.x25_link.specs.{Hearing.{LinkStep, other}, Link.{take_step, put_step}, laws.WindowMachine.{Window, Input, hands_down, nothing}}
 use Rattle.x25_link.specs.laws.WindowLaw.{window_of, after_input, ending_of, brought_by, Stays, Ends, Follows}
 use Rattle.x25_line.specs.{laws.Stations.{Stations, Act, after_step, acts, start}, laws.LawsBelow.{Laws}, laws.Said.{said, sabm_of}}
 use Rattle.x25_line.specs.{laws.Peer.{Peer, fresh_peer, MayHear}, laws.PeerClaims.{IsNoFrmr}, laws.SessionClaims.{Each}}
@@ -16,7 +16,7 @@ use Rattle.x25_line.proofs.{StationSays.{machine_of, MayDo, AllFree, parting_fre
 use Rattle.x25_line.proofs.StationHears.{passes, Hears, stays_hears, left_by, by_reset}
 
 -- the near end of w, with settings d, as a peer of which R is known
-pub record Seen (d : Settings) (Fine : Type 0) (R : List (List ℕ) → Peer → List (List ℕ) → Type 0) (w : Stations) : Type 0 where
+pub record Seen (d : LinkSettings) (Fine : Type 0) (R : List (List ℕ) → Peer → List (List ℕ) → Type 0) (w : Stations) : Type 0 where
   pub peer : Peer
   pub reached : R w.back peer w.out
   pub fits : FitsEnd d w.near.station (machine_of d.window peer)
@@ -28,7 +28,7 @@ pub record Seen (d : Settings) (Fine : Type 0) (R : List (List ℕ) → Peer →
   pub fine : Fine → Each IsNoFrmr w.near.reasons
 
 -- it is seen so in another world, where this is known of it there
-pub seen_so : {d : Settings} {Fine : Type 0} {R Q : List (List ℕ) → Peer → List (List ℕ) → Type 0} {w v : Stations} → v.near ≡ w.near
+pub seen_so : {d : LinkSettings} {Fine : Type 0} {R Q : List (List ℕ) → Peer → List (List ℕ) → Type 0} {w v : Stations} → v.near ≡ w.near
     → (h : Seen d Fine R w) → Q v.back h.peer v.out → Seen d Fine Q v
 seen_so same h reached = record {
   peer = h.peer;
@@ -43,7 +43,7 @@ seen_so same h reached = record {
 }
 
 -- as the link was just set up
-pub start_seen : {d : Settings} {Fine : Type 0} {R : List (List ℕ) → Peer → List (List ℕ) → Type 0} → R [] fresh_peer [] → Seen d Fine R start
+pub start_seen : {d : LinkSettings} {Fine : Type 0} {R : List (List ℕ) → Peer → List (List ℕ) → Type 0} → R [] fresh_peer [] → Seen d Fine R start
 start_seen {d} reached = record {
   peer = fresh_peer;
   reached = reached;
@@ -61,12 +61,12 @@ leaves_no_frmr FrmrSent l = absurd l
 leaves_no_frmr Reset l = absurd l
 leaves_no_frmr reason l = tt
 
-no_frmr_noted : {s : LinkStation} {step : Step} → Noted s step → Each IsNoFrmr (option_to_list step.notes.down)
+no_frmr_noted : {s : LinkStation} {step : LinkStep} → Noted s step → Each IsNoFrmr (option_to_list step.notes.down)
 no_frmr_noted (left_up reason leaves up down not_up) = rw down (leaves_no_frmr reason leaves, tt)
 no_frmr_noted (stays_out out quiet) = rw quiet tt
 no_frmr_noted (in_vain waits down not_up) = rw down (tt, tt)
 
-module _ (d : Settings) (high : d.window ≤ 7) (reads : ReadsSpelled) (laws : Laws) (Fine : Type 0) (R : List (List ℕ) → Peer → List (List ℕ) → Type 0)
+module _ (d : LinkSettings) (high : d.window ≤ 7) (reads : ReadsSpelled) (laws : Laws) (Fine : Type 0) (R : List (List ℕ) → Peer → List (List ℕ) → Type 0)
     (does : MayDo d Fine R) where
   abbrev S : Stations → Type 0
   S w = Seen d Fine R w
@@ -83,7 +83,7 @@ module _ (d : Settings) (high : d.window ≤ 7) (reads : ReadsSpelled) (laws : L
     pub up_is : peer.taken ≡ w.near.up ++ option_to_list packet
 
   -- the station stays Up, and sends
-  stays_seen : {w : Stations} (h : S w) {os down : List (List ℕ)} {input : Input} {step : Step}
+  stays_seen : {w : Stations} (h : S w) {os down : List (List ℕ)} {input : Input} {step : LinkStep}
       → Ready w os down step.packet (after_input input step.packet (window_of d.window w.near.station))
       → Stays d.window input w.near.station step → S (after_step d w os down step)
   stays_seen {w} h {os} {down} {input} {step} r stays =
@@ -104,7 +104,7 @@ module _ (d : Settings) (high : d.window ≤ 7) (reads : ReadsSpelled) (laws : L
       }
 
   -- it leaves Up or is out, and sends nothing that has a number
-  parts_seen : {w : Stations} {os : List (List ℕ)} (step : Step) {v : Window} → Ready w os [] None v → AllFree d.role d.longest step.side.out
+  parts_seen : {w : Stations} {os : List (List ℕ)} (step : LinkStep) {v : Window} → Ready w os [] None v → AllFree d.role d.longest step.side.out
       → IsAway step.side.near → step.packet ≡ None
       → (Fine → Each IsNoFrmr (w.near.reasons ++ option_to_list step.notes.down)) → S (after_step d w os [] step)
   parts_seen {w} {os} step r free away none fine =
@@ -120,7 +120,7 @@ module _ (d : Settings) (high : d.window ≤ 7) (reads : ReadsSpelled) (laws : L
         fine = fine;
       }
 
-  parting_seen : {w : Stations} (h : S w) {os : List (List ℕ)} {step : Step} {v : Window} → Ready w os [] None v → Parts w.near.station step
+  parting_seen : {w : Stations} (h : S w) {os : List (List ℕ)} {step : LinkStep} {v : Window} → Ready w os [] None v → Parts w.near.station step
       → S (after_step d w os [] step)
   parting_seen {w} h {os} {step} {v} r parts =
       parts_seen step r (parting_free reads d.role d.longest step.side.out (parts_of step.side.out parts.frames)) parts.away parts.packet
@@ -160,7 +160,7 @@ module _ (d : Settings) (high : d.window ≤ 7) (reads : ReadsSpelled) (laws : L
       abbrev r : Result PlainFrame FrameError
       r = frame_of (other d.role) d.longest o
 
-      abbrev step : Step
+      abbrev step : LinkStep
       step = take_step d o s
 
       stays_up : Hears d r s h.peer step → S (after_step d w os [] step)

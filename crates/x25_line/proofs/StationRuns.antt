@@ -3,9 +3,9 @@ use Rattle.std.proofs.Common.{◌≡◌, ℕ, ◌≤◌, List, [], ◌∷◌, �
 use Rattle.std.proofs.{Common.{◌∙◌, subst}, Common.{arith, append-nil}}
 use Rattle.std.specs.Prelude.{option_to_list}
 use Rattle.x25_frame.specs.{Spelling.{spelling_of}, Reading.{frame_of}, laws.ReadingLaw.{ReadsSpelled}}
-use Rattle.x25_window.specs.{laws.Window.{fresh_end, after}, laws.Window.Step.{HandDown}}
+use Rattle.x25_window.specs.{laws.Window.{fresh_end, after}, laws.Window.EndStep.{HandDown}}
 use Rattle.x25_link.specs.{declared.phase.Phase.TheVariants.{Waiting}, declared.phase.Reason.{Reason}, declared.phase.Reason.TheVariants.{Retries}}
-use Rattle.x25_link.specs.{laws.NoteLaw.{Tells}, Station.{Settings, is_up}, Outgoing.{no_packet}, Hearing.{Step, other}, Link.{take_step, put_step}}
+use Rattle.x25_link.specs.{laws.NoteLaw.{Tells}, Station.{LinkSettings, is_up}, Outgoing.{no_packet}, Hearing.{LinkStep, other}, Link.{take_step, put_step}}
 use Rattle.x25_link.specs.{laws.WindowMachine.{nothing, ShowAll}, laws.WindowLaw.{IsSound, Follows}}
 use Rattle.x25_line.specs.laws.Stations.{Stations, Act, Deliver, LinkEvent, Near, Far, after_step, acts, stations_swapped, happens, run, fresh_station, start}
 use Rattle.x25_line.specs.{laws.WholeNumbers.{place_of, gone_from, machine_acts, machine_happens, machine_run, machine_at_start}, laws.LawsBelow.{Laws}}
@@ -32,7 +32,7 @@ nothing_put : (xs : List (List ℕ)) → drop (length xs) xs ≡ []
 nothing_put [] = refl
 nothing_put (x ∷ xs) = nothing_put xs
 
-module _ {c d : Settings} (joined : AreJoined c d) (reads : ReadsSpelled) (laws : Laws) where
+module _ {c d : LinkSettings} (joined : AreJoined c d) (reads : ReadsSpelled) (laws : Laws) where
   -- ---- what is handed down
 
   pub put_up : {w : Stations} {l : Line (List ℕ)} (packet : List ℕ) → Joint c d w l → AsUp c w.near.station l.near → length packet ≤ c.longest
@@ -58,7 +58,7 @@ module _ {c d : Settings} (joined : AreJoined c d) (reads : ReadsSpelled) (laws 
 
   -- ---- timer T1
 
-  pub timer_by : {w : Stations} {l : Line (List ℕ)} → Joint c d w l → AsUp c w.near.station l.near → (b : Bool) {step : Step} → Tells w.near.station step
+  pub timer_by : {w : Stations} {l : Line (List ℕ)} → Joint c d w l → AsUp c w.near.station l.near → (b : Bool) {step : LinkStep} → Tells w.near.station step
       → Follows (if b then None else Some Retries) c.window nothing w.near.station step → StepLeads c d w l None w.back [] step
   timer_by {w} {l} h u true {step} tells follows = quiet_joint joined reads h u h.back_orderly h.back refl (λ y k. k) follows
   timer_by {w} {l} h u false {step} tells follows = ends_joint joined reads h u.up tt h.back h.back_orderly tells follows
@@ -97,7 +97,7 @@ module _ {c d : Settings} (joined : AreJoined c d) (reads : ReadsSpelled) (laws 
       shows : (os : List (List ℕ)) → w.back ≡ os → ShowAll (numbered_on (other c.role) c.longest os) l.back
       shows os is = subst (λ z. ShowAll (numbered_on (other c.role) c.longest z) l.back) is h.back
 
-      steps : (place : Option ℕ) {back : List (List ℕ)} (down : List (List ℕ)) (step : Step)
+      steps : (place : Option ℕ) {back : List (List ℕ)} (down : List (List ℕ)) (step : LinkStep)
           → StepLeads c d w l (gone_from (other c.role) c.longest w.back place) back down step → LedTo w l place (after_step c w back down step)
       steps place down step leads = rw (put_behind w.out (map (spelling_of c.role) step.side.out)) leads
 
@@ -128,14 +128,14 @@ module _ {c d : Settings} (joined : AreJoined c d) (reads : ReadsSpelled) (laws 
       first up None = rw (h.near_has.notes.notes.still_up up) (omega arith)
       first up (Some reason) = rw (h.near_has.notes.notes.still_up up) (omega arith)
 
-      by : (step : Step) → Noted w.near.station step → length (w.near.reasons ++ option_to_list step.notes.down) ≤ 1
+      by : (step : LinkStep) → Noted w.near.station step → length (w.near.reasons ++ option_to_list step.notes.down) ≤ 1
       by step (left_up reason leaves up down not_up) = first up _
       by step (stays_out out quiet) = rw (quiet, append-nil w.near.reasons) few
       by step (in_vain waits down not_up) = absurd (still waits)
 
 -- ---- the other end
 
-pub joined_swapped : {c d : Settings} → AreJoined c d → AreJoined d c
+pub joined_swapped : {c d : LinkSettings} → AreJoined c d → AreJoined d c
 joined_swapped j =
     record {
       near_role = j.far_role;
@@ -148,13 +148,14 @@ joined_swapped j =
     }
 
 -- what the far end sends, and what it hears, reads at both ends as the same
-pub there : {c d : Settings} → AreJoined c d → (octets : List ℕ) → frame_of d.role d.longest octets ≡ frame_of (other c.role) c.longest octets
+pub there : {c d : LinkSettings} → AreJoined c d → (octets : List ℕ) → frame_of d.role d.longest octets ≡ frame_of (other c.role) c.longest octets
 there joined octets = rw (sym joined.far_role, sym joined.longest) refl
 
-pub here : {c d : Settings} → AreJoined c d → (octets : List ℕ) → frame_of (other d.role) d.longest octets ≡ frame_of c.role c.longest octets
+-- one end reads octets as the other means them
+pub here : {c d : LinkSettings} → AreJoined c d → (octets : List ℕ) → frame_of (other d.role) d.longest octets ≡ frame_of c.role c.longest octets
 here joined octets = rw (joined.near_role, sym joined.longest) refl
 
-pub joint_swapped : {c d : Settings} → c.longest ≡ d.longest → {w : Stations} {l : Line (List ℕ)} → Joint c d w l
+pub joint_swapped : {c d : LinkSettings} → c.longest ≡ d.longest → {w : Stations} {l : Line (List ℕ)} → Joint c d w l
     → Joint d c (stations_swapped w) (line_swapped l)
 joint_swapped {c} {d} same {w} {l} h =
     record {
@@ -172,7 +173,8 @@ joint_swapped {c} {d} same {w} {l} h =
       whole = whole_more c.longest (w.near.down ++ w.far.down) (w.far.down ++ w.near.down) (either_way w.near.down w.far.down) w.sent (rw same h.whole);
     }
 
-pub event_joint : {c d : Settings} → AreJoined c d → ReadsSpelled → Laws → (e : LinkEvent) {w : Stations} {l : Line (List ℕ)} → IsSetUpOnce (happens c d e w)
+pub event_joint : {c d : LinkSettings} → AreJoined c d → ReadsSpelled → Laws → (e : LinkEvent) {w : Stations} {l : Line (List ℕ)}
+    → IsSetUpOnce (happens c d e w)
     → Joint c d w l → Joint c d (happens c d e w) (machine_happens c d e w l)
 event_joint joined reads laws (Near act) once h = act_joint joined reads laws act once.near h
 event_joint joined reads laws (Far act) once h = joint_swapped (sym joined.longest)
@@ -190,19 +192,21 @@ before_act {a} {w} {v} h once = record {
   far = ap (λ e. e.came_up) (sym h.far) ∙ once.far;
 }
 
-event_before : (c d : Settings) (e : LinkEvent) (w : Stations) → IsSetUpOnce (happens c d e w) → IsSetUpOnce w
+event_before : (c d : LinkSettings) (e : LinkEvent) (w : Stations) → IsSetUpOnce (happens c d e w) → IsSetUpOnce w
 event_before c d (Near act) w once = before_act (each_hands_one c d (Near act) w) once
 event_before c d (Far act) w once =
     let before = before_act (each_hands_one c d (Far act) w) (record { near = once.far; far = once.near }) in
     record { near = before.far; far = before.near }
 
-pub once_before : (c d : Settings) (es : List LinkEvent) (w : Stations) → IsSetUpOnce (run c d es w) → IsSetUpOnce w
+-- what is set up once after a run was so before it
+pub once_before : (c d : LinkSettings) (es : List LinkEvent) (w : Stations) → IsSetUpOnce (run c d es w) → IsSetUpOnce w
 once_before c d [] w h = h
 once_before c d (e ∷ es) w h = event_before c d e w (once_before c d es (happens c d e w) h)
 
 -- ---- runs
 
-pub run_once : {c d : Settings} → AreJoined c d → ReadsSpelled → Laws → (es : List LinkEvent) {w : Stations} {l : Line (List ℕ)} → Joint c d w l
+-- over a run in which the link isn't set up anew the same window machine goes on
+pub run_once : {c d : LinkSettings} → AreJoined c d → ReadsSpelled → Laws → (es : List LinkEvent) {w : Stations} {l : Line (List ℕ)} → Joint c d w l
     → IsSetUpOnce (run c d es w) → Joint c d (run c d es w) (machine_run c d es w l)
 run_once joined reads laws [] h once = h
 run_once {c} {d} joined reads laws (e ∷ es) {w} h once = run_once joined reads laws es
@@ -218,7 +222,8 @@ fresh_sound k = record { place_low = omega arith; place_high = omega arith; sent
 fresh_way : {k : ℕ} → k ≤ 7 → Way (fresh_end {T = List ℕ} k) [] 0 [] []
 fresh_way high = record { high = high; room = omega arith; held = omega arith; acks = omega arith; late = omega arith; tops = omega arith; begins = refl }
 
-pub start_machine : {c d : Settings} → AreJoined c d → Joint c d start (machine_at_start c d)
+-- the machine with which a link that was just set up begins
+pub start_machine : {c d : LinkSettings} → AreJoined c d → Joint c d start (machine_at_start c d)
 start_machine {c} {d} joined = record {
   reached = at_start;
   kept = record { from_near = fresh_way joined.near_high; from_far = fresh_way joined.far_high };

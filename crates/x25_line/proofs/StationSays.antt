@@ -4,12 +4,13 @@ use Rattle.std.proofs.{Common.{append_assoc, append-nil}, lemmas.List.{map-appen
 use Rattle.std.specs.List.{slice_get}
 use Rattle.x25_bits.specs.declared.role.Role.{Role}
 use Rattle.x25_frame.specs.{Frame.{PlainFrame, info, rr, rnr, rej, frmr}, Spelling.{spelling_of}, Reading.{frame_of}, laws.ReadingLaw.{ReadsSpelled}}
-use Rattle.x25_link.specs.{Station.{Settings}, Hearing.{other}, declared.phase.Reason.TheVariants.{FrmrSent}, laws.WindowLaw.{ending_of}}
+use Rattle.x25_link.specs.{Station.{LinkSettings}, Hearing.{other}, declared.phase.Reason.TheVariants.{FrmrSent}, laws.WindowLaw.{ending_of}}
 use Rattle.x25_link.specs.laws.WindowMachine.{Window, ShowsItem, Shows, ShowAll, IsSent, Runs, rests, goes_on}
-use Rattle.x25_line.specs.{laws.Loss.{LessAt, IsSeen}, laws.StationClaims.{Each, number_in}, laws.Peer.{Peer, MaySend, MayHear, numbered_to, told_to}}
+use Rattle.x25_line.specs.{laws.Loss.{LessAt}, laws.Stations.{IsSeen}}
+use Rattle.x25_line.specs.{laws.StationClaims.{Each, number_in}, laws.Peer.{Peer, MaySend, MayHear, numbered_to, told_to}}
 use Rattle.x25_line.proofs.StationLines.{IsGood, IsPart, good_reads, part_reads}
 use Rattle.x25_line.proofs.{StationSends.{AllWithin, Item, item_at, single_of, tell_good, send_good, not_none}, Lists.{each_map}}
-use Rattle.x25_window.specs.{laws.Window.{Step, Allows, after, frame_of as machine_frame, frames_of, numbered}, laws.Window.Step.{Send, Tell}}
+use Rattle.x25_window.specs.{laws.Window.{EndStep, Allows, after, frame_of as machine_frame, frames_of, numbered}, laws.Window.EndStep.{Send, Tell}}
 
 -- the peer as an end of the window machine, with a station's k
 abbrev pub machine_of : ℕ → Peer → Window
@@ -47,7 +48,7 @@ item_sent k p high room told may i f h = absurd h
 -- ---- all that is sent in a run
 
 -- the peer once it said all frames of a run, by which the station's end of the window machine became v; P is what is reached by one that said these frames
-pub record Said (d : Settings) (P : Peer → List PlainFrame → Type 0) (p : Peer) (v : Window) (frames : List PlainFrame) : Type 0 where
+pub record Said (d : LinkSettings) (P : Peer → List PlainFrame → Type 0) (p : Peer) (v : Window) (frames : List PlainFrame) : Type 0 where
   pub peer : Peer
   pub reached : P peer frames
   pub is : machine_of d.window peer ≡ v
@@ -57,12 +58,13 @@ pub record Said (d : Settings) (P : Peer → List PlainFrame → Type 0) (p : Pe
   pub taken : peer.taken ≡ p.taken
 
 -- that it says one frame more
-abbrev pub MaySay : Settings → (Peer → List PlainFrame → Type 0) → Type 0
+abbrev pub MaySay : LinkSettings → (Peer → List PlainFrame → Type 0) → Type 0
 MaySay d P = (p q : Peer) (before : List PlainFrame) (f : PlainFrame) → IsGood d.longest f → MaySend ⊥ p (Ok f) q → q.sent ≤ p.sent + 1 → q.given ≡ p.given
     → q.taken ≡ p.taken → P p before → P q (before ++ f ∷ [])
 
-module _ {d : Settings} (high : d.window ≤ 7) {P : Peer → List PlainFrame → Type 0} (says : MaySay d P) (p : Peer) (within : AllWithin d.longest p.given) where
-  one : (w : Window) (before : List PlainFrame) (h : Said d P p w before) (s : Step (List ℕ)) (fs : List PlainFrame) → IsSent s
+module _ {d : LinkSettings} (high : d.window ≤ 7) {P : Peer → List PlainFrame → Type 0} (says : MaySay d P) (p : Peer)
+    (within : AllWithin d.longest p.given) where
+  one : (w : Window) (before : List PlainFrame) (h : Said d P p w before) (s : EndStep (List ℕ)) (fs : List PlainFrame) → IsSent s
       → Allows (machine_of d.window h.peer) s → ShowAll fs (frames_of (machine_of d.window h.peer) s)
       → Said d P p (after (machine_of d.window h.peer) s) (before ++ fs)
   one w before h Tell fs sends may shows =
@@ -133,7 +135,7 @@ frmr_free reads from n1 f why three =
 
 -- What is known of it: the line to it, the peer that it is, and the line from it. It is handed down no packet that is too long, and sends
 -- numbers one by one where they go for the first time. `Fine` holds where no fault is to be found.
-pub record MayDo (d : Settings) (Fine : Type 0) (R : List (List ℕ) → Peer → List (List ℕ) → Type 0) : Type 0 where
+pub record MayDo (d : LinkSettings) (Fine : Type 0) (R : List (List ℕ) → Peer → List (List ℕ) → Type 0) : Type 0 where
   pub handed : (os : List (List ℕ)) (p : Peer) (out : List (List ℕ)) (packet : List ℕ) → length packet ≤ d.longest → R os p out
       → R os (record p { given = p.given ++ packet ∷ [] }) out
   pub sends : (os : List (List ℕ)) (p q : Peer) (out : List (List ℕ)) (octets : List ℕ) → MaySend ⊥ p (frame_of d.role d.longest octets) q → q.sent ≤ p.sent
@@ -146,7 +148,7 @@ pub record MayDo (d : Settings) (Fine : Type 0) (R : List (List ℕ) → Peer �
 
 -- ---- all that is sent in a step
 
-module _ (d : Settings) (high : d.window ≤ 7) (reads : ReadsSpelled) (Fine : Type 0) (R : List (List ℕ) → Peer → List (List ℕ) → Type 0)
+module _ (d : LinkSettings) (high : d.window ≤ 7) (reads : ReadsSpelled) (Fine : Type 0) (R : List (List ℕ) → Peer → List (List ℕ) → Type 0)
     (does : MayDo d Fine R) (os : List (List ℕ)) where
   -- one frame more
   sent : (out : List (List ℕ)) (p q : Peer) (f : PlainFrame) → frame_of d.role d.longest (spelling_of d.role f) ≡ Ok f → MaySend ⊥ p (Ok f) q → q.sent ≤ p.sent

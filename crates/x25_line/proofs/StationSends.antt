@@ -3,8 +3,8 @@ use Rattle.std.proofs.Common.{◌≡◌, ℕ, zero, suc, ◌+◌, ◌%◌, ◌<�
 use Rattle.std.proofs.{Common.{append_assoc, append-nil}, lemmas.Option.{slice_get_within, get_or_from_slice_get}}
 use Rattle.std.specs.List.{slice_get}
 use Rattle.x25_frame.specs.Frame.{PlainFrame, info, rr, rnr, rej}
-use Rattle.x25_window.specs.{code.Modulo.{resolved}, laws.Window.{Step, Numbered, Frame, Allows, after, frame_of, frames_of, numbered}}
-use Rattle.x25_window.specs.laws.Window.Step.{Send, Tell}
+use Rattle.x25_window.specs.{code.Modulo.{resolved}, laws.Window.{EndStep, Numbered, Frame, Allows, after, frame_of, frames_of, numbered}}
+use Rattle.x25_window.specs.laws.Window.EndStep.{Send, Tell}
 use Rattle.x25_link.specs.laws.WindowMachine.{Window, ShowsItem, Shows, ShowAll, IsSent, Runs, rests, goes_on}
 use Rattle.x25_line.specs.{laws.Line.{Line, steps}, laws.Line.Move.{Sends, Tells}, laws.StationClaims.{MachineReaches, near_moves, Each, IsHandedDown}}
 use Rattle.x25_line.specs.laws.WholeNumbers.{given}
@@ -24,6 +24,7 @@ pub record Item (n1 : ℕ) (xs : List (List ℕ)) (n : ℕ) : Type 0 where
   pub is : slice_get xs n ≡ Some item
   pub within : length item ≤ n1
 
+-- each number below the length has a packet, of at most N1 octets
 pub item_at : (n1 : ℕ) (xs : List (List ℕ)) (n : ℕ) → n < length xs → AllWithin n1 xs → Item n1 xs n
 item_at n1 [] n lt h = absurd (omega arith)
 item_at n1 (x ∷ xs) zero lt h = record { item = x; is = refl; within = h.0 }
@@ -146,7 +147,7 @@ sent_given {l = l} {from} {w} {frames} h =
     ∙ ap (λ a. given a (length from.taken) l.near.sent frames) (sym h.acked) ∙ ap (λ xs. given w.acked (length xs) l.near.sent frames) (sym h.taken)
 
 -- one step more
-sent_more : {k j n1 : ℕ} {l : Line (List ℕ)} {from w : Window} {frames : List PlainFrame} (h : Sent k j n1 l from w frames) (s : Step (List ℕ))
+sent_more : {k j n1 : ℕ} {l : Line (List ℕ)} {from w : Window} {frames : List PlainFrame} (h : Sent k j n1 l from w frames) (s : EndStep (List ℕ))
     (fs : List PlainFrame)
     → MachineReaches k j (steps h.line s) → Kept (steps h.line s) → (after w s).given ≡ w.given → (after w s).taken ≡ w.taken → (after w s).acked ≡ w.acked
     → ShowAll fs (frames_of w s) → AllGood n1 fs
@@ -182,7 +183,7 @@ sent_more {n1 = n1} {l} {from} {w} {frames} h s fs reached kept handed_down take
         rw h.near (rw (sym h.acked) (subst (λ xs. given w.acked (length xs) w.sent (fs ++ es) ≡ frames_of w s ++ given w.acked (length xs) (after w s).sent es)
         h.taken (gives es)))
 
-more : {k j n1 : ℕ} {l : Line (List ℕ)} {from w : Window} {frames : List PlainFrame} → AllWithin n1 from.given → (s : Step (List ℕ)) (fs : List PlainFrame)
+more : {k j n1 : ℕ} {l : Line (List ℕ)} {from w : Window} {frames : List PlainFrame} → AllWithin n1 from.given → (s : EndStep (List ℕ)) (fs : List PlainFrame)
     → IsSent s → Allows w s → ShowAll fs (frames_of w s) → Sent k j n1 l from w frames → Sent k j n1 l from (after w s) (frames ++ fs)
 more {k} {j} {n1} {l} {from} {w} {frames} within Tell fs sends may shows h =
     let one = single_of fs (frame_of w None) shows in

@@ -5,10 +5,10 @@ use Rattle.std.specs.Prelude.{option_to_list, ◌||◌}
 use Rattle.x25_frame.specs.{Frame.{PlainFrame, info, rr, rnr, rej, sabm, disc, ua, dm}, Spelling.{spelling_of}, Reading.{frame_of}}
 use Rattle.x25_frame.specs.{laws.ReadingLaw.{ReadsSpelled}, declared.error.FrameError.{FrameError}}
 use Rattle.x25_frame.specs.declared.error.FrameError.TheVariants.{Short, BadFcs, BadAddress}
-use Rattle.x25_window.specs.{laws.Window.{End, Numbered, Frame, after}, laws.Window.Step.{Hear, Take}}
+use Rattle.x25_window.specs.{laws.Window.{End, Numbered, Frame, after}, laws.Window.EndStep.{Hear, Take}}
 use Rattle.x25_link.specs.{declared.phase.Phase.{Phase}, declared.phase.Phase.TheVariants.{Waiting, Up}, declared.phase.Reason.{Reason}}
 use Rattle.x25_link.specs.{declared.phase.Reason.TheVariants.{Retries, Disc, FrmrSent, Reset}, laws.NoteLaw.{IsQuiet, Tells}, Outgoing.{Outgoing, no_packet}}
-use Rattle.x25_link.specs.{Station.{Settings, LinkStation, is_up, lists_of, no_packets}, Hearing.{Step, other}}
+use Rattle.x25_link.specs.{Station.{LinkSettings, LinkStation, is_up, lists_of, no_packets}, Hearing.{LinkStep, other}}
 use Rattle.x25_link.specs.laws.WindowMachine.{Window, Input, receives, Shows, ShowAll}
 use Rattle.x25_link.specs.laws.WindowLaw.{IsSound, window_of, brought_by, after_input, MayHandUp, if_valid, ending_of, ends_in, AreLast, Stays, Ends, Follows}
 use Rattle.x25_link.specs.laws.WindowLaw.{IsOut, AreDeclining}
@@ -38,7 +38,7 @@ not_both b e f = absurd (never (sym e ∙ f))
 -- ---- what holds
 
 -- an end that is Up has the machine's lists and numbers
-pub record AsUp (c : Settings) (s : LinkStation) (e : End (List ℕ)) : Type 0 where
+pub record AsUp (c : LinkSettings) (s : LinkStation) (e : End (List ℕ)) : Type 0 where
   pub up : is_up s.phase ≡ true
   pub sound : IsSound c.window s.outgoing
   pub same : window_of c.window s ≡ e
@@ -48,11 +48,12 @@ pub record IsAway (s : LinkStation) : Type 0 where
   pub away : is_up s.phase ≡ false
   pub empty : lists_of s ≡ no_packets
 
-abbrev pub FitsEnd : Settings → LinkStation → End (List ℕ) → Type 0
+-- the machine's end is that of a station that is Up, or the station is away
+abbrev pub FitsEnd : LinkSettings → LinkStation → End (List ℕ) → Type 0
 FitsEnd c s e = AsUp c s e ⊎ IsAway s
 
 -- an end that is Up isn't away
-pub up_of : {c : Settings} {s : LinkStation} {e : End (List ℕ)} → FitsEnd c s e → is_up s.phase ≡ true → AsUp c s e
+pub up_of : {c : LinkSettings} {s : LinkStation} {e : End (List ℕ)} → FitsEnd c s e → is_up s.phase ≡ true → AsUp c s e
 up_of (inl u) up = u
 up_of {s = s} (inr away) up = not_both (is_up s.phase) up away.away
 
@@ -68,7 +69,7 @@ pub record Has (longest : ℕ) (e : StationEnd) (l : End (List ℕ)) : Type 0 wh
   pub within : AllWithin longest l.given
   pub notes : NotesOnce e
 
-pub record Joint (c d : Settings) (w : Stations) (l : Line (List ℕ)) : Type 0 where
+pub record Joint (c d : LinkSettings) (w : Stations) (l : Line (List ℕ)) : Type 0 where
   pub reached : MachineReaches c.window d.window l
   pub kept : Kept l
   pub near : FitsEnd c w.near.station l.near
@@ -82,27 +83,28 @@ pub record Joint (c d : Settings) (w : Stations) (l : Line (List ℕ)) : Type 0 
   pub no_frmr : NoFrmr w.sent
   pub whole : AreWhole d.longest (w.near.down ++ w.far.down) w.sent
 
-abbrev pub Holds : Settings → Settings → Stations → Type 0
+-- there is a window machine behind the two stations
+abbrev pub Holds : LinkSettings → LinkSettings → Stations → Type 0
 Holds c d w = (l : Line (List ℕ)) × Joint c d w l
 
 -- ---- the machine goes on
 
 -- it may lose what stands at a place of the line
-lost : {c d : Settings} {w : Stations} {l : Line (List ℕ)} → Joint c d w l → (gone : Option ℕ)
+lost : {c d : LinkSettings} {w : Stations} {l : Line (List ℕ)} → Joint c d w l → (gone : Option ℕ)
     → (let m = record l { back = taken_out gone l.back } in MachineReaches c.window d.window m × Kept m)
 lost h None = (h.reached, h.kept)
 lost {l = l} h (Some n) = (near_moves l (Loses n) h.reached tt, Kept-moved (Loses n) tt h.kept)
 
 -- it is behind `v`, once the near end put these octets and what stands at a place is gone from the line to it
-abbrev pub Leads : Settings → Settings → Line (List ℕ) → Option ℕ → List (List ℕ) → Stations → Type 0
+abbrev pub Leads : LinkSettings → LinkSettings → Line (List ℕ) → Option ℕ → List (List ℕ) → Stations → Type 0
 Leads c d l gone put v = Joint c d v (machine_after c v.near.station put gone l)
 
 -- so it is by a step of the near end
-abbrev pub StepLeads : Settings → Settings → Stations → Line (List ℕ) → Option ℕ → List (List ℕ) → List (List ℕ) → Step → Type 0
+abbrev pub StepLeads : LinkSettings → LinkSettings → Stations → Line (List ℕ) → Option ℕ → List (List ℕ) → List (List ℕ) → LinkStep → Type 0
 StepLeads c d w l gone back down step = Leads c d l gone (map (spelling_of c.role) step.side.out) (after_step c w back down step)
 
 -- a machine of these ends and lines is the one that the definition says
-pub machine_is : (c : Settings) (station : LinkStation) (put : List (List ℕ)) (place : Option ℕ) (l : Line (List ℕ)) {near far : End (List ℕ)}
+pub machine_is : (c : LinkSettings) (station : LinkStation) (put : List (List ℕ)) (place : Option ℕ) (l : Line (List ℕ)) {near far : End (List ℕ)}
     {out back : List (Frame (List ℕ))} → near ≡ counted c.window station l.near → far ≡ l.far
     → out ≡ l.out ++ given near.acked (length near.taken) l.near.sent (numbered_on c.role c.longest put) → back ≡ taken_out place l.back
     → (let m : Line (List ℕ) = record { near = near; far = far; out = out; back = back } in m) ≡ machine_after c station put place l
@@ -115,7 +117,7 @@ pub counted_off : (k : ℕ) (s : LinkStation) (e : Window) → is_up s.phase ≡
 counted_off k s e off = rw off refl
 
 -- a machine's end that fits the station has the numbers of that station
-pub counted_fits : {c : Settings} {s : LinkStation} {e : Window} → FitsEnd c s e → counted c.window s e ≡ e
+pub counted_fits : {c : LinkSettings} {s : LinkStation} {e : Window} → FitsEnd c s e → counted c.window s e ≡ e
 counted_fits {c} {s} {e} (inl u) = counted_up c.window s e u.up ∙ u.same
 counted_fits {c} {s} {e} (inr away) = counted_off c.window s e away.away
 
@@ -124,7 +126,7 @@ pub none_put : (l : Line (List ℕ)) (a r : ℕ) (fs : List PlainFrame) → fs �
 none_put l a r fs none = sym (append-nil l.out) ∙ ap (λ es. l.out ++ given a r l.near.sent es) (sym none)
 
 -- the station is as it was, and so is the line, but for what is gone from that to the near end
-pub left_joint : {c d : Settings} {w : Stations} {l : Line (List ℕ)} → Joint c d w l → (gone : Option ℕ) {os : List (List ℕ)}
+pub left_joint : {c d : LinkSettings} {w : Stations} {l : Line (List ℕ)} → Joint c d w l → (gone : Option ℕ) {os : List (List ℕ)}
     → ShowAll (numbered_on (other c.role) c.longest os) (taken_out gone l.back) → AreOrderly (other c.role) c.longest os
     → Leads c d l gone [] (record w { back = os })
 left_joint {c} {d} {w} {l} h gone {os} shows orderly =
@@ -146,13 +148,14 @@ left_joint {c} {d} {w} {l} h gone {os} shows orderly =
       whole = h.whole;
     })
 
-pub stands_still : {c d : Settings} {w : Stations} {l : Line (List ℕ)} → Joint c d w l → Leads c d l None [] w
+-- where nothing changes the same machine stays behind them
+pub stands_still : {c d : LinkSettings} {w : Stations} {l : Line (List ℕ)} → Joint c d w l → Leads c d l None [] w
 stands_still h = left_joint h None h.back h.back_orderly
 
 -- ---- what is noted
 
 -- a step that notes nothing, Up or out as before
-pub quiet_notes : (c : Settings) (w : Stations) (back down : List (List ℕ)) (step : Step) → NotesOnce w.near → IsQuiet step → is_up step.side.near.phase
+pub quiet_notes : (c : LinkSettings) (w : Stations) (back down : List (List ℕ)) (step : LinkStep) → NotesOnce w.near → IsQuiet step → is_up step.side.near.phase
     ≡ is_up w.near.station.phase
     → NotesOnce (after_step c w back down step).near
 quiet_notes c w back down step h quiet same =
@@ -166,7 +169,7 @@ quiet_notes c w back down step h quiet same =
     }
 
 -- LinkUp is noted by a station that begins afresh
-pub not_afresh : {s : LinkStation} {step : Step} → Tells s step → is_up step.side.near.phase ≡ false → step.notes.up ≡ false
+pub not_afresh : {s : LinkStation} {step : LinkStep} → Tells s step → is_up step.side.near.phase ≡ false → step.notes.up ≡ false
 not_afresh {step = step} tells off = go step.notes.up refl
   where
     go : (b : Bool) → step.notes.up ≡ b → step.notes.up ≡ false
@@ -208,12 +211,12 @@ declining_parting (dm f ∷ fs) h = declining_parting fs h
 declining_parting (frame ∷ fs) h = absurd h
 
 -- what is noted by a step behind which the station isn't Up: it left Up, it goes on to be out, or it asked in vain
-pub data Noted (s : LinkStation) (step : Step) : Type 0 where
+pub data Noted (s : LinkStation) (step : LinkStep) : Type 0 where
   left_up : (reason : Reason) → Leaves reason → is_up s.phase ≡ true → step.notes.down ≡ Some reason → step.notes.up ≡ false → Noted s step
   stays_out : is_up s.phase ≡ false → IsQuiet step → Noted s step
   in_vain : s.phase ≡ Waiting → step.notes.down ≡ Some Retries → step.notes.up ≡ false → Noted s step
 
-noted_once : (c : Settings) (w : Stations) (back : List (List ℕ)) (step : Step) → NotesOnce w.near → is_up step.side.near.phase ≡ false
+noted_once : (c : LinkSettings) (w : Stations) (back : List (List ℕ)) (step : LinkStep) → NotesOnce w.near → is_up step.side.near.phase ≡ false
     → Noted w.near.station step → NotesOnce (after_step c w back [] step).near
 noted_once c w back step h off (stays_out out quiet) = quiet_notes c w back [] step h quiet (off ∙ sym out)
 noted_once c w back step h off (left_up reason leaves up down not_up) = record {
@@ -239,14 +242,14 @@ noted_once c w back step h off (in_vain waits down not_up) =
     }
 
 -- a step that sends nothing that has a number, behind which the station isn't Up
-pub record Parts (s : LinkStation) (step : Step) : Type 0 where
+pub record Parts (s : LinkStation) (step : LinkStep) : Type 0 where
   pub frames : AreParting step.side.out
   pub away : IsAway step.side.near
   pub packet : step.packet ≡ None
   pub noted : Noted s step
 
 -- so is each step by which a station leaves Up
-pub ends_parts : {s : LinkStation} {reason : Reason} {step : Step} → is_up s.phase ≡ true → Leaves reason → Tells s step → Ends reason step
+pub ends_parts : {s : LinkStation} {reason : Reason} {step : LinkStep} → is_up s.phase ≡ true → Leaves reason → Tells s step → Ends reason step
     → Parts s step
 ends_parts {s} {reason} {step} up leaves tells ends =
     let away = last_away reason step.side.near.phase leaves ends.phase in
@@ -259,7 +262,7 @@ ends_parts {s} {reason} {step} up leaves tells ends =
 
 -- ---- a step of the near end, the machine's line being `l` once what comes has come
 
-pub record Stage (c d : Settings) (w : Stations) (start l : Line (List ℕ)) (back down : List (List ℕ)) (packet : Option (List ℕ))
+pub record Stage (c d : LinkSettings) (w : Stations) (start l : Line (List ℕ)) (back down : List (List ℕ)) (packet : Option (List ℕ))
     (v : Window) : Type 0 where
   pub reached : MachineReaches c.window d.window l
   pub kept : Kept l
@@ -273,7 +276,7 @@ pub record Stage (c d : Settings) (w : Stations) (start l : Line (List ℕ)) (ba
   pub within : AllWithin d.longest v.given
   pub same_sent : v.sent ≡ start.near.sent
 
-module _ {c d : Settings} (joined : AreJoined c d) (reads : ReadsSpelled) where
+module _ {c d : LinkSettings} (joined : AreJoined c d) (reads : ReadsSpelled) where
   -- what is put on the line, as the other end reads it
   numbers_out : (out : List (List ℕ)) (fs es : List PlainFrame) (gs hs : List (Frame (List ℕ))) → numbered_on c.role d.longest (map (spelling_of c.role) fs)
       ≡ es → ShowAll (numbered_on (other d.role) d.longest out) gs → ShowAll es hs
@@ -292,7 +295,7 @@ module _ {c d : Settings} (joined : AreJoined c d) (reads : ReadsSpelled) where
 
   -- a station that stays Up: what comes has come, and then it sends
   pub stays_joint : {w : Stations} {l : Line (List ℕ)} (m : Line (List ℕ)) (gone : Option ℕ) → m.back ≡ taken_out gone l.back
-      → {back down : List (List ℕ)} {input : Input} {step : Step} → Joint c d w l
+      → {back down : List (List ℕ)} {input : Input} {step : LinkStep} → Joint c d w l
       → is_up w.near.station.phase ≡ true
       → Stage c d w l m back down step.packet (after_input input step.packet (window_of c.window w.near.station))
       → Stays c.window input w.near.station step
@@ -405,7 +408,7 @@ module _ {c d : Settings} (joined : AreJoined c d) (reads : ReadsSpelled) where
       (ap (λ xs. xs ++ y ∷ []) (h.near_has.up ∙ sym (ap (λ z. z.taken) u.same)))
 
   numbered_joint : {w : Stations} {l : Line (List ℕ)} → Joint c d w l → AsUp c w.near.station l.near
-      → (os : List (List ℕ)) {f : PlainFrame} (nr : ℕ) (step : Step)
+      → (os : List (List ℕ)) {f : PlainFrame} (nr : ℕ) (step : LinkStep)
       (front : Front f (numbered_on (other c.role) c.longest os) l.back)
       → nr ≡ front.frame.ack % 8 → Follows (if_valid nr (window_of c.window w.near.station)) c.window (receives f) w.near.station step
       → ((packet : Option (List ℕ)) → MayHandUp (receives f) packet (window_of c.window w.near.station)
@@ -444,7 +447,7 @@ module _ {c d : Settings} (joined : AreJoined c d) (reads : ReadsSpelled) where
 
   pub quiet_joint : {w : Stations} {l : Line (List ℕ)} → Joint c d w l → AsUp c w.near.station l.near → {os : List (List ℕ)}
       → AreOrderly (other c.role) c.longest os → ShowAll (numbered_on (other c.role) c.longest os) l.back
-      → {input : Input} {step : Step} → after_input input step.packet (window_of c.window w.near.station) ≡ window_of c.window w.near.station
+      → {input : Input} {step : LinkStep} → after_input input step.packet (window_of c.window w.near.station) ≡ window_of c.window w.near.station
       → ((y : List ℕ) → MayHandUp input (Some y) (window_of c.window w.near.station) → ⊥)
       → Stays c.window input w.near.station step → StepLeads c d w l None os [] step
   quiet_joint {w} {l} h u {os} orderly shows {input} {step} same never stays =
@@ -452,7 +455,7 @@ module _ {c d : Settings} (joined : AreJoined c d) (reads : ReadsSpelled) where
       (rw same (quiet_stage h u orderly shows step.packet (no_packet_of input step.packet (window_of c.window w.near.station) never stays.hands_up))) stays
 
   -- a station that leaves or is out: a numbered frame that comes to it is lost to the machine
-  pub parts_joint : {w : Stations} {l : Line (List ℕ)} → Joint c d w l → (gone : Option ℕ) {os : List (List ℕ)} {step : Step}
+  pub parts_joint : {w : Stations} {l : Line (List ℕ)} → Joint c d w l → (gone : Option ℕ) {os : List (List ℕ)} {step : LinkStep}
       → ShowAll (numbered_on (other c.role) c.longest os) (taken_out gone l.back) → AreOrderly (other c.role) c.longest os
       → Parts w.near.station step → StepLeads c d w l gone os [] step
   parts_joint {w} {l} h gone {os} {step} shows orderly parts =
@@ -492,7 +495,7 @@ module _ {c d : Settings} (joined : AreJoined c d) (reads : ReadsSpelled) where
 
   -- the near end leaves Up
   pub ends_joint : {w : Stations} {l : Line (List ℕ)} → Joint c d w l → is_up w.near.station.phase ≡ true
-      → {os : List (List ℕ)} {step : Step} {reason : Reason} → Leaves reason
+      → {os : List (List ℕ)} {step : LinkStep} {reason : Reason} → Leaves reason
       → ShowAll (numbered_on (other c.role) c.longest os) l.back → AreOrderly (other c.role) c.longest os
       → Tells w.near.station step → Ends reason step → StepLeads c d w l None os [] step
   ends_joint {w} {l} h up {os} {step} {reason} leaves shows orderly tells ends = parts_joint h None shows orderly (ends_parts up leaves tells ends)
@@ -500,7 +503,7 @@ module _ {c d : Settings} (joined : AreJoined c d) (reads : ReadsSpelled) where
   -- ---- what comes, by what it reads as
 
   told_joint : {w : Stations} {l : Line (List ℕ)} → Joint c d w l → AsUp c w.near.station l.near
-      → {os : List (List ℕ)} (f : PlainFrame) (nr : ℕ) (step : Step)
+      → {os : List (List ℕ)} (f : PlainFrame) (nr : ℕ) (step : LinkStep)
       → AreOrderly (other c.role) c.longest os → ShowAll (f ∷ numbered_on (other c.role) c.longest os) l.back
       → ((g : Frame (List ℕ)) → Shows f g → nr ≡ g.ack % 8)
       → Follows (if_valid nr (window_of c.window w.near.station)) c.window (receives f) w.near.station step
@@ -516,7 +519,7 @@ module _ {c d : Settings} (joined : AreJoined c d) (reads : ReadsSpelled) where
 
   -- octets come to an end that is Up
   pub read_joint : {w : Stations} {l : Line (List ℕ)} → Joint c d w l → AsUp c w.near.station l.near
-      → (r : Result PlainFrame FrameError) {os : List (List ℕ)} {step : Step}
+      → (r : Result PlainFrame FrameError) {os : List (List ℕ)} {step : LinkStep}
       → IsOrderly r → sabm_of (said r) ≡ 0 → AreOrderly (other c.role) c.longest os
       → ShowAll (consed (number_in r) (numbered_on (other c.role) c.longest os)) l.back → Tells w.near.station step
       → Follows (ending_of r (window_of c.window w.near.station)) c.window (brought_by r) w.near.station step
@@ -541,7 +544,7 @@ module _ {c d : Settings} (joined : AreJoined c d) (reads : ReadsSpelled) where
 
   -- ---- what comes to an end that isn't Up
 
-  pub away_joint : {w : Stations} {l : Line (List ℕ)} → Joint c d w l → (m : Option PlainFrame) {os : List (List ℕ)} {step : Step}
+  pub away_joint : {w : Stations} {l : Line (List ℕ)} → Joint c d w l → (m : Option PlainFrame) {os : List (List ℕ)} {step : LinkStep}
       → AreOrderly (other c.role) c.longest os → ShowAll (consed m (numbered_on (other c.role) c.longest os)) l.back → Parts w.near.station step
       → StepLeads c d w l (first_of m) os [] step
   away_joint {l = l} h m {os} orderly shows = parts_joint h (first_of m) (shows_first m (numbered_on (other c.role) c.longest os) l.back shows) orderly

@@ -4,7 +4,7 @@ use Rattle.std.proofs.{Common.{Option, Some, None, refl, sym, ap, ◌∙◌, sub
 use Rattle.std.specs.{Prelude.{nat_le, nat_lt, ◌&&◌}, List.{slice_get}}
 use Rattle.x25_frame.specs.{Reading.{frame_of}, laws.ReadingLaw.{ReadsSpelled}}
 use Rattle.x25_window.specs.code.Modulo.{resolved}
-use Rattle.x25_link.specs.{Station.{Settings}, Hearing.{other}}
+use Rattle.x25_link.specs.{Station.{LinkSettings}, Hearing.{other}}
 use Rattle.x25_line.specs.{laws.LawsBelow.{Laws}, laws.Peer.{Peer, MayNumber, MayAcknowledge, numbered_to, told_to, MaySay, hearing, IsWanted, taking, MayMake}}
 use Rattle.x25_line.specs.laws.PeerJoined.{JoinedOnce, Ours, HandsDown, Sends, Hears, ReachedOnce, at_start, goes_on}
 use Rattle.x25_line.specs.laws.Said.{Said, Carried, Tells, Odd, said}
@@ -185,16 +185,16 @@ noted_held s p h = h
 
 -- ---- tapes
 
-record Explained (c : Settings) (w : JoinedOnce) : Type 0 where
+record Explained (c : LinkSettings) (w : JoinedOnce) : Type 0 where
   pub reached : ReachedOnce (Unit {0}) c w
   pub held : length w.peer.given ≡ w.peer.sent
 
-base_reached : {c : Settings} {w : JoinedOnce} (packet : List ℕ) {base : Peer} → ReachedOnce (Unit {0}) c w → IsBase w.peer packet base
+base_reached : {c : LinkSettings} {w : JoinedOnce} (packet : List ℕ) {base : Peer} → ReachedOnce (Unit {0}) c w → IsBase w.peer packet base
     → ReachedOnce (Unit {0}) c (record w { peer = base })
 base_reached packet reached (inl is) = rw is reached
 base_reached {w = w} packet reached (inr is) = rw is (goes_on w (record w { peer = grown packet w.peer }) reached (HandsDown packet))
 
-explained : {c : Settings} {w : JoinedOnce} → IsSilent c w → Explained c w
+explained : {c : LinkSettings} {w : JoinedOnce} → IsSilent c w → Explained c w
 explained Begins = record { reached = at_start; held = refl }
 explained {c} {w} (Acts v act h) =
     let before = explained h in

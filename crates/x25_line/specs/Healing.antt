@@ -2,7 +2,8 @@
 -- each end where it runs; and then all that is on the line comes, in any order of the two directions, while nothing is
 -- lost.
 use Rattle.std.specs.Prelude.{◌≡◌, ℕ, ◌<◌, ◌≤◌, ◌⊎◌, false, true, List, [], ◌∷◌, length}
-use Rattle.x25_link.specs.{Station.{Settings, LinkStation, is_up, is_busy}, Link.{timer_runs}, laws.RestLaw.{IsAtRest}}
+use Rattle.x25_link.specs.{Station.{LinkSettings, LinkStation, is_up, is_busy}, Link.{timer_runs}}
+use Rattle.x25_link.specs.laws.RestLaw.{IsAtRest}
 use Rattle.x25_line.specs.{laws.Stations.{Act, Deliver, T1, LinkEvent, Near, Far}, laws.StationClaims.{AreJoined}}
 use Rattle.x25_line.specs.laws.Sessions.{Sessions, Meeting, IsStart, happens, run}
 use Rattle.x25_line.specs.laws.SessionClaims.{Each, SomeMet, Throughout}
@@ -22,7 +23,7 @@ IsDelivery (Far act) = IsDeliver act
 
 -- An end that is Up and whose timer T1 doesn't run is at rest. Where the other end is Up too or met its session, all
 -- that was handed down in this session was handed up in the latest session of the other.
-pub record EachRestShows (c d : Settings) (w : Sessions) : Type 0 where
+pub record EachRestShows (c d : LinkSettings) (w : Sessions) : Type 0 where
   pub near : is_up w.near.station.phase ≡ true → timer_runs w.near.station.phase w.near.station ≡ false
       → IsAtRest w.near.station × ((is_up w.far.station.phase ≡ true)
       ⊎ SomeMet (λ (m : Meeting). m.near ≡ w.near.begun) w.met → w.far.up w.far.begun ≡ w.near.down w.near.begun)
@@ -55,14 +56,14 @@ pub record SessionsAreHealed (w v : Sessions) : Type 0 where
 
 -- Each end is at rest or not Up; and if both were Up, with tries left where T1 ran, both are at rest in their sessions,
 -- and everything has arrived.
-pub record EachSessionHeals (c d : Settings) (w v : Sessions) : Type 0 where
+pub record EachSessionHeals (c d : LinkSettings) (w v : Sessions) : Type 0 where
   pub near : IsAtRestOrOut v.near.station
   pub far : IsAtRestOrOut v.far.station
   pub healed : HasTries c.retries w.near.station → HasTries d.retries w.far.station → SessionsAreHealed w v
 
 -- whatever the ends are, but for two that are both busy
 abbrev pub SessionsHealUnlessBothBusy : Type 0
-SessionsHealUnlessBothBusy = Throughout (λ (c d : Settings) (w : Sessions).
+SessionsHealUnlessBothBusy = Throughout (λ (c d : LinkSettings) (w : Sessions).
     w.out ≡ [] → w.back ≡ [] → OneIsFree w.near.station w.far.station
     → (deliveries : List LinkEvent) → Each IsDelivery deliveries
     → (let v = run c d (Near T1 ∷ Far T1 ∷ deliveries) w in v.out ≡ [] → v.back ≡ [] → EachSessionHeals c d w v))
@@ -74,14 +75,14 @@ abbrev pub FindsIn : LinkEvent → Sessions → Type 0
 FindsIn (Near act) w = w.back ≡ [] → ⊥
 FindsIn (Far act) w = w.out ≡ [] → ⊥
 
-abbrev pub EachFindsIn : Settings → Settings → List LinkEvent → Sessions → Type 0
+abbrev pub EachFindsIn : LinkSettings → LinkSettings → List LinkEvent → Sessions → Type 0
 EachFindsIn c d [] w = Unit {0}
 EachFindsIn c d (e ∷ es) w = FindsIn e w × EachFindsIn c d es (happens c d e w)
 
 -- each world that events lead to bounds how many deliveries find octets, in whichever order
 abbrev pub SessionsDrainEnd : Type 0
 SessionsDrainEnd =
-    (c d : Settings) → AreJoined c d → (begin : Sessions) → IsStart begin
+    (c d : LinkSettings) → AreJoined c d → (begin : Sessions) → IsStart begin
     → (events : List LinkEvent)
     → (let w = run c d events begin in (most : ℕ)
     × ((deliveries : List LinkEvent) → Each IsDelivery deliveries → EachFindsIn c d deliveries w
@@ -90,7 +91,7 @@ SessionsDrainEnd =
 -- so there are deliveries that drain its line
 abbrev pub SomeSessionsDrain : Type 0
 SomeSessionsDrain =
-    (c d : Settings) → AreJoined c d → (begin : Sessions) → IsStart begin
+    (c d : LinkSettings) → AreJoined c d → (begin : Sessions) → IsStart begin
     → (events : List LinkEvent)
     → (deliveries : List LinkEvent) × Each IsDelivery deliveries
     × (let v = run c d deliveries (run c d events begin) in (v.out ≡ []) × (v.back ≡ []))

@@ -1,4 +1,4 @@
-//! Two link stations, or one and any peer, and a line between them that keeps order and may lose any frame.
+//! Any two ends, two link stations, or one and any peer, over a line that keeps order and may lose any frame.
 //!
 //! It runs nothing: its public functions state laws as their contracts.
 #![tactic(auto)]

@@ -10,7 +10,7 @@ use Rattle.x25_layer.specs.{Layer.{Layer}, Calls.{LayerRequest, Asks, LayerOutco
 use Rattle.x25_station.specs.{declared.error.StationError.{StationError}, Config.{Settings, layer_settings, link_settings}, Command.{may_ask}}
 use Rattle.x25_station.specs.{Entry.{StationEntry}, Giving.{suits, is_taken, view_given, not_taken}, Station.{Station, view_of}}
 use Rattle.x25_station.specs.Step.{Step, Outcome, Did, Refused, unless, requests, did, entries_of_outcome, gave, gives, where_asked}
-use Rattle.x25_link.specs.{declared.phase.Reason.TheVariants.{Retries}, Outgoing.{waits}, Station.{Settings as LinkSettings, LinkStation, is_up, with_near}}
+use Rattle.x25_link.specs.{declared.phase.Reason.TheVariants.{Retries}, Outgoing.{waits}, Station.{LinkSettings, LinkStation, is_up, with_near}}
 use Rattle.x25_layer.specs.declared.error.LayerError.TheVariants as layer_error
 use Rattle.x25_station.specs.declared.error.StationError.TheVariants as error
 

@@ -8,7 +8,7 @@ use Rattle.x25_circuit.specs.{declared.state.State.{State}, declared.state.State
 use Rattle.x25_circuit.specs.{declared.params.Params.{Params}, declared.error.CircuitError.TheVariants.{BadParameter, Full, TooLong, InterruptOutstanding}}
 use Rattle.x25_circuit.specs.{Params.{Proposal, default_params, may_answer, field_for, said_in}, Cause.{may_clear_for, may_reset_for}}
 use Rattle.x25_circuit.specs.Message.{Piece, piece_of, cut}
-use Rattle.x25_circuit.specs.Circuit.{Settings, Talk, silent, Circuit, talking, outgoing, incoming as terms_in, is_open, is_open_in, waits}
+use Rattle.x25_circuit.specs.Circuit.{CircuitSettings, Talk, silent, Circuit, talking, outgoing, incoming as terms_in, is_open, is_open_in, waits}
 use Rattle.x25_circuit.specs.Notice.{CallRequest, connected}
 use Rattle.x25_circuit.specs.Hearing.{Answer, answers, goes, clears_for, request_in, collides, connects, row_call, row_accept, row_clear, row_clear_conf}
 use Rattle.x25_circuit.specs.Hearing.{row_reset, row_reset_conf, unless, takes, hears_status, confirms, row_open, row_data, data_ground, number_ground}
@@ -58,7 +58,7 @@ stays_called x is = inr (record { same = record { opened = is; clears = refl; re
 
 -- ---- packets
 
-module _ (c : Settings) (x : Circuit) where
+module _ (c : CircuitSettings) (x : Circuit) where
   abbrev Heard : Answer → Type 0
   Heard a = AfterPacket x a.next
 
@@ -159,7 +159,7 @@ called_if : (x : Circuit) (b : Bool) (u v : Outcome) → AfterOutcome x u → Af
 called_if x true u v h g = h
 called_if x false u v h g = g
 
-module _ (c : Settings) (x : Circuit) where
+module _ (c : CircuitSettings) (x : Circuit) where
   abbrev more_sent : List Piece → Talk
   more_sent rest = record {
     sent = x.talk.sent;

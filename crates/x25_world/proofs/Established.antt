@@ -9,7 +9,7 @@ use Rattle.x25_station.specs.{Step.{Step, follows, receives}, laws.KeepLaw.{IsKe
 use Rattle.x25_world.specs.World.{World, mirrored, entered, tapped, after_step, delivered, after, Event, Receives, happens, refusal_of, AreAccepted, connected}
 use Rattle.x25_world.specs.{World.{established}, laws.Claims.{link_of}, laws.SessionWindow.{restart_of, both_put, links_by}, laws.LawsBelow.{Laws}}
 use Rattle.x25_peer.proofs.sessions.LinkSteps.{handed_up}
-use Rattle.x25_link.specs.{Station.{with_nothing, fresh, is_up, pumped}, Hearing.{Step as LinkStep}, Link.{put_step}}
+use Rattle.x25_link.specs.{Station.{with_nothing, fresh, is_up, pumped}, Hearing.{LinkStep}, Link.{put_step}}
 
 -- ---- an end that comes up
 

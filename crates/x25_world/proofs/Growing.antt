@@ -22,6 +22,7 @@ all_read cfg octets = map (read_by cfg) octets
 abbrev pub is_read : PlainPacket → Result PlainPacket PacketError
 is_read p = Ok p
 
+-- packets as what their octets are read as
 abbrev pub as_read : List PlainPacket → List (Result PlainPacket PacketError)
 as_read packets = map is_read packets
 
@@ -125,6 +126,7 @@ abbrev behind_front : List (List ℕ) → List (List ℕ)
 behind_front [] = []
 behind_front (x ∷ xs) = xs
 
+-- octets in front of a line are those of an entry in front
 pub front_entry : (octets : List ℕ) (back : List (List ℕ)) (es : List Entry) → octets_of es ≡ octets ∷ back → FrontEntry octets back es
 front_entry octets back [] same = absurd (cc)
 front_entry octets back (e ∷ es) same = record { entry = e; others = es; is = refl; octets = ap front_octets same; left = ap behind_front same }
@@ -135,6 +137,7 @@ back_read cfg [] [] h = refl
 back_read cfg (o ∷ os) (p ∷ ps) h = ap₂ (λ r rs. r ∷ rs) h.0.reads (back_read cfg os ps h.1)
 back_read cfg os ps h = absurd h
 
+-- octets that packets are read back from are octets
 pub back_octets : (cfg : Cfg) (os : List (List ℕ)) (ps : List PlainPacket) → AreReadBack cfg.wide cfg.long_data os ps → AllAreOctets os
 back_octets cfg [] [] h = tt
 back_octets cfg (o ∷ os) (p ∷ ps) h = (h.0.octets, back_octets cfg os ps h.1)

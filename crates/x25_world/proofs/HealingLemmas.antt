@@ -4,7 +4,7 @@ use Rattle.std.proofs.{Common.{◌≤◌, inl}, lemmas.Bool.{eq-eqb, and_from}}
 use Rattle.std.specs.Prelude.{◌==◌}
 use Rattle.x25_bits.specs.{declared.role.Role.{Role}, declared.role.Role.TheVariants.{Dte, Dce}}
 use Rattle.x25_frame.specs.Spelling.{spelling_of}
-use Rattle.x25_line.specs.{laws.Sessions.{Meeting, Sessions, from_nothing, begun_by, IsTimely, AreTimely}, laws.SessionNumbers.{standing_run, standing_at}}
+use Rattle.x25_line.specs.laws.Sessions.{Meeting, Sessions, from_nothing, begun_by, IsTimely, AreTimely}
 use Rattle.x25_line.specs.laws.SessionClaims.{Each, octets_of}
 use Rattle.x25_line.specs.Healing.{IsDelivery, EachRestShows, IsAtRestOrOut, HasTries, OneIsFree, EachSessionHeals, SessionsHealUnlessBothBusy, FindsIn}
 use Rattle.x25_line.specs.Healing.{EachFindsIn, SessionsDrainEnd}
@@ -18,25 +18,17 @@ use Rattle.x25_world.specs.{laws.SessionClaims.{Throughout, AllArrive}, laws.Ses
 use Rattle.x25_world.specs.Healing.{IsDrained, receipt, all_received, firing, AreLinksOf, StopsAtRest, RestShows, PutsNothing, PutsNothingAt, NonePut, Heals}
 use Rattle.x25_world.specs.Healing.{MayHeal, HealsWhereNonePut, DrainsWhereNonePut}
 use Rattle.x25_world.proofs.{Known.{true_false, IsConfigured, is_configured}, WorldLemmas.{refusal-swapped}}
-use Rattle.x25_world.proofs.sessions.SessionReaches.{Within, joined_at, known_sessions, links_append, timely_append}
+use Rattle.x25_world.proofs.sessions.SessionReaches.{Leads, then_leads, joined_at, known_sessions}
 use Rattle.x25_world.proofs.{sessions.SessionJoined.{SessionsJoined}, Growing.{octets_put}, sessions.SessionFollows.{silent}}
-use Rattle.x25_world.proofs.{sessions.SessionRuns.{back_after, IsJoined, throughout_joined}, sessions.SessionsAlong.{links_are}}
+use Rattle.x25_world.proofs.{sessions.SessionRuns.{back_after, throughout_joined}, sessions.SessionsAlong.{Alike, joined_alike, run_of, links_are}}
 use Rattle.x25_peer.proofs.Granted.{timer_silent}
-use Rattle.x25_link.specs.{declared.error.LinkError.{LinkError}, Station.{Settings as LinkSettings, LinkStation, is_up, awaits_ua}}
-use Rattle.x25_link.specs.{Hearing.{Step as LinkStep, other}, Link.{take_step, timer_step, timer_refusal, timer_runs, abandon_step}, laws.RestLaw.{IsAtRest}}
+use Rattle.x25_link.specs.{declared.error.LinkError.{LinkError}, Station.{LinkSettings, LinkStation, is_up, awaits_ua}}
+use Rattle.x25_link.specs.{Hearing.{LinkStep, other}, Link.{take_step, timer_step, timer_refusal, timer_runs, abandon_step}, laws.RestLaw.{IsAtRest}}
 use Rattle.x25_link.specs.Link as link
 use Rattle.x25_line.specs.laws.Stations as line
 use Rattle.x25_line.specs.laws.Sessions as links
 use Rattle.x25_line.specs.laws.SessionClaims as claims
 use Rattle.x25_world.specs.declared.error.WorldError.TheVariants as error
-
--- ---- links that have the links and the lines of a world
-
-pub record Alike (w : World) (v : Sessions) : Type 0 where
-  pub near : v.near.station ≡ w.near.link
-  pub far : v.far.station ≡ w.far.link
-  pub out : octets_of v.out ≡ w.out
-  pub back : octets_of v.back ≡ w.back
 
 pub turned : {w : World} {v : Sessions} → Alike w v → Alike (mirrored w) (links.swapped v)
 turned h = record { near = h.far; far = h.near; out = h.back; back = h.out }
@@ -182,45 +174,22 @@ each_finds cfg (at ∷ ends) {w} {v} h none accepted = (
   each_finds cfg ends (receipt_alike cfg at w v h none.0) none.1 accepted.1,
 )
 
-pub joined_alike : {within : Within} {cfg : Cfg} {w : World} (h : SessionsJoined within cfg Dte w) → Alike w h.links
-joined_alike h = record { near = h.near.link; far = h.far.link; out = h.out; back = h.back }
-
 -- ---- both fire, and then the links go on
 
 abbrev pub fired_then : List line.LinkEvent → List line.LinkEvent
 fired_then more = line.Near line.T1 ∷ line.Far line.T1 ∷ more
 
-module _ {within : Within} (cfg : Cfg) (w : World) (h : SessionsJoined within cfg Dte w) (near_off : awaits_ua w.near.link.phase ≡ false)
-    (far_off : awaits_ua w.far.link.phase ≡ false)
-    (more : List line.LinkEvent) (on_time : AreTimely (c_of cfg) (d_of cfg) more (links.run (c_of cfg) (d_of cfg) (fired_then []) h.links)) where
-  abbrev here_then : Sessions
-  here_then = links.run (c_of cfg) (d_of cfg) (fired_then more) h.links
-
-  timely : AreTimely (c_of cfg) (d_of cfg) (fired_then more) h.links
-  timely = (
-    off_timely (c_of cfg) (d_of cfg) h.links (ap (λ s. awaits_ua s.phase) h.near.link ∙ near_off),
-    (
-      off_timely (d_of cfg) (c_of cfg) (links.swapped (links.acts (c_of cfg) line.T1 h.links))
-          (ap (λ e. awaits_ua e.station.phase) (fires_alone (c_of cfg) h.links) ∙ ap (λ s. awaits_ua s.phase) h.far.link ∙ far_off),
-      on_time,
-    ),
-  )
-
-  pub gone_are : {u : World} → Alike u here_then → AreLinksOf cfg u here_then
-  gone_are alike = (
-    standing_run (c_of cfg) (d_of cfg) (h.reach.events ++ fired_then more) from_nothing (standing_at (c_of cfg) (d_of cfg) from_nothing),
-    record {
-      events = h.reach.events ++ fired_then more;
-      timely = timely_append (c_of cfg) (d_of cfg) h.reach.events (fired_then more) from_nothing h.reach.timely (rw h.reach.run timely);
-      run = links_append (c_of cfg) (d_of cfg) h.reach.events (fired_then more) from_nothing
-          ∙ ap (links.run (c_of cfg) (d_of cfg) (fired_then more)) h.reach.run;
-      standing = refl;
-      near = alike.near;
-      far = alike.far;
-      out = alike.out;
-      back = alike.back;
-    },
-  )
+pub gone_are : {cfg : Cfg} {w u : World} (h : SessionsJoined cfg Dte w) → awaits_ua w.near.link.phase ≡ false → awaits_ua w.far.link.phase ≡ false
+    → (more : List line.LinkEvent) → (let c = c_of cfg in let d = d_of cfg in AreTimely c d more (links.run c d (fired_then []) h.links)
+    → Alike u (links.run c d (fired_then more) h.links) → AreLinksOf cfg u (links.run c d (fired_then more) h.links))
+gone_are {cfg} h near_off far_off more on_time alike =
+    let c = c_of cfg in
+    let d = d_of cfg in
+    let near = off_timely c d h.links (ap (λ s. awaits_ua s.phase) h.near.link ∙ near_off) in
+    let far = off_timely d c (links.swapped (links.acts c line.T1 h.links))
+    (ap (λ e. awaits_ua e.station.phase) (fires_alone c h.links) ∙ ap (λ s. awaits_ua s.phase) h.far.link ∙ far_off) in
+    let both : Leads c d (fired_then more) h.links (links.run c d (fired_then more) h.links) = record { timely = (near, (far, on_time)); run = refl } in
+    run_of cfg (h.reach.events ++ fired_then more) (then_leads h.reach.leads both) alike
 
 -- ---- the laws
 
@@ -232,11 +201,8 @@ module _ (laws : SessionLaws) (keeps : ConnectKeeps) where
       w : World
       w = run cfg events begin
 
-      joined : IsJoined cfg w
-      joined = throughout_joined laws keeps cfg fine begin is events octets
-
-      h : SessionsJoined joined.0 cfg Dte w
-      h = joined.1
+      h : SessionsJoined cfg Dte w
+      h = throughout_joined laws keeps cfg fine begin is events octets
 
       shown : EachRestShows (c_of cfg) (d_of cfg) h.links
       shown = known_sessions EachRestShows law (is_configured cfg fine) h.reach
@@ -259,7 +225,7 @@ module _ (laws : SessionLaws) (keeps : ConnectKeeps) where
           (and_from (link.is_idle (station_at end w).link) (waits_up_to (station_at end w).layer.circuits cfg.channels.count == 0)
           (at_rest end up stopped).idle (eq-eqb (waits_up_to (station_at end w).layer.circuits cfg.channels.count) 0 none)) here there
 
-  module _ {within : Within} (law : SessionsHealUnlessBothBusy) (cfg : Cfg) (fine : IsConfigured cfg) (w : World) (h : SessionsJoined within cfg Dte w)
+  module _ (law : SessionsHealUnlessBothBusy) (cfg : Cfg) (fine : IsConfigured cfg) (w : World) (h : SessionsJoined cfg Dte w)
       (may : MayHeal w)
       (ends : List Role) where
     abbrev c : LinkSettings
@@ -302,7 +268,7 @@ module _ (laws : SessionLaws) (keeps : ConnectKeeps) where
                 before = h.links;
                 behind = gone;
                 before_are = links_are h;
-                behind_are = gone_are cfg w h may.near may.far (received ends) (deliveries_timely c d ends (links.run c d (fired_then []) h.links)) alike;
+                behind_are = gone_are h may.near may.far (received ends) (deliveries_timely c d ends (links.run c d (fired_then []) h.links)) alike;
                 healed = healed;
               };
         }
@@ -311,7 +277,7 @@ module _ (laws : SessionLaws) (keeps : ConnectKeeps) where
   heals_where law cfg fine begin is events octets may ends none after_all =
       let w = run cfg events begin in
       let configured = is_configured cfg fine in
-      let h = (throughout_joined laws keeps cfg fine begin is events octets).1 in
+      let h = throughout_joined laws keeps cfg fine begin is events octets in
       heals_at law cfg configured w h may ends (last law cfg configured w h may ends none) after_all
 
   -- ---- deliveries come to an end
@@ -319,10 +285,10 @@ module _ (laws : SessionLaws) (keeps : ConnectKeeps) where
   pub drains_where : SessionsDrainEnd → Throughout DrainsWhereNonePut
   drains_where law cfg fine begin is events octets =
       let w = run cfg events begin in
-      let h = (throughout_joined laws keeps cfg fine begin is events octets).1 in
+      let h = throughout_joined laws keeps cfg fine begin is events octets in
       let bound = law (c_of cfg) (d_of cfg) (joined_at Dte (is_configured cfg fine)) from_nothing (inl refl) h.reach.events in (
         bound.0,
         λ ends none accepted.
             subst (λ n. n ≤ bound.0) (received_length ends)
-            (bound.1 (received ends) (are_deliveries ends) (rw h.reach.run (each_finds cfg ends (joined_alike h) none accepted))),
+            (bound.1 (received ends) (are_deliveries ends) (rw h.reach.leads.run (each_finds cfg ends (joined_alike h) none accepted))),
       )

@@ -1,8 +1,8 @@
 -- Where the link is set up once, each end has one session, these are in order, and all that the ends told of their layers is in them.
-use Rattle.std.proofs.Common.{◌≡◌, ℕ, zero, suc, ◌+◌, ◌≤◌, ◌⊎◌, inl, inr, List, [], ◌∷◌, ◌++◌, true, Option, Some, None, refl, sym, ap, ◌∙◌, subst, arith}
+use Rattle.std.proofs.Common.{◌≡◌, ℕ, zero, suc, ◌+◌, ◌≤◌, ◌⊎◌, inl, inr, List, [], ◌∷◌, true, Option, Some, None, refl, sym, ap, ◌∙◌, subst, arith}
 use Rattle.x25_bits.specs.{declared.role.Role.{Role}, declared.role.Role.TheVariants.{Dte, Dce}}
-use Rattle.x25_link.specs.{Hearing.{other}, Station.{is_up, LinkStation, Settings as LinkSettings}}
-use Rattle.x25_line.specs.{laws.Sessions.{SessionEnd, Sessions, from_nothing, AreTimely}, laws.SessionClaims.{Each, OnlyBegunHaveLists}}
+use Rattle.x25_link.specs.{Hearing.{other}, Station.{is_up, LinkStation, LinkSettings}}
+use Rattle.x25_line.specs.{laws.Sessions.{SessionEnd, Sessions}, laws.SessionClaims.{Each, OnlyBegunHaveLists}}
 use Rattle.x25_line.specs.{laws.StationClaims.{AcceptsNoConnectAt}, laws.SessionEvents.{IsUnasked, NoneBeginUnasked}}
 use Rattle.x25_layer.specs.{Layer.{goes_up}, laws.Law.{HandsUpLawfully, HasAllOf}, laws.NameLaw.{first_name, counted}, laws.Apart.{own_run}}
 use Rattle.x25_layer.specs.laws.TwoLayers.{started}
@@ -15,7 +15,7 @@ use Rattle.x25_world.specs.{laws.Claims.{IsNoConnect, NoneConnects, link_of}, la
 use Rattle.x25_world.specs.laws.Sessions.{Progress, none_begun, after_entry, after_entries, progress_at, session_at, last_session}
 use Rattle.x25_world.proofs.{Established.{just_set_up}, sessions.SessionRuns.{next}}
 use Rattle.x25_world.proofs.{Known.{IsConfigured}, sessions.SessionTrace.{Done, layer_of, own}}
-use Rattle.x25_world.proofs.sessions.SessionReaches.{Within, known_sessions, joined_at, links_append, timely_append}
+use Rattle.x25_world.proofs.sessions.SessionReaches.{SessionsReach, Leads, reach_on, known_sessions}
 use Rattle.x25_world.proofs.sessions.SessionJoined.{HaveAll, IsEnd, HasMet, PairIsInOrder, SessionsJoined}
 use Rattle.x25_world.proofs.{sessions.SessionKnown.{met_in_order, nothing_in_order}, sessions.claims.SessionMeets.{begun_both, meet_in_step}}
 use Rattle.x25_world.proofs.{sessions.claims.SessionLawful.{own_lawful, are_named}, sessions.claims.SessionArrives.{all_arrive, open_stretches_meet}}
@@ -70,7 +70,8 @@ module _ (laws : SessionLaws) {cfg : Cfg} (fine : IsConfigured cfg) where
   abbrev d : LinkSettings
   d = link_of cfg Dce
 
-  pub are_first : {within : Within} (h : SessionsJoined within cfg Dte (established cfg)) → AreInFirst cfg h.links
+  -- once both links are up, each end is in its first session
+  pub are_first : (h : SessionsJoined cfg Dte (established cfg)) → AreInFirst cfg h.links
   are_first h =
       let up = just_set_up laws.stations cfg in
       record {
@@ -80,20 +81,18 @@ module _ (laws : SessionLaws) {cfg : Cfg} (fine : IsConfigured cfg) where
         far = sym (ap (λ p. p.begun) h.far.progress) ∙ ap (λ t. (progress_at Dce t).begun) up.told;
       }
 
-  -- after what these links did
-  all_stay : (act : Act) (end : Role) (asked : List line.Act) (past : List line.LinkEvent) {v : Sessions} → (Asks act line.Connect → ⊥) → Each (Asks act) asked
-      → AreTimely c d past from_nothing → links.run c d past from_nothing ≡ v → AreTimely c d (all_at end asked) v → AreInFirst cfg v
-      → AreInFirst cfg (links.run c d (all_at end asked) v)
-  all_stay act end [] past never may on_time is timely h = h
-  all_stay act end (a ∷ asked) past {v} never may on_time is timely h =
+  -- links that are reached stay so
+  all_stay : (act : Act) (end : Role) (asked : List line.Act) {v u : Sessions} → (Asks act line.Connect → ⊥) → Each (Asks act) asked
+      → SessionsReach cfg Dte v → Leads c d (all_at end asked) v u → AreInFirst cfg v → AreInFirst cfg u
+  all_stay act end [] never may reach l h = subst (AreInFirst cfg) l.run h
+  all_stay act end (a ∷ asked) {v} never may reach l h =
       let e = at_end end a in
-      let law = subst (NoneBeginUnasked c d) is (laws.unasked c d (joined_at Dte fine) from_nothing (inl refl) past on_time) in
-      let b = law.stays h.unasked e (accepts_none act end a _ _ never may.0) in
-      all_stay act end asked (past ++ e ∷ []) never may.1 (timely_append c d past (e ∷ []) from_nothing on_time (rw is (timely.0, tt)))
-      (links_append c d past (e ∷ []) from_nothing ∙ ap (links.happens c d e) is) timely.1
+      let b = (known_sessions NoneBeginUnasked laws.unasked fine reach).stays h.unasked e (accepts_none act end a _ _ never may.0) in
+      let one : Leads c d (e ∷ []) v (links.happens c d e v) = record { timely = (l.timely.0, tt); run = refl } in
+      all_stay act end asked never may.1 (reach_on reach one) (record { timely = l.timely.1; run = l.run })
       (record { unasked = b.unasked; near = b.near ∙ h.near; far = b.far ∙ h.far })
 
-  pub is_up_once : (events : List Event) {within : Within} {w : World} (h : SessionsJoined within cfg Dte w) → AreInFirst cfg h.links → AreInOctets events
+  pub is_up_once : (events : List Event) {w : World} (h : SessionsJoined cfg Dte w) → AreInFirst cfg h.links → AreInOctets events
       → NoneConnects cfg events w → (end : Role) → ups_in (entries_at end (run cfg events w).transcript) ≡ 1
   is_up_once [] h first octets none Dte = ups_are_begun h.near ∙ first.near
   is_up_once [] h first octets none Dce = ups_are_begun h.far ∙ first.far
@@ -101,10 +100,8 @@ module _ (laws : SessionLaws) {cfg : Cfg} (fine : IsConfigured cfg) where
     | inl refused ↦ (let is = refused_stays w (happens cfg w e) refused.0 refused.1 in
         subst (λ x. ups_in (entries_at end (run cfg events x).transcript) ≡ 1) (sym is)
         (is_up_once events h first octets.1 (subst (NoneConnects cfg events) is none.1) end))
-    | inr never ↦ (let j = (next laws cfg fine h e octets.0).joined in
-        let g = j.reach.grown in
-        is_up_once events j (subst (AreInFirst cfg) g.run (all_stay e.act e.at g.asked h.reach.events never g.may h.reach.timely h.reach.run g.timely first))
-        octets.1 none.1 end)
+    | inr never ↦ (let j = next laws cfg fine h e octets.0 in
+        is_up_once events j.goes.joined (all_stay e.act e.at j.asked never j.may h.reach j.leads first) octets.1 none.1 end)
   ]
 
 -- ---- where neither end goes up a second time
@@ -115,7 +112,7 @@ few_begun zero few = inl refl
 few_begun (suc zero) few = inr refl
 few_begun (suc (suc n)) few = absurd (omega (arith, few))
 
-module _ {within : Within} (laws : SessionLaws) (cfg : Cfg) (fine : IsConfigured cfg) (w : World) (h : SessionsJoined within cfg Dte w)
+module _ (laws : SessionLaws) (cfg : Cfg) (fine : IsConfigured cfg) (w : World) (h : SessionsJoined cfg Dte w)
     (once : IsUpAtMostOnce cfg w) where
   near_few : h.links.near.begun ≤ 1
   near_few = omega (arith, once Dte, ups_are_begun h.near)

@@ -57,6 +57,7 @@ none_arrives c w (octets ∷ back) is = cc
 abbrev ok : Result (Unit {0}) StationError
 ok = Ok tt
 
+-- the world goes on as the station answers a call that it accepts
 pub has_happened : (cfg : Cfg) {at : Role} (near : code.Station) {line : ShownLine} {w : World} (outcome : Outcome) (answer : code_step.Step)
     → FitsShared at line w w.back → Leaves (settings_from at cfg) near ok outcome
     → Sends (settings_from at cfg) answer ok outcome → Enters answer ok outcome → Refuses ok outcome
@@ -74,6 +75,7 @@ its_own : (e d : StationError) → e ≡ d → (Some (error.Station d) ≡ Some 
 its_own station.NoMemory d is = inr refl
 its_own e d is = inl (rw (sym is) refl)
 
+-- the world refuses by the error of the station, or for want of memory
 pub is_refusal : (cfg : Cfg) (at : Role) (w : World) (outcome : Outcome) (e : StationError)
     → Refuses (let r : Result (Unit {0}) StationError = Err e in r) outcome
     → (refusal_of (of_station (settings_from at cfg) w outcome) ≡ Some (error_of e)) ⊎ (error_of e ≡ error.NoMemory)

@@ -7,10 +7,10 @@ use Rattle.x25_station.specs.{declared.config.Cfg.{Cfg}, laws.KeepLaw.{ConnectKe
 use Rattle.x25_world.specs.{World.{World, Event, run, established}, laws.Claims.{AreInOctets, IsUpOnce, Always, link_of}, laws.LawsBelow.{SessionLaws}}
 use Rattle.x25_world.specs.laws.SessionWindow.{IsBehindWorld, both_put, links_by, machine_by, StaysInWindow}
 use Rattle.x25_world.proofs.{Known.{IsConfigured, is_configured}, Established.{just_set_up}, SetUpOnce.{ups_are_begun, are_first}}
-use Rattle.x25_world.proofs.{sessions.SessionReaches.{Within, joined_at}, sessions.SessionJoined.{SessionsJoined}, sessions.SessionRuns.{next, begin_joined}}
+use Rattle.x25_world.proofs.{sessions.SessionReaches.{joined_at}, sessions.SessionJoined.{SessionsJoined}, sessions.SessionRuns.{next, begin_joined}}
 use Rattle.x25_world.proofs.sessions.SessionsAlong.{After, asked_in, along}
 use Rattle.x25_line.proofs.sessions.SessionsForgotten.{Lasts, Alike, runs_alike}
-use Rattle.x25_link.specs.Station.{Settings as LinkSettings}
+use Rattle.x25_link.specs.Station.{LinkSettings}
 use Rattle.x25_line.specs.laws.Stations as line
 
 -- ---- a station by itself, and one with its sessions
@@ -61,20 +61,20 @@ module _ (laws : SessionLaws) (behind : MachineGoesAlong) (before : OnceStaysOnc
   abbrev d : LinkSettings
   d = link_of cfg Dce
 
-  linked_next : {within : Within} {w : World} (h : SessionsJoined within cfg Dte w) {e : Event} (j : After h e) {v : line.Stations} {l : Line (List ℕ)}
-      → AreLinked cfg h.links v l → AreLinked cfg j.links (line.run c d (asked_in j) v) (machine_run c d (asked_in j) v l)
+  linked_next : {w : World} (h : SessionsJoined cfg Dte w) {e : Event} (j : After h e) {v : line.Stations} {l : Line (List ℕ)}
+      → AreLinked cfg h.links v l → AreLinked cfg j.goes.joined.links (line.run c d (asked_in j) v) (machine_run c d (asked_in j) v l)
   linked_next h j {v} k =
       let es = asked_in j in
       record {
         past = k.past ++ es;
         links = run_append c d k.past es line.start ∙ ap (line.run c d es) k.links;
         machine = machine_append c d k.past es line.start _ ∙ ap₂ (λ x y. machine_run c d es x y) k.links k.machine;
-        alike = subst (λ x. Alike IsLike ⊥ x (line.run c d es v)) j.reach.grown.run (runs_alike like_lasts c d es k.alike);
+        alike = subst (λ x. Alike IsLike ⊥ x (line.run c d es v)) j.leads.run (runs_alike like_lasts c d es k.alike);
       }
 
   module _ {here : World} (once : IsUpOnce cfg here) where
     -- what isn't set up anew at the end wasn't before
-    stays_once : (events : List Event) {within : Within} {w : World} (h : SessionsJoined within cfg Dte w) → AreInOctets events → run cfg events w ≡ here
+    stays_once : (events : List Event) {w : World} (h : SessionsJoined cfg Dte w) → AreInOctets events → run cfg events w ≡ here
         → {v : line.Stations} {l : Line (List ℕ)} → AreLinked cfg h.links v l → IsSetUpOnce v
     stays_once [] h octets is k =
         let at = subst (IsUpOnce cfg) (sym is) once in
@@ -83,12 +83,12 @@ module _ (laws : SessionLaws) (behind : MachineGoesAlong) (before : OnceStaysOnc
           far = not_anew k.alike.far.anew (sym (ups_are_begun h.far) ∙ at Dce);
         }
     stays_once (e ∷ events) h octets is {v} k =
-        let j = (next laws cfg fine h e octets.0).joined in
-        before c d (asked_in j) v (stays_once events j octets.1 is (linked_next h j k))
+        let j = next laws cfg fine h e octets.0 in
+        before c d (asked_in j) v (stays_once events j.goes.joined octets.1 is (linked_next h j k))
 
-    is_behind : (events : List Event) (within : Within) (w : World) (h : SessionsJoined within cfg Dte w) → AreInOctets events → run cfg events w ≡ here
+    is_behind : (events : List Event) (w : World) (h : SessionsJoined cfg Dte w) → AreInOctets events → run cfg events w ≡ here
         → (v : line.Stations) (l : Line (List ℕ)) → AreLinked cfg h.links v l → IsBehindWorld cfg w v l
-    is_behind events within w h octets is v l k = record {
+    is_behind events w h octets is v l k = record {
       near = k.alike.near.station ∙ h.near.link;
       far = k.alike.far.station ∙ h.far.link;
       out = k.alike.out ∙ h.out;
@@ -99,13 +99,13 @@ module _ (laws : SessionLaws) (behind : MachineGoesAlong) (before : OnceStaysOnc
 pub stays_in_window : SessionLaws → ConnectKeeps → MachineGoesAlong → OnceStaysOnce → Always StaysInWindow
 stays_in_window laws keeps behind before cfg fine events octets once =
     let at = is_configured cfg fine in
-    let h = (begin_joined laws keeps at (inr (inr refl))).1 in
+    let h = begin_joined laws keeps at (inr (inr refl)) in
     let up = just_set_up laws.stations cfg in
     let first = are_first laws at h in
     let c = link_of cfg Dte in
     let d = link_of cfg Dce in
     along laws at (IsBehindWorld cfg) (line.run c d) (machine_run c d) (run cfg events (established cfg)) (λ w. AreLinked cfg)
-    (is_behind laws behind before at once) (λ within w h e j v l k. linked_next laws behind before at h j k) events h octets refl
+    (is_behind laws behind before at once) (λ w h e j v l k. linked_next laws behind before at h j k) events h octets refl
     (links_by cfg both_put) (machine_by cfg both_put) (record {
       past = both_put;
       links = refl;

@@ -1,11 +1,11 @@
 -- Two stations joined by a line of octets that keeps order and may lose or visibly damage any frame (profile: the
 -- line). Each act is of the near end, or of the line to it. The far end's acts are those of the two ends swapped.
-use Rattle.std.specs.Prelude.{◌≡◌, ℕ, nat_lt, ◌&&◌, ◌||◌, Bool, List, [], ◌∷◌, ◌++◌, length, map, remove, Option, Some}
+use Rattle.std.specs.Prelude.{◌≡◌, ℕ, nat_lt, ◌&&◌, ◌||◌, Bool, List, [], ◌∷◌, ◌++◌, length, map, Option, Some}
 use Rattle.std.specs.Prelude.{None, if◌then◌else◌}
 use Rattle.x25_bits.specs.{Role.{end_of, other}, declared.role.Role.{Role}, declared.role.Role.TheVariants.{Dte, Dce}}
 use Rattle.x25_frame.specs.Spelling.{spelling_of}
 use Rattle.x25_link.specs.Station.{awaits_ua}
-use Rattle.x25_line.specs.laws.Stations.{is_visible, replaced}
+use Rattle.x25_line.specs.{laws.Stations.{is_visible}, laws.Loss.{remove, replaced}}
 use Rattle.x25_station.specs.{declared.config.Cfg.{Cfg}, Config.{Settings, settings_from}}
 use Rattle.x25_station.specs.{Command.{Command, command_of}, Entry.{StationEntry}, Station.{Station, new_station}}
 use Rattle.x25_station.specs.Step.{Step, Outcome, Did, Refused, connects, fires, receives, commands}
@@ -91,7 +91,8 @@ lost w place = if nat_lt place (length w.back) then Happened (on_line w (remove 
 
 abbrev pub damaged : World → ℕ → List ℕ → WorldOutcome
 damaged w place octets =
-    if nat_lt place (length w.back) then (if is_visible octets then Happened (on_line w (replaced w.back place octets))
+    if nat_lt place (length w.back) then (if is_visible octets then Happened
+    (on_line w (replaced w.back place (λ _. octets)))
     else Declined error.Unseen)
     else Declined error.NoSuchFrame
 

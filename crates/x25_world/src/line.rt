@@ -1,7 +1,7 @@
 ghost use Rattle.std.specs.Prelude.{◌≡◌, ◌+◌, ◌*◌, ◌<◌, ◌≤◌, ◌++◌, max, [], length, map, remove, OnOk, OnErr, ◌∷◌};
 ghost use Rattle.std.specs.Prelude.{option_copied, vec_len, vec_capacity, IfOk};
 ghost use Rattle.std.specs.Prelude.{slice_get};
-ghost use Rattle.x25_line.specs.laws.Stations.{replaced};
+ghost use Rattle.x25_line.specs.laws.Loss.{replaced};
 ghost use Rattle.x25_world.specs.code.ShownLine.{ShownLine, line_to, with_line_to, with_room_of};
 ghost use Rattle.x25_world.specs.code.ShownLine.{put_by, TakesFew};
 ghost use Rattle.std.specs.VecDeque.{deque_len, deque_capacity};
@@ -168,7 +168,7 @@ impl Line {
     pub fn replace(&mut self, to: Role, place: usize, octets: &[u8]) -> Result<(), AllocError>
         requires { place < length (line_to self.old to) }
         ensures ok { OnOk result (self.new
-            ≡ with_line_to self.old to (replaced (line_to self.old to) place octets.now)) }
+            ≡ with_line_to self.old to (replaced (line_to self.old to) place (λ _. octets.now))) }
         ensures err { OnErr result (self.new ≡ self.old) }
     {
         let own = with_octets(Vec::with_capacity(self.alloc, octets.len())?, octets);

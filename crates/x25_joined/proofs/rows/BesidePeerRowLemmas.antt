@@ -26,19 +26,16 @@ use Rattle.x25_handshakes.specs.laws.Handshake.{At, PeerStep}
 use Rattle.x25_handshakes.specs.laws.Layers.{LayerPacket, Restart}
 use Rattle.x25_handshakes.specs.laws.PeerLayer.{PeerChannels, LayerDeed, InChannel, does_layer, layer_taking}
 use Rattle.x25_handshakes.specs.laws.PeerLayers.{other_role}
-use Rattle.x25_layer.specs.Layer.{goes_up}
-use Rattle.x25_layer.specs.laws.TwoLayers.{started}
 use Rattle.x25_layer.specs.laws.PeerJoined as layer_peer
-use Rattle.x25_layer.specs.laws.PeerJoined.{Joined}
 use Rattle.x25_script.specs.Reading.{parts_of, number_in, small_number_in, params_in, with_params_in, call_in, accept_in, send_in, interrupt_in, with_fields, part_in, with_in, command_in, lose_in, damage_in, drain_in, line_in}
 use Rattle.x25_io.specs.Lines.{lines_of}
 use Rattle.x25_transcript.specs.EntryText.{entry_line}
 use Rattle.x25_console.specs.Telling.{frame_line, refusal_line}
-use Rattle.x25_station.specs.Config.{Settings, settings_from, layer_settings}
+use Rattle.x25_station.specs.Config.{Settings, settings_from}
 use Rattle.x25_pipe.specs.Pipe.{saying_line, event_in, event_turn, turn, turns, piped}
 use Rattle.x25_world.specs.laws.TapOctets.{AreOfFrame}
 use Rattle.x25_peer.specs.laws.BesideSessions as beside
-use Rattle.x25_peer.specs.laws.BesideSessions.{BesideSessions, links, their_now, their_layer, at_peer, layer_went}
+use Rattle.x25_peer.specs.laws.BesideSessions.{BesideSessions, links, their_now, their_layer, layer_went}
 use Rattle.x25_joined.specs.laws.BesidePeer.{Program, nothing_read, bare, reads, ReachedProgram, at_start, goes_on, Reads, Takes, Elsewhere}
 use Rattle.x25_joined.specs.rows.BesidePeerRows.{of_all_forms, CallIsAccepted}
 use Rattle.x25_joined.proofs.rows.JoinedRowLemmas.{opens}
@@ -108,10 +105,6 @@ layer_hears c p = layer_taking (other_role c.role) (their_layer (bare c p)).epoc
 abbrev layer_does : Settings → Program → LayerDeed → At PeerChannels
 layer_does c p deed = does_layer (their_layer (bare c p)).epoch (their_layer (bare c p)).side deed
 
--- whatever end of the program's stands there
-abbrev at_layer : Program → Joined
-at_layer p = at_peer (started (goes_up (layer_settings ours))) (bare ours p)
-
 -- ---- the history
 
 pub call_is_accepted : CallIsAccepted
@@ -137,17 +130,17 @@ call_is_accepted =
     let came : BesideSessions = layer_went (bare ours p4) (record (their_now (bare ours p4)) { heard = 1; passed = restart 0 0 ∷ [] }) [] in
     let q4 : Program = record p4 { peer = came.peer; theirs = came.theirs } in
     let s4 : ReachedProgram ours q4 = goes_on p4 q4 r4 (Elsewhere came (beside.Comes (restart 0 0) restart_packet [] refl refl refl)) in
-    let j5 : Joined = layer_peer.peer_stepped (at_layer q4) [] (restart_conf ∷ []) (layer_hears ours q4) in
-    let v5 : BesideSessions = layer_went (bare ours q4) (record (their_now (bare ours q4)) { layer = j5.peer; passed = j5.out }) (confirmation_packet ∷ []) in
+    let y5 : At PeerChannels = (layer_hears ours q4).next in
+    let v5 : BesideSessions = layer_went (bare ours q4) (record (their_now (bare ours q4)) { layer = y5; passed = [] }) (confirmation_packet ∷ []) in
     let p5 : Program = record p4 { peer = v5.peer; theirs = v5.theirs } in
-    let r5 : ReachedProgram ours p5 = goes_on q4 p5 s4 (Elsewhere v5 (beside.LayerMoves (at_layer q4).near j5
-    (layer_peer.Hears (restart 0 0) [] (restart_conf ∷ []) refl (record { are = refl; configured = (λ has. absurd has, tt) })) (confirmation_packet ∷ []) refl tt (refl, tt))) in
+    let r5 : ReachedProgram ours p5 = goes_on q4 p5 s4 (Elsewhere v5 (beside.LayerMoves y5 [] (restart_conf ∷ []) (confirmation_packet ∷ []) refl
+    (layer_peer.Hears (restart 0 0) [] (restart_conf ∷ []) refl (record { are = refl; configured = (λ has. absurd has, tt) })) (refl, tt))) in
     let deed : LayerDeed = InChannel 1 (InCall (PlacesCall (request_in [] [] [] []))) in
-    let j6 : Joined = record (at_layer p5) { peer = layer_does ours p5 deed; back = call 1 [] [] [] [] ∷ [] } in
-    let v6 : BesideSessions = layer_went (bare ours p5) (record (their_now (bare ours p5)) { layer = j6.peer; passed = j6.out }) (call_packet ∷ []) in
+    let y6 : At PeerChannels = layer_does ours p5 deed in
+    let v6 : BesideSessions = layer_went (bare ours p5) (record (their_now (bare ours p5)) { layer = y6; passed = [] }) (call_packet ∷ []) in
     let p6 : Program = record p5 { peer = v6.peer; theirs = v6.theirs } in
-    let r6 : ReachedProgram ours p6 = goes_on p5 p6 r5 (Elsewhere v6 (beside.LayerMoves (at_layer p5).near j6
-    (layer_peer.Does deed (call 1 [] [] [] []) refl refl (λ has. refl)) (call_packet ∷ []) refl tt (refl, tt))) in
+    let r6 : ReachedProgram ours p6 = goes_on p5 p6 r5 (Elsewhere v6 (beside.LayerMoves y6 [] (call 1 [] [] [] [] ∷ []) (call_packet ∷ []) refl
+    (layer_peer.Does deed (call 1 [] [] [] []) refl refl (λ has. refl)) (refl, tt))) in
     let x7 : Peer = told_to 1 (numbered_to 0 (now p6.peer)) in
     let e7 : PeerEnd = with_now x7 p6.peer in
     let p7 : Program = record p6 { peer = e7; back = sent 1 confirmation_octets ∷ [] } in

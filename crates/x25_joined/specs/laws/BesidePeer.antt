@@ -8,7 +8,7 @@ use Rattle.x25_line.specs.laws.Peer.{fresh_peer}
 use Rattle.x25_line.specs.laws.Sessions.{Entry, Meeting}
 use Rattle.x25_line.specs.laws.PeerSessions.{PeerEnd, Out, IsDue}
 use Rattle.x25_station.specs.Config.{Settings, link_settings}
-use Rattle.x25_station.specs.laws.TimerLaw.{Event, Fires}
+use Rattle.x25_station.specs.laws.TimerLaw.{StationEvent, Fires}
 use Rattle.x25_io.specs.Lines.{IsOpen}
 use Rattle.x25_pipe.specs.Pipe.{sends, saying_line, event_in}
 use Rattle.x25_world.specs.laws.Claims.{ups_in}
@@ -75,7 +75,7 @@ reads c p more back met = record p {
 -- ---- what may happen
 
 -- timer T1 of a station that awaits UA runs out where it is due
-abbrev pub IsInTime : Settings → Program → Option Event → Type 0
+abbrev pub IsInTime : Settings → Program → Option StationEvent → Type 0
 IsInTime c p (Some Fires) =
     (station_of c p.read).link.phase ≡ Waiting → IsDue (link_settings c) (links (bare c p))
 IsInTime c p event = Unit {0}

@@ -1,18 +1,18 @@
 -- Two programs `x25 station`, one at each end, joined by a line that keeps order and may lose or visibly damage any
 -- frame (profile). What a program writes is told by `piped`, of all that it read. Each act is of the near end, or of
 -- the line to it. The far end's acts are those of the two ends swapped.
-use Rattle.std.specs.Prelude.{◌≡◌, ℕ, Bool, true, false, ◌&&◌, ◌||◌, nat_lt, List, [], ◌∷◌, ◌++◌, length, drop, remove}
-use Rattle.std.specs.Prelude.{if◌then◌else◌, Option, Some, codes}
+use Rattle.std.specs.Prelude.{◌≡◌, ℕ, Bool, true, false, ◌&&◌, ◌||◌, List, [], ◌∷◌, ◌++◌, length, drop}
+use Rattle.std.specs.Prelude.{Option, Some, codes}
 use Rattle.x25_bits.specs.Role.{other}
 use Rattle.x25_bits.specs.declared.role.Role.{Role}
 use Rattle.x25_bits.specs.declared.role.Role.TheVariants.{Dte, Dce}
 use Rattle.x25_link.specs.Station.{awaits_ua}
-use Rattle.x25_line.specs.laws.Stations.{is_visible, replaced}
+use Rattle.x25_line.specs.{laws.Stations.{is_visible}, laws.Loss.{remove, replaced}}
 use Rattle.x25_station.specs.declared.config.Cfg.{Cfg}
 use Rattle.x25_station.specs.Entry.{StationEntry}
 use Rattle.x25_station.specs.Config.{Settings, settings_from}
 use Rattle.x25_station.specs.Station.{Station}
-use Rattle.x25_station.specs.laws.TimerLaw.{Event, Comes, Fires}
+use Rattle.x25_station.specs.laws.TimerLaw.{StationEvent, Comes, Fires}
 use Rattle.x25_io.specs.Lines.{IsOpen}
 use Rattle.x25_pipe.specs.Pipe.{Saying, enters, sends, reads_nothing, refuses, marks, saying_line, event_in, piped}
 use Rattle.x25_world.specs.SetUp.{carries}
@@ -97,16 +97,17 @@ pub data Act : Type 0 where
   Loses : (place : ℕ) → Act
   Damages : (place : ℕ) → (octets : List ℕ) → Act
 
+-- past the end of the line nothing is lost or damaged
 abbrev pub acts : Settings → Joined → Act → Joined
 acts c j (Reads line) = reads c j j.back (line ++ codes "\n")
 acts c j Takes = takes c j j.back
-acts c j (Loses place) = if nat_lt place (length j.back) then on_line j (remove j.back place) else j
-acts c j (Damages place octets) = if nat_lt place (length j.back) then on_line j (replaced j.back place octets) else j
+acts c j (Loses place) = on_line j (remove j.back place)
+acts c j (Damages place octets) = on_line j (replaced j.back place (λ _. octets))
 
 -- ---- what may happen
 
 -- a line that comes of the user is no frame of the other end
-abbrev pub IsNoFrame : Option Event → Type 0
+abbrev pub IsNoFrame : Option StationEvent → Type 0
 IsNoFrame (Some (Comes octets)) = ⊥
 IsNoFrame event = Unit {0}
 
@@ -115,7 +116,7 @@ abbrev pub is_on_line : Settings → Joined → Bool
 is_on_line c j = carries Sabm c.role j.out || carries Ua (other c.role) j.back
 
 -- timer T1 of an end that awaits UA doesn't run out while SABM or UA can still arrive
-abbrev pub IsInTime : Settings → Joined → Option Event → Type 0
+abbrev pub IsInTime : Settings → Joined → Option StationEvent → Type 0
 IsInTime c j (Some Fires) = (awaits_ua (station_of c j.near).link.phase && is_on_line c j) ≡ false
 IsInTime c j event = Unit {0}
 

@@ -57,9 +57,11 @@ pub told_map : (P Q : ℕ → Type 0) → ((n : ℕ) → P n → Q n) → (es : 
 told_map P Q f [] h = tt
 told_map P Q f (e ∷ es) h = (of_tells e.said (Q e.session) (f e.session) h.0, told_map P Q f es h.1)
 
+-- of no session
 abbrev pub Never : ℕ → Type 0
 Never n = ⊥
 
+-- of session q alone
 abbrev pub Of : ℕ → ℕ → Type 0
 Of q n = n ≡ q
 
@@ -79,6 +81,7 @@ are_none b (e ∷ es) h = (sabm_free e.said (e.session ≡ b) (omega (arith, h))
 pub are_push : (b : ℕ) (es : List Letter) (e : Letter) → AreOf b es → OfSabm e.said (e.session ≡ b) → AreOf b (es ++ e ∷ [])
 are_push b es e h k = each_append (λ x. OfSabm x.said (x.session ≡ b)) es (e ∷ []) h (k, tt)
 
+-- what a line loses or spoils leaves each SABM in its session
 pub are_less : (b : ℕ) {i : ℕ} {es fs : List Letter} → LessAt IsSpoilt i es fs → AreOf b es → AreOf b fs
 are_less b l h = each_less (λ e. OfSabm e.said (e.session ≡ b)) (λ e f is k. rw is tt) l h
 
@@ -142,10 +145,12 @@ after_base q b c (e ∷ es) none h =
 abbrev pub IsAsked : Type 0 → Type 0 → ℕ → ℕ → Letter → List Letter → Type 0
 IsAsked Now Older b q e es = (Now × (e.session ≡ b) × AllTold Never es) ⊎ (Older × (e.session < b) × AllTold (Of q) es)
 
+-- so is each SABM on the line, with what is behind it
 abbrev pub AllAsked : Type 0 → Type 0 → ℕ → ℕ → List Letter → Type 0
 AllAsked Now Older b q [] = Unit {0}
 AllAsked Now Older b q (e ∷ es) = OfSabm e.said (IsAsked Now Older b q e es) × AllAsked Now Older b q es
 
+-- where no SABM is on the line
 pub asked_none : (N O : Type 0) (b q : ℕ) (es : List Letter) → how_many sabm_of es ≡ 0 → AllAsked N O b q es
 asked_none N O b q [] h = tt
 asked_none N O b q (e ∷ es) h = (sabm_free e.said (IsAsked N O b q e es) (omega (arith, h)), asked_none N O b q es (omega (arith, h)))

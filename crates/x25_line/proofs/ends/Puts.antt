@@ -2,6 +2,7 @@
 use Rattle.std.proofs.{Common.{◌≡◌, ◌==◌, ◌⊎◌, inl, inr, ℕ, Bool, true, false, if◌then◌else◌, refl, ap, ◌∙◌, sym}, lemmas.Bool.{eq-eqb, eqb-true}}
 use Rattle.x25_line.specs.{laws.Peer.{Peer}, laws.Ends.{put_for}}
 
+-- a session is this one, or another by the test of put_for
 pub same_or_other : (n b : ℕ) → (n ≡ b) ⊎ ((n == b) ≡ false)
 same_or_other n b = go (n == b) refl
   where

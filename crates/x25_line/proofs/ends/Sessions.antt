@@ -2,9 +2,9 @@
 use Rattle.std.proofs.Common.{◌≡◌, ◌≤◌, ◌<◌, ◌==◌, ◌⊎◌, inl, inr, ℕ, suc, List, [], ◌∷◌, ◌++◌, Bool, true, false, Option, Some, None, refl, sym, ap, ◌∙◌}
 use Rattle.std.proofs.Common.{subst, arith, append-nil, length}
 use Rattle.x25_window.specs.code.Modulo.{resolved}
-use Rattle.x25_line.specs.{laws.InWindow.{IsPrefix}, laws.Said.{sabm_of, Said, Carried, Tells, Sabm, Disc, Ua, Else, Odd}, laws.Sessions.{Meeting, turned}}
-use Rattle.x25_line.specs.{laws.SessionClaims.{Each, SomeMet}, laws.Peer.{Peer, fresh_peer, MaySay, MayMake}}
-use Rattle.x25_line.specs.laws.Ends.{Stand, Out, Asking, In, put_for, Letter, letter, Two, how_many, meets, heard, OfTells, AreOf, Moves, free, odd, asks}
+use Rattle.x25_line.specs.{laws.InWindow.{IsPrefix}, laws.Said.{sabm_of, Said, Carried, Tells, Sabm, Disc, Ua, Else, Odd}}
+use Rattle.x25_line.specs.{laws.Sessions.{Meeting, turned, meets}, laws.SessionClaims.{Each, SomeMet}, laws.Peer.{Peer, fresh_peer, MaySay, MayMake}}
+use Rattle.x25_line.specs.laws.Ends.{Stand, Out, Asking, In, put_for, Letter, letter, Two, how_many, heard, OfTells, AreOf, Moves, free, odd, asks}
 use Rattle.x25_line.specs.laws.Ends.{closes, hears, takes_ua, takes_sabm, waits_on, takes_disc, loses, Ends, ends_swapped, near_now, with_near, begins}
 use Rattle.x25_line.specs.laws.Ends.{fresh_where, with_packet, Does, sends, listens, moves, begin_at, EndsReached, at_start, set_up, near_handed, far_handed}
 use Rattle.x25_line.specs.{laws.Ends.{near_does, far_does}, laws.EndClaims.{InOrder, MetInOrder, KeepSessions, OfAnyTwoEnds}}

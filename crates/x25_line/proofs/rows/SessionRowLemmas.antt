@@ -1,21 +1,22 @@
 -- The worked rows of sessions, by computing: what comes is what the frame is that was spelled.
-use Rattle.std.proofs.Common.{◌≡◌, ℕ, List, [], ◌∷◌, true, false, Result, Ok, arith, refl, sym, ap, ◌∙◌, subst}
+use Rattle.std.proofs.Common.{◌≡◌, ℕ, List, [], ◌∷◌, true, false, if◌then◌else◌, Result, Ok, arith, refl, sym, ap, ◌∙◌, subst}
 use Rattle.x25_bits.specs.{declared.role.Role.{Role}, declared.role.Role.TheVariants.{Dte, Dce}}
 use Rattle.x25_frame.specs.{Frame.{PlainFrame, rr, sabm, ua}, Spelling.{spelling_of}, Reading.{frame_of}, laws.ReadingLaw.{ReadsSpelled}}
 use Rattle.x25_frame.specs.declared.error.FrameError.{FrameError}
-use Rattle.x25_link.specs.{Station.{Settings, is_up, pumped}, Hearing.{other}, Link.{alone, closed_by, hears}}
-use Rattle.x25_line.specs.{laws.Stations.{Put, Deliver, T1, Connect, Abandon, Lose, Near, Far}, rows.StationRows.{dte, dce}, laws.StationClaims.{number_in}}
-use Rattle.x25_line.specs.laws.Sessions.{Entry, Sessions, after_step, heard, delivered, swapped, acts, happens, run, from_nothing, from_set_up}
+use Rattle.x25_link.specs.{Station.{LinkSettings, is_up, pumped}, Hearing.{other}, Link.{alone, closed_by, hears}}
+use Rattle.x25_line.specs.{laws.Stations.{Put, Deliver, T1, Connect, Abandon, Lose, Near, Far}, rows.StationRows.{dte, dce}, laws.Said.{said}}
+use Rattle.x25_line.specs.laws.Sessions.{Entry, Sessions, after_step, meets, delivered, swapped, acts, happens, run, from_nothing, from_set_up}
 use Rattle.x25_line.specs.rows.SessionRows.{IsFirst, SetsUpFromNothing, IsSecond, SetsUpAgain}
 use Rattle.x25_line.proofs.rows.StationRowLemmas.{packet_frame, crossing_frame, info_reads, bare_reads, ready_reads}
 
 -- the two stations once octets that read as this have come to the near end
-abbrev pub taken_as : Settings → Result PlainFrame FrameError → Entry → List Entry → Sessions → Sessions
+abbrev pub taken_as : LinkSettings → Result PlainFrame FrameError → Entry → List Entry → Sessions → Sessions
 taken_as c r e back w =
-    after_step c w back (heard (is_up w.near.station.phase) (number_in r) (record { near = w.near.begun; far = e.session }) w.met) []
+    after_step c w back (if is_up w.near.station.phase then meets (said r) (record { near = w.near.begun; far = e.session }) w.met else w.met) []
     (closed_by c.window (hears c e.octets r w.near.station.phase (alone w.near.station)))
 
-pub comes : (c : Settings) (r : Result PlainFrame FrameError) (e : Entry) (back : List Entry) (w : Sessions) → frame_of (other c.role) c.longest e.octets ≡ r
+pub comes : (c : LinkSettings) (r : Result PlainFrame FrameError) (e : Entry) (back : List Entry) (w : Sessions)
+    → frame_of (other c.role) c.longest e.octets ≡ r
     → w.back ≡ e ∷ back
     → acts c Deliver w ≡ taken_as c r e back w
 comes c r e back w reads is = ap (λ es. delivered c es w) is ∙ ap (λ z. taken_as c z e back w) reads

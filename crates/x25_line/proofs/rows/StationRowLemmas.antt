@@ -4,7 +4,7 @@ use Rattle.x25_bits.specs.{declared.role.Role.{Role}, declared.role.Role.TheVari
 use Rattle.x25_frame.specs.{Frame.{PlainFrame, info, rr, sabm, disc, ua, dm}, Spelling.{spelling_of}, Reading.{frame_of}, laws.ReadingLaw.{ReadsSpelled}}
 use Rattle.x25_frame.specs.{declared.error.FrameError.{FrameError}, declared.error.FrameError.TheVariants.{Short}}
 use Rattle.x25_link.specs.{declared.phase.Phase.TheVariants.{Down, Waiting, Closed}, declared.phase.Reason.TheVariants.{Reset, Counts, Disc}}
-use Rattle.x25_link.specs.{Station.{Settings, fresh, pumped}, Hearing.{other}, Link.{alone, closed_by, hears, is_idle}}
+use Rattle.x25_link.specs.{Station.{LinkSettings, fresh, pumped}, Hearing.{other}, Link.{alone, closed_by, hears, is_idle}}
 use Rattle.x25_line.specs.laws.Stations.{Stations, Put, Deliver, T1, Connect, Disconnect, Abandon, LinkEvent, Near, Far, after_step, acts, delivered}
 use Rattle.x25_line.specs.laws.Stations.{stations_swapped, happens, run, start}
 use Rattle.x25_line.specs.rows.StationRows.{dte, dce, IsAcrossFive, PacketGoes, PacketsCross, lost, LostComesAgain, damaged, DamagedComesAgain, DisconnectEnds}
@@ -12,10 +12,10 @@ use Rattle.x25_line.specs.rows.StationRows.{AbandonEnds, ConnectSetsUp, ConnectI
 use Rattle.x25_line.proofs.StationLines.{AreParting, parts_of, part_reads}
 
 -- the world once octets that read as this have come to the near end
-abbrev pub taken_as : Settings → Result PlainFrame FrameError → List ℕ → List (List ℕ) → Stations → Stations
+abbrev pub taken_as : LinkSettings → Result PlainFrame FrameError → List ℕ → List (List ℕ) → Stations → Stations
 taken_as c r octets back w = after_step c w back [] (closed_by c.window (hears c octets r w.near.station.phase (alone w.near.station)))
 
-pub comes : (c : Settings) (r : Result PlainFrame FrameError) (octets : List ℕ) (back : List (List ℕ)) (w : Stations)
+pub comes : (c : LinkSettings) (r : Result PlainFrame FrameError) (octets : List ℕ) (back : List (List ℕ)) (w : Stations)
     → frame_of (other c.role) c.longest octets ≡ r → w.back ≡ octets ∷ back
     → acts c Deliver w ≡ taken_as c r octets back w
 comes c r octets back w reads is = ap (λ os. delivered c os w) is ∙ ap (λ z. taken_as c z octets back w) reads

@@ -1,15 +1,15 @@
 -- What each act leaves: of its end what each step of a station keeps, the other end as it was, and of the line to it all but one entry at most.
 use Rattle.std.proofs.{Common.{◌≡◌, ℕ, ◌≤◌, List, [], ◌∷◌, length, refl}, lemmas.Bool.{leb-true}}
 use Rattle.std.specs.Prelude.{nat_le}
-use Rattle.x25_link.specs.Station.{Settings, LinkStation, is_up}
+use Rattle.x25_link.specs.Station.{LinkSettings, LinkStation, is_up}
 use Rattle.x25_link.specs.Link.{take_step, put_step, timer_step, connect_step, disconnect_step, abandon_step, put_refusal, timer_refusal, connect_refusal}
 use Rattle.x25_link.specs.Link.{disconnect_refusal}
 use Rattle.x25_line.specs.laws.Stations.{Act, Put, Deliver, T1, Connect, Disconnect, Abandon, Probe, Lose, Damage, is_visible}
-use Rattle.x25_line.specs.laws.Sessions.{Entry, Sessions, delivered, acts}
+use Rattle.x25_line.specs.laws.Sessions.{Entry, Sessions, delivered, with_octets, acts}
 use Rattle.x25_line.specs.{laws.Loss.{LessAt, gone, Less}, laws.PeerSessions.{IsSeenIn}}
-use Rattle.x25_line.proofs.{Losses.{untouched, removes, replaces_in}, Choices.{unless_by, if_by}}
+use Rattle.x25_line.proofs.{Losses.{untouched, removes, replaces}, Choices.{unless_by, if_by}}
 
-pub record Keeps (c : Settings) (P : LinkStation → Type 0) : Type 0 where
+pub record Keeps (c : LinkSettings) (P : LinkStation → Type 0) : Type 0 where
   pub takes : (o : List ℕ) (s : LinkStation) → P s → P (take_step c o s).side.near
   pub puts : (packet : List ℕ) (s : LinkStation) → length packet ≤ c.longest → P s → P (put_step c packet s).side.near
   pub fires : (s : LinkStation) → P s → P (timer_step c s).side.near
@@ -22,7 +22,7 @@ pub record Stays (P : LinkStation → Type 0) (w v : Sessions) : Type 0 where
   pub far : v.far ≡ w.far
   pub less : Less IsSeenIn w.back v.back
 
-module _ (c : Settings) (P : LinkStation → Type 0) (keeps : Keeps c P) (w : Sessions) (h : P w.near.station) where
+module _ (c : LinkSettings) (P : LinkStation → Type 0) (keeps : Keeps c P) (w : Sessions) (h : P w.near.station) where
   abbrev s : LinkStation
   s = w.near.station
 
@@ -50,13 +50,14 @@ module _ (c : Settings) (P : LinkStation → Type 0) (keeps : Keeps c P) (w : Se
   act_stays Probe = if_by (Stays P w) (is_up s.phase) as_it_was (λ _. record { near = keeps.fires s h; far = refl; less = kept })
   act_stays (Lose i) = record { near = h; far = refl; less = (i, removes w.back i) }
   act_stays (Damage i octets) = if_by (Stays P w) (is_visible octets) as_it_was
-      (λ visible. record { near = h; far = refl; less = (i, replaces_in octets visible w.back i) })
+      (λ visible. record { near = h; far = refl; less = (i, replaces (with_octets octets) (λ _. (refl, visible)) w.back i) })
 
 -- where nothing is asked of the station
 abbrev pub Anything : LinkStation → Type 0
 Anything s = Unit {0}
 
-pub acts_still : (c : Settings) (a : Act) (w : Sessions) → Stays Anything w (acts c a w)
+-- an act of one end leaves the other as it is, and takes one at most off the line to itself
+pub acts_still : (c : LinkSettings) (a : Act) (w : Sessions) → Stays Anything w (acts c a w)
 acts_still c a w =
     act_stays c Anything (record {
       takes = λ _ _ _. tt;

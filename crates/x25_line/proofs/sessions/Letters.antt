@@ -1,27 +1,22 @@
 -- What the rules look at in the octets on a line.
-use Rattle.std.proofs.Common.{◌≡◌, ℕ, List, [], ◌∷◌, ◌++◌, true, Ok, Err, refl, sym, ap, ◌∙◌}
+use Rattle.std.proofs.Common.{◌≡◌, ℕ, List, [], ◌∷◌, ◌++◌, true, if◌then◌else◌, Ok, refl, sym, ap, ◌∙◌}
 use Rattle.x25_bits.specs.declared.role.Role.{Role}
-use Rattle.x25_frame.specs.{Frame.{PlainFrame, sabm}, Spelling.{spelling_of}, Reading.{frame_of}, declared.error.FrameError.TheVariants.{Short}}
-use Rattle.x25_link.specs.{declared.phase.Phase.{Phase}, declared.phase.Phase.TheVariants.{Up}, Station.{Settings, is_up}, Hearing.{other}}
-use Rattle.x25_line.specs.laws.Sessions.{Entry, Meeting, letters, heard, sent_in}
-use Rattle.x25_line.specs.{laws.PeerSessions.{stand_of, IsSeenIn, Puts, put}, laws.Ends.{OfSabm, AreOf, meets, IsSpoilt}}
+use Rattle.x25_frame.specs.{Frame.{PlainFrame, sabm}, Spelling.{spelling_of}, Reading.{frame_of}}
+use Rattle.x25_link.specs.{declared.phase.Phase.{Phase}, declared.phase.Phase.TheVariants.{Up}, Station.{LinkSettings, is_up}, Hearing.{other}}
+use Rattle.x25_line.specs.laws.Sessions.{Entry, Meeting, letters, meets, sent_in}
+use Rattle.x25_line.specs.{laws.PeerSessions.{stand_of, IsSeenIn, Puts, put}, laws.Ends.{OfSabm, AreOf, IsSpoilt}}
 use Rattle.x25_line.specs.laws.Loss.{LessAt, nothing, gone, hurt, deeper}
 use Rattle.x25_line.proofs.{StationLines.{visible_is}, sessions.SessionLines.{Read}, sessions.SessionMay.{entry}}
-use Rattle.x25_line.specs.{laws.Stations.{is_visible}, laws.StationClaims.{number_in}}
+use Rattle.x25_line.specs.laws.Stations.{is_visible}
 use Rattle.x25_line.specs.laws.Said.{Said, Sabm, Else, Odd as OddSaid, said, letter}
 use Rattle.x25_line.specs.laws.Ends as ends
 
 -- ---- one of them
 
-meets_said : (r : Read) (m : Meeting) (met : List Meeting) → heard true (number_in r) m met ≡ meets (said r) m met
-meets_said (Ok (sabm p)) m met = refl
-meets_said (Err Short) m met = refl
-meets_said r m met = refl
-
 -- who meets whom, as an end hears it
-pub heard_said : (p : Phase) (b t : ℕ) (r : Read) (met : List Meeting) → heard (is_up p) (number_in r) (record { near = b; far = t }) met
+pub heard_said : (p : Phase) (b t : ℕ) (r : Read) (met : List Meeting) → (if is_up p then meets (said r) (record { near = b; far = t }) met else met)
     ≡ ends.heard (stand_of p) b (letter t (said r)) met
-heard_said Up b t r met = meets_said r (record { near = b; far = t }) met
+heard_said Up b t r met = refl
 heard_said p b t r met = refl
 
 -- ---- all on a line
@@ -65,6 +60,6 @@ never_odd : (f : PlainFrame) → said (Ok f) ≡ OddSaid → ⊥
 never_odd (sabm p) is = cc
 never_odd f is = cc
 
-pub puts_frame : {Odd : Type 0} {c : Settings} {es : List Entry} (n : ℕ) (o : List ℕ) (f : PlainFrame) → frame_of (other c.role) c.longest o ≡ Ok f
+pub puts_frame : {Odd : Type 0} {c : LinkSettings} {es : List Entry} (n : ℕ) (o : List ℕ) (f : PlainFrame) → frame_of (other c.role) c.longest o ≡ Ok f
     → Puts Odd c es (es ++ entry n o ∷ [])
 puts_frame n o f is = put (entry n o) (λ odd. absurd (never_odd f (sym (ap said is) ∙ odd)))

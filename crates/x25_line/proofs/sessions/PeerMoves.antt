@@ -1,7 +1,7 @@
 -- A station over sessions and a peer are two ends that keep the rules, whatever the peer does within these and the line to it loses.
 use Rattle.std.proofs.Common.{◌≡◌, ◌⊎◌, inl, inr, ℕ, suc, ◌+◌, List, [], ◌∷◌, ◌++◌, refl, sym, subst, arith}
 use Rattle.x25_frame.specs.Reading.{frame_of}
-use Rattle.x25_link.specs.{declared.phase.Phase.{Phase}, declared.phase.Phase.TheVariants.{Waiting, Closed}, Station.{Settings}, Hearing.{other}}
+use Rattle.x25_link.specs.{declared.phase.Phase.{Phase}, declared.phase.Phase.TheVariants.{Waiting, Closed}, Station.{LinkSettings}, Hearing.{other}}
 use Rattle.x25_line.specs.{laws.Stations.{Act}, laws.Sessions.{Entry, acts}, laws.Peer.{Peer}}
 use Rattle.x25_line.specs.laws.Said.{Said, Tells, Sabm, Disc, Ua, Else, Odd as OddSaid, said, sabm_of, ua_of, disc_of}
 use Rattle.x25_line.specs.laws.Ends.{Letter, letter, how_many, AreOf, OfSabm, Two, Moves, free, odd, asks, closes, leaves, hears, takes_ua, takes_sabm}
@@ -77,13 +77,13 @@ beside_any f (moves u m) = moves u m
 
 -- ---- octets
 
-none_odd : {Odd : Type 0} {c : Settings} {es fs : List Entry} → Puts Odd c es fs → (Odd → ⊥) → NoneOdd (other c.role) c.longest es
+none_odd : {Odd : Type 0} {c : LinkSettings} {es fs : List Entry} → Puts Odd c es fs → (Odd → ⊥) → NoneOdd (other c.role) c.longest es
     → NoneOdd (other c.role) c.longest fs
 none_odd nothing never h = h
 none_odd {Odd} {c} {es} (put e may) never h = each_append (λ x. said (frame_of (other c.role) c.longest x.octets) ≡ OddSaid → ⊥) es (e ∷ []) h
     (λ is. never (may is), tt)
 
-module _ (Odd : Type 0) {c : Settings} (w : PeerSessions) (h : Seen c (IsWith Odd c w.peer) (both_ends w)) where
+module _ (Odd : Type 0) {c : LinkSettings} (w : PeerSessions) (h : Seen c (IsWith Odd c w.peer) (both_ends w)) where
   abbrev before : Ends
   before = at Odd c w.peer (backs c w.back) w.met (stand_of w.near.station.phase) w.near.begun h.all (outs c w.out)
 

@@ -1,7 +1,7 @@
 -- What a station and a peer reach are two ends that keep the rules, and that says the claims.
 use Rattle.std.proofs.{Common.{◌≡◌, inl, inr, ◌≤◌, ℕ, List, [], ◌∷◌, map, length, true, refl, sym, ap, ◌∙◌}, lemmas.Bool.{and_parts}}
 use Rattle.x25_frame.specs.laws.ReadingLaw.{ReadsSpelled}
-use Rattle.x25_link.specs.{declared.phase.Phase.{Phase}, declared.phase.Phase.TheVariants.{Down, Up}, Station.{Settings, is_up}}
+use Rattle.x25_link.specs.{declared.phase.Phase.{Phase}, declared.phase.Phase.TheVariants.{Down, Up}, Station.{LinkSettings, is_up}}
 use Rattle.x25_line.specs.{laws.Stations.{Act, T1, Connect}, laws.Sessions.{Meeting, turned, acts, start_with}}
 use Rattle.x25_line.specs.{laws.SessionClaims.{Each, IsInOrder, MeetInStep, MetAreInOrder, UnmetHandNothingUp}, laws.LawsBelow.{SessionLaws}}
 use Rattle.x25_line.specs.laws.Peer.{fresh_peer}
@@ -17,17 +17,17 @@ use Rattle.x25_line.specs.laws.PeerSessions as sessions
 use Rattle.x25_line.specs.laws.Ends as ends
 
 -- what holds of a station and a peer
-abbrev SeenWith : Type 0 → Settings → PeerSessions → Type 0
+abbrev SeenWith : Type 0 → LinkSettings → PeerSessions → Type 0
 SeenWith Odd c w = Seen c (IsWith Odd c w.peer) (both_ends w)
 
 -- as a run begins
-seen_at_start : (Odd : Type 0) (c : Settings) (stand : Stand) (p : Phase) (b : ℕ)
+seen_at_start : (Odd : Type 0) (c : LinkSettings) (stand : Stand) (p : Phase) (b : ℕ)
     → (IsWith Odd c ((begin_with stand (start_with p b)).peer) [] [] p b (λ n. fresh_peer) []) → SeenWith Odd c (begin_with stand (start_with p b))
 seen_at_start Odd c stand p b reached = start_seen c (IsWith Odd c (begin_with stand (start_with p b)).peer) (as_end (begin_with stand (start_with p b)).peer)
     reached
 
 module _ (reads : ReadsSpelled) (rests : SessionLaws) where
-  abbrev kind : (Odd : Type 0) (c : Settings) → c.window ≤ 7 → PeerSessions → Kind c
+  abbrev kind : (Odd : Type 0) (c : LinkSettings) → c.window ≤ 7 → PeerSessions → Kind c
   kind Odd c high w = record {
     high = high;
     reads = reads;
@@ -37,21 +37,21 @@ module _ (reads : ReadsSpelled) (rests : SessionLaws) where
     does = station_may Odd c w.peer;
   }
 
-  station_timely : (Odd : Type 0) (c : Settings) (high : c.window ≤ 7) (w : PeerSessions) (act : Act) → sessions.IsTimely c act w
+  station_timely : (Odd : Type 0) (c : LinkSettings) (high : c.window ≤ 7) (w : PeerSessions) (act : Act) → sessions.IsTimely c act w
       → IsTimely (kind Odd c high w) act (both_ends w)
   station_timely Odd c high w T1 timely = λ waiting.
       (let due = timely waiting in (due.sabm, due.ua, due.crossing))
   station_timely Odd c high w Connect timely = λ _. tt
   station_timely Odd c high w act timely = tt
 
-  station_held : (Odd : Type 0) (c : Settings) (high : c.window ≤ 7) (w : PeerSessions) → SeenWith Odd c w → (act : Act) → sessions.IsTimely c act w
+  station_held : (Odd : Type 0) (c : LinkSettings) (high : c.window ≤ 7) (w : PeerSessions) → SeenWith Odd c w → (act : Act) → sessions.IsTimely c act w
       → SeenWith Odd c (with_peer w.peer (acts c act (both_ends w)))
   station_held Odd c high w h act timely =
       let k = station_acts (kind Odd c high w) act (both_ends w)
       (station_timely Odd c high w act timely) h.reached.ends.kept.owes h in
       record { all = k.all; reached = k.reached; up = k.up; given = k.given; taken = k.taken; later = k.later; tags = k.tags }
 
-  reached_seen : (Odd : Type 0) {c : Settings} → c.window ≤ 7 → {w : PeerSessions} → ReachedInSessions Odd c w → SeenWith Odd c w
+  reached_seen : (Odd : Type 0) {c : LinkSettings} → c.window ≤ 7 → {w : PeerSessions} → ReachedInSessions Odd c w → SeenWith Odd c w
   reached_seen Odd {c} high at_start = seen_at_start Odd c Out Down 0
       (record {
         ends = record { reached = ends.at_start; kept = record { owes = (refl, refl); present = tt } };
@@ -68,7 +68,8 @@ module _ (reads : ReadsSpelled) (rests : SessionLaws) where
 
   -- ---- the claims
 
-  module _ {Odd : Type 0} {c : Settings} (high : c.window ≤ 7) {w : PeerSessions} (reached : ReachedInSessions Odd c w) where
+  module _ {Odd : Type 0} {c : LinkSettings} (high : c.window ≤ 7) {w : PeerSessions} (reached : ReachedInSessions Odd c w) where
+    -- what is known of the two, by which the claims follow
     pub h : SeenWith Odd c w
     h = reached_seen Odd high reached
 

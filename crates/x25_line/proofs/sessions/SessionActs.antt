@@ -5,8 +5,9 @@ use Rattle.std.proofs.Common.{arith}
 use Rattle.std.specs.Prelude.{nat_lt}
 use Rattle.x25_frame.specs.{Frame.{PlainFrame, sabm, disc}, laws.ReadingLaw.{ReadsSpelled}}
 use Rattle.x25_link.specs.{declared.phase.Phase.{Phase}, declared.phase.Phase.TheVariants.{Down, Waiting, Up, Closed}, declared.phase.Reason.{Reason}}
-use Rattle.x25_link.specs.{declared.phase.Reason.TheVariants.{Retries, Local, Counts}, laws.SetUp.{Is}, Station.{Settings, LinkStation, is_up, with_nothing}}
-use Rattle.x25_link.specs.{Hearing.{Step, other}, Link.{put_step, timer_step, connect_step, disconnect_step, disconnect_refusal, abandon_step}}
+use Rattle.x25_link.specs.{declared.phase.Reason.TheVariants.{Retries, Local, Counts}, laws.SetUp.{Is}}
+use Rattle.x25_link.specs.Station.{LinkSettings, LinkStation, is_up, with_nothing}
+use Rattle.x25_link.specs.{Hearing.{LinkStep, other}, Link.{put_step, timer_step, connect_step, disconnect_step, disconnect_refusal, abandon_step}}
 use Rattle.x25_link.specs.{laws.WindowMachine.{nothing}, laws.NoteLaw.{Tells}, laws.WindowLaw.{IsRunning, IsSound, IsOut, Ends}}
 use Rattle.x25_line.specs.{laws.StationClaims.{AreJoined}, laws.SessionNumbers.{Standing}}
 use Rattle.x25_line.specs.{laws.Sessions.{Entry, Meeting, Sessions, letters, begun_by, after_step}, laws.Said.{sabm_of, ua_of, how_many}, laws.LawsBelow.{Laws}}
@@ -17,19 +18,21 @@ use Rattle.x25_line.proofs.sessions.SessionUp.{stays_answers, follows_answers, l
 use Rattle.x25_link.specs.declared.error.LinkError.TheVariants as error
 
 -- what holds of a step in which no LinkUp is noted
-pub quiet_held : {stand : Standing} (c d : Settings) (w : Sessions) (es : List Entry) (met : List Meeting) (down : List (List ℕ)) (step : Step) → step.notes.up
+pub quiet_held : {stand : Standing} (c d : LinkSettings) (w : Sessions) (es : List Entry) (met : List Meeting) (down : List (List ℕ)) (step : LinkStep)
+    → step.notes.up
     ≡ false
     → Held stand c d (stepped c w es met down w.near.begun step) → Held stand c d (after_step c w es met down step)
 quiet_held {stand} c d w es met down step quiet h = rw (ap (λ b. begun_by b w.near.begun) quiet) h
 
 -- ---- an end that is Up is in the session
 
-pub record InSession (stand : Standing) (c d : Settings) (w : Sessions) (h : Held stand c d w) : Type 0 where
+pub record InSession (stand : Standing) (c d : LinkSettings) (w : Sessions) (h : Held stand c d w) : Type 0 where
   pub is : IsOf (other c.role) c.longest w.near.station w.near.begun w.back h.alone.near.station h.alone.back stand.near stand.far
   pub machine : AsUp c h.alone.near.station stand.machine.near
   pub running : IsRunning c.window w.near.station
 
-pub up_in_session : {stand : Standing} (c d : Settings) (w : Sessions) (h : Held stand c d w) → is_up w.near.station.phase ≡ true → InSession stand c d w h
+-- an end that is Up is in the session that stands
+pub up_in_session : {stand : Standing} (c d : LinkSettings) (w : Sessions) (h : Held stand c d w) → is_up w.near.station.phase ≡ true → InSession stand c d w h
 up_in_session {stand} c d w h up =
     let is = h.near.up up in
     let u = up_of h.holds.near (ap (λ s. is_up s.phase) is.station ∙ up) in
@@ -43,7 +46,7 @@ down_owes {n = n} {m} is h = subst (λ z. Owes z n m) is h
 pub waiting_owes : {p : Phase} {n m : ℕ} → p ≡ Waiting → Owes p n m → (n ≤ 1) × (m ≡ 0)
 waiting_owes {n = n} {m} is h = subst (λ z. Owes z n m) is h
 
-module _ {c d : Settings} (joined : AreJoined c d) (reads : ReadsSpelled) (laws : Laws) where
+module _ {c d : LinkSettings} (joined : AreJoined c d) (reads : ReadsSpelled) (laws : Laws) where
   -- ---- in Up
 
   pub put_held : {stand : Standing} (w : Sessions) → Held stand c d w → is_up w.near.station.phase ≡ true → (packet : List ℕ) → length packet ≤ c.longest
@@ -72,7 +75,7 @@ module _ {c d : Settings} (joined : AreJoined c d) (reads : ReadsSpelled) (laws 
   -- it leaves, by a call of its user
   leaves_held : {stand : Standing} (w : Sessions) → Held stand c d w → is_up w.near.station.phase ≡ true → (reason : Reason) → Leaves reason
       → by_disc (Some reason) ≡ 0 → by_reset (Some reason) ≡ 0
-      → (f : LinkStation → Step) → ((s : LinkStation) → Tells s (f s)) → ((s : LinkStation) → IsRunning c.window s → Ends reason (f s))
+      → (f : LinkStation → LinkStep) → ((s : LinkStation) → Tells s (f s)) → ((s : LinkStation) → IsRunning c.window s → Ends reason (f s))
       → Held (went_by c (f w.near.station) None stand) c d (after_step c w w.back w.met [] (f w.near.station))
   leaves_held {stand} w h up reason leaves by_own stays f tells ends =
       let i = up_in_session c d w h up in
@@ -90,7 +93,7 @@ module _ {c d : Settings} (joined : AreJoined c d) (reads : ReadsSpelled) (laws 
   -- ---- SABM and DISC
 
   -- an end that is out, to which no UA comes
-  out_held : {stand : Standing} (w : Sessions) → Held stand c d w → (near : LinkStation) (frames : List PlainFrame) (ends : Option Reason) (step : Step)
+  out_held : {stand : Standing} (w : Sessions) → Held stand c d w → (near : LinkStation) (frames : List PlainFrame) (ends : Option Reason) (step : LinkStep)
       → Is near frames ends false step → is_up near.phase ≡ false
       → (near.phase ≡ Waiting → how_many ua_of (letters (other c.role) c.longest w.back) ≡ 0) → AreParting frames → count ua_of frames ≡ 0
       → Held (went_by c step None stand) c d (after_step c w w.back w.met [] step)
@@ -101,7 +104,7 @@ module _ {c d : Settings} (joined : AreJoined c d) (reads : ReadsSpelled) (laws 
       (is_out step.side.near.phase (ap is_up same ∙ off) (λ waiting. none (sym same ∙ waiting)))
       (subst AreParting (sym i.out) parting) (ap (count ua_of) i.out ∙ no_ua))
 
-  closes_held : {stand : Standing} (w : Sessions) → Held stand c d w → (step : Step) → step.side.near.phase ≡ Closed → step.side.out ≡ disc true ∷ []
+  closes_held : {stand : Standing} (w : Sessions) → Held stand c d w → (step : LinkStep) → step.side.near.phase ≡ Closed → step.side.out ≡ disc true ∷ []
       → step.packet ≡ None → step.notes.up ≡ false
       → Held (went_by c step None stand) c d (after_step c w w.back w.met [] step)
   closes_held {stand} w h step closed sent none quiet =
@@ -124,7 +127,7 @@ module _ {c d : Settings} (joined : AreJoined c d) (reads : ReadsSpelled) (laws 
   timer_waiting_held {stand} w h waiting none = by (nat_lt w.near.station.tries c.retries) (timer_step c w.near.station)
       (laws.set_up.timer c w.near.station waiting)
     where
-      by : (b : Bool) (step : Step)
+      by : (b : Bool) (step : LinkStep)
           → (let s = w.near.station in Is (if b then record s { tries = suc s.tries } else with_nothing Down s.tries) (if b then sabm true ∷ [] else [])
           (if b then None else Some Retries) false step)
           → Held (went_by c step None stand) c d (after_step c w w.back w.met [] step)

@@ -1,7 +1,7 @@
 -- A SABM that comes to an end that isn't Closed begins two sessions, and keeps what holds of two stations.
 use Rattle.std.proofs.Common.{◌≡◌, ◌≤◌, ℕ, suc, ◌+◌, List, [], ◌∷◌, ◌++◌, inl, inr, Bool, None, refl, sym, ap, ◌∙◌, subst, arith}
 use Rattle.x25_frame.specs.{Frame.{PlainFrame, ua}, Spelling.{spelling_of}, Reading.{frame_of}, laws.ReadingLaw.{ReadsSpelled}}
-use Rattle.x25_link.specs.{Station.{Settings, fresh, is_up}, Hearing.{Step, other}}
+use Rattle.x25_link.specs.{Station.{LinkSettings, fresh, is_up}, Hearing.{LinkStep, other}}
 use Rattle.x25_line.specs.{laws.Stations.{start}, laws.StationClaims.{AreJoined}, laws.Sessions.{Entry, Meeting, Sessions, letters, sent_in}}
 use Rattle.x25_line.specs.{laws.SessionNumbers.{Standing, anew}, laws.SessionClaims.{AllOf}, laws.Said.{Said, said, sabm_of, ua_of, how_many}}
 use Rattle.x25_line.proofs.{StationLines.{AreParting, parts_of, no_frmr_append, parting_whole}, StationRuns.{start_machine}}
@@ -9,10 +9,10 @@ use Rattle.x25_line.proofs.sessions.SessionLines.{numbers, behind_ua, behind_las
 use Rattle.x25_line.proofs.sessions.SessionHeld.{IsThere, EndIsThere, is_soon, is_out, OnLine, HasLists, SameLists, Held, whole_apart}
 use Rattle.x25_line.proofs.sessions.SessionSteps.{end_after, stepped, nothing_handed, waiting_is_closed, asked_by, many_out}
 
-module _ {c d : Settings} (joined : AreJoined c d) (reads : ReadsSpelled) where
+module _ {c d : LinkSettings} (joined : AreJoined c d) (reads : ReadsSpelled) where
   -- the near end answers UA; the far end asked, so that it is about to be in its session, or it is Closed
   pub begins_held : {stand : Standing} (w : Sessions) (h : Held stand c d w) (line : OnLine c d w) (e : Entry) (es : List Entry) (met : List Meeting) → w.back
-      ≡ e ∷ es → sabm_of (said (frame_of (other c.role) c.longest e.octets)) ≡ 1 → (n : ℕ) (f : Bool) (step : Step)
+      ≡ e ∷ es → sabm_of (said (frame_of (other c.role) c.longest e.octets)) ≡ 1 → (n : ℕ) (f : Bool) (step : LinkStep)
       → step.packet ≡ None → step.side.out ≡ ua f ∷ []
       → IsThere step.side.near.phase (other c.role) c.longest step.side.near n es fresh [] (suc w.near.begun) (suc w.far.begun)
       → Held (anew c d w) c d (stepped c w es met [] n step)

@@ -2,7 +2,7 @@
 use Rattle.std.proofs.Common.{Option, None, length, ◌≡◌, ◌≤◌, ℕ, zero, suc, List, [], ◌++◌, refl, sym, ap, ◌∙◌, subst, arith}
 use Rattle.x25_bits.specs.declared.role.Role.{Role}
 use Rattle.x25_frame.specs.laws.ReadingLaw.{ReadsSpelled}
-use Rattle.x25_link.specs.{declared.phase.Phase.{Phase}, declared.phase.Phase.TheVariants.{Waiting, Up}, Station.{Settings, is_up, LinkStation}}
+use Rattle.x25_link.specs.{declared.phase.Phase.{Phase}, declared.phase.Phase.TheVariants.{Waiting, Up}, Station.{LinkSettings, is_up, LinkStation}}
 use Rattle.x25_link.specs.Hearing.{other}
 use Rattle.x25_line.specs.{laws.StationClaims.{AreJoined}, laws.WholeNumbers.{given, place_of, taken_out}, laws.Sessions.{Entry, Sessions, letters}}
 use Rattle.x25_line.specs.{laws.SessionClaims.{octets_of}, laws.SessionNumbers.{Standing, place_behind_ua, place_to_hear, standing_after}}
@@ -12,7 +12,7 @@ use Rattle.x25_line.proofs.sessions.SessionLines.{carried, carried_numbers, carr
 use Rattle.x25_line.proofs.sessions.SessionHeld.{is_there, is_soon, is_out, IsOf, EndIsThere, OnLine, Held, counted_there}
 use Rattle.x25_line.proofs.sessions.SessionActs.{waiting_owes}
 
-module _ {c d : Settings} (joined : AreJoined c d) (reads : ReadsSpelled) (laws : Laws) {stand : Standing} {w : Sessions} (h : Held stand c d w)
+module _ {c d : LinkSettings} (joined : AreJoined c d) (reads : ReadsSpelled) (laws : Laws) {stand : Standing} {w : Sessions} (h : Held stand c d w)
     (line : OnLine c d w) {es : List Entry} {i : ℕ} (less : LessAt IsSeenIn i w.back es) where
   -- what is kept where the session alone has these octets on its line
   kept_by : {os : List (List ℕ)} (missing : Option ℕ) → Leads c d stand.machine missing [] (record h.alone { back = os })

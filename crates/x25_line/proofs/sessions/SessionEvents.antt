@@ -1,14 +1,14 @@
 -- What one event does to the sessions of two link stations, by cases of the event.
 use Rattle.std.proofs.Common.{◌≡◌, ◌<◌, ◌⊎◌, ℕ, suc, List, [], ◌∷◌, length, map, inl, inr, Bool, true, false, if◌then◌else◌, Option, Some, None, Ok, refl, sym}
-use Rattle.std.proofs.Common.{ap, ◌∙◌, subst, arith, append-nil}
+use Rattle.std.proofs.Common.{◌++◌, Err, ap, ◌∙◌, subst, arith, append-nil}
 use Rattle.std.specs.Prelude.{nat_le, option_to_list}
-use Rattle.x25_frame.specs.{Frame.{PlainFrame, info, rr, rnr, rej}, laws.ReadingLaw.{ReadsSpelled}}
+use Rattle.x25_frame.specs.{Frame.{PlainFrame, info, rr, rnr, rej, sabm}, declared.error.FrameError.TheVariants.{Short}, laws.ReadingLaw.{ReadsSpelled}}
 use Rattle.x25_link.specs.{declared.error.LinkError.{LinkError}, declared.phase.Reason.{Reason}, declared.phase.Reason.TheVariants.{FrmrSent}}
-use Rattle.x25_link.specs.{laws.NoteLaw.{Tells, HandsUp, TakeHandsUp}, Station.{Settings, LinkStation, is_up}, Hearing.{Step, other}}
+use Rattle.x25_link.specs.{laws.NoteLaw.{Tells, HandsUp, TakeHandsUp}, Station.{LinkSettings, LinkStation, is_up}, Hearing.{LinkStep, other}}
 use Rattle.x25_link.specs.{Link.{take_step, put_step, put_refusal}, laws.WindowMachine.{Window, Input}}
 use Rattle.x25_link.specs.laws.WindowLaw.{window_of, brought_by, ending_of, Follows}
-use Rattle.x25_line.specs.{laws.Stations.{Act, Put, Deliver, Lose, Damage, Near, Far, is_visible}, laws.StationClaims.{number_in}}
-use Rattle.x25_line.specs.laws.Sessions.{Entry, SessionEnd, Meeting, Sessions, turned, swapped, begun_by, after_step, unless, heard, delivered, acts}
+use Rattle.x25_line.specs.{laws.Stations.{Act, Put, Deliver, Lose, Damage, Near, Far, is_visible}, laws.StationClaims.{number_in}, laws.Said.{said}}
+use Rattle.x25_line.specs.laws.Sessions.{Entry, SessionEnd, Meeting, Sessions, turned, swapped, begun_by, after_step, unless, meets, delivered, acts}
 use Rattle.x25_line.specs.laws.SessionClaims.{Throughout, AllOf}
 use Rattle.x25_line.specs.laws.SessionEvents.{NextBegins, GoesOn, HandsInSession, EachEventHandsInSession, latest, BeginsAfresh, MeetsNone, MeetsOne}
 use Rattle.x25_line.specs.{laws.SessionEvents.{EachEventMeetsLatest}, laws.LawsBelow.{SessionLaws}}
@@ -20,7 +20,7 @@ use Rattle.x25_line.proofs.{sessions.TwoSessions.{hears_latest, running, through
 -- ---- a step
 
 -- the end after a step
-abbrev end_by : SessionEnd → List (List ℕ) → Step → SessionEnd
+abbrev end_by : SessionEnd → List (List ℕ) → LinkStep → SessionEnd
 end_by e down step = end_after e (begun_by step.notes.up e.begun) down step
 
 stays : (e : SessionEnd) → GoesOn [] [] e e
@@ -33,7 +33,7 @@ stays e = record {
 }
 
 -- no LinkUp is noted
-step_goes : (e : SessionEnd) (down : List (List ℕ)) (step : Step) → step.notes.up ≡ false → GoesOn down (option_to_list step.packet) e (end_by e down step)
+step_goes : (e : SessionEnd) (down : List (List ℕ)) (step : LinkStep) → step.notes.up ≡ false → GoesOn down (option_to_list step.packet) e (end_by e down step)
 step_goes e down step low =
     rw low (record {
       begun = refl;
@@ -44,16 +44,16 @@ step_goes e down step low =
     })
 
 -- nor is anything handed up
-quiet_goes : (e : SessionEnd) (step : Step) → step.packet ≡ None → step.notes.up ≡ false → GoesOn [] [] e (end_by e [] step)
+quiet_goes : (e : SessionEnd) (step : LinkStep) → step.packet ≡ None → step.notes.up ≡ false → GoesOn [] [] e (end_by e [] step)
 quiet_goes e step none low = subst (λ o. GoesOn [] (option_to_list o) e (end_by e [] step)) none (step_goes e [] step low)
 
-step_begins : (e : SessionEnd) (step : Step) → step.packet ≡ None → step.notes.up ≡ true → NextBegins e (end_by e [] step)
+step_begins : (e : SessionEnd) (step : LinkStep) → step.packet ≡ None → step.notes.up ≡ true → NextBegins e (end_by e [] step)
 step_begins e step none high =
     let same = nothing_handed e (suc e.begun) step none in
     subst (λ b. NextBegins e (end_after e (begun_by b e.begun) [] step)) (sym high) (record { begun = refl; down = same.down; up = same.up })
 
 -- as LinkUp is noted nothing is handed up
-begins_empty : {s : LinkStation} {step : Step} → HandsUp s step → step.notes.up ≡ true → step.packet ≡ None
+begins_empty : {s : LinkStation} {step : LinkStep} → HandsUp s step → step.notes.up ≡ true → step.packet ≡ None
 begins_empty {step = step} h high = go step.packet refl
   where
     go : (o : Option (List ℕ)) → step.packet ≡ o → step.packet ≡ None
@@ -61,7 +61,7 @@ begins_empty {step = step} h high = go step.packet refl
     go (Some packet) is = not_both step.notes.up high (ap (λ n. n.up) (h.quiet packet is))
 
 -- nor outside of Up
-out_empty : {s : LinkStation} {step : Step} → HandsUp s step → is_up s.phase ≡ false → step.packet ≡ None
+out_empty : {s : LinkStation} {step : LinkStep} → HandsUp s step → is_up s.phase ≡ false → step.packet ≡ None
 out_empty {s} {step} h off = go step.packet refl
   where
     go : (o : Option (List ℕ)) → step.packet ≡ o → step.packet ≡ None
@@ -80,7 +80,7 @@ HandsNothing w v = GoesOn [] [] w.near v.near × (v.far ≡ w.far)
 as_it_was : (w : Sessions) → HandsNothing w w
 as_it_was w = (stays w.near, refl)
 
-put_hands : (o : Option LinkError) (c : Settings) (packet : List ℕ) (w : Sessions)
+put_hands : (o : Option LinkError) (c : LinkSettings) (packet : List ℕ) (w : Sessions)
     → Hands (Put packet) w (unless o w (after_step c w w.back w.met (packet ∷ []) (put_step c packet w.near.station)))
 put_hands (Some e) c packet w = ((false, stays w.near), refl)
 put_hands None c packet w = ((true, step_goes w.near (packet ∷ []) (put_step c packet w.near.station) refl), refl)
@@ -89,18 +89,18 @@ put_by : (b : Bool) (packet : List ℕ) (w v : Sessions) → Hands (Put packet) 
 put_by true packet w v h = h
 put_by false packet w v h = ((false, stays w.near), refl)
 
-deliver_hands : TakeHandsUp → (c : Settings) (es : List Entry) (w : Sessions) → Hands Deliver w (delivered c es w)
+deliver_hands : TakeHandsUp → (c : LinkSettings) (es : List Entry) (w : Sessions) → Hands Deliver w (delivered c es w)
 deliver_hands hands_up c [] w = (inr (None, stays w.near), refl)
 deliver_hands hands_up c (e ∷ es) w = (by (take_step c e.octets w.near.station) (hands_up c e.octets w.near.station), refl)
   where
-    by : (step : Step) → HandsUp w.near.station step → HandsInSession Deliver w.near (end_by w.near [] step)
+    by : (step : LinkStep) → HandsUp w.near.station step → HandsInSession Deliver w.near (end_by w.near [] step)
     by step h = go step.notes.up refl
       where
         go : (b : Bool) → step.notes.up ≡ b → HandsInSession Deliver w.near (end_by w.near [] step)
         go true high = inl (step_begins w.near step (begins_empty h high) high)
         go false low = inr (step.packet, step_goes w.near [] step low)
 
-acts_hands : TakeHandsUp → (c : Settings) (a : Act) (w : Sessions) → Hands a w (acts c a w)
+acts_hands : TakeHandsUp → (c : LinkSettings) (a : Act) (w : Sessions) → Hands a w (acts c a w)
 acts_hands hands_up c (Put packet) w =
     put_by (nat_le (length packet) c.longest) packet w
     (unless (put_refusal w.near.station) w (after_step c w w.back w.met (packet ∷ []) (put_step c packet w.near.station)))
@@ -117,12 +117,12 @@ each_hands_in_session hands_up c d (Far act) w = acts_hands hands_up d act (swap
 
 -- ---- no LinkUp is noted where a frame with a number comes
 
-valid_quiet : (b : Bool) (k : ℕ) (input : Input) {s : LinkStation} {step : Step} → Tells s step
+valid_quiet : (b : Bool) (k : ℕ) (input : Input) {s : LinkStation} {step : LinkStep} → Tells s step
     → (let o : Option Reason = if b then None else Some FrmrSent in Follows o k input s step) → step.notes.up ≡ false
 valid_quiet true k input tells stay = ap (λ n. n.up) stay.quiet
 valid_quiet false k input {s} {step} tells end = not_afresh tells (ap is_up end.phase)
 
-number_quiet : (r : Read) (f : PlainFrame) (k : ℕ) (v : Window) {s : LinkStation} {step : Step} → number_in r ≡ Some f → Tells s step
+number_quiet : (r : Read) (f : PlainFrame) (k : ℕ) (v : Window) {s : LinkStation} {step : LinkStep} → number_in r ≡ Some f → Tells s step
     → Follows (ending_of r v) k (brought_by r) s step → step.notes.up ≡ false
 number_quiet (Ok (info ns nr p x)) f k v {s} {step} some tells h = valid_quiet _ k _ tells h
 number_quiet (Ok (rr command nr pf)) f k v {s} {step} some tells h = valid_quiet _ k _ tells h
@@ -142,7 +142,8 @@ afresh {old} {new} later next =
     record { begins = next; down = ap new.down next.begun ∙ next.down (suc old.begun) ∙ none.0; up = ap new.up next.begun ∙ next.up (suc old.begun) ∙ none.1 }
 
 -- nothing is handed up
-step_meets_none : (w : Sessions) → ((n : ℕ) → w.near.begun < n → (w.near.down n ≡ []) × (w.near.up n ≡ [])) → (step : Step) (now : List Meeting) → step.packet
+step_meets_none : (w : Sessions) → ((n : ℕ) → w.near.begun < n → (w.near.down n ≡ []) × (w.near.up n ≡ [])) → (step : LinkStep) (now : List Meeting)
+    → step.packet
     ≡ None → now ≡ w.met → MeetsNone w.near (end_by w.near [] step) w.met now
 step_meets_none w later step now none same = record { met = same; nothing_up = by step.notes.up refl }
   where
@@ -150,18 +151,19 @@ step_meets_none w later step now none same = record { met = same; nothing_up = b
     by true high = inl (afresh later (step_begins w.near step none high))
     by false low = inr (quiet_goes w.near step none low)
 
--- an end that isn't Up hears none
-heard_out : (b : Bool) (f : Option PlainFrame) (m : Meeting) (met : List Meeting) → b ≡ false → heard b f m met ≡ met
-heard_out true f m met off = not_both true refl off
-heard_out false f m met off = refl
+-- who is met, by the frame with an N(R)
+number_meets : (r : Read) (m : Meeting) (met : List Meeting) → meets (said r) m met ≡ map (λ (f : PlainFrame). m) (option_to_list (number_in r)) ++ met
+number_meets (Ok (sabm p)) m met = refl
+number_meets (Err Short) m met = refl
+number_meets r m met = refl
 
 module _ (reads : ReadsSpelled) (rests : SessionLaws) (hands_up : TakeHandsUp) where
-  deliver_meets : (c d : Settings) (w : Sessions) → Both c d w → (es : List Entry) → w.back ≡ es
+  deliver_meets : (c d : LinkSettings) (w : Sessions) → Both c d w → (es : List Entry) → w.back ≡ es
       → MeetsOne Deliver (latest w) w.near (delivered c es w).near w.met (delivered c es w).met
   deliver_meets c d w h [] is = inr (record { met = refl; nothing_up = inr (stays w.near) })
   deliver_meets c d w h (e ∷ es) is = by (is_up w.near.station.phase) refl
     where
-      step : Step
+      step : LinkStep
       step = take_step c e.octets w.near.station
 
       met : List Meeting
@@ -174,8 +176,13 @@ module _ (reads : ReadsSpelled) (rests : SessionLaws) (hands_up : TakeHandsUp) w
           → Follows (ending_of (read_of c e) (window_of c.window w.near.station)) c.window (brought_by (read_of c e)) w.near.station step
       follows up = rests.laws.window.take c e.octets w.near.station (running reads rests c d w h up) (read_of c e) refl
 
-      heard_up : is_up w.near.station.phase ≡ true → (o : Option PlainFrame) → number_in (read_of c e) ≡ o → met ≡ heard true o pair w.met
-      heard_up up o number = ap (λ b. heard b (number_in (read_of c e)) pair w.met) up ∙ ap (λ x. heard true x pair w.met) number
+      met_if : Bool → List Meeting
+      met_if b = if b then meets (said (read_of c e)) pair w.met else w.met
+
+      heard_up : is_up w.near.station.phase ≡ true → (o : Option PlainFrame) → number_in (read_of c e) ≡ o
+          → met ≡ map (λ (f : PlainFrame). pair) (option_to_list o) ++ w.met
+      heard_up up o number =
+          (ap met_if up ∙ number_meets (read_of c e) pair w.met) ∙ ap (λ x. map (λ (f : PlainFrame). pair) (option_to_list x) ++ w.met) number
 
       goes : is_up w.near.station.phase ≡ true → (o : Option PlainFrame) → number_in (read_of c e) ≡ o → (number_in (read_of c e) ≡ None)
           ⊎ (e.session ≡ w.far.begun)
@@ -197,10 +204,9 @@ module _ (reads : ReadsSpelled) (rests : SessionLaws) (hands_up : TakeHandsUp) w
       by true up = goes up (number_in (read_of c e)) refl
           ((subst (λ xs. AllOf (other c.role) c.longest w.far.begun xs) is (hears_latest reads rests c d w h up)).0)
       by false off =
-          inr (step_meets_none w h.near.later step met (out_empty (hands_up c e.octets w.near.station) off)
-          (heard_out (is_up w.near.station.phase) (number_in (read_of c e)) pair w.met off))
+          inr (step_meets_none w h.near.later step met (out_empty (hands_up c e.octets w.near.station) off) (ap met_if off))
 
-  acts_meet : {c d : Settings} (a : Act) {w : Sessions} → Both c d w → MeetsOne a (latest w) w.near (acts c a w).near w.met (acts c a w).met
+  acts_meet : {c d : LinkSettings} (a : Act) {w : Sessions} → Both c d w → MeetsOne a (latest w) w.near (acts c a w).near w.met (acts c a w).met
   acts_meet {c} (Put packet) {w} h =
       let done = after_step c w w.back w.met (packet ∷ []) (put_step c packet w.near.station) in
       if_by (SameMet w) (nat_le (length packet) c.longest) refl (λ _. unless_by (SameMet w) (put_refusal w.near.station) refl (λ _. refl))
@@ -224,7 +230,7 @@ module _ (reads : ReadsSpelled) (rests : SessionLaws) (hands_up : TakeHandsUp) w
 
   -- ---- the claim
 
-  event_meets : (c d : Settings) (w : Sessions) → Both c d w → EachEventMeetsLatest c d w
+  event_meets : (c d : LinkSettings) (w : Sessions) → Both c d w → EachEventMeetsLatest c d w
   event_meets c d w h (Near act) = acts_meet act h
   event_meets c d w h (Far act) =
       let v = acts d act (swapped w) in

@@ -6,7 +6,7 @@ use Rattle.std.specs.List.{Contains}
 use Rattle.x25_bits.specs.declared.role.Role.{Role}
 use Rattle.x25_frame.specs.{Frame.{PlainFrame}, Reading.{frame_of}}
 use Rattle.x25_window.specs.laws.Window.{End}
-use Rattle.x25_link.specs.{declared.phase.Phase.{Phase}, declared.phase.Phase.TheVariants.{Waiting, Closed}, Station.{Settings, LinkStation, is_up, fresh}}
+use Rattle.x25_link.specs.{declared.phase.Phase.{Phase}, declared.phase.Phase.TheVariants.{Waiting, Closed}, Station.{LinkSettings, LinkStation, is_up, fresh}}
 use Rattle.x25_link.specs.Hearing.{other}
 use Rattle.x25_line.specs.{laws.Stations.{StationEnd, Stations}, laws.StationClaims.{NoFrmr, IsWhole, AreWhole, numbered_on}}
 use Rattle.x25_line.specs.{laws.Sessions.{Entry, SessionEnd, Sessions, letters, extended}, laws.WholeNumbers.{counted}}
@@ -31,7 +31,8 @@ pub record IsThere (phase : Phase) (from : Role) (n1 : ℕ) (s : LinkStation) (b
   pub up : is_up phase ≡ true → IsOf from n1 s begun es a os p q
   pub awaits : phase ≡ Waiting → 1 ≤ how_many ua_of (letters from n1 es) → IsOf from n1 fresh (suc begun) (behind_ua from n1 es) a os p q
 
-abbrev pub EndIsThere : Settings → SessionEnd → List Entry → LinkStation → List (List ℕ) → ℕ → ℕ → Type 0
+-- so is an end, by its phase, the line to it and how many sessions it began
+abbrev pub EndIsThere : LinkSettings → SessionEnd → List Entry → LinkStation → List (List ℕ) → ℕ → ℕ → Type 0
 EndIsThere c e es a os p q = IsThere e.station.phase (other c.role) c.longest e.station e.begun es a os p q
 
 -- ---- set-up
@@ -42,6 +43,7 @@ Owes Waiting asked closed = (asked ≤ 1) × (closed ≡ 0)
 Owes Closed asked closed = Unit {0}
 Owes phase asked closed = (asked ≡ 0) × (closed ≡ 0)
 
+-- as the line loses any of them
 pub owes_less : (p : Phase) {n m : ℕ} (a b : ℕ) → a ≤ n → b ≤ m → Owes p n m → Owes p a b
 owes_less Closed a b f g h = tt
 owes_less p a b f g h = (omega (arith, f, h.0), omega (arith, g, h.1))
@@ -51,7 +53,7 @@ abbrev pub OwesOn : Phase → List Letter → List Letter → Type 0
 OwesOn p out es = Owes p (how_many sabm_of out + how_many ua_of es) (how_many disc_of out)
 
 -- what the rules of both ends say
-pub record OnLine (c d : Settings) (w : Sessions) : Type 0 where
+pub record OnLine (c d : LinkSettings) (w : Sessions) : Type 0 where
   pub near_owes : OwesOn w.near.station.phase (letters (other d.role) d.longest w.out) (letters (other c.role) c.longest w.back)
   pub far_owes : OwesOn w.far.station.phase (letters (other c.role) c.longest w.back) (letters (other d.role) d.longest w.out)
   pub quiet : (e : Entry) (es : List Entry) → w.back ≡ e ∷ es → sabm_of (said (frame_of (other c.role) c.longest e.octets)) ≡ 1
@@ -78,7 +80,7 @@ lists_same {session = session} same h = record { down = same.down session ∙ h.
 -- ---- what holds
 
 -- of the sessions that stand, and their window machine
-pub record Held (stand : Standing) (c d : Settings) (w : Sessions) : Type 0 where
+pub record Held (stand : Standing) (c d : LinkSettings) (w : Sessions) : Type 0 where
   -- these sessions by themselves
   pub alone : Stations
   pub holds : Joint c d alone stand.machine
@@ -90,7 +92,7 @@ pub record Held (stand : Standing) (c d : Settings) (w : Sessions) : Type 0 wher
   pub whole : AreWholeIn d.longest w.near w.far w.sent
 
 -- an end that is no part of it goes on, and puts no frame with a number
-pub stays_on : (c : Settings) (station : LinkStation) (put : List (List ℕ)) (stand : Standing) → counted c.window station stand.machine.near
+pub stays_on : (c : LinkSettings) (station : LinkStation) (put : List (List ℕ)) (stand : Standing) → counted c.window station stand.machine.near
     ≡ stand.machine.near → numbered_on c.role c.longest put ≡ []
     → stand ≡ standing_after c station put None stand
 stays_on c station put stand still none =
@@ -200,7 +202,7 @@ module _ {phase : Phase} {from : Role} {n1 : ℕ} {s : LinkStation} {begun : ℕ
       subst (λ n. IsOf from n1 fresh (suc begun) (by_first n (behind_ua from n1 es) es) a os p q) none (h.awaits waits (omega (arith, some)))))
 
 -- the machine stands still where the end isn't in the session
-pub counted_there : {es : List Entry} {os : List (List ℕ)} {p q : ℕ} {c : Settings} (e : SessionEnd) {a : LinkStation} {l : End (List ℕ)}
+pub counted_there : {es : List Entry} {os : List (List ℕ)} {p q : ℕ} {c : LinkSettings} (e : SessionEnd) {a : LinkStation} {l : End (List ℕ)}
     → EndIsThere c e es a os p q → FitsEnd c a l → counted c.window e.station l ≡ l
 counted_there {c = c} e {a} {l} h fits = go (is_up e.station.phase) refl
   where

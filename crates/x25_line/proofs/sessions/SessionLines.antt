@@ -14,6 +14,7 @@ use Rattle.x25_line.specs.{laws.Loss.{LessAt, nothing, gone, hurt, deeper}, laws
 use Rattle.x25_line.proofs.Losses.{each_less, octets_less}
 use Rattle.x25_line.proofs.StationLines.{IsOrderly, AreOrderly, consed, numbered_append, shows_less, visible_is}
 
+-- what octets are read as
 abbrev pub Read : Type 0
 Read = Result PlainFrame FrameError
 
@@ -62,6 +63,7 @@ by_first zero before behind = before
 by_first (suc n) before behind = behind
 
 module _ (from : Role) (n1 : ℕ) where
+  -- the frames with an N(R) on a line
   abbrev pub numbers : List Entry → List PlainFrame
   numbers es = numbered_on from n1 (octets_of es)
 
@@ -91,6 +93,7 @@ module _ (from : Role) (n1 : ℕ) where
   kept None o os = os
   kept (Some f) o os = o ∷ os
 
+  -- of the octets on a line those that read as a frame with an N(R)
   abbrev pub carried : List Entry → List (List ℕ)
   carried [] = []
   carried (e ∷ es) = kept (number_in (frame_of from n1 e.octets)) e.octets (carried es)
@@ -116,6 +119,7 @@ module _ (from : Role) (n1 : ℕ) where
   kept_orderly None o os e h = h
   kept_orderly (Some f) o os e h = (some_orderly (frame_of from n1 o) f e, h)
 
+  -- a frame with an N(R) is read, and is no FRMR
   pub carried_orderly : (es : List Entry) → AreOrderly from n1 (carried es)
   carried_orderly [] = tt
   carried_orderly (e ∷ es) = kept_orderly (number_in (frame_of from n1 e.octets)) e.octets (carried es) refl (carried_orderly es)

@@ -1,30 +1,30 @@
 -- What an end over sessions may do, as what is known of it goes on: the rules of a peer, of an end that is in one of our phases.
-use Rattle.std.proofs.Common.{◌≡◌, ◌≤◌, ℕ, suc, List, [], ◌∷◌, ◌++◌, Bool, true, Some, Ok}
+use Rattle.std.proofs.Common.{◌≡◌, ◌≤◌, ℕ, suc, List, [], ◌∷◌, ◌++◌, Bool, true, if◌then◌else◌, Some, Ok}
 use Rattle.x25_frame.specs.{Frame.{PlainFrame, sabm, disc, ua, dm, frmr}, Reading.{frame_of}, laws.ReadingLaw.{ReadsSpelled}}
 use Rattle.x25_link.specs.{declared.phase.Phase.{Phase}, declared.phase.Phase.TheVariants.{Down, Waiting, Up, Closed}}
-use Rattle.x25_link.specs.{declared.phase.Reason.TheVariants.{FrmrSent}, Station.{Settings, is_up}, Hearing.{other}, laws.SetUp.{TakesPart}}
+use Rattle.x25_link.specs.{declared.phase.Reason.TheVariants.{FrmrSent}, Station.{LinkSettings, is_up}, Hearing.{other}, laws.SetUp.{TakesPart}}
 use Rattle.x25_link.specs.laws.WindowLaw.{ending_of}
 use Rattle.x25_line.specs.{laws.Loss.{LessAt}, laws.PeerSessions.{IsSeenIn}, laws.StationClaims.{number_in}, laws.LawsBelow.{SessionLaws}}
-use Rattle.x25_line.specs.{laws.Sessions.{Entry, Meeting, letters, heard}, laws.Peer.{Peer, fresh_peer, MaySend, MayHear}}
-use Rattle.x25_line.specs.{laws.Ends.{put_for}, laws.Said.{sabm_of, ua_of, disc_of, how_many}}
+use Rattle.x25_line.specs.{laws.Sessions.{Entry, Meeting, letters, meets}, laws.Peer.{Peer, fresh_peer, MaySend, MayHear}}
+use Rattle.x25_line.specs.{laws.Ends.{put_for}, laws.Said.{said, sabm_of, ua_of, disc_of, how_many}}
 use Rattle.x25_line.proofs.{StationSays.{machine_of}, sessions.SessionLines.{Read}}
 
 -- what is read of octets that it sends, and of those that come to it
-abbrev pub sends_read : Settings → List ℕ → Read
+abbrev pub sends_read : LinkSettings → List ℕ → Read
 sends_read d octets = frame_of d.role d.longest octets
 
-abbrev pub hears_read : Settings → List ℕ → Read
+abbrev pub hears_read : LinkSettings → List ℕ → Read
 hears_read d octets = frame_of (other d.role) d.longest octets
 
 abbrev pub entry : ℕ → List ℕ → Entry
 entry session octets = record { session = session; octets = octets }
 
 -- who meets whom, as the front comes to it
-abbrev pub heard_in : Settings → Phase → ℕ → Entry → List Meeting → List Meeting
-heard_in d p b e met = heard (is_up p) (number_in (hears_read d e.octets)) (record { near = b; far = e.session }) met
+abbrev pub heard_in : LinkSettings → Phase → ℕ → Entry → List Meeting → List Meeting
+heard_in d p b e met = if is_up p then meets (said (hears_read d e.octets)) (record { near = b; far = e.session }) met else met
 
 -- no SABM and no DISC of it, and no UA to it, is on the line
-pub record IsClear (d : Settings) (es out : List Entry) : Type 0 where
+pub record IsClear (d : LinkSettings) (es out : List Entry) : Type 0 where
   pub sabm : how_many sabm_of (letters d.role d.longest out) ≡ 0
   pub disc : how_many disc_of (letters d.role d.longest out) ≡ 0
   pub ua : how_many ua_of (letters (other d.role) d.longest es) ≡ 0
@@ -40,7 +40,7 @@ abbrev pub Known : Type 1
 Known = List Entry → List Meeting → Phase → ℕ → (ℕ → Peer) → List Entry → Type 0
 
 -- This goes on as each thing happens that it may do; `Due` is what is due of the line to it as it asks in a phase.
-pub record MayDo (d : Settings) (Due : Phase → List Entry → Type 0) (R : Known) : Type 0 where
+pub record MayDo (d : LinkSettings) (Due : Phase → List Entry → Type 0) (R : Known) : Type 0 where
   pub handed : (es : List Entry) (met : List Meeting) (b : ℕ) (all : ℕ → Peer) (out : List Entry) (packet : List ℕ) → R es met Up b all out
       → R es met Up b (put_for b (record (all b) { given = (all b).given ++ packet ∷ [] }) all) out
   pub tells : (es : List Entry) (met : List Meeting) (b : ℕ) (all : ℕ → Peer) (out : List Entry) (octets : List ℕ) (f : PlainFrame) (q : Peer)
@@ -83,7 +83,7 @@ pub record MayDo (d : Settings) (Due : Phase → List Entry → Type 0) (R : Kno
       → R es met p b all out → R fs met p b all out
 
 -- a kind of end, with settings d
-pub record Kind (d : Settings) : Type 1 where
+pub record Kind (d : LinkSettings) : Type 1 where
   pub high : d.window ≤ 7
   pub reads : ReadsSpelled
   pub rests : SessionLaws

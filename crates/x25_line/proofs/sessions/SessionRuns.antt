@@ -5,20 +5,20 @@ use Rattle.std.specs.Prelude.{nat_le}
 use Rattle.x25_bits.specs.declared.role.Role.{Role}
 use Rattle.x25_frame.specs.{Frame.{PlainFrame}, Spelling.{spelling_of}, laws.ReadingLaw.{ReadsSpelled}}
 use Rattle.x25_link.specs.{declared.error.LinkError.{LinkError}, declared.phase.Phase.{Phase}, declared.phase.Phase.TheVariants.{Down, Waiting, Up}}
-use Rattle.x25_link.specs.{Station.{Settings, is_up, with_nothing, fresh}, Hearing.{Step, other}}
+use Rattle.x25_link.specs.{Station.{LinkSettings, is_up, with_nothing, fresh}, Hearing.{LinkStep, other}}
 use Rattle.x25_link.specs.Link.{take_step, put_step, put_refusal, timer_step, timer_refusal, timer_runs, connect_step, connect_refusal, disconnect_step}
 use Rattle.x25_link.specs.Link.{disconnect_refusal, abandon_step}
 use Rattle.x25_line.specs.laws.Stations.{Stations, Act, Put, Deliver, T1, Connect, Disconnect, Abandon, Probe, Lose, Damage, LinkEvent, Near, Far, is_visible}
 use Rattle.x25_line.specs.{laws.Stations.{start}, laws.StationClaims.{AreJoined, AreWhole}}
-use Rattle.x25_line.specs.laws.Sessions.{Entry, Meeting, Sessions, swapped, begun_by, sent_in, after_step, unless, delivered, replaced, acts, happens, run}
-use Rattle.x25_line.specs.laws.Sessions.{start_with, IsStart, IsTimely, IsTimelyAt, AreTimely}
+use Rattle.x25_line.specs.laws.Sessions.{Entry, Meeting, Sessions, swapped, begun_by, sent_in, after_step, unless, delivered, with_octets, acts, happens, run}
+use Rattle.x25_line.specs.{laws.Sessions.{start_with, IsStart, IsTimely, IsTimelyAt, AreTimely}, laws.Loss.{replaced}}
 use Rattle.x25_line.specs.laws.SessionNumbers.{Standing, turned as other_way, is_set_up, front_sets_up, anew, place_to_hear, gone_at, standing_after, same_two}
 use Rattle.x25_line.specs.laws.SessionNumbers.{standing_acts, standing_happens, standing_run, standing_at, StandsWith, EachUpStandsWith, StandingGoesAlong}
 use Rattle.x25_line.specs.laws.SessionClaims.{Throughout, octets_of, AllOf, IsSession, Stands, EachUpStands, NoSessionSendsFrmr, AllSessionsSendWhole}
 use Rattle.x25_line.specs.laws.LawsBelow.{SessionLaws}
 use Rattle.x25_line.proofs.{StationSteps.{Holds}, StationAway.{connects_from}, StationRuns.{joined_swapped, joint_swapped, start_machine}}
 use Rattle.x25_line.proofs.{StationClaimLemmas.{is_behind, holds_order, holds_lists, holds_window, holds_whole}, sessions.SessionLines.{octets_sent}}
-use Rattle.x25_line.proofs.{Losses.{removes, replaces_in}, Choices.{unless_by, if_by}}
+use Rattle.x25_line.proofs.{Losses.{removes, replaces}, Choices.{unless_by, if_by}}
 use Rattle.x25_line.proofs.{sessions.SessionHeld.{is_there, is_out, IsThere, OnLine, Held, counted_there, stays_on}, sessions.SessionSteps.{went_by}}
 use Rattle.x25_line.proofs.sessions.SessionChanges.{change_held}
 use Rattle.x25_line.proofs.sessions.SessionActs.{up_in_session, put_held, timer_up_held, abandon_held, connect_held, timer_waiting_held, disconnect_held}
@@ -27,7 +27,7 @@ use Rattle.x25_line.proofs.{sessions.SessionSeenRuns.{Both, both_swapped, event_
 use Rattle.x25_line.specs.laws.Stations as one
 
 -- with what stands once `w` is `v`, by the definition
-abbrev HeldNow : Standing → Settings → Settings → Option ℕ → Sessions → Sessions → Type 0
+abbrev HeldNow : Standing → LinkSettings → LinkSettings → Option ℕ → Sessions → Sessions → Type 0
 HeldNow stand c d gone w v = Held (same_two c gone w v stand) c d v
 
 -- what a step puts
@@ -40,29 +40,30 @@ none_put_on : (out : List Entry) → octets_of (drop (length out) out) ≡ []
 none_put_on [] = refl
 none_put_on (e ∷ out) = none_put_on out
 
-step_now : (stand : Standing) {c d : Settings} (w : Sessions) (es : List Entry) (met : List Meeting) (down : List (List ℕ)) (step : Step) (gone : Option ℕ)
+step_now : (stand : Standing) {c d : LinkSettings} (w : Sessions) (es : List Entry) (met : List Meeting) (down : List (List ℕ)) (step : LinkStep)
+    (gone : Option ℕ)
     → Held (went_by c step gone stand) c d (after_step c w es met down step)
     → HeldNow stand c d gone w (after_step c w es met down step)
 step_now stand {c} w es met down step gone h = rw (put_is c.role (begun_by step.notes.up w.near.begun) step.side.out w.out) h
 
 -- nothing is put
-still_now : (stand : Standing) {c d : Settings} (w : Sessions) {v : Sessions} (gone : Option ℕ) → v.out ≡ w.out
+still_now : (stand : Standing) {c d : LinkSettings} (w : Sessions) {v : Sessions} (gone : Option ℕ) → v.out ≡ w.out
     → Held (standing_after c v.near.station [] gone stand) c d v → HeldNow stand c d gone w v
 still_now stand w gone same h = rw (ap (λ out. octets_of (drop (length w.out) out)) same ∙ none_put_on w.out) h
 
 -- what is refused changes nothing
-stays_now : {stand : Standing} (c d : Settings) (w : Sessions) → Held stand c d w → HeldNow stand c d None w w
+stays_now : {stand : Standing} (c d : LinkSettings) (w : Sessions) → Held stand c d w → HeldNow stand c d None w w
 stays_now {stand} c d w h = still_now stand w None refl (rw (sym (stays_on c w.near.station [] stand (counted_there w.near h.near h.holds.near) refl)) h)
 
-now_unless : {stand : Standing} (c d : Settings) (o : Option LinkError) (w v : Sessions) → Held stand c d w → (o ≡ None → HeldNow stand c d None w v)
+now_unless : {stand : Standing} (c d : LinkSettings) (o : Option LinkError) (w v : Sessions) → Held stand c d w → (o ≡ None → HeldNow stand c d None w v)
     → HeldNow stand c d None w (unless o w v)
 now_unless {stand} c d o w v h g = unless_by (HeldNow stand c d None w) o (stays_now c d w h) g
 
-now_if : {stand : Standing} (c d : Settings) (b : Bool) (w v : Sessions) → Held stand c d w → (b ≡ true → HeldNow stand c d None w v)
+now_if : {stand : Standing} (c d : LinkSettings) (b : Bool) (w v : Sessions) → Held stand c d w → (b ≡ true → HeldNow stand c d None w v)
     → HeldNow stand c d None w (if b then v else w)
 now_if {stand} c d b w v h g = if_by (HeldNow stand c d None w) b (stays_now c d w h) g
 
-module _ {c d : Settings} (joined : AreJoined c d) (reads : ReadsSpelled) (rests_on : SessionLaws) where
+module _ {c d : LinkSettings} (joined : AreJoined c d) (reads : ReadsSpelled) (rests_on : SessionLaws) where
   -- what stands once the front is taken off the line
   abbrev delivered_by : Sessions → List Entry → Standing → Standing
   delivered_by w es stand =
@@ -139,16 +140,18 @@ module _ {c d : Settings} (joined : AreJoined c d) (reads : ReadsSpelled) (rests
   acts_held {stand} (Damage i octets) w timely line h = by (is_visible octets) refl
     where
       v : Sessions
-      v = record w { back = replaced w.back i octets }
+      v = record w { back = replaced w.back i (with_octets octets) }
 
       by : (b : Bool) → is_visible octets ≡ b
-          → HeldNow stand c d (gone_at c w (if b then Some i else None)) w (if b then record w { back = replaced w.back i octets } else w)
-      by true visible = still_now stand w (gone_at c w (Some i)) refl (change_held joined reads rests_on.laws h line (replaces_in octets visible w.back i))
+          → HeldNow stand c d (gone_at c w (if b then Some i else None)) w (if b then record w { back = replaced w.back i (with_octets octets) } else w)
+      by true visible =
+          still_now stand w (gone_at c w (Some i)) refl
+          (change_held joined reads rests_on.laws h line (replaces (with_octets octets) (λ _. (refl, visible)) w.back i))
       by false hidden = stays_now c d w h
 
 -- ---- the other end
 
-abbrev pub held_swapped : {stand : Standing} (c d : Settings) → AreJoined c d → (w : Sessions) → Held stand c d w → Held (other_way stand) d c (swapped w)
+abbrev pub held_swapped : {stand : Standing} (c d : LinkSettings) → AreJoined c d → (w : Sessions) → Held stand c d w → Held (other_way stand) d c (swapped w)
 held_swapped {stand} c d joined w h =
     record {
       alone = one.stations_swapped h.alone;
@@ -167,7 +170,7 @@ held_swapped {stand} c d joined w h =
 
 -- ---- runs
 
-event_held : {stand : Standing} (c d : Settings) → ReadsSpelled → SessionLaws → (e : LinkEvent) (w : Sessions) → IsTimelyAt c d e w → Both c d w
+event_held : {stand : Standing} (c d : LinkSettings) → ReadsSpelled → SessionLaws → (e : LinkEvent) (w : Sessions) → IsTimelyAt c d e w → Both c d w
     → Held stand c d w → Held (standing_happens c d e w stand) c d (happens c d e w)
 event_held {stand} c d reads rests_on (Near act) w timely both h = acts_held both.joined reads rests_on act w timely (on_line reads rests_on both) h
 event_held {stand} c d reads rests_on (Far act) w timely both h =
@@ -175,7 +178,7 @@ event_held {stand} c d reads rests_on (Far act) w timely both h =
     (acts_held both.turn reads rests_on act (swapped w) timely (on_line reads rests_on (both_swapped both)) (held_swapped c d both.joined w h))
 
 -- what each event keeps is so after a run
-run_keeps : (P : Standing → Sessions → Type 0) (c d : Settings)
+run_keeps : (P : Standing → Sessions → Type 0) (c d : LinkSettings)
     → ((e : LinkEvent) (w : Sessions) (stand : Standing) → IsTimelyAt c d e w → P stand w → P (standing_happens c d e w stand) (happens c d e w))
     → (es : List LinkEvent) (w : Sessions) (stand : Standing) → AreTimely c d es w → P stand w → P (standing_run c d es w stand) (run c d es w)
 run_keeps P c d keeps [] w stand timely h = h
@@ -184,7 +187,7 @@ run_keeps P c d keeps (e ∷ es) w stand timely h = run_keeps P c d keeps es (ha
 
 -- ---- how a run begins
 
-start_held : {c d : Settings} → AreJoined c d → (p : Phase) (b : ℕ) → ((from : Role) (n1 : ℕ) → IsThere p from n1 (with_nothing p 0) b [] fresh [] b b)
+start_held : {c d : LinkSettings} → AreJoined c d → (p : Phase) (b : ℕ) → ((from : Role) (n1 : ℕ) → IsThere p from n1 (with_nothing p 0) b [] fresh [] b b)
     → Held (standing_at c d (start_with p b)) c d (start_with p b)
 start_held {c} {d} joined p b there =
     record {
@@ -198,7 +201,7 @@ start_held {c} {d} joined p b there =
       whole = record { given = []; handed_down = λ x there. absurd (omega (arith, there.1)); whole = tt };
     }
 
-begin_held : {c d : Settings} → AreJoined c d → {begin : Sessions} → IsStart begin → Held (standing_at c d begin) c d begin
+begin_held : {c d : LinkSettings} → AreJoined c d → {begin : Sessions} → IsStart begin → Held (standing_at c d begin) c d begin
 begin_held {c} {d} joined is = elim is [
   | inl down ↦ rw down (start_held joined Down 0 (λ from n1. is_out Down refl (λ waits. absurd (cc))))
   | inr up ↦ rw up (start_held joined Up 1 (λ from n1. is_there Up refl (record { station = refl; session = refl; comes = refl; of = tt })))
@@ -206,7 +209,7 @@ begin_held {c} {d} joined is = elim is [
 
 -- ---- the claims
 
-is_session : {c d : Settings} → AreJoined c d → {v : Stations} → Holds c d v → IsSession c d v
+is_session : {c d : LinkSettings} → AreJoined c d → {v : Stations} → Holds c d v → IsSession c d v
 is_session {c} {d} joined {v} holds =
     record {
       order = holds_order holds;
@@ -216,7 +219,7 @@ is_session {c} {d} joined {v} holds =
       whole = holds_whole joined holds;
     }
 
-stands : {stand : Standing} (c d : Settings) → AreJoined c d → (w : Sessions) → Held stand c d w → is_up w.near.station.phase ≡ true → Stands c d w
+stands : {stand : Standing} (c d : LinkSettings) → AreJoined c d → (w : Sessions) → Held stand c d w → is_up w.near.station.phase ≡ true → Stands c d w
 stands {stand} c d joined w h up =
     let i = up_in_session c d w h up in
     record {
@@ -241,7 +244,7 @@ stands {stand} c d joined w h up =
 
 -- ---- the machine behind what stands
 
-stands_with : {stand : Standing} (c d : Settings) → AreJoined c d → (w : Sessions) → Held stand c d w → is_up w.near.station.phase ≡ true
+stands_with : {stand : Standing} (c d : LinkSettings) → AreJoined c d → (w : Sessions) → Held stand c d w → is_up w.near.station.phase ≡ true
     → StandsWith c d w stand
 unfolding stands
 stands_with {stand} c d joined w h up =
@@ -252,16 +255,16 @@ stands_with {stand} c d joined w h up =
       behind = is_behind h.holds;
     }
 
-each_stands_with : {stand : Standing} (c d : Settings) → AreJoined c d → (w : Sessions) → Held stand c d w → EachUpStandsWith c d w stand
+each_stands_with : {stand : Standing} (c d : LinkSettings) → AreJoined c d → (w : Sessions) → Held stand c d w → EachUpStandsWith c d w stand
 each_stands_with {stand} c d joined w h =
     record { near = stands_with c d joined w h; far = stands_with d c (joined_swapped joined) (swapped w) (held_swapped c d joined w h) }
 
 -- with what stands
-abbrev pub HeldOf : Settings → Settings → Sessions → Type 0
+abbrev pub HeldOf : LinkSettings → LinkSettings → Sessions → Type 0
 HeldOf c d w = (stand : Standing) × Held stand c d w
 
 module _ (reads : ReadsSpelled) (rests_on : SessionLaws) where
-  pub goes_along : {c d : Settings} → AreJoined c d → {begin : Sessions} → IsStart begin → (events : List LinkEvent) → AreTimely c d events begin
+  pub goes_along : {c d : LinkSettings} → AreJoined c d → {begin : Sessions} → IsStart begin → (events : List LinkEvent) → AreTimely c d events begin
       → Held (standing_run c d events begin (standing_at c d begin)) c d (run c d events begin)
   goes_along {c} {d} joined {begin} is events timely =
       (run_keeps (λ stand w. Held stand c d w × Both c d w) c d

@@ -2,7 +2,7 @@
 use Rattle.std.proofs.Common.{◌≡◌, ℕ, ◌+◌, ◌≤◌, List, [], ◌∷◌, ◌++◌, length, refl, sym, ap, ◌∙◌, append_assoc, append-nil}
 use Rattle.x25_bits.specs.declared.role.Role.{Role}
 use Rattle.x25_frame.specs.{Frame.{PlainFrame}, Spelling.{spelling_of}}
-use Rattle.x25_link.specs.{Station.{Settings}, declared.phase.Phase.TheVariants.{Up}, laws.WindowMachine.{Window, Runs}}
+use Rattle.x25_link.specs.{Station.{LinkSettings}, declared.phase.Phase.TheVariants.{Up}, laws.WindowMachine.{Window, Runs}}
 use Rattle.x25_line.specs.{laws.Sessions.{Entry, Meeting, sent_in}, laws.Peer.{Peer}, laws.Ends.{put_for}}
 use Rattle.x25_line.proofs.{StationSays.{machine_of, Said, MaySay, said_run}, StationLines.{good_reads}, StationSends.{AllWithin}}
 use Rattle.x25_line.proofs.{sessions.SessionMay.{entry, Known, Kind}, ends.Puts.{put_same, put_alike}}
@@ -25,7 +25,7 @@ same_put b r {all} given taken h = record {
 
 -- ---- all that is sent in a step
 
-module _ {d : Settings} (k : Kind d) (es : List Entry) (met : List Meeting) where
+module _ {d : LinkSettings} (k : Kind d) (es : List Entry) (met : List Meeting) where
   abbrev R : Known
   R = k.R
 

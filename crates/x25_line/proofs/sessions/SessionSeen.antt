@@ -2,7 +2,8 @@
 use Rattle.std.proofs.Common.{◌≡◌, ◌≤◌, ◌<◌, ◌==◌, ℕ, suc, ◌+◌, List, [], ◌++◌, inl, inr, length, true, false, Option, None, refl, sym, ap, ◌∙◌, subst}
 use Rattle.std.proofs.{Common.{arith}, lemmas.Bool.{eq-eqb}}
 use Rattle.std.specs.Prelude.{option_to_list}
-use Rattle.x25_link.specs.{declared.phase.Phase.{Phase}, declared.phase.Phase.TheVariants.{Up}, Station.{Settings, is_up, with_nothing, fresh}, Hearing.{Step}}
+use Rattle.x25_link.specs.{declared.phase.Phase.{Phase}, declared.phase.Phase.TheVariants.{Up}, Station.{LinkSettings, is_up, with_nothing, fresh}}
+use Rattle.x25_link.specs.Hearing.{LinkStep}
 use Rattle.x25_link.specs.{laws.WindowMachine.{Window, Input}, laws.WindowLaw.{window_of, after_input, Stays}}
 use Rattle.x25_line.specs.laws.Sessions.{Entry, SessionEnd, start_with, Meeting, Sessions, letters, sent_in, begun_by, extended, after_step}
 use Rattle.x25_line.specs.{laws.Peer.{Peer, fresh_peer}, laws.Ends.{put_for, AreOf}, laws.Said.{sabm_of, how_many}}
@@ -20,7 +21,7 @@ put_packets b r all lists more f grows same n = elim (same_or_other n b) [
   | inr not ↦ ap f (put_apart b n r all not) ∙ same n ∙ sym (extended_other lists b n more (λ is. not_both (n == b) (eq-eqb n b is) not))
 ]
 
-module _ (d : Settings) (R : Known) where
+module _ (d : LinkSettings) (R : Known) where
   -- the near end, with settings d
   pub record Seen (w : Sessions) : Type 0 where
     pub all : ℕ → Peer
@@ -31,7 +32,7 @@ module _ (d : Settings) (R : Known) where
     pub later : (n : ℕ) → w.near.begun < n → (w.near.down n ≡ []) × (w.near.up n ≡ [])
     pub tags : AreOf w.near.begun (letters d.role d.longest w.out)
 
-fresh_facts : (d : Settings) (p : Phase) → UpFacts d (with_nothing p 0) fresh_peer
+fresh_facts : (d : LinkSettings) (p : Phase) → UpFacts d (with_nothing p 0) fresh_peer
 fresh_facts d p = record {
   same = refl;
   sound = record { place_low = omega arith; place_high = omega arith; sent_high = omega arith; room = omega arith };
@@ -41,7 +42,7 @@ fresh_facts d p = record {
 }
 
 -- as a run begins
-pub start_seen : (d : Settings) (R : Known) {p : Phase} {b : ℕ} (far : SessionEnd) → R [] [] p b (λ n. fresh_peer) []
+pub start_seen : (d : LinkSettings) (R : Known) {p : Phase} {b : ℕ} (far : SessionEnd) → R [] [] p b (λ n. fresh_peer) []
     → Seen d R (record (start_with p b) { far = far })
 start_seen d R {p} far reached = record {
   all = λ n. fresh_peer;
@@ -53,13 +54,13 @@ start_seen d R {p} far reached = record {
   tags = tt;
 }
 
-module _ {d : Settings} (k : Kind d) where
+module _ {d : LinkSettings} (k : Kind d) where
   abbrev R : Known
   R = k.R
 
   -- ---- after a step of the near end
 
-  pub build : {w : Sessions} (h : Seen d R w) {es : List Entry} {met : List Meeting} (down : List (List ℕ)) (step : Step) (all : ℕ → Peer) → step.notes.up
+  pub build : {w : Sessions} (h : Seen d R w) {es : List Entry} {met : List Meeting} (down : List (List ℕ)) (step : LinkStep) (all : ℕ → Peer) → step.notes.up
       ≡ false
       → R es met step.side.near.phase w.near.begun all (w.out ++ sent_in w.near.begun d.role step.side.out)
       → (is_up step.side.near.phase ≡ true → UpFacts d step.side.near (all w.near.begun)) → ((n : ℕ) → (all n).given ≡ extended w.near.down w.near.begun down n)
@@ -79,7 +80,7 @@ module _ {d : Settings} (k : Kind d) where
       })
 
   -- nothing is handed down or up
-  pub build_quiet : {w : Sessions} (h : Seen d R w) {es : List Entry} {met : List Meeting} (step : Step) → step.notes.up ≡ false → step.packet ≡ None
+  pub build_quiet : {w : Sessions} (h : Seen d R w) {es : List Entry} {met : List Meeting} (step : LinkStep) → step.notes.up ≡ false → step.packet ≡ None
       → is_up step.side.near.phase ≡ false
       → R es met step.side.near.phase w.near.begun h.all (w.out ++ sent_in w.near.begun d.role step.side.out) → Seen d R (after_step d w es met [] step)
   build_quiet {w} h {es} {met} step quiet none off reached =
@@ -87,7 +88,7 @@ module _ {d : Settings} (k : Kind d) where
       (λ n. h.taken n ∙ sym (ap (λ o. extended w.near.up w.near.begun (option_to_list o) n) none ∙ extended_nil w.near.up w.near.begun n))
 
   -- LinkUp is noted
-  pub build_up : {w : Sessions} (h : Seen d R w) {es : List Entry} (step : Step) → step.notes.up ≡ true → step.side.near ≡ fresh → step.packet ≡ None
+  pub build_up : {w : Sessions} (h : Seen d R w) {es : List Entry} (step : LinkStep) → step.notes.up ≡ true → step.side.near ≡ fresh → step.packet ≡ None
       → how_many sabm_of (letters d.role d.longest w.out) ≡ 0
       → R es w.met Up (suc w.near.begun) (put_for (suc w.near.begun) fresh_peer h.all) (w.out ++ sent_in (suc w.near.begun) d.role step.side.out)
       → Seen d R (after_step d w es w.met [] step)
@@ -128,7 +129,8 @@ module _ {d : Settings} (k : Kind d) where
     pub given : (n : ℕ) → (all n).given ≡ extended w.near.down w.near.begun down n
     pub taken : (n : ℕ) → (all n).taken ≡ extended w.near.up w.near.begun (option_to_list packet) n
 
-  pub stays_seen : {w : Sessions} (h : Seen d R w) {es : List Entry} {met : List Meeting} {down : List (List ℕ)} {input : Input} {step : Step}
+  -- a step by which it stays Up keeps what is seen of it
+  pub stays_seen : {w : Sessions} (h : Seen d R w) {es : List Entry} {met : List Meeting} {down : List (List ℕ)} {input : Input} {step : LinkStep}
       → Ready w es met down step.packet (after_input input step.packet (window_of d.window w.near.station))
       → Stays d.window input w.near.station step → Seen d R (after_step d w es met down step)
   stays_seen {w} h {es} {met} {down} {input} {step} r stays =

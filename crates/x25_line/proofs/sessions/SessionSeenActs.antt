@@ -5,10 +5,10 @@ use Rattle.x25_frame.specs.{Frame.{PlainFrame, sabm, disc, ua, dm, frmr}, Spelli
 use Rattle.x25_frame.specs.declared.error.FrameError.TheVariants.{Short}
 use Rattle.x25_link.specs.{declared.phase.Phase.{Phase}, declared.phase.Phase.TheVariants.{Down, Waiting, Up, Closed}, declared.phase.Reason.{Reason}}
 use Rattle.x25_link.specs.declared.phase.Reason.TheVariants.{Retries, Disc, Dm, FrmrSent, FrmrGot, Reset, Local, Counts}
-use Rattle.x25_link.specs.{Station.{Settings, LinkStation, is_up, fresh}, Hearing.{Step}, Link.{take_step}}
+use Rattle.x25_link.specs.{Station.{LinkSettings, LinkStation, is_up, fresh}, Hearing.{LinkStep}, Link.{take_step}}
 use Rattle.x25_link.specs.laws.SetUp.{Is, TakesPart, reset_from, waiting_after, waiting_sends, waiting_up}
 use Rattle.x25_link.specs.laws.WindowLaw.{window_of, brought_by, after_input, ending_of, ends_in, Ends, Follows, AreDeclining, StaysOut}
-use Rattle.x25_line.specs.{laws.StationClaims.{number_in}, laws.Sessions.{Entry, Meeting, Sessions, letters, sent_in, after_step, heard}}
+use Rattle.x25_line.specs.laws.Sessions.{Entry, Meeting, Sessions, letters, meets, sent_in, after_step}
 use Rattle.x25_line.specs.{laws.Peer.{Peer}, laws.Said.{said, sabm_of, disc_of, how_many}}
 use Rattle.x25_line.proofs.{StationLines.{AreParting, parts_of, part_reads}, StationHears.{UpFacts, Hears, stays_hears, by_disc, by_reset, by_local, left_by}}
 use Rattle.x25_line.proofs.{StationSends.{AllWithin}, StationSteps.{not_afresh}, StationAway.{is_up_phase, frmr_three, waits_on}, sessions.SessionLines.{Read}}
@@ -32,10 +32,10 @@ ends_away Reset never p is = absurd (never refl)
 ends_away reason never p is = ap is_up is
 
 -- a frame that may be spelled as it is
-alone_reads : ReadsSpelled → (d : Settings) (f : PlainFrame) → AreParting (f ∷ []) → sends_read d (spelling_of d.role f) ≡ Ok f
+alone_reads : ReadsSpelled → (d : LinkSettings) (f : PlainFrame) → AreParting (f ∷ []) → sends_read d (spelling_of d.role f) ≡ Ok f
 alone_reads reads d f h = part_reads reads d.role d.longest (parts_of (f ∷ []) h).0
 
-module _ {d : Settings} (k : Kind d) where
+module _ {d : LinkSettings} (k : Kind d) where
   abbrev R : Known
   R = k.R
 
@@ -91,7 +91,7 @@ module _ {d : Settings} (k : Kind d) where
     abbrev b : ℕ
     b = w.near.begun
 
-    abbrev step : Step
+    abbrev step : LinkStep
     step = take_step d e.octets s
 
     abbrev met : List Meeting
@@ -106,18 +106,19 @@ module _ {d : Settings} (k : Kind d) where
     passed : R es met s.phase b h.all w.out
     passed = k.does.passes e es w.met s.phase b h.all w.out came
 
-    met_none : number_in r ≡ None → met ≡ w.met
-    met_none none = go (is_up s.phase)
+    -- a frame without an N(R)
+    met_none : {x : Read} → r ≡ x → meets (said x) (record { near = b; far = e.session }) w.met ≡ w.met → met ≡ w.met
+    met_none {x} read none = go (is_up s.phase)
       where
-        go : (x : Bool) → heard x (number_in r) (record { near = b; far = e.session }) w.met ≡ w.met
-        go true = ap (λ o. heard true o (record { near = b; far = e.session }) w.met) none
+        go : (y : Bool) → (if y then meets (said r) (record { near = b; far = e.session }) w.met else w.met) ≡ w.met
+        go true = ap (λ (z : Read). meets (said z) (record { near = b; far = e.session }) w.met) read ∙ none
         go false = refl
 
     -- a SABM sets it up
     pub sets_up_seen : (p : Bool) → r ≡ Ok (sabm p) → TakesPart s.phase → Is fresh (ua p ∷ []) (reset_from s.phase) true step
         → how_many sabm_of (letters d.role d.longest w.out) ≡ 0 → S (after_step d w es met [] step)
     sets_up_seen p read part i unasked =
-        rw (met_none (ap number_in read)) (build_up k h step i.up i.near i.packet unasked
+        rw (met_none read refl) (build_up k h step i.up i.near i.packet unasked
         (put_one w.out (ua p) step.side.out i.out
         (k.does.takes_sabm e es w.met s.phase b h.all w.out (spelling_of d.role (ua p)) p p read (alone_reads k.reads d (ua p) tt) part came)))
 
@@ -155,7 +156,7 @@ module _ {d : Settings} (k : Kind d) where
       ends_seen Retries never ending ends = left_seen never ends (gone step.side.out ends.frames)
       ends_seen Disc never ending ends = elim (disc_or_not r) [
         | inl closes ↦ (let f = ends.frames.0 in
-            left_seen never ends (rw (met_none (ap number_in closes.1))
+            left_seen never ends (rw (met_none closes.1 refl)
             (put_one w.out (ua f) step.side.out ends.frames.1
             (k.does.takes_disc e es w.met b h.all w.out (spelling_of d.role (ua f)) closes.0 f closes.1 (alone_reads k.reads d (ua f) tt) (came_in Up in_it)))))
         | inr none ↦ (absurd (omega (arith, (left_by r (window_of d.window s)).0, ap by_disc ending, none)))
@@ -195,7 +196,7 @@ module _ {d : Settings} (k : Kind d) where
     pub answer_seen : s.phase ≡ Waiting → r ≡ Ok (ua true) → how_many sabm_of (letters d.role d.longest w.out) ≡ 0 → S (after_step d w es met [] step)
     answer_seen waiting read unasked =
         let i = k.rests.laws.set_up.waits d e.octets s waiting r refl in
-        subst (λ xs. S (after_step d w es xs [] step)) (sym (met_none (ap number_in read)))
+        subst (λ xs. S (after_step d w es xs [] step)) (sym (met_none read refl))
         (build_up k h step (i.up ∙ ap waiting_up read) (i.near ∙ ap (λ x. waiting_after x s) read) i.packet unasked
         (put_none step.side.out (i.out ∙ ap waiting_sends read) (k.does.takes_ua e es w.met b h.all w.out read (came_in Waiting waiting))))
 
@@ -218,7 +219,7 @@ module _ {d : Settings} (k : Kind d) where
 
         by : (x : Read) → r ≡ x → R es met Waiting b h.all (w.out ++ sent_in b d.role step.side.out)
         by (Ok (sabm p)) read =
-            subst (λ xs. R es xs Waiting b h.all (w.out ++ sent_in b d.role step.side.out)) (sym (met_none (ap number_in read)))
+            subst (λ xs. R es xs Waiting b h.all (w.out ++ sent_in b d.role step.side.out)) (sym (met_none read refl))
             (put_one w.out (ua p) step.side.out (i.out ∙ ap waiting_sends read)
             (k.does.waits_on e es w.met b h.all w.out (spelling_of d.role (ua p)) p p read (alone_reads k.reads d (ua p) tt) (came_in Waiting waiting)))
         by (Ok (disc p)) read =

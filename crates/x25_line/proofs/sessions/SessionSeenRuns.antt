@@ -3,7 +3,7 @@ use Rattle.std.proofs.Common.{◌≡◌, ℕ, suc, List, [], ◌∷◌, ◌++◌
 use Rattle.std.specs.Prelude.{nat_le}
 use Rattle.x25_frame.specs.{Frame.{PlainFrame, sabm, disc, ua, dm, frmr}, Reading.{frame_of}, laws.ReadingLaw.{ReadsSpelled}}
 use Rattle.x25_link.specs.{declared.phase.Phase.{Phase}, declared.phase.Phase.TheVariants.{Down, Waiting, Up, Closed}, Hearing.{other}}
-use Rattle.x25_link.specs.{Station.{Settings, LinkStation}, Link.{put_refusal, alone, hears as takes}}
+use Rattle.x25_link.specs.{Station.{LinkSettings, LinkStation}, Link.{put_refusal, alone, hears as takes}}
 use Rattle.x25_line.specs.{laws.Stations.{Act, Put, Deliver, T1, Connect, Lose, Damage, LinkEvent, Near, Far, is_visible}, laws.StationClaims.{AreJoined}}
 use Rattle.x25_line.specs.laws.Said.{said, sabm_of, how_many}
 use Rattle.x25_line.specs.laws.Sessions.{Entry, SessionEnd, Meeting, Sessions, turned, swapped, letters, begun_by, after_step}
@@ -27,7 +27,7 @@ use Rattle.x25_line.proofs.sessions.SessionSeenSteps as own
 -- ---- a station is known as a peer
 
 -- the near end, with settings d, as a peer of the far end, with settings c
-module _ {c d : Settings} (joined : AreJoined c d) (far : SessionEnd) where
+module _ {c d : LinkSettings} (joined : AreJoined c d) (far : SessionEnd) where
   abbrev at : List Entry → List Meeting → PeerEnd → List Entry → PeerSessions
   at es met p out = record { near = far; peer = p; out = es; back = out; met = map turned met }
 
@@ -147,13 +147,13 @@ module _ {c d : Settings} (joined : AreJoined c d) (far : SessionEnd) where
 abbrev SameBut : PeerEnd → Sessions → Sessions → Type 0
 SameBut p w v = with_peer p w ≡ with_peer p v
 
-alike_delivered : (c : Settings) (p : PeerEnd) (w : Sessions) (es : List Entry) → with_peer p (delivered c es w)
+alike_delivered : (c : LinkSettings) (p : PeerEnd) (w : Sessions) (es : List Entry) → with_peer p (delivered c es w)
     ≡ with_peer p (delivered c es (both_ends (with_peer p w)))
 alike_delivered c p w [] = refl
 alike_delivered c p w (e ∷ es) = refl
 
 -- an act of the station does the same beside a peer and beside that peer's numbers alone
-pub alike : (c : Settings) (p : PeerEnd) (a : Act) (w : Sessions) → with_peer p (acts c a w) ≡ with_peer p (acts c a (both_ends (with_peer p w)))
+pub alike : (c : LinkSettings) (p : PeerEnd) (a : Act) (w : Sessions) → with_peer p (acts c a w) ≡ with_peer p (acts c a (both_ends (with_peer p w)))
 alike c p (Put packet) w = if_both (SameBut p) (nat_le (length packet) c.longest) refl (unless_both (SameBut p) (put_refusal w.near.station) refl refl)
 alike c p Deliver w = alike_delivered c p w w.back
 alike c p (Lose i) w = refl
@@ -162,10 +162,10 @@ alike c p act w = (let x = both_ends (with_peer p w) in
     own_both (SameBut p) c w.near.station w x (after_step c w w.back w.met []) (after_step c x w.back w.met []) refl (λ step. refl) act)
 
 -- a station, with settings d, as a peer of the other end of these sessions
-abbrev pub SeenAt : (c d : Settings) → AreJoined c d → Sessions → Type 0
+abbrev pub SeenAt : (c d : LinkSettings) → AreJoined c d → Sessions → Type 0
 SeenAt c d joined w = Seen d (IsPeerOf joined w.far) w
 
-module _ (c d : Settings) (joined : AreJoined c d) (reads : ReadsSpelled) (rests : SessionLaws) where
+module _ (c d : LinkSettings) (joined : AreJoined c d) (reads : ReadsSpelled) (rests : SessionLaws) where
   abbrev S : Sessions → Type 0
   S w = SeenAt c d joined w
 
@@ -246,34 +246,34 @@ module _ (c d : Settings) (joined : AreJoined c d) (reads : ReadsSpelled) (rests
 
 -- ---- UA with F=0 comes
 
-no_link_up : (d : Settings) (octets : List ℕ) (s : LinkStation) (p : Phase) → (takes d octets (Ok (ua false)) p (alone s)).notes.up ≡ false
+no_link_up : (d : LinkSettings) (octets : List ℕ) (s : LinkStation) (p : Phase) → (takes d octets (Ok (ua false)) p (alone s)).notes.up ≡ false
 no_link_up d octets s Down = refl
 no_link_up d octets s Waiting = refl
 no_link_up d octets s Up = refl
 no_link_up d octets s Closed = refl
 
-by_final : (d : Settings) (w : Sessions) (e : Entry) (rest : List Entry) → w.back ≡ e ∷ rest → hears_read d e.octets ≡ Ok (ua false)
+by_final : (d : LinkSettings) (w : Sessions) (e : Entry) (rest : List Entry) → w.back ≡ e ∷ rest → hears_read d e.octets ≡ Ok (ua false)
     → (acts d Deliver w).near.begun ≡ w.near.begun
 by_final d w e rest is read =
     rw (is, read) (ap (λ up. begun_by up w.near.begun) (no_link_up d e.octets w.near.station w.near.station.phase))
 
 -- ---- both ends
 
-pub record Both (c d : Settings) (w : Sessions) : Type 0 where
+pub record Both (c d : LinkSettings) (w : Sessions) : Type 0 where
   pub turn : AreJoined d c
   pub joined : AreJoined c d
   pub near : SeenAt d c turn w
   pub far : SeenAt c d joined (swapped w)
 
-seen_twice : {c d : Settings} (joined : AreJoined c d) {w : Sessions} → SeenAt c d joined w → SeenAt c d joined (swapped (swapped w))
+seen_twice : {c d : LinkSettings} (joined : AreJoined c d) {w : Sessions} → SeenAt c d joined w → SeenAt c d joined (swapped (swapped w))
 seen_twice joined {w} h = rw (twice_turned w.met) h
 
 -- as the far end has it
-pub both_swapped : {c d : Settings} {w : Sessions} → Both c d w → Both d c (swapped w)
+pub both_swapped : {c d : LinkSettings} {w : Sessions} → Both c d w → Both d c (swapped w)
 both_swapped {c} {d} {w} h = record { turn = h.joined; joined = h.turn; near = h.far; far = seen_twice h.turn h.near }
 
 module _ (reads : ReadsSpelled) (rests : SessionLaws) where
-  act_both : {c d : Settings} (a : Act) {w : Sessions} → IsTimely c d a w → Both c d w → Both c d (acts c a w)
+  act_both : {c d : LinkSettings} (a : Act) {w : Sessions} → IsTimely c d a w → Both c d w → Both c d (acts c a w)
   act_both {c} {d} a {w} timely h = record {
     turn = h.turn;
     joined = h.joined;
@@ -281,12 +281,12 @@ module _ (reads : ReadsSpelled) (rests : SessionLaws) where
     far = other_acts c d h.joined reads rests a w timely h.far;
   }
 
-  pub event_both : {c d : Settings} (e : LinkEvent) {w : Sessions} → IsTimelyAt c d e w → Both c d w
+  pub event_both : {c d : LinkSettings} (e : LinkEvent) {w : Sessions} → IsTimelyAt c d e w → Both c d w
       → Both c d (happens c d e w)
   event_both (Near act) timely h = act_both act timely h
   event_both (Far act) timely h = both_swapped (act_both act timely (both_swapped h))
 
-  pub begin_both : {c d : Settings} (joined : AreJoined c d) {begin : Sessions} → IsStart begin → Both c d begin
+  pub begin_both : {c d : LinkSettings} (joined : AreJoined c d) {begin : Sessions} → IsStart begin → Both c d begin
   begin_both {c} {d} joined is = elim is [
     | inl down ↦ subst (Both c d) (sym down) (record {
       turn = joined_swapped joined;
@@ -304,15 +304,16 @@ module _ (reads : ReadsSpelled) (rests : SessionLaws) where
 
   -- ---- runs
 
-  run_both : {c d : Settings} (es : List LinkEvent) {w : Sessions} → AreTimely c d es w → Both c d w → Both c d (run c d es w)
+  run_both : {c d : LinkSettings} (es : List LinkEvent) {w : Sessions} → AreTimely c d es w → Both c d w → Both c d (run c d es w)
   run_both [] timely h = h
   run_both {c} {d} (e ∷ es) {w} timely h = run_both es timely.1 (event_both e timely.0 h)
 
-  pub throughout_both : {c d : Settings} (joined : AreJoined c d) {begin : Sessions} → IsStart begin → (events : List LinkEvent) → AreTimely c d events begin
+  pub throughout_both : {c d : LinkSettings} (joined : AreJoined c d) {begin : Sessions} → IsStart begin → (events : List LinkEvent)
+      → AreTimely c d events begin
       → Both c d (run c d events begin)
   throughout_both {c} {d} joined {begin} is events timely = run_both events timely (begin_both joined is)
 
-  is_peer : {c d : Settings} (joined : AreJoined c d) {w : Sessions} → SeenAt c d joined w → IsPeer c d w
+  is_peer : {c d : LinkSettings} (joined : AreJoined c d) {w : Sessions} → SeenAt c d joined w → IsPeer c d w
   is_peer {c} {d} joined {w} h = record {
     peer = end joined w.far w.near.station.phase w.near.begun h.all;
     reached = h.reached;

@@ -4,20 +4,20 @@ use Rattle.std.proofs.{Common.{refl, sym, ap, ◌∙◌, subst, arith, append-ni
 use Rattle.std.specs.Prelude.{nat_le, nat_lt, option_to_list}
 use Rattle.x25_frame.specs.Frame.{PlainFrame, sabm, disc, ua}
 use Rattle.x25_link.specs.{declared.error.LinkError.{LinkError}, declared.phase.Phase.{Phase}, declared.phase.Phase.TheVariants.{Down, Waiting, Up, Closed}}
-use Rattle.x25_link.specs.{declared.phase.Reason.TheVariants.{Retries}, Station.{Settings, LinkStation, is_up, with_nothing}, Hearing.{Step, other}}
+use Rattle.x25_link.specs.{declared.phase.Reason.TheVariants.{Retries}, Station.{LinkSettings, LinkStation, is_up, with_nothing}, Hearing.{LinkStep, other}}
 use Rattle.x25_link.specs.Link.{put_step, put_refusal, timer_step, timer_refusal, timer_runs, connect_step, connect_refusal, disconnect_step}
 use Rattle.x25_link.specs.{Link.{disconnect_refusal, abandon_step}, laws.SetUp.{Is, TakesPart, waiting_up}, laws.WindowMachine.{hands_down, nothing}}
 use Rattle.x25_link.specs.laws.WindowLaw.{window_of, Follows, IsOut}
-use Rattle.x25_window.specs.{laws.Window.{after}, laws.Window.Step.{HandDown}}
+use Rattle.x25_window.specs.{laws.Window.{after}, laws.Window.EndStep.{HandDown}}
 use Rattle.x25_line.specs.laws.Stations.{Act, Put, Deliver, T1, Connect, Disconnect, Abandon, Probe, Lose, Damage, is_visible}
-use Rattle.x25_line.specs.{laws.Sessions.{Entry, Sessions, letters, sent_in, after_step, unless, delivered, acts}, laws.Peer.{Peer}}
+use Rattle.x25_line.specs.{laws.Sessions.{Entry, Sessions, letters, sent_in, after_step, unless, delivered, with_octets, acts}, laws.Peer.{Peer}}
 use Rattle.x25_line.specs.laws.Said.{said, sabm_of, ua_of, how_many}
 use Rattle.x25_line.proofs.{StationHears.{sabm_or_not, sets_none_up}, StationSends.{within_push}, StationSteps.{no_packet_of, not_afresh}}
 use Rattle.x25_line.proofs.{StationAway.{connects_from, closed_takes}, sessions.SessionLines.{Read}, sessions.SessionHeld.{OwesOn}}
 use Rattle.x25_line.proofs.sessions.SessionMay.{hears_read, IsClear, Known, Kind}
 use Rattle.x25_line.proofs.sessions.SessionSeen.{Seen, build_quiet, stays_seen, reached_in, unchanged, changed}
 use Rattle.x25_line.proofs.sessions.SessionSeenActs.{put_none, put_asks, put_closes, sets_up_seen, up_seen, out_seen, answer_seen, waiting_seen}
-use Rattle.x25_line.proofs.{Choices.{unless_by, if_by}, Losses.{removes, replaces_in}}
+use Rattle.x25_line.proofs.{Choices.{unless_by, if_by}, Losses.{removes, replaces}}
 use Rattle.x25_link.specs.declared.error.LinkError.TheVariants as error
 
 -- the UA that is awaited, or none such
@@ -36,7 +36,7 @@ put_accepted s accepted = go (is_up s.phase) _ accepted
         never : Some error.NotUp ≡ None → ⊥
         never k = cc
 
-module _ {d : Settings} (k : Kind d) where
+module _ {d : LinkSettings} (k : Kind d) where
   abbrev R : Known
   R = k.R
 
@@ -55,6 +55,7 @@ module _ {d : Settings} (k : Kind d) where
   abbrev pub IsOver : Sessions → Type 0
   IsOver w = (how_many sabm_of (letters d.role d.longest w.out) ≡ 0) × (how_many ua_of (letters (other d.role) d.longest w.back) ≡ 0) × k.Due Waiting w.back
 
+  -- when T1 may run out, and the link be asked for
   abbrev pub IsTimely : Act → Sessions → Type 0
   IsTimely T1 w = w.near.station.phase ≡ Waiting → IsOver w
   IsTimely Connect w = w.near.station.phase ≡ Down → k.Due Down w.back
@@ -77,7 +78,7 @@ module _ {d : Settings} (k : Kind d) where
       (sym (ap (λ o. (h.all b).taken ++ option_to_list o) none ∙ append-nil (h.all b).taken))) stays
 
   -- it isn't Up any more, with nothing taken off the line
-  away_seen : {w : Sessions} (h : S w) (step : Step) → step.notes.up ≡ false → step.packet ≡ None → {q : Phase} → step.side.near.phase ≡ q → is_up q ≡ false
+  away_seen : {w : Sessions} (h : S w) (step : LinkStep) → step.notes.up ≡ false → step.packet ≡ None → {q : Phase} → step.side.near.phase ≡ q → is_up q ≡ false
       → R w.back w.met q w.near.begun h.all (w.out ++ sent_in w.near.begun d.role step.side.out) → S (after_step d w w.back w.met [] step)
   away_seen {w} h step quiet none phase off reached = build_quiet k h step quiet none (ap is_up phase ∙ off) (rw phase reached)
 
@@ -92,7 +93,7 @@ module _ {d : Settings} (k : Kind d) where
       s : LinkStation
       s = w.near.station
 
-      step : Step
+      step : LinkStep
       step = timer_step d s
 
       by : (b : Bool) → Follows (if b then None else Some Retries) d.window nothing s step → S (after_step d w w.back w.met [] step)
@@ -111,7 +112,7 @@ module _ {d : Settings} (k : Kind d) where
       clear : IsClear d w.back w.out
       clear = record { sabm = over.0; disc = (owes_at w Waiting waiting owes).1; ua = over.1 }
 
-      by : (b : Bool) (step : Step)
+      by : (b : Bool) (step : LinkStep)
           → (let s = w.near.station in Is (if b then record s { tries = suc s.tries } else with_nothing Down s.tries) (if b then sabm true ∷ [] else [])
           (if b then None else Some Retries) false step)
           → S (after_step d w w.back w.met [] step)
@@ -142,7 +143,7 @@ module _ {d : Settings} (k : Kind d) where
       s : LinkStation
       s = w.near.station
 
-      step : Step
+      step : LinkStep
       step = disconnect_step d s
 
       refused : Some error.Closed ≡ None → ⊥
@@ -227,4 +228,4 @@ module _ {d : Settings} (k : Kind d) where
   station_acts (Lose i) w timely owes h = line_seen h (k.does.loses w.met w.near.station.phase w.near.begun h.all w.out (removes w.back i) h.reached)
   station_acts (Damage i octets) w timely owes h =
       if_by S (is_visible octets) h (λ visible. line_seen h
-      (k.does.loses w.met w.near.station.phase w.near.begun h.all w.out (replaces_in octets visible w.back i) h.reached))
+      (k.does.loses w.met w.near.station.phase w.near.begun h.all w.out (replaces (with_octets octets) (λ _. (refl, visible)) w.back i) h.reached))

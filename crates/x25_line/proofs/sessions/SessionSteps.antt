@@ -4,8 +4,8 @@ use Rattle.std.proofs.Common.{◌≡◌, ◌≤◌, ℕ, List, [], ◌∷◌, �
 use Rattle.std.proofs.lemmas.List.Elements.{Contains-append_cases}
 use Rattle.std.specs.{Prelude.{option_to_list}, List.{Contains}}
 use Rattle.x25_frame.specs.{Frame.{PlainFrame, frmr}, Spelling.{spelling_of}, laws.ReadingLaw.{ReadsSpelled}}
-use Rattle.x25_link.specs.{declared.phase.Phase.{Phase}, declared.phase.Phase.TheVariants.{Waiting, Closed}, Station.{Settings, awaits_ua}}
-use Rattle.x25_link.specs.Hearing.{Step, other}
+use Rattle.x25_link.specs.{declared.phase.Phase.{Phase}, declared.phase.Phase.TheVariants.{Waiting, Closed}, Station.{LinkSettings, awaits_ua}}
+use Rattle.x25_link.specs.Hearing.{LinkStep, other}
 use Rattle.x25_line.specs.{laws.Stations.{Stations}, laws.StationClaims.{AreJoined, NoFrmr, AreWhole, numbered_on}, laws.Said.{Said, ua_of, how_many}}
 use Rattle.x25_line.specs.{laws.Sessions.{Entry, SessionEnd, Meeting, Sessions, letters, sent_in, extended}, laws.WholeNumbers.{machine_after}}
 use Rattle.x25_line.specs.{laws.SessionNumbers.{Standing, standing_after}, laws.SessionClaims.{AllOf}}
@@ -18,10 +18,10 @@ use Rattle.x25_line.specs.laws.Stations as one
 
 -- ---- the end, and both, after a step, in which its session is n
 
-abbrev pub end_after : SessionEnd → ℕ → List (List ℕ) → Step → SessionEnd
+abbrev pub end_after : SessionEnd → ℕ → List (List ℕ) → LinkStep → SessionEnd
 end_after e n down step = record { station = step.side.near; begun = n; down = extended e.down n down; up = extended e.up n (option_to_list step.packet) }
 
-abbrev pub stepped : Settings → Sessions → List Entry → List Meeting → List (List ℕ) → ℕ → Step → Sessions
+abbrev pub stepped : LinkSettings → Sessions → List Entry → List Meeting → List (List ℕ) → ℕ → LinkStep → Sessions
 stepped c w es met down n step = record {
   near = end_after w.near n down step;
   far = w.far;
@@ -32,14 +32,15 @@ stepped c w es met down n step = record {
 }
 
 -- the sessions that stand go on by this step
-abbrev pub went_by : Settings → Step → Option ℕ → Standing → Standing
+abbrev pub went_by : LinkSettings → LinkStep → Option ℕ → Standing → Standing
 went_by c step gone stand = standing_after c step.side.near (map (spelling_of c.role) step.side.out) gone stand
 
-pub nothing_handed : (e : SessionEnd) (n : ℕ) (step : Step) → step.packet ≡ None → SameLists e (end_after e n [] step)
+-- a step that hands nothing up or down leaves the lists of each session
+pub nothing_handed : (e : SessionEnd) (n : ℕ) (step : LinkStep) → step.packet ≡ None → SameLists e (end_after e n [] step)
 nothing_handed e n step none =
     record { down = λ m. extended_nil e.down n m; up = λ m. ap (λ o. extended e.up n (option_to_list o) m) none ∙ extended_nil e.up n m }
 
-pub live_lists : (c : Settings) {e : SessionEnd} {p : ℕ} (v : Stations) (os down : List (List ℕ)) (step : Step) → e.begun ≡ p → HasLists e p v.near
+pub live_lists : (c : LinkSettings) {e : SessionEnd} {p : ℕ} (v : Stations) (os down : List (List ℕ)) (step : LinkStep) → e.begun ≡ p → HasLists e p v.near
     → HasLists (end_after e e.begun down step) p (one.after_step c v os down step).near
 live_lists c {e} v os down step is h =
     record {
@@ -69,10 +70,10 @@ asked_by Closed h g = inr refl
 asked_by p h g = absurd (omega (arith, h, g.0))
 
 -- UA is sent to an end that is Closed alone, and none is awaited
-abbrev pub Answers : Sessions → Step → Type 0
+abbrev pub Answers : Sessions → LinkStep → Type 0
 Answers w step = ((w.far.station.phase ≡ Closed) ⊎ (count ua_of step.side.out ≡ 0)) × (awaits_ua step.side.near.phase ≡ false)
 
-module _ {c d : Settings} (joined : AreJoined c d) (reads : ReadsSpelled) where
+module _ {c d : LinkSettings} (joined : AreJoined c d) (reads : ReadsSpelled) where
   pub many_out : (kind : Said → ℕ) (s : ℕ) (given : List (List ℕ)) (fs : List PlainFrame) → AreWhole d.longest given fs
       → how_many kind (letters (other d.role) d.longest (sent_in s c.role fs)) ≡ count kind fs
   many_out kind s given fs h = rw joined.near_role (many_sent reads c.role d.longest kind s given fs h)
@@ -80,7 +81,7 @@ module _ {c d : Settings} (joined : AreJoined c d) (reads : ReadsSpelled) where
   -- ---- an end that is in the session
 
   pub live_held : {stand : Standing} (w : Sessions) (h : Held stand c d w) → w.near.begun ≡ stand.near
-      → (es : List Entry) (os : List (List ℕ)) (met : List Meeting) (down : List (List ℕ)) (step : Step) (gone : Option ℕ)
+      → (es : List Entry) (os : List (List ℕ)) (met : List Meeting) (down : List (List ℕ)) (step : LinkStep) (gone : Option ℕ)
       → StepLeads c d h.alone stand.machine gone os down step → numbers (other c.role) c.longest es
       ≡ numbered_on (other c.role) c.longest os → AllOf (other c.role) c.longest stand.far es
       → Answers w step → Held (went_by c step gone stand) c d (stepped c w es met down w.near.begun step)
@@ -143,7 +144,8 @@ module _ {c d : Settings} (joined : AreJoined c d) (reads : ReadsSpelled) where
 
   -- ---- an end that is out of the session, or goes into it
 
-  pub apart_held : {stand : Standing} (w : Sessions) (h : Held stand c d w) (es : List Entry) (met : List Meeting) (n : ℕ) (step : Step) → step.packet ≡ None
+  pub apart_held : {stand : Standing} (w : Sessions) (h : Held stand c d w) (es : List Entry) (met : List Meeting) (n : ℕ) (step : LinkStep)
+      → step.packet ≡ None
       → IsThere step.side.near.phase (other c.role) c.longest step.side.near n es h.alone.near.station h.alone.back stand.near stand.far
       → AreParting step.side.out → count ua_of step.side.out ≡ 0
       → Held (went_by c step None stand) c d (stepped c w es met [] n step)

@@ -3,11 +3,11 @@ use Rattle.std.proofs.Common.{◌≡◌, ◌≤◌, ℕ, suc, ◌+◌, List, [],
 use Rattle.std.proofs.Common.{subst, arith}
 use Rattle.x25_frame.specs.{Frame.{PlainFrame, sabm, disc, ua, dm}, Reading.{frame_of}, laws.ReadingLaw.{ReadsSpelled}}
 use Rattle.x25_link.specs.{declared.phase.Phase.{Phase}, declared.phase.Phase.TheVariants.{Down, Waiting, Up, Closed}}
-use Rattle.x25_link.specs.{laws.SetUp.{Is, TakesPart, waiting_sends, waiting_up}, Station.{Settings, LinkStation, is_up, fresh}, Hearing.{Step, other}}
+use Rattle.x25_link.specs.{laws.SetUp.{Is, TakesPart, waiting_sends, waiting_up}, Station.{LinkSettings, LinkStation, is_up, fresh}, Hearing.{LinkStep, other}}
 use Rattle.x25_link.specs.{Link.{take_step}, laws.WindowMachine.{ShowAll}, laws.WindowLaw.{window_of, brought_by, ending_of, IsOut, AreDeclining, StaysOut}}
 use Rattle.x25_line.specs.{laws.StationClaims.{AreJoined, number_in, numbered_on}, laws.WholeNumbers.{first_of}, laws.SessionClaims.{octets_of}}
 use Rattle.x25_line.specs.{laws.SessionNumbers.{Standing, is_sabm, is_set_up, anew, place_to_hear}, laws.Said.{Said, said, sabm_of, ua_of, disc_of, how_many}}
-use Rattle.x25_line.specs.{laws.Sessions.{Entry, Meeting, Sessions, letters, begun_by, after_step, heard}, laws.LawsBelow.{Laws}}
+use Rattle.x25_line.specs.{laws.Sessions.{Entry, Meeting, Sessions, letters, begun_by, after_step, meets}, laws.LawsBelow.{Laws}}
 use Rattle.x25_line.proofs.{StationLines.{consed, AreParting}, StationSteps.{StepLeads, read_joint, declining_parting, out_not_up}}
 use Rattle.x25_line.proofs.StationAway.{closed_takes, waits_on, waiting_parting}
 use Rattle.x25_line.proofs.sessions.SessionLines.{Read, count, numbers, quiet_of, carried, carried_numbers, carried_orderly, by_first, behind_ua, behind_quiet}
@@ -35,20 +35,20 @@ declining_none (frame ∷ fs) h = absurd h
 
 -- ---- what comes first, what the near end does, and the two stations after it
 
-abbrev pub read_of : Settings → Entry → Read
+abbrev pub read_of : LinkSettings → Entry → Read
 read_of c e = frame_of (other c.role) c.longest e.octets
 
-abbrev step_of : Settings → Sessions → Entry → Step
+abbrev step_of : LinkSettings → Sessions → Entry → LinkStep
 step_of c w e = take_step c e.octets w.near.station
 
-abbrev pub heard_by : Settings → Sessions → Entry → List Meeting
-heard_by c w e = heard (is_up w.near.station.phase) (number_in (read_of c e)) (record { near = w.near.begun; far = e.session }) w.met
+abbrev pub heard_by : LinkSettings → Sessions → Entry → List Meeting
+heard_by c w e = if is_up w.near.station.phase then meets (said (read_of c e)) (record { near = w.near.begun; far = e.session }) w.met else w.met
 
-abbrev taken : Settings → Sessions → Entry → List Entry → Sessions
+abbrev taken : LinkSettings → Sessions → Entry → List Entry → Sessions
 taken c w e es = after_step c w es (heard_by c w e) [] (step_of c w e)
 
 -- what stands then: two sessions begin, or the same go on
-abbrev pub taken_by : Settings → Settings → Sessions → Entry → List Entry → Standing → Standing
+abbrev pub taken_by : LinkSettings → LinkSettings → Sessions → Entry → List Entry → Standing → Standing
 taken_by c d w e es stand =
     if is_set_up w.near.station.phase (read_of c e) then anew c d w
     else went_by c (step_of c w e) (place_to_hear w.near.station.phase (other c.role) c.longest (octets_of (e ∷ es)) 0) stand
@@ -63,7 +63,7 @@ pub closed_by : (p : Phase) (n m : ℕ) → 1 ≤ m → Owes p n m → p ≡ Clo
 closed_by Closed n m some h = refl
 closed_by p n m some h = absurd (omega (arith, some, h.1))
 
-module _ {c d : Settings} (joined : AreJoined c d) (reads : ReadsSpelled) (laws : Laws) where
+module _ {c d : LinkSettings} (joined : AreJoined c d) (reads : ReadsSpelled) (laws : Laws) where
   -- ---- the front is taken off the line
 
   module _ {stand : Standing} {w : Sessions} (h : Held stand c d w) (line : OnLine c d w) (e : Entry) (es : List Entry) (is : w.back ≡ e ∷ es) where

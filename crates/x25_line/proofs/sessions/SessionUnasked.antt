@@ -3,7 +3,7 @@ use Rattle.std.proofs.Common.{◌≡◌, ◌≤◌, ℕ, ◌+◌, List, [], ◌�
 use Rattle.std.specs.Prelude.{nat_lt, ◌||◌}
 use Rattle.std.proofs.lemmas.Bool.{lt-ltb, ltb-false}
 use Rattle.x25_frame.specs.{Frame.{disc, ua, dm, frmr}, laws.ReadingLaw.{ReadsSpelled}}
-use Rattle.x25_link.specs.{declared.phase.Phase.{Phase}, declared.phase.Phase.TheVariants.{Down, Waiting, Up, Closed}, Station.{Settings, is_up, fresh}}
+use Rattle.x25_link.specs.{declared.phase.Phase.{Phase}, declared.phase.Phase.TheVariants.{Down, Waiting, Up, Closed}, Station.{LinkSettings, is_up, fresh}}
 use Rattle.x25_link.specs.{Hearing.{other}, Link.{connect_refusal, timer_runs}}
 use Rattle.x25_line.specs.{laws.Stations.{StationEnd, Stations, Act, T1, Connect, LinkEvent, Near, Far, stations_swapped, start}, laws.Line.{line_swapped}}
 use Rattle.x25_line.specs.laws.StationClaims.{AreJoined, AcceptsNoConnect, AcceptsNoConnectAt, NoneConnects, OneLinkUnlessConnected}
@@ -22,13 +22,13 @@ use Rattle.x25_line.specs.laws.Sessions as session
 
 -- ---- an end that doesn't await UA, with no SABM on its lines, after n sessions
 
-pub record IsQuiet (d : Settings) (n : ℕ) (es : List Entry) (p : Phase) (b : ℕ) (out : List Entry) : Type 0 where
+pub record IsQuiet (d : LinkSettings) (n : ℕ) (es : List Entry) (p : Phase) (b : ℕ) (out : List Entry) : Type 0 where
   pub still : p ≡ Waiting → ⊥
   pub comes : how_many sabm_of (letters (other d.role) d.longest es) ≡ 0
   pub sent : how_many sabm_of (letters d.role d.longest out) ≡ 0
   pub begun : b ≡ n
 
-module _ (d : Settings) (n : ℕ) where
+module _ (d : LinkSettings) (n : ℕ) where
   abbrev R : Known
   R es met p b all out = IsQuiet d n es p b out
 
@@ -75,7 +75,7 @@ module _ (d : Settings) (n : ℕ) where
 
 -- ---- an event
 
-unasked_turned : {c d : Settings} → AreJoined c d → {w : Sessions} → IsUnasked c w → IsUnasked d (swapped w)
+unasked_turned : {c d : LinkSettings} → AreJoined c d → {w : Sessions} → IsUnasked c w → IsUnasked d (swapped w)
 unasked_turned joined h = record {
   near = h.far;
   far = h.near;
@@ -84,16 +84,16 @@ unasked_turned joined h = record {
 }
 
 module _ (reads : ReadsSpelled) (rests : SessionLaws) where
-  abbrev kind : (c : Settings) → c.window ≤ 7 → ℕ → Kind c
+  abbrev kind : (c : LinkSettings) → c.window ≤ 7 → ℕ → Kind c
   kind c high n = record { high = high; reads = reads; rests = rests; Due = λ p es. ⊥; R = R c n; does = quiet_may c n }
 
-  act_timely : {c : Settings} (high : c.window ≤ 7) {w : Sessions} → IsUnasked c w → (act : Act) → AcceptsNoConnect act w.near.station
+  act_timely : {c : LinkSettings} (high : c.window ≤ 7) {w : Sessions} → IsUnasked c w → (act : Act) → AcceptsNoConnect act w.near.station
       → IsTimely (kind c high w.near.begun) act w
   act_timely high h T1 none = λ waiting. absurd (h.near waiting)
   act_timely high h Connect none = λ down. absurd (none (ap connect_refusal down))
   act_timely high h act none = tt
 
-  act_begins_none : {c d : Settings} {w : Sessions} → Both c d w → IsUnasked c w → (act : Act) → AcceptsNoConnect act w.near.station
+  act_begins_none : {c d : LinkSettings} {w : Sessions} → Both c d w → IsUnasked c w → (act : Act) → AcceptsNoConnect act w.near.station
       → BeginNone c w (acts c act w)
   act_begins_none {c} {d} {w} both h act none =
       let s = both.near in
@@ -130,7 +130,7 @@ module _ (reads : ReadsSpelled) (rests : SessionLaws) where
       none_owed : (p : Phase) (n m k : ℕ) → p ≡ Up → Owes p (n + m) k → n ≡ 0
       none_owed p n m k up owes = (let none = (subst (λ q. Owes q (n + m) k) up owes).0 in omega (arith, none))
 
-      by : (c d : Settings) (w : Sessions) → Both c d w → IsUnasked c w → (event : LinkEvent)
+      by : (c d : LinkSettings) (w : Sessions) → Both c d w → IsUnasked c w → (event : LinkEvent)
           → AcceptsNoConnectAt event w.near.station w.far.station → BeginNone c w (happens c d event w)
       by c d w both h (Near act) none = act_begins_none both h act none
       by c d w both h (Far act) none =
@@ -170,7 +170,7 @@ first_alike =
     record { near = fresh; far = fresh; out = refl; back = refl; sent = λ never. refl }
 
 -- such stations, of which each noted one LinkDown at most, and they over sessions
-record OneLink (c d : Settings) (v : Stations) : Type 0 where
+record OneLink (c d : LinkSettings) (v : Stations) : Type 0 where
   pub w : Sessions
   pub both : Both c d w
   pub unasked : IsUnasked c w
@@ -181,7 +181,7 @@ record OneLink (c d : Settings) (v : Stations) : Type 0 where
   pub near_few : length v.near.reasons ≤ 1
   pub far_few : length v.far.reasons ≤ 1
 
-one_turned : {c d : Settings} {v : Stations} → OneLink c d v → OneLink d c (stations_swapped v)
+one_turned : {c d : LinkSettings} {v : Stations} → OneLink c d v → OneLink d c (stations_swapped v)
 one_turned h = record {
   w = swapped h.w;
   both = both_swapped h.both;
@@ -195,12 +195,12 @@ one_turned h = record {
 }
 
 -- timer T1 is timely where no UA is awaited
-pub timely_unasked : (c d : Settings) (a : Act) (w : Sessions) → (w.near.station.phase ≡ Waiting → ⊥) → session.IsTimely c d a w
+pub timely_unasked : (c d : LinkSettings) (a : Act) (w : Sessions) → (w.near.station.phase ≡ Waiting → ⊥) → session.IsTimely c d a w
 timely_unasked c d T1 w still = λ waiting. absurd (still waiting)
 timely_unasked c d a w still = tt
 
 module _ (reads : ReadsSpelled) (rests : SessionLaws) where
-  one_act : {c d : Settings} (a : Act) {v : Stations} → OneLink c d v → AcceptsNoConnect a v.near.station → OneLink c d (one.acts c a v)
+  one_act : {c d : LinkSettings} (a : Act) {v : Stations} → OneLink c d v → AcceptsNoConnect a v.near.station → OneLink c d (one.acts c a v)
   one_act {c} {d} a {v} h none =
       let begins = act_begins_none reads rests h.both h.unasked a (subst (AcceptsNoConnect a) h.alike.near.station none) in
       let alike = happens_alike first_lasts c d (Near a) h.alike in
@@ -219,7 +219,7 @@ module _ (reads : ReadsSpelled) (rests : SessionLaws) where
         far_few = rw (each_hands_one c d (Near a) v).far h.far_few;
       }
 
-  one_run : {c d : Settings} (es : List LinkEvent) {v : Stations} → OneLink c d v → NoneConnects c d es v → OneLink c d (one.run c d es v)
+  one_run : {c d : LinkSettings} (es : List LinkEvent) {v : Stations} → OneLink c d v → NoneConnects c d es v → OneLink c d (one.run c d es v)
   one_run [] h none = h
   one_run (Near a ∷ es) h none = one_run es (one_act a h none.0) none.1
   one_run (Far a ∷ es) h none = one_run es (one_turned (one_act a (one_turned h) none.0)) none.1

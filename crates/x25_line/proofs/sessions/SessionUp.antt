@@ -3,7 +3,7 @@ use Rattle.std.proofs.Common.{◌≡◌, ℕ, List, [], ◌∷◌, inl, inr, Opt
 use Rattle.x25_frame.specs.{Frame.{PlainFrame, info, rr, rnr, rej}, laws.ReadingLaw.{ReadsSpelled}}
 use Rattle.x25_window.specs.laws.Window.{Frame, frames_of}
 use Rattle.x25_link.specs.{declared.phase.Phase.TheVariants.{Closed}, declared.phase.Reason.{Reason}, declared.phase.Reason.TheVariants.{Disc, FrmrSent, Reset}}
-use Rattle.x25_link.specs.{Station.{Settings, LinkStation, awaits_ua}, Hearing.{Step, other}}
+use Rattle.x25_link.specs.{Station.{LinkSettings, LinkStation, awaits_ua}, Hearing.{LinkStep, other}}
 use Rattle.x25_link.specs.laws.WindowMachine.{Window, Input, Runs, rests, goes_on, Shows, ShowAll}
 use Rattle.x25_link.specs.laws.WindowLaw.{brought_by, MayHandUp, InputMayHandUp, Stays, Follows}
 use Rattle.x25_line.specs.{laws.StationClaims.{AreJoined, number_in, numbered_on}, laws.SessionClaims.{AllOf}}
@@ -33,11 +33,11 @@ runs_numbered {v} (goes_on w before step frames runs sent allowed shows) =
 
 -- ---- what is sent where Up is left
 
-pub stays_answers : (w : Sessions) {k : ℕ} {input : Input} {s : LinkStation} {step : Step} → Stays k input s step → Answers w step
+pub stays_answers : (w : Sessions) {k : ℕ} {input : Input} {s : LinkStation} {step : LinkStep} → Stays k input s step → Answers w step
 stays_answers w {step = step} h = (inr (numbered_no_ua step.side.out (runs_numbered h.sends)), ap awaits_ua (is_up_phase step.side.near.phase h.up))
 
 -- where it leaves by DISC that came, and not by SABM
-pub follows_answers : (w : Sessions) (o : Option Reason) (k : ℕ) (input : Input) (s : LinkStation) (step : Step)
+pub follows_answers : (w : Sessions) (o : Option Reason) (k : ℕ) (input : Input) (s : LinkStation) (step : LinkStep)
     → (by_disc o ≡ 1 → w.far.station.phase ≡ Closed) → by_reset o ≡ 0 → Follows o k input s step → Answers w step
 follows_answers w None k input s step closed stays h = stays_answers w h
 follows_answers w (Some Disc) k input s step closed stays h = (inl (closed refl), ap awaits_ua h.phase)
@@ -56,19 +56,19 @@ never_up : (r : Read) (v : Window) → number_in r ≡ None → (y : List ℕ) �
 never_up (Ok (info ns nr p x)) v none y h = none_is_some (info ns nr p x) (sym none)
 never_up r v none y h = h
 
-pub stays_no_packet : {k : ℕ} {input : Input} {s : LinkStation} {step : Step} → ((v : Window) (y : List ℕ) → InputMayHandUp input y v → ⊥)
+pub stays_no_packet : {k : ℕ} {input : Input} {s : LinkStation} {step : LinkStep} → ((v : Window) (y : List ℕ) → InputMayHandUp input y v → ⊥)
     → Stays k input s step → step.packet ≡ None
 stays_no_packet {input = input} {step = step} never h = no_packet_by input step.packet _ (never _) h.hands_up
 
-pub follows_no_packet : (o : Option Reason) (k : ℕ) (r : Read) (s : LinkStation) (step : Step) → number_in r ≡ None → Follows o k (brought_by r) s step
+pub follows_no_packet : (o : Option Reason) (k : ℕ) (r : Read) (s : LinkStation) (step : LinkStep) → number_in r ≡ None → Follows o k (brought_by r) s step
     → step.packet ≡ None
 follows_no_packet None k r s step none h = stays_no_packet (λ v y up. never_up r v none y up) h
 follows_no_packet (Some reason) k r s step none h = h.packet
 
-module _ {c d : Settings} (joined : AreJoined c d) (reads : ReadsSpelled) where
+module _ {c d : LinkSettings} (joined : AreJoined c d) (reads : ReadsSpelled) where
   -- an end in the session that stands goes on in it, by a step that the machine follows
   pub live_goes_on : {stand : Standing} (w : Sessions) (h : Held stand c d w) → w.near.begun ≡ stand.near
-      → (es : List Entry) (os : List (List ℕ)) (met : List Meeting) (down : List (List ℕ)) (step : Step) (gone : Option ℕ)
+      → (es : List Entry) (os : List (List ℕ)) (met : List Meeting) (down : List (List ℕ)) (step : LinkStep) (gone : Option ℕ)
       → StepLeads c d h.alone stand.machine gone os down step → numbers (other c.role) c.longest es
       ≡ numbered_on (other c.role) c.longest os → AllOf (other c.role) c.longest stand.far es
       → Answers w step → Held (went_by c step gone stand) c d (after_step c w es met down step)

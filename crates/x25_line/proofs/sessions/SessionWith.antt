@@ -2,7 +2,7 @@
 use Rattle.std.proofs.Common.{◌≡◌, ℕ, suc, List, [], ◌∷◌, ◌++◌, true, Some, None, Ok, refl, ap, arith}
 use Rattle.x25_bits.specs.declared.role.Role.{Role}
 use Rattle.x25_frame.specs.{Frame.{PlainFrame, info, rr, rnr, rej, sabm, disc, ua, dm, frmr}, Reading.{frame_of}}
-use Rattle.x25_link.specs.{declared.phase.Phase.{Phase}, declared.phase.Phase.TheVariants.{Down, Waiting, Up}, Station.{Settings}, Hearing.{other}}
+use Rattle.x25_link.specs.{declared.phase.Phase.{Phase}, declared.phase.Phase.TheVariants.{Down, Waiting, Up}, Station.{LinkSettings}, Hearing.{other}}
 use Rattle.x25_link.specs.laws.SetUp.{TakesPart}
 use Rattle.x25_line.specs.{laws.PeerSessions.{PeerEnd, stand_of}, laws.PeerSessionClaims.{ReadsNoFrmr}}
 use Rattle.x25_line.specs.laws.Ends.{Stand, In, Asking, Letter, letter, AreOf, free, asks, closes, leaves, hears, takes_ua, takes_sabm, waits_on}
@@ -28,7 +28,7 @@ number_frmr r f is = tt
 abbrev pub NoneOdd : Role → ℕ → List Entry → Type 0
 NoneOdd from n1 es = Each (λ e. said (frame_of from n1 e.octets) ≡ OddSaid → ⊥) es
 
-odd_less : (c : Settings) {i : ℕ} {es fs : List Entry} → LessAt IsSeenIn i es fs → NoneOdd (other c.role) c.longest es → NoneOdd (other c.role) c.longest fs
+odd_less : (c : LinkSettings) {i : ℕ} {es fs : List Entry} → LessAt IsSeenIn i es fs → NoneOdd (other c.role) c.longest es → NoneOdd (other c.role) c.longest fs
 odd_less c l h = each_less (λ e. said (frame_of (other c.role) c.longest e.octets) ≡ OddSaid → ⊥)
     (λ e f seen _. visible_fine (other c.role) c.longest f.octets seen.1) l h
 
@@ -36,7 +36,7 @@ odd_less c l h = each_less (λ e. said (frame_of (other c.role) c.longest e.octe
 abbrev pub NoFrmrs : Role → ℕ → List Entry → Type 0
 NoFrmrs from n1 es = Each (λ e. ReadsNoFrmr (frame_of from n1 e.octets)) es
 
-pub no_frmr_less : (c : Settings) {i : ℕ} {es fs : List Entry} → LessAt IsSeenIn i es fs → NoFrmrs c.role c.longest es → NoFrmrs c.role c.longest fs
+pub no_frmr_less : (c : LinkSettings) {i : ℕ} {es fs : List Entry} → LessAt IsSeenIn i es fs → NoFrmrs c.role c.longest es → NoFrmrs c.role c.longest fs
 no_frmr_less c l h = each_less (λ e. ReadsNoFrmr (frame_of c.role c.longest e.octets))
     (λ e f seen _. visible_is ReadsNoFrmr c.role c.longest f.octets seen.1 tt tt) l h
 
@@ -89,22 +89,23 @@ tells_does w (rej command nr pf) q on number may = sends None nr q on may
 tells_does w f q on number may = none_is_some f number
 
 -- the line from a station, and the line to it
-abbrev pub outs : Settings → List Entry → List Letter
+abbrev pub outs : LinkSettings → List Entry → List Letter
 outs c es = letters c.role c.longest es
 
-abbrev pub backs : Settings → List Entry → List Letter
+abbrev pub backs : LinkSettings → List Entry → List Letter
 backs c es = letters (other c.role) c.longest es
 
 -- beside a peer that doesn't send what is answered by FRMR, there is none such on the line from it, and no FRMR on the line to it
-pub record AreLapb (Odd : Type 0) (c : Settings) (es out : List Entry) : Type 0 where
+pub record AreLapb (Odd : Type 0) (c : LinkSettings) (es out : List Entry) : Type 0 where
   pub frmr : (Odd → ⊥) → NoFrmrs c.role c.longest out
   pub lapb : (Odd → ⊥) → NoneOdd (other c.role) c.longest es
 
-behind : {Odd : Type 0} {c : Settings} {e : Entry} {es out : List Entry} → AreLapb Odd c (e ∷ es) out → AreLapb Odd c es out
+behind : {Odd : Type 0} {c : LinkSettings} {e : Entry} {es out : List Entry} → AreLapb Odd c (e ∷ es) out → AreLapb Odd c es out
 behind h = record { frmr = h.frmr; lapb = λ ok. (h.lapb ok).1 }
 
 -- beside a peer, which may send what is answered by FRMR or not
-module _ (Odd : Type 0) (c : Settings) (peer : PeerEnd) where
+module _ (Odd : Type 0) (c : LinkSettings) (peer : PeerEnd) where
+  -- the two as ends, of which the station is the near one
   abbrev pub at : List Letter → List Meeting → Stand → ℕ → (ℕ → Peer) → List Letter → Ends
   at back met stand b all out = record {
     two = record { near = record { stand = stand; begun = b }; far = record { stand = peer.stand; begun = peer.begun }; out = out; back = back; met = met };

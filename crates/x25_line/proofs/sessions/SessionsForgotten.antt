@@ -3,10 +3,11 @@ use Rattle.std.proofs.Common.{◌≡◌, ◌≤◌, ◌<◌, ℕ, zero, suc, Lis
 use Rattle.std.proofs.Common.{append-nil, append_assoc}
 use Rattle.std.specs.Prelude.{nat_le, option_to_list, ◌||◌}
 use Rattle.x25_frame.specs.Spelling.{spelling_of}
-use Rattle.x25_link.specs.{Station.{Settings, LinkStation}, Hearing.{Step}, Link.{take_step, put_step, put_refusal}}
+use Rattle.x25_link.specs.{Station.{LinkSettings, LinkStation}, Hearing.{LinkStep}, Link.{take_step, put_step, put_refusal}}
 use Rattle.x25_line.specs.laws.Stations.{StationEnd, Stations, Act, Put, Deliver, Lose, Damage, LinkEvent, Near, Far, is_visible, start}
-use Rattle.x25_line.specs.laws.Sessions.{Entry, SessionEnd, Meeting, Sessions, extended, begun_by, after_step, unless, delivered, replaced, acts, swapped}
-use Rattle.x25_line.specs.{laws.Sessions.{happens, from_set_up, run}, laws.SessionClaims.{octets_of, all_of, IsEndOf, SessionsAreStations, SetUpIsTheStart}}
+use Rattle.x25_line.specs.laws.Sessions.{Entry, SessionEnd, Meeting, Sessions, extended, begun_by, after_step, unless, delivered, with_octets, acts, swapped}
+use Rattle.x25_line.specs.{laws.Sessions.{happens, from_set_up, run}, laws.Loss.{replaced}}
+use Rattle.x25_line.specs.laws.SessionClaims.{octets_of, all_of, IsEndOf, SessionsAreStations, SetUpIsTheStart}
 use Rattle.x25_line.proofs.{Choices.{unless_both, if_both, own_both}, sessions.SessionSteps.{end_after}, sessions.SessionLines.{octets_append, octets_sent}}
 use Rattle.x25_line.proofs.sessions.SessionHeld.{extended_same, extended_other}
 use Rattle.x25_line.specs.laws.Stations as one
@@ -36,10 +37,10 @@ begun_up n false = omega arith
 
 -- ---- ends, and what goes on with each of their steps
 
-abbrev stepped_end : SessionEnd → List (List ℕ) → Step → SessionEnd
+abbrev stepped_end : SessionEnd → List (List ℕ) → LinkStep → SessionEnd
 stepped_end e down step = end_after e (begun_by step.notes.up e.begun) down step
 
-abbrev stepped_station : StationEnd → List (List ℕ) → Step → StationEnd
+abbrev stepped_station : StationEnd → List (List ℕ) → LinkStep → StationEnd
 stepped_station v down step = record {
   station = step.side.near;
   down = v.down ++ down;
@@ -51,7 +52,7 @@ stepped_station v down step = record {
 -- of a station over sessions, and of it by itself
 pub record Lasts (E : SessionEnd → StationEnd → Type 0) : Type 0 where
   pub station : (e : SessionEnd) (v : StationEnd) → E e v → v.station ≡ e.station
-  pub steps : (e : SessionEnd) (v : StationEnd) → E e v → (down : List (List ℕ)) (step : Step) → E (stepped_end e down step) (stepped_station v down step)
+  pub steps : (e : SessionEnd) (v : StationEnd) → E e v → (down : List (List ℕ)) (step : LinkStep) → E (stepped_end e down step) (stepped_station v down step)
 
 -- the octets on the lines are the same, and where `S` holds, so are all frames ever sent
 pub record Alike (E : SessionEnd → StationEnd → Type 0) (S : Type 0) (w : Sessions) (v : Stations) : Type 0 where
@@ -69,7 +70,7 @@ octets_removed [] (suc i) = refl
 octets_removed (e ∷ es) zero = refl
 octets_removed (e ∷ es) (suc i) = ap (λ os. e.octets ∷ os) (octets_removed es i)
 
-pub octets_replaced : (es : List Entry) (i : ℕ) (octets : List ℕ) → one.replaced (octets_of es) i octets ≡ octets_of (replaced es i octets)
+pub octets_replaced : (es : List Entry) (i : ℕ) (octets : List ℕ) → replaced (octets_of es) i (λ _. octets) ≡ octets_of (replaced es i (with_octets octets))
 octets_replaced [] i octets = refl
 octets_replaced (e ∷ es) zero octets = refl
 octets_replaced (e ∷ es) (suc i) octets = ap (λ os. e.octets ∷ os) (octets_replaced es i octets)
@@ -78,7 +79,7 @@ module _ {E : SessionEnd → StationEnd → Type 0} (S : Type 0) (lasts : Lasts 
   abbrev A : Sessions → Stations → Type 0
   A w v = Alike E S w v
 
-  step_alike : (c : Settings) {w : Sessions} {v : Stations} → A w v → (es : List Entry) (met : List Meeting) (down : List (List ℕ)) (step : Step)
+  step_alike : (c : LinkSettings) {w : Sessions} {v : Stations} → A w v → (es : List Entry) (met : List Meeting) (down : List (List ℕ)) (step : LinkStep)
       → A (after_step c w es met down step) (one.after_step c v (octets_of es) down step)
   step_alike c {w} {v} h es met down step = record {
     near = lasts.steps w.near v.near h.near down step;
@@ -91,11 +92,11 @@ module _ {E : SessionEnd → StationEnd → Type 0} (S : Type 0) (lasts : Lasts 
   }
 
   -- a step that takes nothing off the line
-  own_alike : (c : Settings) {w : Sessions} {v : Stations} → A w v → (down : List (List ℕ)) (step : Step)
+  own_alike : (c : LinkSettings) {w : Sessions} {v : Stations} → A w v → (down : List (List ℕ)) (step : LinkStep)
       → A (after_step c w w.back w.met down step) (one.after_step c v v.back down step)
   own_alike c {w} h down step = rw h.back (step_alike c h w.back w.met down step)
 
-  put_alike : (c : Settings) (packet : List ℕ) {w : Sessions} {v : Stations} (s t : LinkStation) → t ≡ s → A w v
+  put_alike : (c : LinkSettings) (packet : List ℕ) {w : Sessions} {v : Stations} (s t : LinkStation) → t ≡ s → A w v
       → A (unless (put_refusal s) w (after_step c w w.back w.met (packet ∷ []) (put_step c packet s)))
       (unless (put_refusal t) v (one.after_step c v v.back (packet ∷ []) (put_step c packet t)))
   put_alike c packet s t same h = rw same (unless_both A (put_refusal s) h (own_alike c h (packet ∷ []) (put_step c packet s)))
@@ -104,18 +105,19 @@ module _ {E : SessionEnd → StationEnd → Type 0} (S : Type 0) (lasts : Lasts 
       → A (record w { back = es }) (record v { back = os })
   left_alike h es os same = record { near = h.near; far = h.far; out = h.out; back = same; sent = h.sent }
 
-  deliver_alike : (c : Settings) {w : Sessions} {v : Stations} → A w v → (es : List Entry) → A (delivered c es w) (one.delivered c (octets_of es) v)
+  deliver_alike : (c : LinkSettings) {w : Sessions} {v : Stations} → A w v → (es : List Entry) → A (delivered c es w) (one.delivered c (octets_of es) v)
   deliver_alike c h [] = h
   deliver_alike c {w} {v} h (e ∷ es) = rw (lasts.station w.near v.near h.near) (step_alike c h es _ [] (take_step c e.octets w.near.station))
 
-  acts_alike : (c : Settings) (a : Act) {w : Sessions} {v : Stations} → A w v → A (acts c a w) (one.acts c a v)
+  acts_alike : (c : LinkSettings) (a : Act) {w : Sessions} {v : Stations} → A w v → A (acts c a w) (one.acts c a v)
   acts_alike c (Put packet) {w} {v} h = if_both A (nat_le (length packet) c.longest) h
       (put_alike c packet w.near.station v.near.station (lasts.station w.near v.near h.near) h)
   acts_alike c Deliver {w} {v} h = subst (λ os. A (delivered c w.back w) (one.delivered c os v)) (sym h.back) (deliver_alike c h w.back)
   acts_alike c (Lose i) {w} {v} h = left_alike h (remove w.back i) (remove v.back i) (ap (λ os. remove os i) h.back ∙ octets_removed w.back i)
   acts_alike c (Damage i octets) {w} {v} h =
       if_both A (is_visible octets) h
-      (left_alike h (replaced w.back i octets) (one.replaced v.back i octets) (ap (λ os. one.replaced os i octets) h.back ∙ octets_replaced w.back i octets))
+      (left_alike h (replaced w.back i (with_octets octets)) (replaced v.back i (λ _. octets))
+      (ap (λ os. replaced os i (λ _. octets)) h.back ∙ octets_replaced w.back i octets))
   acts_alike c act {w} {v} h =
       subst (λ s. A (acts c act w) (one.own_act c s v (one.after_step c v v.back []) act)) (sym (lasts.station w.near v.near h.near))
       (own_both A c w.near.station w v (after_step c w w.back w.met []) (one.after_step c v v.back []) h (own_alike c h []) act)
@@ -127,11 +129,11 @@ pub turned_alike : {E : SessionEnd → StationEnd → Type 0} {S : Type 0} {w : 
 turned_alike h = record { near = h.far; far = h.near; out = h.back; back = h.out; sent = h.sent }
 
 module _ {E : SessionEnd → StationEnd → Type 0} {S : Type 0} (lasts : Lasts E) where
-  pub happens_alike : (c d : Settings) (e : LinkEvent) {w : Sessions} {v : Stations} → Alike E S w v → Alike E S (happens c d e w) (one.happens c d e v)
+  pub happens_alike : (c d : LinkSettings) (e : LinkEvent) {w : Sessions} {v : Stations} → Alike E S w v → Alike E S (happens c d e w) (one.happens c d e v)
   happens_alike c d (Near act) h = acts_alike S lasts c act h
   happens_alike c d (Far act) h = turned_alike (acts_alike S lasts d act (turned_alike h))
 
-  pub runs_alike : (c d : Settings) (es : List LinkEvent) {w : Sessions} {v : Stations} → Alike E S w v → Alike E S (run c d es w) (one.run c d es v)
+  pub runs_alike : (c d : LinkSettings) (es : List LinkEvent) {w : Sessions} {v : Stations} → Alike E S w v → Alike E S (run c d es w) (one.run c d es v)
   runs_alike c d [] h = h
   runs_alike c d (e ∷ es) h = runs_alike c d es (happens_alike c d e h)
 
@@ -140,7 +142,7 @@ module _ {E : SessionEnd → StationEnd → Type 0} {S : Type 0} (lasts : Lasts 
 ends_last : Lasts IsEndOf
 ends_last = record { station = λ e v h. h.station; steps = steps }
   where
-    steps : (e : SessionEnd) (v : StationEnd) → IsEndOf e v → (down : List (List ℕ)) (step : Step)
+    steps : (e : SessionEnd) (v : StationEnd) → IsEndOf e v → (down : List (List ℕ)) (step : LinkStep)
         → IsEndOf (stepped_end e down step) (stepped_station v down step)
     steps e v h down step =
         let b = step.notes.up in

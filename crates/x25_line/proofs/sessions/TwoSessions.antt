@@ -3,7 +3,7 @@ use Rattle.std.proofs.Common.{◌≡◌, ◌≤◌, ℕ, List, [], ◌∷◌, �
 use Rattle.x25_bits.specs.declared.role.Role.{Role}
 use Rattle.x25_frame.specs.{Frame.{PlainFrame, info, rr, rnr, rej, sabm, frmr}, Reading.{frame_of}, laws.ReadingLaw.{ReadsSpelled}}
 use Rattle.x25_frame.specs.declared.error.FrameError.TheVariants.{Undefined, NoInfoAllowed, TooLong, Short}
-use Rattle.x25_link.specs.{Station.{Settings, is_up}, Hearing.{other}, Link.{is_idle}, laws.WindowLaw.{IsRunning}}
+use Rattle.x25_link.specs.{Station.{LinkSettings, is_up}, Hearing.{other}, Link.{is_idle}, laws.WindowLaw.{IsRunning}}
 use Rattle.x25_line.specs.{laws.InWindow.{IsPrefix}, laws.StationClaims.{number_in}, laws.Said.{said, Odd, sabm_of}}
 use Rattle.x25_line.specs.laws.Sessions.{Entry, Meeting, Sessions, swapped, letters, run}
 use Rattle.x25_line.specs.laws.SessionClaims.{Throughout, AllOf, Each, SomeMet, IsInOrder, MeetInStep, MetAreInOrder, UnmetHandNothingUp, OnlyBegunHaveLists}
@@ -68,7 +68,7 @@ orderly (Err TooLong) odd none = absurd (odd refl)
 orderly r odd none = tt
 
 module _ (reads : ReadsSpelled) (rests : SessionLaws) where
-  module _ (c d : Settings) (w : Sessions) (h : Both c d w) where
+  module _ (c d : LinkSettings) (w : Sessions) (h : Both c d w) where
     -- the far end, as the near end's peer
     abbrev peer : PeerEnd
     peer = end h.joined w.near w.far.station.phase w.far.begun h.far.all
@@ -136,7 +136,7 @@ module _ (reads : ReadsSpelled) (rests : SessionLaws) where
     pub orders : MetAreInOrder c d w
     orders = in_order w.met (order_is reads rests h.joined.near_high reached)
 
-  module _ (c d : Settings) (w : Sessions) (h : Both c d w) where
+  module _ (c d : LinkSettings) (w : Sessions) (h : Both c d w) where
     pub latest : EachHearsLatest c d w
     latest = record { near = hears_latest c d w h; far = hears_latest d c (swapped w) (both_swapped h) }
 
@@ -147,7 +147,8 @@ module _ (reads : ReadsSpelled) (rests : SessionLaws) where
           (elim which [ inl up ↦ inl up | inr some ↦ inr (far_turned w.far.begun w.met some) ]);
     }
 
-  fine : (c d : Settings) (w : Sessions) → Both c d w → (e : Entry) (es : List Entry) → w.back ≡ e ∷ es → IsOrderly (frame_of (other c.role) c.longest e.octets)
+  fine : (c d : LinkSettings) (w : Sessions) → Both c d w → (e : Entry) (es : List Entry) → w.back ≡ e ∷ es
+      → IsOrderly (frame_of (other c.role) c.longest e.octets)
   fine c d w h e es is =
       let far : NoFrmrs d.role d.longest w.back = no_frmr d c (swapped w) (both_swapped h) in
       let none : NoFrmrs (other c.role) c.longest w.back = rw h.joined.longest (rw h.joined.far_role far) in
@@ -155,7 +156,7 @@ module _ (reads : ReadsSpelled) (rests : SessionLaws) where
       orderly (frame_of (other c.role) c.longest e.octets) odd.0 (subst (NoFrmrs (other c.role) c.longest) is none).0
 
   -- what the rules of both say of the line
-  pub on_line : {c d : Settings} {w : Sessions} → Both c d w → OnLine c d w
+  pub on_line : {c d : LinkSettings} {w : Sessions} → Both c d w → OnLine c d w
   on_line {c} {d} {w} h =
       record {
         near_owes = near_owes c d w h;
@@ -169,8 +170,8 @@ module _ (reads : ReadsSpelled) (rests : SessionLaws) where
   -- ---- the claims
 
   -- what holds of two such stations holds after each list of events
-  pub throughout_of : (Holds : Settings → Settings → Sessions → Type 0)
-      → ((c d : Settings) (w : Sessions) → Both c d w → Holds c d w) → Throughout Holds
+  pub throughout_of : (Holds : LinkSettings → LinkSettings → Sessions → Type 0)
+      → ((c d : LinkSettings) (w : Sessions) → Both c d w → Holds c d w) → Throughout Holds
   throughout_of Holds holds c d joined begin is events timely = holds c d (run c d events begin) (throughout_both reads rests joined is events timely)
 
   pub idle_has_arrived : Throughout IdleHasArrived

@@ -5,7 +5,7 @@ use Rattle.std.specs.Prelude.{Option}
 use Rattle.x25_line.specs.laws.Loss.{LessAt}
 use Rattle.x25_line.specs.laws.Said.{Said, Carried, Tells, Sabm, Disc, Ua, Else, Odd, sabm_of, ua_of, disc_of}
 pub use Rattle.x25_line.specs.laws.Said.{Letter, letter, how_many}
-use Rattle.x25_line.specs.{laws.Sessions.{Meeting, turned}, laws.StationClaims.{Each}}
+use Rattle.x25_line.specs.{laws.Sessions.{Meeting, turned, meets}, laws.StationClaims.{Each}}
 use Rattle.x25_line.specs.laws.Peer.{Peer, fresh_peer, MaySay, MayMake}
 
 -- An end is out of a session, or awaits the UA to its SABM, or is in a session.
@@ -44,11 +44,7 @@ OfTells said P = Unit {0}
 abbrev pub AreOf : ℕ → List Letter → Type 0
 AreOf session es = Each (λ (e : Letter). OfSabm e.said (e.session ≡ session)) es
 
--- an end that is in a session meets the one in which the N(R) that it hears was sent
-abbrev pub meets : Said → Meeting → List Meeting → List Meeting
-meets (Tells carried nr) m met = m ∷ met
-meets said m met = met
-
+-- who meets whom, as an end hears it
 abbrev pub heard : Stand → ℕ → Letter → List Meeting → List Meeting
 heard In begun e met = meets e.said (record { near = begun; far = e.session }) met
 heard stand begun e met = met

@@ -1,7 +1,8 @@
 -- Healing while packets are handed down: both ends fire, and then what is on the line comes and packets are put, in any
 -- order, while nothing is lost.
 use Rattle.std.specs.Prelude.{◌≡◌, ◌<◌, ℕ, true, false, List, [], ◌∷◌}
-use Rattle.x25_link.specs.{Station.{Settings, LinkStation, is_up, is_busy}, Link.{timer_runs}, laws.RestLaw.{IsAtRest}}
+use Rattle.x25_link.specs.{Station.{LinkSettings, LinkStation, is_up, is_busy}, Link.{timer_runs}}
+use Rattle.x25_link.specs.laws.RestLaw.{IsAtRest}
 use Rattle.x25_line.specs.laws.Stations.{Act, Put, Deliver, T1, LinkEvent, Near, Far}
 use Rattle.x25_line.specs.{laws.Sessions.{Sessions, happens, run}, laws.SessionClaims.{Each, Throughout}}
 
@@ -31,7 +32,7 @@ abbrev pub FreeAt : LinkEvent → LinkStation → LinkStation → Type 0
 FreeAt (Near act) s t = FreeAsItComes act s t
 FreeAt (Far act) s t = FreeAsItComes act s t
 
-abbrev pub SessionsFreeThroughout : Settings → Settings → List LinkEvent → Sessions → Type 0
+abbrev pub SessionsFreeThroughout : LinkSettings → LinkSettings → List LinkEvent → Sessions → Type 0
 SessionsFreeThroughout c d [] w = AreFree w.near.station w.far.station
 SessionsFreeThroughout c d (e ∷ es) w = FreeAt e w.near.station w.far.station
     × SessionsFreeThroughout c d es (happens c d e w)
@@ -57,7 +58,7 @@ pub record SessionsHaveArrived (w v : Sessions) : Type 0 where
 -- Both ends are Up and neither is busy, with tries left where T1 runs, and nothing is on the line. Both fire, and then
 -- all that is on the line comes, while packets are put at either end, until nothing is on the line.
 abbrev pub PutsHealSessions : Type 0
-PutsHealSessions = Throughout (λ (c d : Settings) (w : Sessions).
+PutsHealSessions = Throughout (λ (c d : LinkSettings) (w : Sessions).
     w.out ≡ [] → w.back ≡ [] → LinkMayHeal c.retries w.near.station → LinkMayHeal d.retries w.far.station
     → (more : List LinkEvent) → Each IsDeliveryOrPut more
     → (let fired = run c d (Near T1 ∷ Far T1 ∷ []) w in SessionsFreeThroughout c d more fired

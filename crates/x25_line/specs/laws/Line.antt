@@ -1,8 +1,9 @@
 -- Two ends over a line that keeps order and may lose any frame, as moves of the window machine (profile: the line).
 -- Each move is of the near end, or of the line to it. The far end's moves are those of the two ends swapped.
-use Rattle.std.specs.Prelude.{ℕ, ◌≡◌, ◌%◌, List, [], ◌∷◌, ◌++◌, length, remove, Option, Some, None, Bool, true, false}
-use Rattle.x25_window.specs.laws.Window.{End, Step, Numbered, Frame, Allows, after, frames_of}
-use Rattle.x25_window.specs.laws.Window.Step.{HandDown, Send, Tell, Hear, Take}
+use Rattle.std.specs.Prelude.{ℕ, ◌≡◌, ◌%◌, List, [], ◌∷◌, ◌++◌, length, Option, Some, None, Bool, true, false}
+use Rattle.x25_window.specs.laws.Window.{End, EndStep, Numbered, Frame, Allows, after, frames_of}
+use Rattle.x25_window.specs.laws.Window.EndStep.{HandDown, Send, Tell, Hear, Take}
+use Rattle.x25_line.specs.laws.Loss.{remove}
 
 -- the frames on the line from the near end, and on the line to it, front first
 pub record Line (T : Type 0) : Type 0 where
@@ -45,7 +46,7 @@ AllowsMove w (Arrives takes) = FrontMayBeTaken takes (length w.near.taken) w.bac
 AllowsMove w (Loses place) = Unit {0}
 
 -- a step of the near end, whose frames go on the line
-abbrev pub steps : {T : Type 0} → Line T → Step T → Line T
+abbrev pub steps : {T : Type 0} → Line T → EndStep T → Line T
 steps w s = record { near = after w.near s; far = w.far; out = w.out ++ frames_of w.near s; back = w.back }
 
 abbrev pub takes_item : {T : Type 0} → Bool → Option (Numbered T) → End T → End T

@@ -1,6 +1,13 @@
 -- What a line does to what is on it: it keeps the order, and may lose one or damage one (profile: the line).
-use Rattle.std.specs.Prelude.{◌≡◌, ℕ, suc, List, [], ◌∷◌, true}
-use Rattle.x25_line.specs.laws.Stations.{is_visible}
+use Rattle.std.specs.Prelude.{ℕ, zero, suc, List, [], ◌∷◌}
+-- the one at a place is lost, where there is one
+pub use Rattle.std.specs.Prelude.{remove}
+
+-- another comes in the place of the one at a place, where there is one
+abbrev pub replaced : {T : Type 0} → List T → ℕ → (T → T) → List T
+replaced [] i damaged = []
+replaced (x ∷ xs) zero damaged = damaged x ∷ xs
+replaced (x ∷ xs) (suc i) damaged = x ∷ replaced xs i damaged
 
 -- At this place of a line one is lost, or another comes in its place, as `Damage` has it; or the line ends before.
 pub data LessAt {T : Type 0} (Damage : T → T → Type 0) : ℕ → List T → List T → Type 0 where
@@ -12,7 +19,3 @@ pub data LessAt {T : Type 0} (Damage : T → T → Type 0) : ℕ → List T → 
 -- so it is at some place
 abbrev pub Less : {T : Type 0} → (T → T → Type 0) → List T → List T → Type 0
 Less Damage xs ys = (i : ℕ) × LessAt Damage i xs ys
-
--- octets come in the place of others, and that is seen
-abbrev pub IsSeen : List ℕ → List ℕ → Type 0
-IsSeen old octets = is_visible octets ≡ true

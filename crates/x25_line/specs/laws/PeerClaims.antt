@@ -2,27 +2,28 @@
 -- anew.
 use Rattle.std.specs.Prelude.{◌≡◌, ◌≤◌, true, false, length, take}
 use Rattle.x25_link.specs.{declared.phase.Reason.{Reason}, declared.phase.Reason.TheVariants.{FrmrSent}}
-use Rattle.x25_link.specs.{Station.{Settings}, Link.{is_idle}}
+use Rattle.x25_link.specs.{Station.{LinkSettings}, Link.{is_idle}}
 use Rattle.x25_line.specs.{laws.InWindow.{IsPrefix}, laws.PeerJoined.{JoinedOnce, ReachedOnce}, laws.Tape.{IsSilent}}
 use Rattle.x25_line.specs.laws.SessionClaims.{Each}
 
 -- whatever happens, with any peer that keeps the rules of `Peer`
 abbrev pub WithAnyPeer : (JoinedOnce → Type 0) → Type 0
 WithAnyPeer Holds =
-    (c : Settings) → 1 ≤ c.window → c.window ≤ 7 → (w : JoinedOnce) → ReachedOnce (Unit {0}) c w
+    (c : LinkSettings) → 1 ≤ c.window → c.window ≤ 7 → (w : JoinedOnce) → ReachedOnce (Unit {0}) c w
     → w.near.came_up ≡ false
     → Holds w
 
 -- the same with one that sends nothing that is answered by FRMR
 abbrev pub WithAnyLapbPeer : (JoinedOnce → Type 0) → Type 0
 WithAnyLapbPeer Holds =
-    (c : Settings) → 1 ≤ c.window → c.window ≤ 7 → (w : JoinedOnce) → ReachedOnce ⊥ c w → w.near.came_up ≡ false
+    (c : LinkSettings) → 1 ≤ c.window → c.window ≤ 7 → (w : JoinedOnce) → ReachedOnce ⊥ c w → w.near.came_up ≡ false
     → Holds w
 
 -- with any peer at all, as long as the rules of `Tape` tell nothing of it
 abbrev pub OnAnySilentTape : (JoinedOnce → Type 0) → Type 0
 OnAnySilentTape Holds =
-    (c : Settings) → 1 ≤ c.window → c.window ≤ 7 → (w : JoinedOnce) → IsSilent c w → w.near.came_up ≡ false → Holds w
+    (c : LinkSettings) → 1 ≤ c.window → c.window ≤ 7 → (w : JoinedOnce) → IsSilent c w → w.near.came_up ≡ false
+    → Holds w
 
 -- What the station handed up is a beginning of what the peer was handed down (`up`), and what the peer took is one of
 -- what the station was handed down (`there`). What the station need not send again was taken (`acked`), so all was

@@ -2,9 +2,9 @@
 -- (profile: the line).
 use Rattle.std.specs.Prelude.{◌≡◌, ℕ, List, [], ◌∷◌, ◌++◌}
 use Rattle.x25_frame.specs.Reading.{frame_of}
-use Rattle.x25_link.specs.{Station.{Settings}, Hearing.{other}}
-use Rattle.x25_line.specs.laws.Stations.{StationEnd, Stations, Act, acts, fresh_station}
-use Rattle.x25_line.specs.laws.Loss.{LessAt, IsSeen}
+use Rattle.x25_link.specs.{Station.{LinkSettings}, Hearing.{other}}
+use Rattle.x25_line.specs.laws.Stations.{StationEnd, Stations, Act, acts, fresh_station, IsSeen}
+use Rattle.x25_line.specs.laws.Loss.{LessAt}
 use Rattle.x25_line.specs.laws.Peer.{Peer, fresh_peer, MaySend, MayHear}
 
 -- The station, the peer, and the octets on the line from the station and on the line to it, front first.
@@ -26,7 +26,7 @@ abbrev pub with_peer : Peer → Stations → JoinedOnce
 with_peer p v = record { near = v.near; peer = p; out = v.out; back = v.back }
 
 -- What may happen next. `Odd` is that of `MaySend`.
-pub data HappensOnce (Odd : Type 0) (c : Settings) (w : JoinedOnce) : JoinedOnce → Type 0 where
+pub data HappensOnce (Odd : Type 0) (c : LinkSettings) (w : JoinedOnce) : JoinedOnce → Type 0 where
   -- The station acts, by its definition: a packet is handed down, octets come, T1 runs out, connect, disconnect,
   -- abandon. Or octets on the line to it are lost or visibly damaged.
   Ours : (act : Act) → HappensOnce Odd c w (with_peer w.peer (acts c act (our_end w)))
@@ -43,6 +43,6 @@ pub data HappensOnce (Odd : Type 0) (c : Settings) (w : JoinedOnce) : JoinedOnce
   Loses : (place : ℕ) (os : List (List ℕ)) → LessAt IsSeen place w.out os → HappensOnce Odd c w (record w { out = os })
 
 -- what is reached, event by event
-pub data ReachedOnce (Odd : Type 0) (c : Settings) : JoinedOnce → Type 0 where
+pub data ReachedOnce (Odd : Type 0) (c : LinkSettings) : JoinedOnce → Type 0 where
   at_start : ReachedOnce Odd c start
   goes_on : (w v : JoinedOnce) → ReachedOnce Odd c w → HappensOnce Odd c w v → ReachedOnce Odd c v

@@ -5,7 +5,7 @@
 use Rattle.std.specs.Prelude.{◌≡◌, ℕ, suc, List, [], ◌∷◌, ◌++◌, map, true}
 use Rattle.x25_frame.specs.Reading.{frame_of}
 use Rattle.x25_link.specs.{declared.phase.Phase.{Phase}, declared.phase.Phase.TheVariants.{Down, Waiting, Up}}
-use Rattle.x25_link.specs.{Station.{Settings, with_nothing}, Hearing.{other}}
+use Rattle.x25_link.specs.{Station.{LinkSettings, with_nothing}, Hearing.{other}}
 use Rattle.x25_line.specs.{laws.Stations.{Act, T1, is_visible}}
 use Rattle.x25_line.specs.{laws.Peer.{Peer, fresh_peer}, laws.Said.{Odd as OddSaid, said, sabm_of, ua_of, how_many}}
 use Rattle.x25_line.specs.laws.Sessions.{Entry, SessionEnd, Meeting, Sessions, turned, letters, acts, from_nothing}
@@ -59,12 +59,12 @@ with_peer p v = record { near = v.near; peer = p; out = v.out; back = v.back; me
 
 -- T1 is longer than SABM and its UA are on the line, so that the line has brought too what the peer sent before it
 -- answered: none of its SABMs is of an earlier session.
-pub record IsDue (c : Settings) (w : PeerSessions) : Type 0 where
+pub record IsDue (c : LinkSettings) (w : PeerSessions) : Type 0 where
   pub sabm : how_many sabm_of (letters c.role c.longest w.out) ≡ 0
   pub ua : how_many ua_of (letters (other c.role) c.longest w.back) ≡ 0
   pub crossing : AreOf w.peer.begun (letters (other c.role) c.longest w.back)
 
-abbrev pub IsTimely : Settings → Act → PeerSessions → Type 0
+abbrev pub IsTimely : LinkSettings → Act → PeerSessions → Type 0
 IsTimely c T1 w = w.near.station.phase ≡ Waiting → IsDue c w
 IsTimely c act w = Unit {0}
 
@@ -77,7 +77,7 @@ stand_of Up = In
 stand_of phase = Out
 
 -- As the peer sees it, whose end is the near one here. Of what the station was handed down and took nothing is known.
-abbrev pub seen_by_peer : Settings → PeerSessions → Ends
+abbrev pub seen_by_peer : LinkSettings → PeerSessions → Ends
 seen_by_peer c w = record {
   two = record {
     near = record { stand = w.peer.stand; begun = w.peer.begun };
@@ -95,20 +95,20 @@ abbrev pub IsSeenIn : Entry → Entry → Type 0
 IsSeenIn e f = (f.session ≡ e.session) × (is_visible f.octets ≡ true)
 
 -- It puts octets behind the line from it, or none. `Odd` holds where it may send what is answered by FRMR.
-pub data Puts (Odd : Type 0) (c : Settings) (es : List Entry) : List Entry → Type 0 where
+pub data Puts (Odd : Type 0) (c : LinkSettings) (es : List Entry) : List Entry → Type 0 where
   nothing : Puts Odd c es es
   put : (e : Entry) → (said (frame_of (other c.role) c.longest e.octets) ≡ OddSaid → Odd)
       → Puts Odd c es (es ++ e ∷ [])
 
 -- The peer does what any end may, by the rules of `Ends`, or the line to it loses or visibly damages octets. An end
 -- that asks looks to the other's SABMs on the line: none of the station's is ever older than its present session.
-pub record PeerHappens (Odd : Type 0) (c : Settings) (w v : PeerSessions) : Type 0 where
+pub record PeerHappens (Odd : Type 0) (c : LinkSettings) (w v : PeerSessions) : Type 0 where
   pub does : AreOf w.near.begun (letters c.role c.longest w.out)
       → Does (seen_by_peer c w) (seen_by_peer c (record v { near = w.near }))
   pub left : Less IsSeenIn w.out v.out
   pub puts : Puts Odd c w.back v.back
 
-pub data HappensInSessions (Odd : Type 0) (c : Settings) (w : PeerSessions) : PeerSessions → Type 0 where
+pub data HappensInSessions (Odd : Type 0) (c : LinkSettings) (w : PeerSessions) : PeerSessions → Type 0 where
   -- The station acts, by its definition: a packet is handed down, octets come, T1 runs out, connect, disconnect,
   -- abandon. Or octets on the line to it are lost or visibly damaged.
   Ours : (act : Act) → IsTimely c act w → HappensInSessions Odd c w (with_peer w.peer (acts c act (both_ends w)))
@@ -124,7 +124,7 @@ abbrev pub begin_with : Stand → Sessions → PeerSessions
 begin_with stand v = with_peer (record { stand = stand; begun = v.far.begun; of_session = λ n. fresh_peer }) v
 
 -- what is reached, event by event
-pub data ReachedInSessions (Odd : Type 0) (c : Settings) : PeerSessions → Type 0 where
+pub data ReachedInSessions (Odd : Type 0) (c : LinkSettings) : PeerSessions → Type 0 where
   at_start : ReachedInSessions Odd c (begin_with Out from_nothing)
   set_up : ReachedInSessions Odd c (begin_with In from_set_up)
   goes_on : (w v : PeerSessions) → ReachedInSessions Odd c w → HappensInSessions Odd c w v → ReachedInSessions Odd c v

@@ -1,7 +1,7 @@
 -- What one event does to the sessions of two link stations: which session begins, what is handed down and up in it, and
 -- which meet.
 use Rattle.std.specs.Prelude.{◌≡◌, ◌⊎◌, ℕ, suc, Bool, true, if◌then◌else◌, List, [], ◌∷◌, ◌++◌, Option, option_to_list}
-use Rattle.x25_link.specs.{declared.phase.Phase.TheVariants.{Waiting}, Station.{Settings, is_up}, Hearing.{other}}
+use Rattle.x25_link.specs.{declared.phase.Phase.TheVariants.{Waiting}, Station.{LinkSettings, is_up}, Hearing.{other}}
 use Rattle.x25_line.specs.{laws.Stations.{Act, Put, Deliver, LinkEvent, Near, Far}, laws.Said.{sabm_of, how_many}}
 use Rattle.x25_line.specs.laws.StationClaims.{AcceptsNoConnectAt}
 use Rattle.x25_line.specs.{laws.Sessions.{SessionEnd, Meeting, Sessions, letters, happens}}
@@ -36,7 +36,7 @@ HandsInSessionAt (Near act) w v = HandsInSession act w.near v.near × (v.far ≡
 HandsInSessionAt (Far act) w v = HandsInSession act w.far v.far × (v.near ≡ w.near)
 
 abbrev pub EachEventHandsInSession : Type 0
-EachEventHandsInSession = (c d : Settings) (event : LinkEvent) (w : Sessions)
+EachEventHandsInSession = (c d : LinkSettings) (event : LinkEvent) (w : Sessions)
     → HandsInSessionAt event w (happens c d event w)
 
 -- ---- which sessions meet
@@ -72,26 +72,26 @@ MeetsOneAt (Far act) w v = MeetsOne act (latest w) w.far v.far w.met v.met
 
 -- One event brings one meeting at most, that of the latest sessions of both ends, and where it brings none, nothing is
 -- handed up. As a session begins, none meet.
-abbrev pub EachEventMeetsLatest : Settings → Settings → Sessions → Type 0
+abbrev pub EachEventMeetsLatest : LinkSettings → LinkSettings → Sessions → Type 0
 EachEventMeetsLatest c d w = (event : LinkEvent) → MeetsOneAt event w (happens c d event w)
 
 -- ---- where none asks for set-up
 
 -- no end awaits UA, and no SABM is on the line from the near end, whose settings are c, or on that to it
-pub record IsUnasked (c : Settings) (w : Sessions) : Type 0 where
+pub record IsUnasked (c : LinkSettings) (w : Sessions) : Type 0 where
   pub near : w.near.station.phase ≡ Waiting → ⊥
   pub far : w.far.station.phase ≡ Waiting → ⊥
   pub out : how_many sabm_of (letters c.role c.longest w.out) ≡ 0
   pub back : how_many sabm_of (letters (other c.role) c.longest w.back) ≡ 0
 
 -- it stays so, and no session begins
-pub record BeginNone (c : Settings) (w v : Sessions) : Type 0 where
+pub record BeginNone (c : LinkSettings) (w v : Sessions) : Type 0 where
   pub unasked : IsUnasked c v
   pub near : v.near.begun ≡ w.near.begun
   pub far : v.far.begun ≡ w.far.begun
 
 -- Where both ends are Up, none asks for set-up; and where none does, no session begins until a Connect is accepted.
-pub record NoneBeginUnasked (c d : Settings) (w : Sessions) : Type 0 where
+pub record NoneBeginUnasked (c d : LinkSettings) (w : Sessions) : Type 0 where
   pub up : is_up w.near.station.phase ≡ true → is_up w.far.station.phase ≡ true → IsUnasked c w
   pub stays : IsUnasked c w → (event : LinkEvent) → AcceptsNoConnectAt event w.near.station w.far.station
       → BeginNone c w (happens c d event w)

@@ -6,7 +6,7 @@ use Rattle.std.specs.Prelude.{drop, Option, Some, None, Result, Ok, Err}
 use Rattle.x25_bits.specs.declared.role.Role.{Role}
 use Rattle.x25_frame.specs.{Frame.{PlainFrame, sabm}, Reading.{frame_of}, declared.error.FrameError.{FrameError}}
 use Rattle.x25_link.specs.{declared.phase.Phase.{Phase}, declared.phase.Phase.TheVariants.{Waiting, Up, Closed}}
-use Rattle.x25_link.specs.{Station.{Settings, LinkStation, is_up}, Hearing.{other}}
+use Rattle.x25_link.specs.{Station.{LinkSettings, LinkStation, is_up}, Hearing.{other}}
 use Rattle.x25_line.specs.{laws.Line.{Line, line_swapped}, laws.Stations.{Act, Deliver, LinkEvent, Near, Far}}
 use Rattle.x25_line.specs.{laws.StationClaims.{AreJoined, IsBehind}, laws.Said.{said, ua_of}}
 use Rattle.x25_line.specs.laws.WholeNumbers.{place_of, place_taken, machine_after, machine_at_start}
@@ -34,16 +34,16 @@ abbrev pub is_set_up : Phase → Result PlainFrame FrameError → Bool
 is_set_up Closed read = false
 is_set_up phase read = is_sabm read
 
-abbrev pub front_sets_up : Settings → Phase → List Entry → Bool
+abbrev pub front_sets_up : LinkSettings → Phase → List Entry → Bool
 front_sets_up c phase [] = false
 front_sets_up c phase (e ∷ es) = is_set_up phase (frame_of (other c.role) c.longest e.octets)
 
-abbrev pub sets_up : Settings → Act → Sessions → Bool
+abbrev pub sets_up : LinkSettings → Act → Sessions → Bool
 sets_up c Deliver w = front_sets_up c w.near.station.phase w.back
 sets_up c act w = false
 
 -- the next session of each end, with a machine of their own
-abbrev pub anew : Settings → Settings → Sessions → Standing
+abbrev pub anew : LinkSettings → LinkSettings → Sessions → Standing
 anew c d w = record { near = suc w.near.begun; far = suc w.far.begun; machine = machine_at_start c d }
 
 -- ---- the same two go on
@@ -68,11 +68,11 @@ place_to_hear Waiting from n1 line i = place_behind_ua from n1 line i
 place_to_hear phase from n1 line i = None
 
 -- which of these is gone where octets are taken off the line to the near end at a place, or at none
-abbrev pub gone_at : Settings → Sessions → Option ℕ → Option ℕ
+abbrev pub gone_at : LinkSettings → Sessions → Option ℕ → Option ℕ
 gone_at c w None = None
 gone_at c w (Some i) = place_to_hear w.near.station.phase (other c.role) c.longest (octets_of w.back) i
 
-abbrev pub standing_after : Settings → LinkStation → List (List ℕ) → Option ℕ → Standing → Standing
+abbrev pub standing_after : LinkSettings → LinkStation → List (List ℕ) → Option ℕ → Standing → Standing
 standing_after c station put gone s = record {
   near = s.near;
   far = s.far;
@@ -80,37 +80,37 @@ standing_after c station put gone s = record {
 }
 
 -- the same two sessions, as they stand once `v` are the sessions
-abbrev pub same_two : Settings → Option ℕ → Sessions → Sessions → Standing → Standing
+abbrev pub same_two : LinkSettings → Option ℕ → Sessions → Sessions → Standing → Standing
 same_two c gone w v s = standing_after c v.near.station (octets_of (drop (length w.out) v.out)) gone s
 
 -- ---- from event to event
 
-abbrev pub standing_acts : Settings → Settings → Act → Sessions → Standing → Standing
+abbrev pub standing_acts : LinkSettings → LinkSettings → Act → Sessions → Standing → Standing
 standing_acts c d act w s = if sets_up c act w then anew c d w
     else same_two c (gone_at c w (place_taken act)) w (acts c act w) s
 
-abbrev pub standing_happens : Settings → Settings → LinkEvent → Sessions → Standing → Standing
+abbrev pub standing_happens : LinkSettings → LinkSettings → LinkEvent → Sessions → Standing → Standing
 standing_happens c d (Near act) w s = standing_acts c d act w s
 standing_happens c d (Far act) w s = turned (standing_acts d c act (swapped w) (turned s))
 
-abbrev pub standing_run : Settings → Settings → List LinkEvent → Sessions → Standing → Standing
+abbrev pub standing_run : LinkSettings → LinkSettings → List LinkEvent → Sessions → Standing → Standing
 standing_run c d [] w s = s
 standing_run c d (e ∷ es) w s = standing_run c d es (happens c d e w) (standing_happens c d e w s)
 
 -- as a run begins
-abbrev pub standing_at : Settings → Settings → Sessions → Standing
+abbrev pub standing_at : LinkSettings → LinkSettings → Sessions → Standing
 standing_at c d w = record { near = w.near.begun; far = w.far.begun; machine = machine_at_start c d }
 
 -- ---- the claim
 
 -- these two sessions stand, with this machine behind them
-pub record StandsWith (c d : Settings) (w : Sessions) (s : Standing) : Type 0 where
+pub record StandsWith (c d : LinkSettings) (w : Sessions) (s : Standing) : Type 0 where
   pub stands : Stands c d w
   pub near : s.near ≡ w.near.begun
   pub far : s.far ≡ stands.other_session
   pub behind : IsBehind c d stands.alone s.machine
 
-pub record EachUpStandsWith (c d : Settings) (w : Sessions) (s : Standing) : Type 0 where
+pub record EachUpStandsWith (c d : LinkSettings) (w : Sessions) (s : Standing) : Type 0 where
   pub near : is_up w.near.station.phase ≡ true → StandsWith c d w s
   pub far : is_up w.far.station.phase ≡ true → StandsWith d c (swapped w) (turned s)
 
@@ -118,6 +118,6 @@ pub record EachUpStandsWith (c d : Settings) (w : Sessions) (s : Standing) : Typ
 -- the two that stand.
 abbrev pub StandingGoesAlong : Type 0
 StandingGoesAlong =
-    (c d : Settings) → AreJoined c d → (begin : Sessions) → IsStart begin
+    (c d : LinkSettings) → AreJoined c d → (begin : Sessions) → IsStart begin
     → (events : List LinkEvent) → AreTimely c d events begin
     → EachUpStandsWith c d (run c d events begin) (standing_run c d events begin (standing_at c d begin))

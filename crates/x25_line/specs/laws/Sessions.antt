@@ -1,17 +1,18 @@
 -- Two link stations and the line between them, set up and set up again at any moment. A session of an end begins as it
 -- notes LinkUp. Each act is of the near end, or of the line to it. The far end's acts are those of the two ends
 -- swapped.
-use Rattle.std.specs.Prelude.{◌≡◌, ◌⊎◌, ℕ, zero, suc, ◌+◌, ◌==◌, nat_le, Bool, true, false, if◌then◌else◌, List, []}
-use Rattle.std.specs.Prelude.{◌∷◌, ◌++◌, length, map, remove, Option, Some, None, option_to_list}
+use Rattle.std.specs.Prelude.{◌≡◌, ◌⊎◌, ℕ, suc, ◌+◌, ◌==◌, nat_le, Bool, true, false, if◌then◌else◌, List, []}
+use Rattle.std.specs.Prelude.{◌∷◌, ◌++◌, length, map, option_to_list}
 use Rattle.x25_bits.specs.declared.role.Role.{Role}
 use Rattle.x25_frame.specs.{Frame.{PlainFrame}, Spelling.{spelling_of}, Reading.{frame_of}}
 use Rattle.x25_link.specs.{declared.phase.Phase.{Phase}}
 use Rattle.x25_link.specs.declared.phase.Phase.TheVariants.{Down, Up, Waiting}
-use Rattle.x25_link.specs.{Station.{Settings, LinkStation, is_up, with_nothing}, Hearing.{Step, other}}
+use Rattle.x25_link.specs.{Station.{LinkSettings, LinkStation, is_up, with_nothing}, Hearing.{LinkStep, other}}
 use Rattle.x25_link.specs.Link.{take_step, put_step, put_refusal}
 use Rattle.x25_line.specs.laws.Stations.{Act, Put, Deliver, T1, Lose, Damage, own_act, LinkEvent, Near, Far, is_visible}
 pub use Rattle.x25_line.specs.laws.Stations.{unless}
-use Rattle.x25_line.specs.{laws.StationClaims.{number_in}, laws.Said.{Letter, letter, said, sabm_of, ua_of, how_many}}
+use Rattle.x25_line.specs.laws.Loss.{remove, replaced}
+use Rattle.x25_line.specs.laws.Said.{Said, Tells, Letter, letter, said, sabm_of, ua_of, how_many}
 
 -- octets on the line, and the session in which they were sent
 pub record Entry : Type 0 where
@@ -50,8 +51,7 @@ swapped w = record { near = w.far; far = w.near; out = w.back; back = w.out; met
 
 abbrev pub sent_in : ℕ → Role → List PlainFrame → List Entry
 sent_in session from [] = []
-sent_in session from (frame ∷ frames) = record { session = session; octets = spelling_of from frame }
-    ∷ sent_in session from frames
+sent_in session from (f ∷ fs) = record { session = session; octets = spelling_of from f } ∷ sent_in session from fs
 
 -- more in one session
 abbrev pub extended : (ℕ → List (List ℕ)) → ℕ → List (List ℕ) → ℕ → List (List ℕ)
@@ -63,7 +63,7 @@ begun_by true n = suc n
 begun_by false n = n
 
 -- after a step of the near end: `back` is what is left on the line to it, and `down` what was handed down
-abbrev pub after_step : Settings → Sessions → List Entry → List Meeting → List (List ℕ) → Step → Sessions
+abbrev pub after_step : LinkSettings → Sessions → List Entry → List Meeting → List (List ℕ) → LinkStep → Sessions
 after_step c w back met down step =
     let session = begun_by step.notes.up w.near.begun in
     record {
@@ -80,42 +80,40 @@ after_step c w back met down step =
       sent = w.sent ++ step.side.out;
     }
 
--- an end that is Up hears a frame with an N(R)
-abbrev pub heard : Bool → Option PlainFrame → Meeting → List Meeting → List Meeting
-heard true (Some frame) m met = m ∷ met
-heard true None m met = met
-heard false read m met = met
+-- an end that is in a session meets the one in which the N(R) that it hears was sent
+abbrev pub meets : Said → Meeting → List Meeting → List Meeting
+meets (Tells carried nr) m met = m ∷ met
+meets said m met = met
 
 -- the front octets are taken off the line, and by the near end
-abbrev pub delivered : Settings → List Entry → Sessions → Sessions
+abbrev pub delivered : LinkSettings → List Entry → Sessions → Sessions
 delivered c [] w = w
 delivered c (e ∷ back) w =
-    after_step c w back (heard (is_up w.near.station.phase) (number_in (frame_of (other c.role) c.longest e.octets))
-    (record { near = w.near.begun; far = e.session }) w.met) []
+    after_step c w back (if is_up w.near.station.phase then meets (said (frame_of (other c.role) c.longest e.octets))
+    (record { near = w.near.begun; far = e.session }) w.met else w.met) []
     (take_step c e.octets w.near.station)
 
-abbrev pub replaced : List Entry → ℕ → List ℕ → List Entry
-replaced [] i octets = []
-replaced (e ∷ es) zero octets = record { session = e.session; octets = octets } ∷ es
-replaced (e ∷ es) (suc i) octets = e ∷ replaced es i octets
+-- other octets come in the place of those that were sent
+abbrev pub with_octets : List ℕ → Entry → Entry
+with_octets octets e = record { session = e.session; octets = octets }
 
-abbrev pub acts : Settings → Act → Sessions → Sessions
+abbrev pub acts : LinkSettings → Act → Sessions → Sessions
 acts c (Put packet) w =
     if nat_le (length packet) c.longest
     then unless (put_refusal w.near.station) w
     (after_step c w w.back w.met (packet ∷ []) (put_step c packet w.near.station)) else w
 acts c Deliver w = delivered c w.back w
 acts c (Lose i) w = record w { back = remove w.back i }
-acts c (Damage i octets) w = if is_visible octets then record w { back = replaced w.back i octets } else w
+acts c (Damage i octets) w = if is_visible octets then record w { back = replaced w.back i (with_octets octets) } else w
 acts c act w = own_act c w.near.station w (after_step c w w.back w.met []) act
 
 -- ---- runs
 
-abbrev pub happens : Settings → Settings → LinkEvent → Sessions → Sessions
+abbrev pub happens : LinkSettings → LinkSettings → LinkEvent → Sessions → Sessions
 happens c d (Near act) w = acts c act w
 happens c d (Far act) w = swapped (acts d act (swapped w))
 
-abbrev pub run : Settings → Settings → List LinkEvent → Sessions → Sessions
+abbrev pub run : LinkSettings → LinkSettings → List LinkEvent → Sessions → Sessions
 run c d [] w = w
 run c d (e ∷ es) w = run c d es (happens c d e w)
 
@@ -145,19 +143,19 @@ letters from n1 [] = []
 letters from n1 (e ∷ es) = letter e.session (said (frame_of from n1 e.octets)) ∷ letters from n1 es
 
 -- the SABMs of the near end and the UAs to it that are on the line
-abbrev pub asked : Settings → Settings → Sessions → ℕ
+abbrev pub asked : LinkSettings → LinkSettings → Sessions → ℕ
 asked c d w = how_many sabm_of (letters (other d.role) d.longest w.out)
     + how_many ua_of (letters (other c.role) c.longest w.back)
 
 -- T1 is longer than SABM and its UA are on the line: while UA is awaited it doesn't run out before
-abbrev pub IsTimely : Settings → Settings → Act → Sessions → Type 0
+abbrev pub IsTimely : LinkSettings → LinkSettings → Act → Sessions → Type 0
 IsTimely c d T1 w = w.near.station.phase ≡ Waiting → asked c d w ≡ 0
 IsTimely c d act w = Unit {0}
 
-abbrev pub IsTimelyAt : Settings → Settings → LinkEvent → Sessions → Type 0
+abbrev pub IsTimelyAt : LinkSettings → LinkSettings → LinkEvent → Sessions → Type 0
 IsTimelyAt c d (Near act) w = IsTimely c d act w
 IsTimelyAt c d (Far act) w = IsTimely d c act (swapped w)
 
-abbrev pub AreTimely : Settings → Settings → List LinkEvent → Sessions → Type 0
+abbrev pub AreTimely : LinkSettings → LinkSettings → List LinkEvent → Sessions → Type 0
 AreTimely c d [] w = Unit {0}
 AreTimely c d (e ∷ es) w = IsTimelyAt c d e w × AreTimely c d es (happens c d e w)

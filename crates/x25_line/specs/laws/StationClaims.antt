@@ -8,7 +8,7 @@ use Rattle.x25_frame.specs.{Spelling.{information_of, IsInRange, MayCarry, IsWit
 use Rattle.x25_frame.specs.declared.error.FrameError.{FrameError}
 use Rattle.x25_window.specs.laws.Window.{End, fresh_end}
 use Rattle.x25_link.specs.{declared.phase.Reason.{Reason}, declared.phase.Reason.TheVariants.{Retries}}
-use Rattle.x25_link.specs.{Station.{Settings, LinkStation, is_up, lists_of, no_packets}, Hearing.{other}}
+use Rattle.x25_link.specs.{Station.{LinkSettings, LinkStation, is_up, lists_of, no_packets}, Hearing.{other}}
 use Rattle.x25_link.specs.{Link.{connect_refusal, is_idle}, laws.WindowMachine.{ShowAll}, laws.WindowLaw.{window_of}}
 use Rattle.x25_line.specs.laws.InWindow.{InWindow, IsPrefix}
 use Rattle.x25_line.specs.laws.Line.{Line, Move, AllowsMove, moved, line_swapped}
@@ -16,7 +16,7 @@ use Rattle.x25_line.specs.laws.Stations.{StationEnd, Stations, Act, Put, Deliver
 use Rattle.x25_line.specs.laws.Stations.{happens, run, start, stations_swapped}
 
 -- the two ends of one link: one is the DTE and one the DCE, both with the same N1 and k from 1 to 7
-pub record AreJoined (c d : Settings) : Type 0 where
+pub record AreJoined (c d : LinkSettings) : Type 0 where
   pub near_role : other d.role ≡ c.role
   pub far_role : other c.role ≡ d.role
   pub longest : c.longest ≡ d.longest
@@ -32,8 +32,8 @@ pub record IsSetUpOnce (w : Stations) : Type 0 where
   pub far : w.far.came_up ≡ false
 
 -- what holds after each list of events, as long as the link isn't set up anew
-abbrev pub Always : (Settings → Settings → Stations → Type 0) → Type 0
-Always Holds = (c d : Settings) → AreJoined c d → (events : List LinkEvent) → IsSetUpOnce (run c d events start)
+abbrev pub Always : (LinkSettings → LinkSettings → Stations → Type 0) → Type 0
+Always Holds = (c d : LinkSettings) → AreJoined c d → (events : List LinkEvent) → IsSetUpOnce (run c d events start)
     → Holds c d (run c d events start)
 
 abbrev pub Each : {T : Type 0} → (T → Type 0) → List T → Type 0
@@ -49,7 +49,7 @@ pub record InOrder (giver taker : StationEnd) : Type 0 where
   pub acked : IsPrefix (take giver.station.outgoing.acked giver.down) taker.up
   pub idle : is_idle giver.station ≡ true → taker.up ≡ giver.down
 
-abbrev pub BothInOrder : Settings → Settings → Stations → Type 0
+abbrev pub BothInOrder : LinkSettings → LinkSettings → Stations → Type 0
 BothInOrder c d w = InOrder w.near w.far × InOrder w.far w.near
 
 -- a station that is Up has the lists that were handed down and up, and any other has empty lists
@@ -58,7 +58,7 @@ pub record HasItsLists (e : StationEnd) : Type 0 where
   pub taken : is_up e.station.phase ≡ true → e.station.taken ≡ e.up
   pub empty : is_up e.station.phase ≡ false → lists_of e.station ≡ no_packets
 
-abbrev pub BothHaveTheirLists : Settings → Settings → Stations → Type 0
+abbrev pub BothHaveTheirLists : LinkSettings → LinkSettings → Stations → Type 0
 BothHaveTheirLists c d w = HasItsLists w.near × HasItsLists w.far
 
 -- An end that is Up has noted nothing. Any other has noted the LinkDown by which it left Up, and then one for want of
@@ -68,7 +68,7 @@ pub record NotesItsEnd (e : StationEnd) : Type 0 where
   pub left : is_up e.station.phase ≡ false → (reason : Reason) × (again : ℕ)
       × (e.reasons ≡ reason ∷ replicate again Retries)
 
-abbrev pub BothNoteTheirEnds : Settings → Settings → Stations → Type 0
+abbrev pub BothNoteTheirEnds : LinkSettings → LinkSettings → Stations → Type 0
 BothNoteTheirEnds c d w = NotesItsEnd w.near × NotesItsEnd w.far
 
 -- ---- where no end connects
@@ -82,7 +82,7 @@ AcceptsNoConnectAt (Near act) near far = AcceptsNoConnect act near
 AcceptsNoConnectAt (Far act) near far = AcceptsNoConnect act far
 
 -- each Connect of a list is refused where it comes
-abbrev pub NoneConnects : Settings → Settings → List LinkEvent → Stations → Type 0
+abbrev pub NoneConnects : LinkSettings → LinkSettings → List LinkEvent → Stations → Type 0
 NoneConnects c d [] w = Unit {0}
 NoneConnects c d (e ∷ es) w = AcceptsNoConnectAt e w.near.station w.far.station × NoneConnects c d es (happens c d e w)
 
@@ -94,7 +94,8 @@ pub record IsOneLink (w : Stations) : Type 0 where
 
 -- what holds after each list of events of which none is an accepted Connect
 abbrev pub OneLinkUnlessConnected : Type 0
-OneLinkUnlessConnected = (c d : Settings) → AreJoined c d → (events : List LinkEvent) → NoneConnects c d events start
+OneLinkUnlessConnected = (c d : LinkSettings) → AreJoined c d → (events : List LinkEvent)
+    → NoneConnects c d events start
     → IsOneLink (run c d events start)
 
 -- ---- the window
@@ -128,7 +129,7 @@ pub record IsEndOf (k : ℕ) (e : StationEnd) (machine : End (List ℕ)) : Type 
   pub numbers : is_up e.station.phase ≡ true → window_of k e.station ≡ machine
 
 -- the window machine with the whole numbers behind the N(S)s and N(R)s on the line, and its window
-pub record IsBehind (c d : Settings) (w : Stations) (l : Line (List ℕ)) : Type 0 where
+pub record IsBehind (c d : LinkSettings) (w : Stations) (l : Line (List ℕ)) : Type 0 where
   pub reached : MachineReaches c.window d.window l
   pub near : IsEndOf c.window w.near l.near
   pub far : IsEndOf d.window w.far l.far
@@ -136,7 +137,7 @@ pub record IsBehind (c d : Settings) (w : Stations) (l : Line (List ℕ)) : Type
   pub back : ShowAll (numbered_on (other c.role) c.longest w.back) l.back
   pub window : InWindow l
 
-abbrev pub AreInWindow : Settings → Settings → Stations → Type 0
+abbrev pub AreInWindow : LinkSettings → LinkSettings → Stations → Type 0
 AreInWindow c d w = (l : Line (List ℕ)) × IsBehind c d w l
 
 -- ---- no fault is ever found
@@ -146,7 +147,7 @@ NoFrmr [] = Unit {0}
 NoFrmr (frmr f why ∷ frames) = ⊥
 NoFrmr (frame ∷ frames) = NoFrmr frames
 
-abbrev pub NoFrmrSent : Settings → Settings → Stations → Type 0
+abbrev pub NoFrmrSent : LinkSettings → LinkSettings → Stations → Type 0
 NoFrmrSent c d w = NoFrmr w.sent
 
 -- ---- each frame ever sent is whole
@@ -166,7 +167,7 @@ pub record IsWhole (n1 : ℕ) (given : List (List ℕ)) (frame : PlainFrame) : T
 abbrev pub AreWhole : ℕ → List (List ℕ) → List PlainFrame → Type 0
 AreWhole n1 given frames = Each (IsWhole n1 given) frames
 
-abbrev pub AllSentAreWhole : Settings → Settings → Stations → Type 0
+abbrev pub AllSentAreWhole : LinkSettings → LinkSettings → Stations → Type 0
 AllSentAreWhole c d w = AreWhole c.longest (w.near.down ++ w.far.down) w.sent
 
 -- ---- what one event hands up and down, and what it notes
@@ -197,4 +198,4 @@ HandsOneAt (Near act) w v = HandsOne act w v
 HandsOneAt (Far act) w v = HandsOne act (stations_swapped w) (stations_swapped v)
 
 abbrev pub EachEventHandsOne : Type 0
-EachEventHandsOne = (c d : Settings) (event : LinkEvent) (w : Stations) → HandsOneAt event w (happens c d event w)
+EachEventHandsOne = (c d : LinkSettings) (event : LinkEvent) (w : Stations) → HandsOneAt event w (happens c d event w)

@@ -1,13 +1,14 @@
 -- Two link stations joined by a line of octets that keeps order and may lose or visibly damage any frame (profile: the
 -- line). Each act is of the near end, or of the line to it. The far end's acts are those of the two ends swapped.
-use Rattle.std.specs.Prelude.{ℕ, zero, suc, nat_lt, nat_le, Bool, false, not, ◌||◌, if◌then◌else◌, List, [], ◌∷◌, ◌++◌}
-use Rattle.std.specs.Prelude.{length, map, remove, Option, Some, None, option_to_list}
+use Rattle.std.specs.Prelude.{◌≡◌, ℕ, nat_lt, nat_le, Bool, true, false, not, ◌||◌, if◌then◌else◌, List, [], ◌∷◌, ◌++◌}
+use Rattle.std.specs.Prelude.{length, map, Option, Some, None, option_to_list}
 use Rattle.x25_bits.specs.FrameCheck.Sealed.{is_sealed}
 use Rattle.x25_frame.specs.{Frame.{PlainFrame}, Spelling.{spelling_of}}
 use Rattle.x25_link.specs.{declared.error.LinkError.{LinkError}, declared.phase.Reason.{Reason}}
-use Rattle.x25_link.specs.{Station.{Settings, LinkStation, is_up, fresh}, Hearing.{Step}}
+use Rattle.x25_link.specs.{Station.{LinkSettings, LinkStation, is_up, fresh}, Hearing.{LinkStep}}
 use Rattle.x25_link.specs.Link.{take_step, put_step, put_refusal, timer_step, timer_refusal, connect_step}
 use Rattle.x25_link.specs.Link.{connect_refusal, disconnect_step, disconnect_refusal, abandon_step}
+use Rattle.x25_line.specs.laws.Loss.{remove, replaced}
 
 -- A station, all packets that were handed down to it and that it handed up, the reasons of each LinkDown that it noted,
 -- and whether it ever noted LinkUp, by which the link was set up anew.
@@ -32,7 +33,7 @@ stations_swapped w = record { near = w.far; far = w.near; out = w.back; back = w
 -- ---- acts
 
 -- after a step of the near end: `back` is what is left on the line to it, and `down` what was handed down
-abbrev pub after_step : Settings → Stations → List (List ℕ) → List (List ℕ) → Step → Stations
+abbrev pub after_step : LinkSettings → Stations → List (List ℕ) → List (List ℕ) → LinkStep → Stations
 after_step c w back down step = record {
   near = record {
     station = step.side.near;
@@ -53,18 +54,17 @@ unless (Some e) w done = w
 unless None w done = done
 
 -- the front octets are taken off the line, and by the near end
-abbrev pub delivered : Settings → List (List ℕ) → Stations → Stations
+abbrev pub delivered : LinkSettings → List (List ℕ) → Stations → Stations
 delivered c [] w = w
 delivered c (octets ∷ back) w = after_step c w back [] (take_step c octets w.near.station)
-
-abbrev pub replaced : List (List ℕ) → ℕ → List ℕ → List (List ℕ)
-replaced [] i octets = []
-replaced (o ∷ os) zero octets = octets ∷ os
-replaced (o ∷ os) (suc i) octets = o ∷ replaced os i octets
 
 -- damage is visible: what comes is fewer than four octets, or fails its frame check sequence
 abbrev pub is_visible : List ℕ → Bool
 is_visible octets = nat_lt (length octets) 4 || not (is_sealed octets)
+
+-- octets come in the place of others, and that is seen
+abbrev pub IsSeen : List ℕ → List ℕ → Type 0
+IsSeen old octets = is_visible octets ≡ true
 
 pub data Act : Type 0 where
   -- a packet of at most N1 octets is handed down
@@ -85,7 +85,7 @@ pub data Act : Type 0 where
 
 -- The acts by which a station takes no octets and is given no packet, in any world. `done` is what a step of it makes
 -- of that, and what is refused changes nothing.
-abbrev pub own_act : {W : Type 0} → Settings → LinkStation → W → (Step → W) → Act → W
+abbrev pub own_act : {W : Type 0} → LinkSettings → LinkStation → W → (LinkStep → W) → Act → W
 own_act c s w done T1 = unless (timer_refusal s) w (done (timer_step c s))
 own_act c s w done Connect = unless (connect_refusal s.phase) w (done (connect_step c s))
 own_act c s w done Disconnect = unless (disconnect_refusal s.phase) w (done (disconnect_step c s))
@@ -93,13 +93,13 @@ own_act c s w done Abandon = if is_up s.phase then done (abandon_step c s) else 
 own_act c s w done Probe = if is_up s.phase then done (timer_step c s) else w
 own_act c s w done act = w
 
-abbrev pub acts : Settings → Act → Stations → Stations
+abbrev pub acts : LinkSettings → Act → Stations → Stations
 acts c (Put packet) w = if nat_le (length packet) c.longest
     then unless (put_refusal w.near.station) w (after_step c w w.back (packet ∷ []) (put_step c packet w.near.station))
     else w
 acts c Deliver w = delivered c w.back w
 acts c (Lose i) w = record w { back = remove w.back i }
-acts c (Damage i octets) w = if is_visible octets then record w { back = replaced w.back i octets } else w
+acts c (Damage i octets) w = if is_visible octets then record w { back = replaced w.back i (λ _. octets) } else w
 acts c act w = own_act c w.near.station w (after_step c w w.back []) act
 
 -- ---- runs
@@ -108,11 +108,11 @@ pub data LinkEvent : Type 0 where
   Near : (act : Act) → LinkEvent
   Far : (act : Act) → LinkEvent
 
-abbrev pub happens : Settings → Settings → LinkEvent → Stations → Stations
+abbrev pub happens : LinkSettings → LinkSettings → LinkEvent → Stations → Stations
 happens c d (Near act) w = acts c act w
 happens c d (Far act) w = stations_swapped (acts d act (stations_swapped w))
 
-abbrev pub run : Settings → Settings → List LinkEvent → Stations → Stations
+abbrev pub run : LinkSettings → LinkSettings → List LinkEvent → Stations → Stations
 run c d [] w = w
 run c d (e ∷ es) w = run c d es (happens c d e w)
 

@@ -5,7 +5,7 @@ use Rattle.std.specs.Prelude.{◌≡◌, ℕ, ◌+◌, ◌-◌, ◌%◌, ◌==�
 use Rattle.std.specs.Prelude.{Bool, true, false, ◌&&◌, if◌then◌else◌, Option, Some, None, Result}
 use Rattle.x25_frame.specs.{Frame.{PlainFrame}, Reading.{frame_of}, declared.error.FrameError.{FrameError}}
 use Rattle.x25_window.specs.code.Modulo.{resolved}
-use Rattle.x25_link.specs.{Station.{Settings}, Hearing.{other}}
+use Rattle.x25_link.specs.{Station.{LinkSettings}, Hearing.{other}}
 use Rattle.x25_line.specs.{laws.Stations.{Act, acts}, laws.Peer.{Peer, numbered_to, told_to, hearing, taking}}
 use Rattle.x25_line.specs.{laws.Said.{Said, Tells, said}, laws.PeerJoined.{JoinedOnce, start, our_end, with_peer}}
 
@@ -65,7 +65,7 @@ notes read p = notes_said (said read) p
 -- ---- tapes of which nothing is told
 
 -- of the station, of what is known of the peer, and of the octets between the tape and the station
-pub data IsSilent (c : Settings) : JoinedOnce → Type 0 where
+pub data IsSilent (c : LinkSettings) : JoinedOnce → Type 0 where
   Begins : IsSilent c start
   -- the station acts; or octets are lost or damaged between the tape and the station
   Acts : (w : JoinedOnce) (act : Act) → IsSilent c w → IsSilent c (with_peer w.peer (acts c act (our_end w)))

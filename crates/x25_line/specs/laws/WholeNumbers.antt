@@ -6,7 +6,7 @@ use Rattle.std.specs.Prelude.{Some, None}
 use Rattle.x25_bits.specs.declared.role.Role.{Role}
 use Rattle.x25_frame.specs.{Frame.{PlainFrame, info}, Reading.{frame_of}}
 use Rattle.x25_window.specs.{code.Modulo.{resolved}, laws.Window.{Frame, fresh_end}}
-use Rattle.x25_link.specs.{Station.{Settings, LinkStation, is_up}, Hearing.{other}, laws.WindowMachine.{Window}}
+use Rattle.x25_link.specs.{Station.{LinkSettings, LinkStation, is_up}, Hearing.{other}, laws.WindowMachine.{Window}}
 use Rattle.x25_link.specs.laws.WindowLaw.{window_of}
 use Rattle.x25_line.specs.laws.Line.{Line, line_swapped}
 use Rattle.x25_line.specs.laws.Stations.{Stations, Act, Deliver, Lose, Damage, LinkEvent, Near, Far, is_visible, acts}
@@ -71,7 +71,7 @@ counted k s e = if is_up s.phase then window_of k s else e
 
 -- The machine once its near end has acted: `station` is the station then, `put` are the octets that it has put on the
 -- line, and `gone` is the place of the frame that was taken off the line to it.
-abbrev pub machine_after : Settings → LinkStation → List (List ℕ) → Option ℕ → Line (List ℕ) → Line (List ℕ)
+abbrev pub machine_after : LinkSettings → LinkStation → List (List ℕ) → Option ℕ → Line (List ℕ) → Line (List ℕ)
 machine_after c station put gone l =
     let e = counted c.window station l.near in
     record {
@@ -83,20 +83,20 @@ machine_after c station put gone l =
     }
 
 -- the machine once its near end has done this act, in this world
-abbrev pub machine_acts : Settings → Act → Stations → Line (List ℕ) → Line (List ℕ)
+abbrev pub machine_acts : LinkSettings → Act → Stations → Line (List ℕ) → Line (List ℕ)
 machine_acts c act w l = machine_after c (acts c act w).near.station (drop (length w.out) (acts c act w).out)
     (gone_from (other c.role) c.longest w.back (place_taken act)) l
 
-abbrev pub machine_happens : Settings → Settings → LinkEvent → Stations → Line (List ℕ) → Line (List ℕ)
+abbrev pub machine_happens : LinkSettings → LinkSettings → LinkEvent → Stations → Line (List ℕ) → Line (List ℕ)
 machine_happens c d (Near act) w l = machine_acts c act w l
 machine_happens c d (Far act) w l = line_swapped (machine_acts d act (stations_swapped w) (line_swapped l))
 
-abbrev pub machine_run : Settings → Settings → List LinkEvent → Stations → Line (List ℕ) → Line (List ℕ)
+abbrev pub machine_run : LinkSettings → LinkSettings → List LinkEvent → Stations → Line (List ℕ) → Line (List ℕ)
 machine_run c d [] w l = l
 machine_run c d (e ∷ es) w l = machine_run c d es (happens c d e w) (machine_happens c d e w l)
 
 -- the link was just set up
-abbrev pub machine_at_start : Settings → Settings → Line (List ℕ)
+abbrev pub machine_at_start : LinkSettings → LinkSettings → Line (List ℕ)
 machine_at_start c d = record { near = fresh_end c.window; far = fresh_end d.window; out = []; back = [] }
 
 -- ---- the claim
@@ -105,10 +105,10 @@ machine_at_start c d = record { near = fresh_end c.window; far = fresh_end d.win
 -- the line. So what stands behind a frame on the line is what it was given as it was put.
 abbrev pub MachineGoesAlong : Type 0
 MachineGoesAlong =
-    (c d : Settings) → AreJoined c d → (events : List LinkEvent) → IsSetUpOnce (run c d events start)
+    (c d : LinkSettings) → AreJoined c d → (events : List LinkEvent) → IsSetUpOnce (run c d events start)
     → IsBehind c d (run c d events start) (machine_run c d events start (machine_at_start c d))
 
 -- where the link isn't set up anew after a list of events, it wasn't before
 abbrev pub OnceStaysOnce : Type 0
-OnceStaysOnce = (c d : Settings) (events : List LinkEvent) (w : Stations) → IsSetUpOnce (run c d events w)
+OnceStaysOnce = (c d : LinkSettings) (events : List LinkEvent) (w : Stations) → IsSetUpOnce (run c d events w)
     → IsSetUpOnce w

@@ -3,16 +3,16 @@
 use Rattle.std.specs.Prelude.{◌≡◌, true, false, [], ◌∷◌}
 use Rattle.x25_bits.specs.declared.role.Role.TheVariants.{Dte, Dce}
 use Rattle.x25_link.specs.declared.phase.Phase.TheVariants.{Down, Waiting, Closed}
-use Rattle.x25_link.specs.{declared.phase.Reason.TheVariants.{Reset, Counts, Disc}, Station.{Settings, fresh}}
+use Rattle.x25_link.specs.{declared.phase.Reason.TheVariants.{Reset, Counts, Disc}, Station.{LinkSettings, fresh}}
 use Rattle.x25_link.specs.Link.{is_idle}
 use Rattle.x25_line.specs.laws.Stations.{Stations, Put, Deliver, T1, Connect, Disconnect, Abandon, Lose, Damage, Near}
 use Rattle.x25_line.specs.laws.Stations.{Far, run, start}
 
 -- the DTE is the near end
-abbrev pub dte : Settings
+abbrev pub dte : LinkSettings
 dte = record { role = Dte; window = 7; longest = 128; retries = 20 }
 
-abbrev pub dce : Settings
+abbrev pub dce : LinkSettings
 dce = record { role = Dce; window = 7; longest = 128; retries = 20 }
 
 -- the packet of one octet, 5, was handed up at the far end and is acknowledged

@@ -17,7 +17,7 @@ use Rattle.x25_layer.specs.laws.PeerClaims as layer_claims
 use Rattle.x25_station.specs.laws.ReadLaw as reached
 use Rattle.x25_peer.specs.laws.BesideSessions as beside
 
-forget : (c : Settings) {w : layer_peer.Joined} → IsReachedByOctets c.wide c.role c.long_data c.channels w
+forget : (c : Settings) {w : layer_peer.PeerJoined} → IsReachedByOctets c.wide c.role c.long_data c.channels w
     → layer_peer.IsReached c.role c.long_data c.channels w
 forget c reached.at_start = layer_peer.at_start
 forget c (reached.goes_on u v h e octets) = layer_peer.goes_on u v (forget c h) e

@@ -6,7 +6,7 @@ use Rattle.x25_frame.specs.Frame.{PlainFrame}
 use Rattle.x25_packet.specs.{Packet.{PlainPacket}, Taking.{read_in}}
 use Rattle.x25_given.specs.{Given.{PlainGiven, may_give}, Writing.{write}}
 use Rattle.x25_link.specs.{declared.error.LinkError.{LinkError}, declared.phase.Phase.{Phase}, declared.phase.Phase.TheVariants.{Down}}
-use Rattle.x25_link.specs.Station.{Settings as LinkSettings, LinkStation, Side, is_up, with_nothing}
+use Rattle.x25_link.specs.Station.{LinkSettings, LinkStation, Side, is_up, with_nothing}
 use Rattle.x25_link.specs.{Link.{put_refusal, put_step, take_step, timer_step, connect_step, abandon_step, probe_refusal, relink_step}, laws.NoteLaw.{PutTells}}
 use Rattle.x25_link.specs.laws.SetUp.{RelinkIsTwoSteps}
 use Rattle.x25_line.specs.laws.Sessions.{Entry, Meeting, Sessions, acts, after_step, delivered, sent_in, extended, begun_by, unless}
@@ -14,7 +14,7 @@ use Rattle.x25_line.proofs.sessions.SessionSays.{sent_append}
 use Rattle.x25_station.specs.{Config.{Settings, link_settings, longest_packet}, Giving.{all_given}, Station.{behind, put_on, all_put}, Step.{Step}}
 use Rattle.x25_station.specs.{laws.GivenLaw.{AreTaken, PutsGiven, GivesOctets, GivenIsRead}, laws.JoinLaw.{AreAccepted, PutsBehind}}
 use Rattle.x25_station.specs.laws.ReadLaw.{AreOctets, AreReadable}
-use Rattle.x25_link.specs.{declared.phase.Reason.TheVariants.{Counts}, Hearing.{Step as LinkStep}}
+use Rattle.x25_link.specs.{declared.phase.Reason.TheVariants.{Counts}, Hearing.{LinkStep}}
 use Rattle.x25_packet.specs.Spelling as packet
 use Rattle.x25_line.specs.laws.Stations as line
 
@@ -178,6 +178,7 @@ taken_as_spelled c g (p ∷ packets) t h = (h.0, accepted_as_spelled c packets (
 
 -- ---- which the other end reads, where it writes and takes packets in this way
 
+-- octets that a link carries, read as this packet
 pub record IsReadBack (wide long_data : Bool) (given : List ℕ) (p : PlainPacket) : Type 0 where
   pub octets : AreOctets given
   pub short : length given ≤ longest_packet
@@ -229,6 +230,7 @@ puts_spelled {c} {t} {packets} p readable =
       readable = spelled_back c.wide c.long_data packets readable;
     }
 
+-- so do those that are given facilities, user data or D
 pub puts_spelled_with : GivenIsRead → {c : Settings} {g : PlainGiven} {t : Side} {packets : List PlainPacket} {step : Step} → c.wide ≡ true → may_give g ≡ true
     → GivesOctets g → PutsGiven c g t packets step → AreReadable c.wide c.long_data packets
     → PutsRead c t packets (spelled_with g packets) step
@@ -280,10 +282,12 @@ put_goes {c} {v} {v₁} {session} t {down} {up} {left} {met} o short none g =
       met = g.met;
     })
 
+-- the link is handed down these, one by one
 abbrev pub puts_of : List (List ℕ) → List line.Act
 puts_of [] = []
 puts_of (o ∷ os) = line.Put o ∷ puts_of os
 
+-- acts of the near end, one after the other
 abbrev pub all_act : LinkSettings → List line.Act → Sessions → Sessions
 all_act c [] v = v
 all_act c (act ∷ acted) v = all_act c acted (acts c act v)

@@ -1,8 +1,7 @@
 -- Sessions that meet one to one.
-use Rattle.std.proofs.Common.{◌≡◌, ℕ, suc, ◌+◌, ◌==◌, ◌<◌, ◌⊎◌, inl, inr, List, [], ◌∷◌, Bool, true, false, refl, sym, subst, ◌∙◌, Option, Some, None, eq-eqb}
+use Rattle.std.proofs.Common.{◌≡◌, ℕ, suc, ◌+◌, ◌==◌, ◌<◌, ◌⊎◌, inl, inr, List, [], ◌∷◌, Bool, true, false, refl, sym, subst, ◌∙◌, if◌then◌else◌, eq-eqb}
 use Rattle.std.proofs.{Common.{arith}, lemmas.Bool.{eqb-true}}
-use Rattle.x25_frame.specs.Frame.{PlainFrame}
-use Rattle.x25_line.specs.{laws.Sessions.{Meeting, heard}, laws.SessionClaims.{Each, SomeMet, IsNoEarlier, InStep}}
+use Rattle.x25_line.specs.{laws.Sessions.{Meeting, meets}, laws.Said.{Said, Tells}, laws.SessionClaims.{Each, SomeMet, IsNoEarlier, InStep}}
 use Rattle.x25_line.proofs.ends.Meetings.{all_map, all_some, all_no_earlier}
 
 -- these two sessions met each other, or none
@@ -13,10 +12,10 @@ pub true_false : {A : Type 0} → true ≡ false → A
 true_false e = absurd (cc)
 
 -- so they did before
-pub could_meet : (n m : ℕ) (b : Bool) (r : Option PlainFrame) (x : Meeting) (met : List Meeting) → CanMeet n m (heard b r x met) → CanMeet n m met
-could_meet n m true (Some frame) x met h = h.1
-could_meet n m true None x met h = h
-could_meet n m false r x met h = h
+pub could_meet : (n m : ℕ) (b : Bool) (s : Said) (x : Meeting) (met : List Meeting) → CanMeet n m (if b then meets s x met else met) → CanMeet n m met
+could_meet n m true (Tells carried nr) x met h = h.1
+could_meet n m true s x met h = h
+could_meet n m false s x met h = h
 
 pub all_both : (P Q : Meeting → Type 0) (ms : List Meeting) → Each P ms → Each Q ms → Each (λ (m : Meeting). P m × Q m) ms
 all_both P Q [] h g = tt
@@ -69,6 +68,7 @@ below_over top [] low = tt
 below_over top (p ∷ met) low = (let is : over (p ∷ met) ≡ suc (p.far + over met) = refl in
     (omega (arith, low, is), below_over top met (omega (arith, low, is))))
 
+-- a session can meet some session
 pub could_meet_some : (n : ℕ) (met : List Meeting) → InStep met → (m : ℕ) × CanMeet n m met
 could_meet_some n met h = elim (finds n met) [
   | inl some ↦ all_some (λ p. CanMeet p.near p.far met) (λ p. p.near ≡ n) ((m : ℕ) × CanMeet n m met)

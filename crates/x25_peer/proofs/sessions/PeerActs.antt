@@ -4,16 +4,16 @@ use Rattle.std.proofs.{Common.{refl, sym, ap, subst, ◌∙◌, append_assoc, ap
 use Rattle.std.proofs.lemmas.List.{drop-append-le}
 use Rattle.std.specs.Prelude.{remove}
 use Rattle.x25_packet.specs.Packet.{PlainPacket}
-use Rattle.x25_link.specs.Station.{Settings as LinkSettings}
-use Rattle.x25_line.specs.{laws.Stations.{is_visible}, laws.Sessions.{Entry, Meeting, Sessions, turned, replaced}, laws.Peer.{Peer, fresh_peer}}
+use Rattle.x25_link.specs.Station.{LinkSettings}
+use Rattle.x25_line.specs.{laws.Stations.{is_visible}, laws.Sessions.{Entry, Meeting, Sessions, turned, meets, with_octets}, laws.Peer.{Peer, fresh_peer}}
 use Rattle.x25_line.specs.laws.PeerSessions.{PeerEnd, PeerSessions, now, with_now, begins, ReachedInSessions, goes_on, HandsDown, IsSeenIn, both_ends}
-use Rattle.x25_line.specs.laws.Ends.{Stand, In, Letter, Two, meets, heard, Ends, near_now, fresh_where, begins as begins_by, Moves, hears, takes_ua, takes_sabm}
+use Rattle.x25_line.specs.laws.Ends.{Stand, In, Letter, Two, heard, Ends, near_now, fresh_where, begins as begins_by, Moves, hears, takes_ua, takes_sabm}
 use Rattle.x25_line.specs.{laws.Ends.{Does, sends, listens, moves}, laws.Said.{Said, Tells}, laws.SessionClaims.{Each}}
-use Rattle.x25_line.specs.laws.Loss.{LessAt, Less, nothing, gone, hurt, deeper}
+use Rattle.x25_line.specs.laws.Loss.{LessAt, Less, replaced, nothing, gone, hurt, deeper}
 use Rattle.x25_handshakes.specs.{laws.Handshake.{At}, laws.PeerLayer.{PeerChannels}}
-use Rattle.x25_layer.specs.{laws.TwoLayers.{End}, laws.PeerJoined.{Joined, Happens}}
+use Rattle.x25_layer.specs.{laws.TwoLayers.{End}, laws.PeerJoined.{PeerMoves}}
 use Rattle.x25_station.specs.{Config.{Settings, link_settings}, laws.ReadLaw.{IsReachedByOctets}}
-use Rattle.x25_peer.specs.laws.BesideSessions.{read_by, ReadAs, Theirs, BesideSessions, in_session, links, their_now, at_peer, IsOfPeer, layer_went}
+use Rattle.x25_peer.specs.laws.BesideSessions.{read_by, ReadAs, Theirs, BesideSessions, in_session, links, their_now, their_layer, layer_went}
 use Rattle.x25_peer.specs.laws.BesideSessions.{Elsewhere, Loses, Links, Comes, LayerMoves}
 use Rattle.x25_peer.proofs.{ReadLemmas.{ReadFirst, read_append, ok_same, said_same, made_more}, sessions.Meetings.{CanMeet}}
 use Rattle.x25_peer.proofs.sessions.SessionLinks.{Reach, acts_reach}
@@ -145,25 +145,25 @@ hand_down {c} v x (o ∷ os) stand h =
 -- ---- its layer goes on
 
 -- with more packets behind those that came to it, whatever end of ours stands there
-goes_behind : (c : Settings) (near ours : End) (y : At PeerChannels) (front more back : List PlainPacket) {v : Joined}
-    (e : Happens c.role c.long_data c.channels (record { near = near; peer = y; out = front; back = [] }) v) → IsOfPeer c e
-    → IsReachedByOctets c.wide c.role c.long_data c.channels (record { near = ours; peer = y; out = front ++ more; back = back })
-    → IsReachedByOctets c.wide c.role c.long_data c.channels (record { near = ours; peer = v.peer; out = v.out ++ more; back = back ++ v.back })
-goes_behind c near ours y front more back (layer_peer.Ours move stays) of_peer h = absurd of_peer
-goes_behind c near ours y front more back (layer_peer.Does deed p may is configured) of_peer h =
-    reached.goes_on _ _ h (layer_peer.Does deed p may is configured) tt
-goes_behind c near ours y front more back (layer_peer.Hears p rest packets is answered) of_peer h =
-    reached.goes_on _ _ h (layer_peer.Hears p (rest ++ more) packets (ap (λ l. l ++ more) is) answered) tt
-goes_behind c near ours y front more back (layer_peer.HearsChannel z passed p rest packets live has apart is answered) of_peer h =
+goes_behind : (c : Settings) (ours : End) (x : At PeerChannels) (front more back : List PlainPacket) {y : At PeerChannels} {left packets : List PlainPacket}
+    → PeerMoves c.role c.channels x front y left packets
+    → IsReachedByOctets c.wide c.role c.long_data c.channels (record { near = ours; peer = x; out = front ++ more; back = back })
+    → IsReachedByOctets c.wide c.role c.long_data c.channels (record { near = ours; peer = y; out = left ++ more; back = back ++ packets })
+goes_behind c ours x front more back (layer_peer.Does deed p may is configured) h =
+    reached.goes_on _ _ h (layer_peer.Theirs _ _ _ (layer_peer.Does deed p may is configured)) tt
+goes_behind c ours x front more back (layer_peer.Hears p rest packets is answered) h =
+    reached.goes_on _ _ h (layer_peer.Theirs _ _ _ (layer_peer.Hears p (rest ++ more) packets (ap (λ l. l ++ more) is) answered)) tt
+goes_behind c ours x front more back (layer_peer.HearsChannel z passed p rest packets live has apart is answered) h =
     rw (append_assoc passed rest more)
-    (reached.goes_on _ _ h (layer_peer.HearsChannel z passed p (rest ++ more) packets live has apart
-    (ap (λ l. l ++ more) is ∙ append_assoc passed (p ∷ rest) more) answered) tt)
+    (reached.goes_on _ _ h (layer_peer.Theirs _ _ _ (layer_peer.HearsChannel z passed p (rest ++ more) packets live has apart
+    (ap (λ l. l ++ more) is ∙ append_assoc passed (p ∷ rest) more) answered)) tt)
 
 -- ---- the line to the station
 
 -- what is lost or damaged is by an act
 abbrev IsLost : List Entry → List Entry → Type 0
-IsLost es fs = (fs ≡ es) ⊎ (((i : ℕ) × (fs ≡ remove es i)) ⊎ ((i : ℕ) × (octets : List ℕ) × (is_visible octets ≡ true) × (fs ≡ replaced es i octets)))
+IsLost es fs = (fs ≡ es) ⊎ (((i : ℕ) × (fs ≡ remove es i))
+    ⊎ ((i : ℕ) × (octets : List ℕ) × (is_visible octets ≡ true) × (fs ≡ replaced es i (with_octets octets))))
 
 lost_by : {i : ℕ} {es fs : List Entry} → LessAt IsSeenIn i es fs → IsLost es fs
 lost_by (nothing i) = inl refl
@@ -184,7 +184,7 @@ less_reach {c} {peer} v {left} less h = elim (lost_by less.1) [
   | inr some ↦ elim some [
     | inl one ↦ subst (λ es. Reach c peer (record v { back = es })) (sym one.1) (acts_reach (line.Lose one.0) v tt h)
     | inr one ↦ subst (λ es. Reach c peer (record v { back = es })) (sym one.3)
-        (subst (Reach c peer) (ap (λ b. if b then record v { back = replaced v.back one.0 one.1 } else v) one.2)
+        (subst (Reach c peer) (ap (λ b. if b then record v { back = replaced v.back one.0 (with_octets one.1) } else v) one.2)
         (acts_reach (line.Damage one.0 one.1) v tt h))
   ]
 ]
@@ -288,13 +288,13 @@ module _ (below : Below) (c : Settings) (low : 1 ≤ c.window) (high : c.window 
       coming_few zero (t ∷ taken) is = omega (arith)
       coming_few (suc n) (t ∷ taken) is = omega (arith, coming_few n taken is)
 
-  layer_moves : (near : End) (v : Joined) (e : Happens c.role c.long_data c.channels (at_peer near w) v) (all : List (List ℕ)) → w.peer.stand ≡ In
-      → IsOfPeer c e → ReadAs c all v.back
-      → Stands c (layer_went w (record (their_now w) { layer = v.peer; passed = v.out }) all)
-  layer_moves near v e all stand of_peer reads =
+  layer_moves : (y : At PeerChannels) (passed packets : List PlainPacket) (all : List (List ℕ)) → w.peer.stand ≡ In
+      → PeerMoves c.role c.channels (their_layer w) (their_now w).passed y passed packets → ReadAs c all packets
+      → Stands c (layer_went w (record (their_now w) { layer = y; passed = passed }) all)
+  layer_moves y passed packets all stand may reads =
       let t = their_now w in
-      layer_goes (record t { layer = v.peer; passed = v.out }) v.back all stand reads (h.peers b).heard
-      (λ n can. goes_behind c near (h.ends n) t.layer t.passed (drop t.heard (h.ends n).given) (drop (length (ups n)) (h.puts b)) e of_peer (h.pairs n b can))
+      layer_goes (record t { layer = y; passed = passed }) packets all stand reads (h.peers b).heard
+      (λ n can. goes_behind c (h.ends n) t.layer t.passed (drop t.heard (h.ends n).given) (drop (length (ups n)) (h.puts b)) may (h.pairs n b can))
 
   -- ---- all that happens there
 
@@ -302,4 +302,4 @@ module _ (below : Below) (c : Settings) (low : 1 ≤ c.window) (high : c.window 
   is_elsewhere (Loses left less) = loses left less
   is_elsewhere (Links v happens) = theirs happens
   is_elsewhere (Comes p o rest stand is reads) = comes p o rest stand is reads
-  is_elsewhere (LayerMoves near v e all stand of_peer reads) = layer_moves near v e all stand of_peer reads
+  is_elsewhere (LayerMoves y passed packets all stand may reads) = layer_moves y passed packets all stand may reads

@@ -137,6 +137,7 @@ move_leaves c w false (Requests full request) asked = requested_leaves c w reque
 move_leaves c w false (Pulls h) asked = pulled_leaves w (layer_pulled c w.near.layer h) (is_channel c.channels h)
 move_leaves c w false m asked = absurd asked
 
+-- what a user asks leaves what the layer took and told
 pub asked_leaves : (c : LayerSettings) (w : TwoLayers) (ms : List Move) → AreAsked ms → IsToldNoMore w.near (moves_all c w ms).near
 asked_leaves c w [] asked = record { taken = refl; told = refl }
 asked_leaves c w (m ∷ ms) asked =

@@ -1,7 +1,7 @@
 -- The links of a station and a peer over sessions, as `x25_line` has them.
 use Rattle.std.proofs.{Common.{◌≡◌, ℕ, List, ◌++◌, true, sym, ap, ap₂, subst, ◌∙◌}, Math.Path.{fun_ext}}
 use Rattle.x25_frame.specs.{Frame.{PlainFrame}, laws.ReadingLaw.{ReadsSpelled}}
-use Rattle.x25_link.specs.Station.{Settings as LinkSettings, LinkStation, is_up}
+use Rattle.x25_link.specs.Station.{LinkSettings, LinkStation, is_up}
 use Rattle.x25_line.specs.{laws.LawsBelow.{SessionLaws}, laws.Sessions.{Entry, Meeting, Sessions, acts, sent_in, extended}}
 use Rattle.x25_line.specs.laws.PeerSessions.{PeerEnd, PeerSessions, ReachedInSessions, goes_on, Ours, IsTimely, both_ends, with_peer}
 use Rattle.x25_line.specs.laws.PeerSessionClaims.{WithAnyPeer}

@@ -3,7 +3,7 @@
 use Rattle.std.proofs.Common.{◌≡◌, ℕ, ◌==◌, ◌≤◌, ◌<◌, inl, inr, List, [], ◌++◌, length, drop, Bool, true, false, if◌then◌else◌, refl, sym, ap, subst, ◌∙◌}
 use Rattle.std.proofs.{Common.{append_assoc, eq-eqb, arith}, lemmas.Bool.{eqb-true, ne_eqb}, lemmas.List.{drop-append-le}}
 use Rattle.x25_packet.specs.Packet.{PlainPacket}
-use Rattle.x25_link.specs.Station.{Settings as LinkSettings, is_up}
+use Rattle.x25_link.specs.Station.{LinkSettings, is_up}
 use Rattle.x25_link.specs.laws.NoteLaw.{TakeTells, TakeHandsUp, TimerTells, PutTells, ConnectTells, DisconnectTells, AbandonTells, RelinkTells}
 use Rattle.x25_link.specs.laws.SetUp.{RelinkIsTwoSteps}
 use Rattle.x25_line.specs.{laws.InWindow.{IsPrefix}, laws.Peer.{Peer}, laws.Sessions.{Meeting, extended}}

@@ -8,8 +8,8 @@ use Rattle.x25_given.specs.Given.{PlainGiven, may_give}
 use Rattle.x25_link.specs.{declared.error.LinkError.{LinkError}, Outgoing.{waits}}
 use Rattle.x25_link.specs.Link.{alone, take_step, timer_refusal, timer_step, connect_refusal, connect_step, disconnect_refusal, disconnect_step, abandon_step}
 use Rattle.x25_link.specs.{Link.{probe_refusal, relink_refusal, relink_step}, laws.NoteLaw.{Tells}}
-use Rattle.x25_line.specs.laws.StationClaims.{number_in}
-use Rattle.x25_line.specs.laws.Sessions.{Entry, Meeting, Sessions, acts, delivered, heard, begun_by}
+use Rattle.x25_line.specs.laws.Said.{said}
+use Rattle.x25_line.specs.laws.Sessions.{Entry, Meeting, Sessions, acts, delivered, meets, begun_by}
 use Rattle.x25_line.specs.{laws.SessionClaims.{SomeMet, InStep}, laws.InWindow.{IsPrefix}, laws.PeerSessions.{both_ends, with_peer}}
 use Rattle.x25_line.proofs.ends.Meetings.{all_some}
 use Rattle.x25_layer.specs.{Calls.{LayerRequest}, code.FitsLayer.{is_full}, laws.TwoLayers.{End, TwoLayers, Requests, HandsUp}}
@@ -29,7 +29,7 @@ use Rattle.x25_peer.proofs.sessions.LinkSteps.{spelled_with, PutsRead, puts_spel
 use Rattle.x25_peer.proofs.sessions.SessionLinks.{Reach, acts_reach}
 use Rattle.x25_peer.proofs.sessions.Standing.{Below, up_in, PairReached, Stands, both_begin, heard_few, way, way_more}
 use Rattle.x25_peer.proofs.sessions.StationSteps.{AreSilent, followed, extended_here, goes, follows_on}
-use Rattle.x25_link.specs.{Station.{Settings as LinkSettings, is_up}, Hearing.{Step as LinkStep, other}}
+use Rattle.x25_link.specs.{Station.{LinkSettings, is_up}, Hearing.{LinkStep, other}}
 use Rattle.x25_station.specs.{Step.{Step, Did, unless as refused_or, led_by, follows, abandons, receives, requests, gives}, laws.GivenLaw.{GivesOctets}}
 use Rattle.x25_line.specs.laws.Stations as line
 
@@ -172,7 +172,7 @@ module _ (below : Below) (c : Settings) (low : 1 ≤ c.window) (high : c.window 
     k = take_step lc e.octets w.near.link
 
     abbrev met : List Meeting
-    met = heard (is_up w.near.link.phase) (number_in (frame_of (other c.role) longest_packet e.octets)) (record { near = b; far = e.session }) w.met
+    met = if is_up w.near.link.phase then meets (said (frame_of (other c.role) longest_packet e.octets)) (record { near = b; far = e.session }) w.met else w.met
 
     abbrev after : Sessions
     after = acts lc line.Deliver both
@@ -185,7 +185,7 @@ module _ (below : Below) (c : Settings) (low : 1 ≤ c.window) (high : c.window 
         (deliver_goes lc both w.near.link e rest refl front)
 
     could : (n m : ℕ) → CanMeet n m met → CanMeet n m w.met
-    could n m can = could_meet n m (is_up w.near.link.phase) (number_in (frame_of (other c.role) longest_packet e.octets))
+    could n m can = could_meet n m (is_up w.near.link.phase) (said (frame_of (other c.role) longest_packet e.octets))
         (record { near = b; far = e.session }) w.met can
 
     module _ (not_full : abandons c w.near ≡ false) where

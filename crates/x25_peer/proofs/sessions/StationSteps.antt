@@ -12,8 +12,8 @@ use Rattle.x25_peer.proofs.{ReadLemmas.{ReadFirst, layer_append, notices_append,
 use Rattle.x25_peer.proofs.sessions.LinkSteps.{SessionGoes, StepGoes, step_as, spelled, PutsRead, puts_spelled, puts_up, puts_of, all_act, puts_go, puts_last}
 use Rattle.x25_peer.proofs.sessions.SessionLinks.{Reach, acts_reach, goes_reached}
 use Rattle.x25_peer.proofs.sessions.Standing.{Below, in_here, in_other, both_cases, down_in, up_in, IsStanding, IsKnown, PairReached, Stands, into}
-use Rattle.x25_link.specs.{declared.phase.Reason.{Reason}, Station.{Settings as LinkSettings, LinkStation, Side, is_up}}
-use Rattle.x25_link.specs.{Hearing.{Step as LinkStep}, laws.NoteLaw.{IsQuiet, Tells}}
+use Rattle.x25_link.specs.{declared.phase.Reason.{Reason}, Station.{LinkSettings, LinkStation, Side, is_up}}
+use Rattle.x25_link.specs.{Hearing.{LinkStep}, laws.NoteLaw.{IsQuiet, Tells}}
 use Rattle.x25_line.specs.laws.Stations as line
 use Rattle.x25_layer.specs.laws.PeerJoined as layer_peer
 

@@ -8,13 +8,12 @@ use Rattle.x25_packet.specs.{Packet.{PlainPacket}, Spelling.{longest_user}, Taki
 use Rattle.x25_packet.specs.declared.error.PacketError.{PacketError}
 use Rattle.x25_given.specs.Given.{PlainGiven}
 use Rattle.x25_link.specs.{declared.phase.Phase.TheVariants.{Waiting}, Station.{fresh, is_up}, Hearing.{other}}
-use Rattle.x25_line.specs.{laws.StationClaims.{number_in}, laws.Peer.{fresh_peer}, laws.Loss.{Less}}
-use Rattle.x25_line.specs.laws.Sessions.{Entry, Meeting, heard, sent_in, begun_by}
+use Rattle.x25_line.specs.{laws.Said.{said}, laws.Peer.{fresh_peer}, laws.Loss.{Less}}
+use Rattle.x25_line.specs.laws.Sessions.{Entry, Meeting, meets, sent_in, begun_by}
 use Rattle.x25_line.specs.laws.PeerSessions.{PeerEnd, PeerSessions, Out, In, now, with_now, IsDue, IsSeenIn}
 use Rattle.x25_line.specs.laws.PeerSessions.{PeerHappens}
 use Rattle.x25_handshakes.specs.{laws.Handshake.{At, live}, laws.PeerLayer.{PeerChannels, peer_fresh}}
-use Rattle.x25_layer.specs.{Layer.{goes_up}, Calls.{LayerRequest}, laws.TwoLayers.{End}}
-use Rattle.x25_layer.specs.laws.PeerJoined.{Joined, Happens, Ours}
+use Rattle.x25_layer.specs.{Layer.{goes_up}, Calls.{LayerRequest}, laws.PeerJoined.{PeerMoves}}
 use Rattle.x25_station.specs.Config.{Settings, longest_packet, link_settings, layer_settings}
 use Rattle.x25_station.specs.{Entry.{StationEntry}, Station.{Station, new_station}}
 use Rattle.x25_station.specs.Step.{Step, Did, abandons, link_receives, receives, fires, requests, gives}
@@ -122,8 +121,9 @@ acted c w s = stepped c w w.begun w.back w.met s
 -- who is met as octets come to it: where its link is up, and isn't left, who sent a frame with an N(R)
 abbrev pub met_by : Settings → BesideSessions → Entry → List Meeting
 met_by c w e = if abandons c w.near then w.met
-    else heard (is_up w.near.link.phase) (number_in (frame_of (other c.role) longest_packet e.octets))
+    else if is_up w.near.link.phase then meets (said (frame_of (other c.role) longest_packet e.octets))
     (record { near = w.begun; far = e.session }) w.met
+    else w.met
 
 -- it has taken the front octets, and this is left: by LinkUp a session begins
 abbrev pub took : Settings → BesideSessions → Entry → List Entry → BesideSessions
@@ -158,14 +158,6 @@ their_now w = w.theirs w.peer.begun
 abbrev pub their_layer : BesideSessions → At PeerChannels
 their_layer w = (their_now w).layer
 
--- as `PeerJoined` has it, with the packets in front that came to it; what stands at our end decides nothing of it
-abbrev pub at_peer : End → BesideSessions → Joined
-at_peer near w = record { near = near; peer = their_layer w; out = (their_now w).passed; back = [] }
-
-abbrev pub IsOfPeer : (c : Settings) {u v : Joined} → Happens c.role c.long_data c.channels u v → Type 0
-IsOfPeer c (Ours move stays) = ⊥
-IsOfPeer c other = Unit {0}
-
 -- it goes on to this in the latest session, and puts these octets
 abbrev pub layer_went : BesideSessions → Theirs → List (List ℕ) → BesideSessions
 layer_went w t all = record w { theirs = in_session w.peer.begun t w.theirs; peer = handed_down all w.peer }
@@ -185,9 +177,9 @@ pub data Elsewhere (c : Settings) (w : BesideSessions) : BesideSessions → Type
         passed = (their_now w).passed ++ p ∷ [];
       }) [])
   -- or its packet layer sends a packet, or takes one that came, and the octets of what it puts go down to its link
-  LayerMoves : (near : End) (v : Joined) (h : Happens c.role c.long_data c.channels (at_peer near w) v)
-      (all : List (List ℕ)) → w.peer.stand ≡ In → IsOfPeer c h → ReadAs c all v.back
-      → Elsewhere c w (layer_went w (record (their_now w) { layer = v.peer; passed = v.out }) all)
+  LayerMoves : (y : At PeerChannels) (passed packets : List PlainPacket) (all : List (List ℕ)) → w.peer.stand ≡ In
+      → PeerMoves c.role c.channels (their_layer w) (their_now w).passed y passed packets → ReadAs c all packets
+      → Elsewhere c w (layer_went w (record (their_now w) { layer = y; passed = passed }) all)
 
 -- what is reached, event by event, with these settings of the station
 pub data ReachedBeside (c : Settings) : BesideSessions → Type 0 where

@@ -71,6 +71,7 @@ brought_as read beside = []
 abbrev pub brought_by : Cfg → List ℕ → List Came
 brought_by cfg octets = brought_as (read_by cfg octets) (beside_in cfg.wide octets)
 
+-- what stands beside the packets that these octets are read as
 abbrev pub brought : Cfg → List (List ℕ) → List Came
 brought cfg [] = []
 brought cfg (octets ∷ rest) = brought_by cfg octets ++ brought cfg rest
@@ -84,6 +85,7 @@ pub came_append : (xs ys : List StationEntry) → came_in (xs ++ ys) ≡ came_in
 came_append [] ys = refl
 came_append (x ∷ xs) ys = ap (λ l. came_of x ++ l) (came_append xs ys) ∙ sym (append_assoc (came_of x) (came_in xs) (came_in ys))
 
+-- the first are some of the second, in order
 abbrev pub AreTold : List Came → List Came → Type 0
 AreTold xs ys = AreSomeOf (λ x y. x ≡ y) xs ys
 

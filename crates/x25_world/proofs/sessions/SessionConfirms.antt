@@ -5,7 +5,7 @@ use Rattle.std.proofs.lemmas.List.{take-append-drop, drop-append-le}
 use Rattle.x25_bits.specs.{declared.role.Role.{Role}, declared.role.Role.TheVariants.{Dte, Dce}}
 use Rattle.x25_link.specs.Hearing.{other}
 use Rattle.x25_packet.specs.Packet.{PlainPacket}
-use Rattle.x25_circuit.specs.{declared.message.Message.{Message}, Message.{Piece, More, Last, Partial, no_part, joined, carried_from, carried, asked_in}}
+use Rattle.x25_circuit.specs.Message.{Message, Piece, More, Last, Partial, no_part, joined, carried_from, carried, asked_in}
 use Rattle.x25_circuit.specs.Circuit.{Talk, silent, Circuit, is_open, unconfirmed}
 use Rattle.x25_handshakes.specs.{laws.Names.{Name, both, same_name}, laws.Histories.{Lists}}
 use Rattle.x25_layer.specs.{declared.ranges.Ranges.{Ranges}, Ranges.{is_channel}, Layer.{LayerSettings, Layer}, code.FitsLayer.{is_open_at}}

@@ -13,10 +13,12 @@ use Rattle.x25_layer.specs.laws.TwoLayers as layer
 abbrev pub counted_at : LayerSettings → ℕ → Name → Layer → Layer → ℕ
 counted_at c k name l next = if same_name name (name_of next k) then confirmed c l next k else 0
 
+-- what a move confirms, in the stretch of this name on a channel
 abbrev pub counted_by : LayerSettings → ℕ → Name → layer.End → OwnMove → ℕ
 counted_by c k name e (Takes p) = counted_at c k name e.layer (own_moves c e (Takes p)).layer
 counted_by c k name e what = 0
 
+-- what moves confirm, one after the other
 abbrev pub counted_in : LayerSettings → ℕ → Name → List OwnMove → layer.End → ℕ
 counted_in c k name [] e = 0
 counted_in c k name (what ∷ rest) e = counted_by c k name e what + counted_in c k name rest (own_moves c e what)

@@ -22,7 +22,7 @@ use Rattle.x25_world.specs.laws.Sessions.{Progress, none_begun, after_entry, aft
 use Rattle.x25_world.specs.laws.Sessions.{meets}
 use Rattle.x25_world.proofs.{Growing.{read_by}, sessions.SessionCounts.{counted_at, CountNone}}
 use Rattle.x25_world.proofs.sessions.SessionBeside.{brought_as, brought_by, brought, AreTold}
-use Rattle.x25_link.specs.{Hearing.{other, Step as LinkStep}, laws.NoteLaw.{IsQuiet}}
+use Rattle.x25_link.specs.{Hearing.{other, LinkStep}, laws.NoteLaw.{IsQuiet}}
 
 -- ---- one behind the other
 
@@ -280,12 +280,14 @@ heard_entries c l k octets some quiet =
     ap (λ o. entries_noted k.notes ++ entries_heard (layer_settings c) c.wide l o k.notes.down k.notes.up) some
     ∙ ap (λ n. entries_noted n ++ entries_heard (layer_settings c) c.wide l (Some octets) n.down n.up) quiet
 
+pub packet_plain : (c : LayerSettings) (wide : Bool) (l : Layer) (octets : List ℕ) → ArePlain (entries_of_packet c wide l octets)
+packet_plain c wide l octets =
+    let a = layer_answer c wide l octets in
+    told_plain a.next a.notices _ (behind_plain a.next (named_by octets) (confirmed_by c wide l a.next (named_by octets))
+    _ (beside_plain (beside_in wide octets) (bringing a.notices)))
+
 pub heard_plain : (c : Settings) (l : Layer) (k : LinkStep) (octets : List ℕ) → k.packet ≡ Some octets → IsQuiet k → ArePlain (follows c l k).entries
-heard_plain c l k octets some quiet =
-    subst ArePlain (sym (heard_entries c l k octets some quiet))
-    (let a = layer_answer (layer_settings c) c.wide l octets in
-    told_plain a.next a.notices _ (behind_plain a.next (named_by octets) (confirmed_by (layer_settings c) c.wide l a.next (named_by octets))
-    _ (beside_plain (beside_in c.wide octets) (bringing a.notices))))
+heard_plain c l k octets some quiet = subst ArePlain (sym (heard_entries c l k octets some quiet)) (packet_plain (layer_settings c) c.wide l octets)
 
 -- ---- what is confirmed
 

@@ -6,22 +6,20 @@ use Rattle.x25_link.specs.laws.NoteLaw.{IsQuiet, Tells}
 use Rattle.x25_line.specs.{laws.Sessions.{Meeting, Sessions, begun_by}, laws.SessionClaims.{octets_of, OnlyBegunHaveLists}}
 use Rattle.x25_layer.specs.{Layer.{LayerSettings, Layer, rested, restart_cause, goes_up}, laws.Rounds.{LinkView}, laws.TwoLayers.{started}}
 use Rattle.x25_layer.specs.laws.Apart.{own_run}
-use Rattle.x25_station.specs.{declared.config.Cfg.{Cfg}, Config.{Settings, settings_from, link_settings, layer_settings}}
+use Rattle.x25_station.specs.{declared.config.Cfg.{Cfg}, Config.{Settings, settings_from}}
 use Rattle.x25_station.specs.Entry.{StationEntry, connect_asked, disconnect_asked, relink_asked, link_up, link_down, entries_noted}
-use Rattle.x25_station.specs.{Station.{all_put, view_of}, Step.{Step, layer_at, follows, led_by}, laws.KeepLaw.{IsKept}, laws.JoinLaw.{station_with}}
+use Rattle.x25_station.specs.{Step.{Step, layer_at, follows, led_by}, laws.KeepLaw.{IsKept}, laws.JoinLaw.{station_with}}
 use Rattle.x25_station.specs.laws.ReadLaw.{AreReadable}
-use Rattle.x25_world.specs.{World.{World, after_step}, laws.Claims.{link_of}, laws.Sessions.{Progress, after_entries, session_from, is_in, entry_if}}
+use Rattle.x25_world.specs.{World.{World, Act, after_step}, laws.Claims.{link_of}, laws.Sessions.{Progress, after_entries, session_from, is_in, entry_if}}
 use Rattle.x25_world.specs.laws.LawsBelow.{SessionLaws}
 use Rattle.x25_world.proofs.{Known.{IsConfigured, true_false}, sessions.SessionTrace.{layer_of, own, TakeNothing}}
-use Rattle.x25_world.proofs.{sessions.SessionReaches.{Within, MayAsk, SessionsReach, puts_reach, known_sessions}, sessions.SessionBeside.{spelled_bring}}
+use Rattle.x25_world.proofs.{sessions.SessionReaches.{Asked, known_sessions}, sessions.SessionBeside.{spelled_bring}}
 use Rattle.x25_world.proofs.sessions.SessionJoined.{HasMet, PairsAreInOrder, SessionsJoined, Goes, gave_none}
 use Rattle.x25_world.proofs.{sessions.SessionKnown.{nothing_in_order, own_readable}, Growing.{back_read, back_octets}}
 use Rattle.x25_world.proofs.{sessions.SessionGoes.{IsSilent, not_in, rests, begins_session}, sessions.SessionEntries.{AreMute}}
-use Rattle.x25_peer.proofs.sessions.LinkSteps.{SessionGoes, StepGoes, step_as, spelled, puts_spelled, HasPut, puts_up, puts_of, all_act, puts_go}
-use Rattle.x25_link.specs.{declared.phase.Reason.{Reason}, Station.{is_up}, Hearing.{Step as LinkStep, quiet}}
-use Rattle.x25_line.specs.laws.Stations as line
+use Rattle.x25_peer.proofs.sessions.LinkSteps.{SessionGoes, StepGoes, step_as, spelled, puts_spelled, puts_up, puts_of, all_act, puts_go}
+use Rattle.x25_link.specs.{declared.phase.Reason.{Reason}, Station.{is_up}, Hearing.{LinkStep, quiet}}
 use Rattle.x25_line.specs.laws.Sessions as links
-use Rattle.x25_layer.specs.laws.TwoLayers as layer
 
 -- the command that a step is of, if it is one of the link
 pub data Lead : Type 0 where
@@ -82,25 +80,9 @@ silent view c wide l packet down up none not_up =
     by None = refl
     by (Some reason) = refl
 
-pub silent_puts : (cfg : Cfg) (end : Role) (l : Layer) (k : LinkStep) → k.packet ≡ None → k.notes.up ≡ false
-    → HasPut (settings_from end cfg) k.side (follows (settings_from end cfg) l k)
-silent_puts cfg end l k none not_up =
-    let c = settings_from end cfg in
-    let nothing = silent (view_of (link_settings c) k.side.near) (layer_settings c) c.wide l k.packet k.notes.down k.notes.up none not_up in
-    record {
-      handed = [];
-      packets = [];
-      put = record {
-        accepted = tt;
-        link = ap (λ ps. (all_put (link_settings c) ps k.side).near) nothing;
-        out = ap (λ ps. (all_put (link_settings c) ps k.side).out) nothing;
-        readable = tt;
-      };
-    }
-
 -- RESTART where a session begins
 
-module _ {within : Within} (laws : SessionLaws) (cfg : Cfg) (fine : IsConfigured cfg) (end : Role) (w : World) (h : SessionsJoined within cfg end w) where
+module _ (laws : SessionLaws) (cfg : Cfg) (fine : IsConfigured cfg) (end : Role) (w : World) (h : SessionsJoined cfg end w) where
   -- the layer's end in a session that isn't begun
   not_begun : own cfg end (suc h.links.near.begun) h.trace ≡ started (goes_up (layer_of cfg end))
   not_begun = ap (λ l. own_run (layer_of cfg end) l (started (goes_up (layer_of cfg end)))) (h.near.later (suc h.links.near.begun) (omega arith)).moves
@@ -114,28 +96,18 @@ module _ {within : Within} (laws : SessionLaws) (cfg : Cfg) (fine : IsConfigured
       (nothing_in_order cfg end h.trace n m (subst TakeNothing (sym (h.near.later n (omega arith)).moves) tt)
       (subst TakeNothing (sym (h.far.later m (omega arith)).moves) tt)) h.octets)
 
-  pub up_puts : {k : LinkStep} → Tells w.near.link k → k.notes.up ≡ true
-      → HasPut (settings_from end cfg) k.side (follows (settings_from end cfg) w.near.layer k)
-  up_puts {k} tells up =
-      let packets = restart (restart_cause end) 0 ∷ [] in
-      record {
-        handed = spelled packets;
-        packets = packets;
-        put = puts_spelled (laws.stations.up (settings_from end cfg) w.near.layer k up (tells.fresh_up up)).link restart_readable;
-      }
-
 -- ---- the link's step, at `v`, and the layer's
 
-module _ {within : Within} (laws : SessionLaws) (cfg : Cfg) (fine : IsConfigured cfg) (end : Role) (w : World) (h : SessionsJoined within cfg end w)
+module _ (act : Act) (laws : SessionLaws) (cfg : Cfg) (fine : IsConfigured cfg) (end : Role) (w : World) (h : SessionsJoined cfg end w)
     (lead : Lead) (left : List links.Entry) (k : LinkStep) (v : Sessions) (met : List Meeting)
-    (reach : SessionsReach within cfg end v) (pairs : PairsAreInOrder cfg end h.trace met) (more : (n m : ℕ) → HasMet n m h.links.met → HasMet n m met)
+    (pairs : PairsAreInOrder cfg end h.trace met) (more : (n m : ℕ) → HasMet n m h.links.met → HasMet n m met)
     (tells : Tells w.near.link k) (g : StepGoes (link_of cfg end) h.links v k left met) where
   abbrev ours : Settings
   ours = settings_from end cfg
 
   -- by a step of the end, with nothing that its user gave
   abbrev To : World → Type 0
-  To u = Goes within cfg end h.links gave_none u
+  To u = Goes cfg end w act h.links gave_none u
 
   abbrev whole_step : Step
   whole_step = led_by (lead_of lead) (follows ours w.near.layer k)
@@ -147,19 +119,22 @@ module _ {within : Within} (laws : SessionLaws) (cfg : Cfg) (fine : IsConfigured
   abbrev standing : Progress
   standing = record { begun = h.links.near.begun; stands = is_up w.near.link.phase }
 
-  quiet_step : k.packet ≡ None → IsKept whole_step.near → IsQuiet k → To (after_step ours w (octets_of left) whole_step)
-  quiet_step none kept quiet =
+  abbrev AskedFor : Sessions → Type 0
+  AskedFor u = Asked cfg end w act h.links u
+
+  quiet_step : AskedFor v → k.packet ≡ None → IsKept whole_step.near → IsQuiet k → To (after_step ours w (octets_of left) whole_step)
+  quiet_step asked none kept quiet =
       let is = laws.stations.quiet ours w.near.layer k none quiet in
       let step : Step = record { near = station_with k.side.near w.near.layer; out = k.side.out; entries = lead_of lead ++ [] } in
       let same : step ≡ whole_step = ap (λ s. led_by (lead_of lead) s) (sym is) in
       subst (λ s. To (after_step ours w (octets_of left) s)) same
       (rests cfg end w h step left v met (goes_at false (ap (λ n. n.up) quiet) none)
       (quiet_silent lead standing (is_up k.side.near.phase) (sym (tells.stays quiet))) (λ still. (sym (tells.stays quiet) ∙ still, refl))
-      (subst (λ s. IsKept s.near) (sym same) kept) reach pairs more)
+      (subst (λ s. IsKept s.near) (sym same) kept) asked pairs more)
 
-  down_step : k.packet ≡ None → IsKept whole_step.near → (reason : Reason) → k.notes ≡ record { down = Some reason; up = false }
+  down_step : AskedFor v → k.packet ≡ None → IsKept whole_step.near → (reason : Reason) → k.notes ≡ record { down = Some reason; up = false }
       → To (after_step ours w (octets_of left) whole_step)
-  down_step none kept reason noted =
+  down_step asked none kept reason noted =
       let is = laws.stations.down ours w.near.layer k reason noted in
       let step : Step = record { near = station_with k.side.near (rested w.near.layer); out = k.side.out; entries = lead_of lead ++ link_down reason ∷ [] } in
       let same : step ≡ whole_step = ap (λ s. led_by (lead_of lead) s) (sym is) in
@@ -167,17 +142,17 @@ module _ {within : Within} (laws : SessionLaws) (cfg : Cfg) (fine : IsConfigured
       subst (λ s. To (after_step ours w (octets_of left) s)) same
       (rests cfg end w h step left v met (goes_at false (ap (λ n. n.up) noted) none) (rw off (down_silent lead standing reason))
       (λ still. true_false (sym still ∙ off))
-      (subst (λ s. IsKept s.near) (sym same) kept) reach pairs more)
+      (subst (λ s. IsKept s.near) (sym same) kept) asked pairs more)
 
   -- a step of the link that notes no LinkUp and hands up no packet
-  pub follows_silent : k.notes.up ≡ false → k.packet ≡ None → IsKept whole_step.near → To (after_step ours w (octets_of left) whole_step)
-  follows_silent not_up none kept = by k.notes.down refl
+  pub follows_silent : AskedFor v → k.notes.up ≡ false → k.packet ≡ None → IsKept whole_step.near → To (after_step ours w (octets_of left) whole_step)
+  follows_silent asked not_up none kept = by k.notes.down refl
     where
       by : (o : Option Reason) → k.notes.down ≡ o → To (after_step ours w (octets_of left) whole_step)
-      by None is = quiet_step none kept (ap₂ (λ d u. record { down = d; up = u }) is not_up)
-      by (Some reason) is = down_step none kept reason (ap₂ (λ d u. record { down = d; up = u }) is not_up)
+      by None is = quiet_step asked none kept (ap₂ (λ d u. record { down = d; up = u }) is not_up)
+      by (Some reason) is = down_step asked none kept reason (ap₂ (λ d u. record { down = d; up = u }) is not_up)
 
-  pub follows_up : ((octets : List ℕ) → MayAsk within.event end (line.Put octets)) → k.notes.up ≡ true → k.packet ≡ None
+  pub follows_up : ((handed : List (List ℕ)) → AskedFor (all_act (link_of cfg end) (puts_of handed) v)) → k.notes.up ≡ true → k.packet ≡ None
       → IsKept (follows ours w.near.layer k).near
       → To (after_step ours w (octets_of left) (follows ours w.near.layer k))
   follows_up asks up none kept =
@@ -196,4 +171,4 @@ module _ {within : Within} (laws : SessionLaws) (cfg : Cfg) (fine : IsConfigured
       begins_session cfg end w h step left (all_act (link_of cfg end) (puts_of handed) v) met handed (back_read cfg handed packets p.readable)
       (back_octets cfg handed packets p.readable)
       (spelled_bring laws.stations cfg packets (restart_readable laws cfg fine end w h)) r begins known.near still u.layer kept
-      (puts_reach cfg end handed v asks reach) pairs more
+      (asks handed) pairs more

@@ -7,11 +7,11 @@ use Rattle.x25_packet.specs.Packet.{PlainPacket, restart}
 use Rattle.x25_link.specs.{Station.{is_up}, Hearing.{other}}
 use Rattle.x25_line.specs.{laws.Sessions.{SessionEnd, Meeting, Sessions, sent_in, extended}, laws.SessionClaims.{octets_of}}
 use Rattle.x25_handshakes.specs.laws.Names.{Name}
-use Rattle.x25_layer.specs.{Layer.{Layer, LayerNotice, goes_up, restart_cause}, laws.Transcript.{Entry}, laws.Quiet.{AreNoFaults}, laws.TwoLayers.{started}}
+use Rattle.x25_layer.specs.{Layer.{Layer, LayerNotice, goes_up, restart_cause}, laws.Quiet.{AreNoFaults}, laws.TwoLayers.{started}}
 use Rattle.x25_layer.specs.{laws.Apart.{OwnMove, own_run}, laws.ApartLaw.{BeginsRestarted}}
 use Rattle.x25_station.specs.{declared.config.Cfg.{Cfg}, Config.{settings_from}, Entry.{StationEntry, layer_entries, layer_notices}, Station.{Station}}
 use Rattle.x25_station.specs.{Step.{Step}, laws.KeepLaw.{IsKept}}
-use Rattle.x25_world.specs.{World.{World, entered, after_step}, laws.Claims.{entries_at, link_of}}
+use Rattle.x25_world.specs.{World.{World, Act, entered, after_step}, laws.Claims.{entries_at, link_of}}
 use Rattle.x25_world.specs.laws.Sessions.{Progress, none_begun, after_entries, is_in, session_from, first_of, met_by, meets}
 use Rattle.x25_world.specs.{laws.BesideClaims.{came_in, Gave, IsGiven, AreSomeOf}, laws.ConfirmedClaims.{confirmed_in}}
 use Rattle.x25_world.proofs.Growing.{all_read, as_read, none_read, nothing_read, grown, AllAreOctets, entries_more, entries_other, on_tap}
@@ -19,7 +19,7 @@ use Rattle.x25_world.proofs.Growing.{octets_put}
 use Rattle.x25_world.proofs.sessions.SessionTrace.{layer_of, Done, moved, own_in, own, own_more, own_same, own_other, own_goes, same_number, TakeNothing}
 use Rattle.x25_world.proofs.sessions.SessionTrace.{TakesNone, BringOctets}
 use Rattle.x25_world.proofs.sessions.SessionCounts.{counted_in, IsCounted, counted_same, counted_rests, counted_goes}
-use Rattle.x25_world.proofs.{sessions.SessionReaches.{Within, SessionsReach}, sessions.SessionBeside.{brought, AreTold, told_more, MoreIs, none_more}}
+use Rattle.x25_world.proofs.{sessions.SessionReaches.{SessionsReach, Asked, reach_on}, sessions.SessionBeside.{brought, AreTold, told_more, MoreIs, none_more}}
 use Rattle.x25_world.proofs.sessions.SessionJoined.{HaveAll, IsSession, IsLayer, IsEnd, HasMet, Meets, Hears, PairsAreInOrder, SessionsJoined, Goes, gave_none}
 use Rattle.x25_world.proofs.sessions.SessionEntries.{after_append, session_append, meets_more, meets_other, none_met, AreMute, TellNothing, mute_tell, mute_in}
 use Rattle.x25_world.proofs.sessions.SessionEntries.{ArePlain, plain_progress, plain_here, plain_elsewhere, restart_met, elsewhere_met}
@@ -148,7 +148,7 @@ pub record IsNews (n m : ℕ) (met : List Meeting) (notices : List LayerNotice) 
   pub restarts : BeginsRestarted notices
   pub begun : 1 ≤ m
 
-module _ {within : Within} (cfg : Cfg) (end : Role) (w : World) (h : SessionsJoined within cfg end w) (step : Step) (left : List links.Entry) (v : Sessions)
+module _ (cfg : Cfg) (end : Role) (w : World) (h : SessionsJoined cfg end w) (step : Step) (left : List links.Entry) (v : Sessions)
     (met : List Meeting) where
   abbrev session : ℕ
   session = h.links.near.begun
@@ -207,13 +207,13 @@ module _ {within : Within} (cfg : Cfg) (end : Role) (w : World) (h : SessionsJoi
       ∙ ap (λ p. first_of (meets end n w.transcript) (met_by n p (after_entries none_begun told_there) step.entries)) h.near.progress
 
   -- the sessions of both ends, where the near end's part is known
-  joined_of : (moves : List OwnMove) (at : ℕ) → SessionsReach within cfg end v → v.far ≡ h.links.far → v.out ≡ h.links.out ++ sent_in at end step.out → v.back
+  joined_of : (moves : List OwnMove) (at : ℕ) → SessionsReach cfg end v → v.far ≡ h.links.far → v.out ≡ h.links.out ++ sent_in at end step.out → v.back
       ≡ left
       → v.sent ≡ h.links.sent ++ step.out → v.met ≡ met → IsEnd cfg end step.near v.near (h.trace ++ moved end at moves) (told_before ++ step.entries)
       → BringOctets cfg.wide (moved end at moves)
       → PairsAreInOrder cfg end (h.trace ++ moved end at moves) met → ((n m : ℕ) → HasMet n m h.links.met → HasMet n m met)
       → ((n : ℕ) → Hears (λ n m. HasMet n m met) n (v.near.up n) (meets end n (w.transcript ++ entered end step.entries)))
-      → SessionsJoined within cfg end (after_step (settings_from end cfg) w (octets_of left) step)
+      → SessionsJoined cfg end (after_step (settings_from end cfg) w (octets_of left) step)
   joined_of moves at reach far out same_left sent same_met near octets pairs more hears = record {
     links = v;
     trace = h.trace ++ moved end at moves;
@@ -376,15 +376,16 @@ module _ {within : Within} (cfg : Cfg) (end : Role) (w : World) (h : SessionsJoi
     abbrev all_of : ℕ → Option ℕ
     all_of n = meets end n (w.transcript ++ entered end step.entries)
 
-    pub goes_on : SessionsReach within cfg end v → (lifted ≡ [] → TakeNothing moves) → AreNoFaults (layer_notices step.entries)
+    pub goes_on : {act : Act} → Asked cfg end w act h.links v → (lifted ≡ [] → TakeNothing moves) → AreNoFaults (layer_notices step.entries)
         → BringOctets cfg.wide (moved end session moves)
         → PairsAreInOrder cfg end trace_on met → ((n m : ℕ) → HasMet n m h.links.met → HasMet n m met)
         → ((own cfg end session h.trace).taken ≡ [] → ((lifted ≡ []) × (layer_notices step.entries ≡ []))
         ⊎ IsNews session h.links.far.begun met (layer_notices step.entries))
-        → Goes within cfg end h.links gave (after_step (settings_from end cfg) w (octets_of left) step)
+        → Goes cfg end w act h.links gave (after_step (settings_from end cfg) w (octets_of left) step)
     unfolding joined_of
-    goes_on reach alone no_fault octets pairs more news = record {
-      joined = joined_of moves session reach g.far g.out g.back g.sent g.met (near_goes_on alone no_fault) octets pairs more hears;
+    goes_on asked alone no_fault octets pairs more news = record {
+      joined = joined_of moves session (reach_on h.reach asked.leads) g.far g.out g.back g.sent g.met (near_goes_on alone no_fault) octets pairs more hears;
+      asked = asked;
       down = more_then session handed g.down gave gives;
       far = g.far;
     }
@@ -469,33 +470,34 @@ module _ {within : Within} (cfg : Cfg) (end : Role) (w : World) (h : SessionsJoi
             all_more (h.near.first_has_all (omega (arith, most, latest))) (silent_all silent.mute));
       }
 
-      quietly : SessionsReach within cfg end v → PairsAreInOrder cfg end h.trace met → ((n m : ℕ) → HasMet n m h.links.met → HasMet n m met)
+      quietly : {act : Act} → Asked cfg end w act h.links v → PairsAreInOrder cfg end h.trace met → ((n m : ℕ) → HasMet n m h.links.met → HasMet n m met)
           → brought cfg handed ≡ []
-          → Goes within cfg end h.links gave_none (after_step (settings_from end cfg) w (octets_of left) step)
+          → Goes cfg end w act h.links gave_none (after_step (settings_from end cfg) w (octets_of left) step)
       unfolding joined_of
-      quietly reach pairs more bring_none = record {
-        joined = joined_of [] b reach g.far g.out g.back g.sent g.met (rw (append-nil h.trace) near_quietly) tt
+      quietly asked pairs more bring_none = record {
+        joined = joined_of [] b (reach_on h.reach asked.leads) g.far g.out g.back g.sent g.met (rw (append-nil h.trace) near_quietly) tt
             (rw (append-nil h.trace) pairs) more
             (λ n. hears_more (λ n m. HasMet n m h.links.met) (λ n m. HasMet n m met) (v.near.up n) (found n)
             (meets end n (w.transcript ++ entered end step.entries)) (λ m has. more n m has) (meets_now n)
             (λ none. inl (up_same n ∙ none, none_met n standing (after_entries none_begun told_there) step.entries (mute_tell step.entries silent.mute).told))
             (h.near_hears n));
+        asked = asked;
         down = more_then b handed g.down gave_none (rw bring_none tt);
         far = g.far;
       }
 
   -- the session that stands has gone on so
-  pub rests : SessionGoes (link_of cfg end) h.links v session step.near.link step.out [] [] left met
+  pub rests : {act : Act} → SessionGoes (link_of cfg end) h.links v session step.near.link step.out [] [] left met
       → IsSilent standing (record { begun = session; stands = is_up step.near.link.phase }) step.entries
       → (is_up step.near.link.phase ≡ true → (is_up w.near.link.phase ≡ true) × (step.near.layer ≡ w.near.layer)) → IsKept step.near
-      → SessionsReach within cfg end v → PairsAreInOrder cfg end h.trace met
+      → Asked cfg end w act h.links v → PairsAreInOrder cfg end h.trace met
       → ((n m : ℕ) → HasMet n m h.links.met → HasMet n m met)
-      → Goes within cfg end h.links gave_none (after_step (settings_from end cfg) w (octets_of left) step)
-  rests g silent layer_stays kept reach pairs more =
+      → Goes cfg end w act h.links gave_none (after_step (settings_from end cfg) w (octets_of left) step)
+  rests g silent layer_stays kept asked pairs more =
       let same : (n : ℕ) → v.near.down n ≡ h.links.near.down n = λ n. g.down n ∙ extended_none h.links.near.down session n in
       quietly session [] g silent tt (omega arith) (omega arith) (same 0) (λ low. session_stays session [] g silent session low (omega arith) (same session))
       (λ still. (let before = layer_stays still in let old = h.near.now before.0 in
-      (h.near.first before.0, record { layer = old.layer ∙ sym before.1; out = old.out }))) kept reach pairs more refl
+      (h.near.first before.0, record { layer = old.layer ∙ sym before.1; out = old.out }))) kept asked pairs more refl
 
   -- or the next begins
   module _ (handed : List (List ℕ)) (puts : all_read cfg handed ≡ as_read (restart (restart_cause end) 0 ∷ [])) (in_octets : AllAreOctets handed)
@@ -530,10 +532,11 @@ module _ {within : Within} (cfg : Cfg) (end : Role) (w : World) (h : SessionsJoi
         by_role Dte = refl
         by_role Dce = refl
 
-    pub begins_session : SessionsReach within cfg end v → PairsAreInOrder cfg end h.trace met → ((n m : ℕ) → HasMet n m h.links.met → HasMet n m met)
-        → Goes within cfg end h.links gave_none (after_step (settings_from end cfg) w (octets_of left) step)
-    begins_session reach pairs more =
+    pub begins_session : {act : Act} → Asked cfg end w act h.links v → PairsAreInOrder cfg end h.trace met
+        → ((n m : ℕ) → HasMet n m h.links.met → HasMet n m met)
+        → Goes cfg end w act h.links gave_none (after_step (settings_from end cfg) w (octets_of left) step)
+    begins_session asked pairs more =
         quietly the_next handed g (rw still begins) in_octets (omega arith) (omega arith)
         (down_apart the_next handed g.down 0 (λ is. omega (arith, is))) (λ low. next_session)
-        (λ up. (omega arith, subst (λ e. IsLayer e step.near) (sym own_afresh) (record { layer = sym layer_begins; out = refl }))) kept reach pairs more
+        (λ up. (omega arith, subst (λ e. IsLayer e step.near) (sym own_afresh) (record { layer = sym layer_begins; out = refl }))) kept asked pairs more
         bring_none

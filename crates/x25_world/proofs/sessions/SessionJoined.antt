@@ -6,11 +6,11 @@ use Rattle.x25_link.specs.{Station.{is_up}, Hearing.{other}}
 use Rattle.x25_line.specs.{laws.Sessions.{SessionEnd, Meeting, Sessions, turned}, laws.SessionClaims.{Each, SomeMet, octets_of}}
 use Rattle.x25_layer.specs.{laws.Quiet.{AreNoFaults}, laws.Apart.{apart_start, AreInOrder}}
 use Rattle.x25_station.specs.{declared.config.Cfg.{Cfg}, Entry.{StationEntry, layer_entries, layer_notices}, Station.{Station}, laws.KeepLaw.{IsKept}}
-use Rattle.x25_world.specs.{World.{World, Event, mirrored}, laws.Claims.{entries_at}, laws.Sessions.{none_begun, after_entries, session_from, meets}}
+use Rattle.x25_world.specs.{World.{World, Act, mirrored}, laws.Claims.{entries_at}, laws.Sessions.{none_begun, after_entries, session_from, meets}}
 use Rattle.x25_world.specs.laws.BesideClaims.{Gave, came_in}
 use Rattle.x25_world.proofs.Growing.{all_read, as_read, AllAreOctets, AreOnTap}
 use Rattle.x25_world.proofs.{sessions.SessionTrace.{Done, own_in, own, pair_at, pair_turned, TakeNothing, BringOctets}, sessions.SessionCounts.{IsCounted}}
-use Rattle.x25_world.proofs.sessions.SessionReaches.{Within, SessionsReach, seen_from, twice_other, reach_swapped}
+use Rattle.x25_world.proofs.sessions.SessionReaches.{SessionsReach, Asked, twice_other, reach_swapped, asks_nothing}
 use Rattle.x25_world.proofs.sessions.SessionBeside.{brought, AreTold, MoreIs, none_more}
 use Rattle.x25_line.specs.laws.Sessions as links
 use Rattle.x25_layer.specs.laws.TwoLayers as layer
@@ -84,10 +84,10 @@ PairIsInOrder cfg end trace n m = AreInOrder cfg.long_data cfg.channels (pair_at
 abbrev pub PairsAreInOrder : Cfg → Role → List Done → List Meeting → Type 0
 PairsAreInOrder cfg end trace met = Each (λ p. PairIsInOrder cfg end trace p.near p.far) met
 
-pub record SessionsJoined (within : Within) (cfg : Cfg) (end : Role) (w : World) : Type 0 where
+pub record SessionsJoined (cfg : Cfg) (end : Role) (w : World) : Type 0 where
   pub links : Sessions
   pub trace : List Done
-  pub reach : SessionsReach within cfg end links
+  pub reach : SessionsReach cfg end links
   pub near : IsEnd cfg end w.near links.near trace (entries_at end w.transcript)
   pub far : IsEnd cfg (other end) w.far links.far trace (entries_at (other end) w.transcript)
   pub out : octets_of links.out ≡ w.out
@@ -98,40 +98,12 @@ pub record SessionsJoined (within : Within) (cfg : Cfg) (end : Role) (w : World)
   pub near_hears : (n : ℕ) → Hears (λ (n m : ℕ). HasMet n m links.met) n (links.near.up n) (meets end n w.transcript)
   pub far_hears : (n : ℕ) → Hears (λ (n m : ℕ). HasMet m n links.met) n (links.far.up n) (meets (other end) n w.transcript)
 
--- the same, with this left on the line to the near end, by this run
-abbrev pub relined : {within now : Within} (cfg : Cfg) (end : Role) (w : World) (h : SessionsJoined within cfg end w) (es : List links.Entry)
-    (left : List (List ℕ)) → octets_of es ≡ left
-    → SessionsReach now cfg end (record h.links { back = es }) → SessionsJoined now cfg end (record w { back = left })
-relined cfg end w h es left same reach = record {
-  links = record h.links { back = es };
-  trace = h.trace;
-  reach = reach;
-  near = h.near;
-  far = h.far;
-  out = h.out;
-  back = same;
-  tap = h.tap;
-  octets = h.octets;
-  pairs = h.pairs;
-  near_hears = h.near_hears;
-  far_hears = h.far_hears;
-}
-
--- as an event begins
-abbrev pub at_event : {within : Within} {cfg : Cfg} {end : Role} {w : World} (h : SessionsJoined within cfg end w) (e : Event)
-    → SessionsJoined (record { before = seen_from end h.links; event = e }) cfg end w
-at_event {cfg} {end} {w} h e = relined cfg end w h h.links.back w.back h.back (record {
-  events = h.reach.events;
-  timely = h.reach.timely;
-  run = h.reach.run;
-  grown = record { asked = []; may = tt; timely = tt; run = refl };
-})
-
 -- ---- a step of the near end
 
--- It leads here from these links, and the near end is handed down more in its sessions, with what its user gave.
-pub record Goes (within : Within) (cfg : Cfg) (end : Role) (v : Sessions) (gave : ℕ → List Gave) (w : World) : Type 0 where
-  pub joined : SessionsJoined within cfg end w
+-- By this act it leads here from these links, as it asks of its link, and the near end is handed down more in its sessions, with what its user gave.
+pub record Goes (cfg : Cfg) (end : Role) (w : World) (act : Act) (v : Sessions) (gave : ℕ → List Gave) (u : World) : Type 0 where
+  pub joined : SessionsJoined cfg end u
+  pub asked : Asked cfg end w act v joined.links
   pub down : (n : ℕ) → MoreIs cfg (v.near.down n) (joined.links.near.down n) (gave n)
   pub far : joined.links.far ≡ v.far
 
@@ -139,9 +111,13 @@ abbrev pub gave_none : ℕ → List Gave
 gave_none n = []
 
 -- nothing happened
-pub stays : {within : Within} {cfg : Cfg} {end : Role} {w : World} (h : SessionsJoined within cfg end w) (gave : ℕ → List Gave)
-    → Goes within cfg end h.links gave w
-stays {cfg} h gave = record { joined = h; down = λ n. none_more cfg (h.links.near.down n) (h.links.near.down n) (gave n) refl; far = refl }
+pub stays : {cfg : Cfg} {end : Role} {w : World} {act : Act} (h : SessionsJoined cfg end w) (gave : ℕ → List Gave) → Goes cfg end w act h.links gave w
+stays {cfg} h gave = record {
+  joined = h;
+  asked = asks_nothing;
+  down = λ n. none_more cfg (h.links.near.down n) (h.links.near.down n) (gave n) refl;
+  far = refl;
+}
 
 -- ---- as the other end sees it
 
@@ -165,8 +141,8 @@ hears_as Met Met₂ turn h = elim h [
       (record { session = some.session; told = some.told; has_met = turn some.session some.has_met; begun = some.begun })
 ]
 
-unfoldable pub sessions_swapped : {within : Within} {cfg : Cfg} {end : Role} {w : World} → SessionsJoined within cfg end w
-    → SessionsJoined within cfg (other end) (mirrored w)
+unfoldable pub sessions_swapped : {cfg : Cfg} {end : Role} {w : World} → SessionsJoined cfg end w
+    → SessionsJoined cfg (other end) (mirrored w)
 sessions_swapped {cfg} {end} {w} h = record {
   links = links.swapped h.links;
   trace = h.trace;
@@ -183,7 +159,7 @@ sessions_swapped {cfg} {end} {w} h = record {
       (hears_as _ _ (λ m. met_turned n m h.links.met) (h.near_hears n));
 }
 
-pub links_swapped : {within : Within} {cfg : Cfg} {end : Role} {w : World} (h : SessionsJoined within cfg end w) → (sessions_swapped h).links
+pub links_swapped : {cfg : Cfg} {end : Role} {w : World} (h : SessionsJoined cfg end w) → (sessions_swapped h).links
     ≡ links.swapped h.links
 unfolding sessions_swapped
 links_swapped h = refl

@@ -30,9 +30,11 @@ met_in_order cfg end trace met n m pairs h =
 
 -- ---- two sessions, each end by itself
 
+-- both ends, as the moves of these two sessions alone have led to them
 abbrev pub pair_ends : Cfg → Role → ℕ → ℕ → List Done → Ends
 pair_ends cfg end n m trace = apart_run cfg.long_data cfg.channels (pair_at end n m trace) (apart_start cfg.long_data cfg.channels)
 
+-- the one that is this end
 abbrev pub here_in : Role → Ends → layer.End
 here_in Dte ends = ends.near
 here_in Dce ends = ends.far

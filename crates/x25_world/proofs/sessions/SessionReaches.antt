@@ -1,15 +1,15 @@
--- Two links over set-up and re-set-up, as either end sees them: a run of the same events, with the ends swapped.
-use Rattle.std.proofs.Common.{◌≡◌, ℕ, List, [], ◌∷◌, ◌++◌, inl, refl, sym, ap, ◌∙◌, subst}
+-- Two links over set-up and re-set-up, as either end sees them: a run of the same events, with the ends swapped; and what an act of a world asks
+-- of the link of its end.
+use Rattle.std.proofs.Common.{◌≡◌, ℕ, inl, List, [], ◌∷◌, ◌++◌, Bool, true, false, refl, sym, ap, ◌∙◌, subst}
 use Rattle.x25_bits.specs.{declared.role.Role.{Role}, declared.role.Role.TheVariants.{Dte, Dce}}
-use Rattle.x25_line.specs.laws.StationClaims.{AreJoined}
-use Rattle.x25_line.specs.{laws.Sessions.{Sessions, from_nothing, IsTimely, IsTimelyAt, AreTimely}, laws.SessionClaims.{Each, Throughout}}
-use Rattle.x25_station.specs.declared.config.Cfg.{Cfg}
-use Rattle.x25_world.specs.{World.{Act, Event}, laws.Claims.{link_of}, laws.SessionWindow.{Asks, at_end, all_at}}
-use Rattle.x25_world.proofs.Known.{IsConfigured}
-use Rattle.x25_peer.proofs.sessions.LinkSteps.{puts_of, all_act, puts_last}
-use Rattle.x25_link.specs.{Station.{Settings as LinkSettings}, Hearing.{other}}
-use Rattle.x25_line.proofs.{Lists.{each_append}, ends.Meetings.{twice_turned}}
-pub use Rattle.x25_line.proofs.HealingSteps.{links_append, timely_append}
+use Rattle.x25_line.specs.{laws.StationClaims.{AreJoined}, laws.HealingPuts.{AreFree}}
+use Rattle.x25_line.specs.{laws.Sessions.{Sessions, from_nothing, IsTimelyAt, AreTimely}, laws.SessionClaims.{Each, Throughout}}
+use Rattle.x25_station.specs.{declared.config.Cfg.{Cfg}, Config.{Settings, settings_from}}
+use Rattle.x25_world.specs.{World.{World, Act}, laws.Claims.{link_of}, laws.SessionWindow.{Asks, all_at}, Healing.{IsReceiptOrRequest, ActsFreely}}
+use Rattle.x25_world.proofs.Known.{IsConfigured, true_false}
+use Rattle.x25_peer.proofs.sessions.LinkSteps.{puts_of, all_act}
+use Rattle.x25_link.specs.{Station.{LinkSettings, LinkStation}, Hearing.{other}}
+use Rattle.x25_line.proofs.{ends.Meetings.{twice_turned}, HealingSteps.{links_append, timely_append}}
 use Rattle.x25_line.specs.laws.Stations as line
 use Rattle.x25_line.specs.laws.Sessions as links
 
@@ -31,115 +31,54 @@ event_flipped : (c d : LinkSettings) (e : line.LinkEvent) (w : Sessions) → lin
 event_flipped c d (line.Near act) w = ap (λ x. links.swapped (links.acts c act x)) (twice w)
 event_flipped c d (line.Far act) w = sym (twice (links.acts d act (links.swapped w)))
 
-run_flipped : (c d : LinkSettings) (es : List line.LinkEvent) (w : Sessions) → links.run d c (all_flipped es) (links.swapped w)
-    ≡ links.swapped (links.run c d es w)
-run_flipped c d [] w = refl
-run_flipped c d (e ∷ es) w = ap (λ x. links.run d c (all_flipped es) x) (event_flipped c d e w) ∙ run_flipped c d es (links.happens c d e w)
-
 timely_at : (c d : LinkSettings) (e : line.LinkEvent) (w : Sessions) → IsTimelyAt c d e w → IsTimelyAt d c (flipped e) (links.swapped w)
 timely_at c d (line.Near act) w h = rw (twice w) h
 timely_at c d (line.Far act) w h = h
 
-timely_flipped : (c d : LinkSettings) (es : List line.LinkEvent) (w : Sessions) → AreTimely c d es w → AreTimely d c (all_flipped es) (links.swapped w)
-timely_flipped c d [] w h = tt
-timely_flipped c d (e ∷ es) w h = (
-  timely_at c d e w h.0,
-  subst (λ x. AreTimely d c (all_flipped es) x) (sym (event_flipped c d e w)) (timely_flipped c d es (links.happens c d e w) h.1),
-)
+-- ---- one run and another
+
+-- by these events the links go from the first to the second
+pub record Leads (c d : LinkSettings) (events : List line.LinkEvent) (v u : Sessions) : Type 0 where
+  pub timely : AreTimely c d events v
+  pub run : links.run c d events v ≡ u
+
+pub then_leads : {c d : LinkSettings} {xs ys : List line.LinkEvent} {v u x : Sessions} → Leads c d xs v u → Leads c d ys u x → Leads c d (xs ++ ys) v x
+then_leads {c} {d} {xs} {ys} {v} h g = record {
+  timely = timely_append c d xs ys v h.timely (rw h.run g.timely);
+  run = links_append c d xs ys v ∙ ap (links.run c d ys) h.run ∙ g.run;
+}
+
+leads_flipped : {c d : LinkSettings} (es : List line.LinkEvent) {v u : Sessions} → Leads c d es v u
+    → Leads d c (all_flipped es) (links.swapped v) (links.swapped u)
+leads_flipped [] h = record { timely = tt; run = ap links.swapped h.run }
+leads_flipped {c} {d} (e ∷ es) {v} h =
+    let rest = leads_flipped es (record { timely = h.timely.1; run = h.run }) in
+    record {
+      timely = (timely_at c d e v h.timely.0, subst (AreTimely d c (all_flipped es)) (sym (event_flipped c d e v)) rest.timely);
+      run = ap (links.run d c (all_flipped es)) (event_flipped c d e v) ∙ rest.run;
+    }
 
 -- ---- as an end sees them
-
--- the event in which the links go on, and the links before it
-pub record Within : Type 0 where
-  pub before : Sessions
-  pub event : Event
-
-abbrev pub seen_from : Role → Sessions → Sessions
-seen_from Dte v = v
-seen_from Dce v = links.swapped v
-
-seen_turned : (end : Role) (v : Sessions) → seen_from (other end) (links.swapped v) ≡ seen_from end v
-seen_turned Dte v = twice v
-seen_turned Dce v = refl
 
 pub twice_other : (end : Role) (P : Role → Type 0) → P end → P (other (other end))
 twice_other Dte P h = h
 twice_other Dce P h = h
 
--- what the end of the event has asked so far
-pub record Grown (within : Within) (cfg : Cfg) (end : Role) (v : Sessions) : Type 0 where
-  pub asked : List line.Act
-  pub may : Each (Asks within.event.act) asked
-  pub timely : AreTimely (link_of cfg Dte) (link_of cfg Dce) (all_at within.event.at asked) within.before
-  pub run : links.run (link_of cfg Dte) (link_of cfg Dce) (all_at within.event.at asked) within.before ≡ seen_from end v
-
-pub record SessionsReach (within : Within) (cfg : Cfg) (end : Role) (v : Sessions) : Type 0 where
+pub record SessionsReach (cfg : Cfg) (end : Role) (v : Sessions) : Type 0 where
   pub events : List line.LinkEvent
-  pub timely : AreTimely (link_of cfg end) (link_of cfg (other end)) events from_nothing
-  pub run : links.run (link_of cfg end) (link_of cfg (other end)) events from_nothing ≡ v
-  pub grown : Grown within cfg end v
+  pub leads : Leads (link_of cfg end) (link_of cfg (other end)) events from_nothing v
 
-pub reach_swapped : {within : Within} (cfg : Cfg) (end : Role) (v : Sessions) → SessionsReach within cfg end v
-    → SessionsReach within cfg (other end) (links.swapped v)
-reach_swapped cfg end v h =
-    let c = link_of cfg end in
-    let d = link_of cfg (other end) in
-    let g = h.grown in
-    record {
-      events = all_flipped h.events;
-      timely = twice_other end (λ e. AreTimely d (link_of cfg e) (all_flipped h.events) from_nothing) (timely_flipped c d h.events from_nothing h.timely);
-      run = twice_other end (λ e. links.run d (link_of cfg e) (all_flipped h.events) from_nothing ≡ links.swapped v)
-          (run_flipped c d h.events from_nothing ∙ ap links.swapped h.run);
-      grown = record { asked = g.asked; may = g.may; timely = g.timely; run = g.run ∙ sym (seen_turned end v) };
-    }
+pub reach_swapped : (cfg : Cfg) (end : Role) (v : Sessions) → SessionsReach cfg end v → SessionsReach cfg (other end) (links.swapped v)
+reach_swapped cfg end v h = record {
+  events = all_flipped h.events;
+  leads = twice_other end (λ e. Leads (link_of cfg (other end)) (link_of cfg e) (all_flipped h.events) from_nothing (links.swapped v))
+      (leads_flipped h.events h.leads);
+}
 
--- the act is one that the end may ask for in this event
-pub record MayAsk (e : Event) (end : Role) (asked : line.Act) : Type 0 where
-  pub at : e.at ≡ end
-  pub asks : Asks e.act asked
-
--- it is this event
-abbrev pub IsAt : Within → Role → Act → Type 0
-IsAt within end act = within.event ≡ record { at = end; act = act }
-
-pub may_ask : {e : Event} {end : Role} {act : Act} (asked : line.Act) → e ≡ record { at = end; act = act } → Asks act asked → MayAsk e end asked
-may_ask asked is asks = record { at = ap (λ x. x.at) is; asks = subst (λ x. Asks x.act asked) (sym is) asks }
-
-all_more : (end : Role) (acts : List line.Act) (act : line.Act) → all_at end (acts ++ act ∷ []) ≡ all_at end acts ++ at_end end act ∷ []
-all_more end [] act = refl
-all_more end (x ∷ acts) act = ap (λ es. at_end end x ∷ es) (all_more end acts act)
-
-seen_acts : (cfg : Cfg) (end : Role) (act : line.Act) (v : Sessions)
-    → links.happens (link_of cfg Dte) (link_of cfg Dce) (at_end end act) (seen_from end v) ≡ seen_from end (links.acts (link_of cfg end) act v)
-seen_acts cfg Dte act v = refl
-seen_acts cfg Dce act v = ap (λ x. links.swapped (links.acts (link_of cfg Dce) act x)) (twice v)
-
-seen_timely : (cfg : Cfg) (end : Role) (act : line.Act) (v : Sessions) → IsTimely (link_of cfg end) (link_of cfg (other end)) act v
-    → IsTimelyAt (link_of cfg Dte) (link_of cfg Dce) (at_end end act) (seen_from end v)
-seen_timely cfg Dte act v h = h
-seen_timely cfg Dce act v h = rw (twice v) h
-
-grow : {within : Within} {cfg : Cfg} {end : Role} (act : line.Act) {v : Sessions} → IsTimely (link_of cfg end) (link_of cfg (other end)) act v
-    → MayAsk within.event end act → Grown within cfg end v → Grown within cfg end (links.acts (link_of cfg end) act v)
-grow {within} {cfg} {end} act {v} timely asks g =
-    let before = within.before in
-    let e = within.event in
-    let c = link_of cfg Dte in
-    let d = link_of cfg Dce in
-    record {
-      asked = g.asked ++ act ∷ [];
-      may = each_append (Asks e.act) g.asked (act ∷ []) g.may (asks.asks, tt);
-      timely = rw (all_more e.at g.asked act) (timely_append c d (all_at e.at g.asked) (at_end e.at act ∷ []) before g.timely (
-        subst (λ x. IsTimelyAt c d (at_end e.at act) x) (sym g.run)
-            (subst (λ at. IsTimelyAt c d (at_end at act) (seen_from end v)) (sym asks.at) (seen_timely cfg end act v timely)),
-        tt,
-      ));
-      run = ap (λ es. links.run c d es before) (all_more e.at g.asked act)
-          ∙ links_append c d (all_at e.at g.asked) (at_end e.at act ∷ []) before
-          ∙ ap (links.happens c d (at_end e.at act)) g.run
-          ∙ ap (λ at. links.happens c d (at_end at act) (seen_from end v)) asks.at
-          ∙ seen_acts cfg end act v;
-    }
+-- and on by more
+pub reach_on : {cfg : Cfg} {end : Role} {es : List line.LinkEvent} {v u : Sessions} → SessionsReach cfg end v
+    → Leads (link_of cfg end) (link_of cfg (other end)) es v u → SessionsReach cfg end u
+reach_on {es} h leads = record { events = h.events ++ es; leads = then_leads h.leads leads }
 
 pub joined_at : {cfg : Cfg} (end : Role) → IsConfigured cfg → AreJoined (link_of cfg end) (link_of cfg (other end))
 joined_at end fine = record {
@@ -153,26 +92,83 @@ joined_at end fine = record {
 }
 
 -- what always holds of two links
-pub known_sessions : {within : Within} (P : _) → Throughout P → {cfg : Cfg} → IsConfigured cfg → {end : Role} {v : Sessions} → SessionsReach within cfg end v
+pub known_sessions : (P : _) → Throughout P → {cfg : Cfg} → IsConfigured cfg → {end : Role} {v : Sessions} → SessionsReach cfg end v
     → P (link_of cfg end) (link_of cfg (other end)) v
 known_sessions P law {cfg} fine {end} h =
-    rw (sym h.run) (law (link_of cfg end) (link_of cfg (other end)) (joined_at end fine) from_nothing (inl refl) h.events h.timely)
+    rw (sym h.leads.run) (law (link_of cfg end) (link_of cfg (other end)) (joined_at end fine) from_nothing (inl refl) h.events h.leads.timely)
 
--- one act more of the end
-pub sessions_act : {within : Within} {cfg : Cfg} {end : Role} {act : line.Act} {v : Sessions} → IsTimely (link_of cfg end) (link_of cfg (other end)) act v
-    → MayAsk within.event end act → SessionsReach within cfg end v → SessionsReach within cfg end (links.acts (link_of cfg end) act v)
-sessions_act {cfg} {end} {act} {v} timely asks h =
-    let c = link_of cfg end in
-    let d = link_of cfg (other end) in
-    record {
-      events = h.events ++ line.Near act ∷ [];
-      timely = timely_append c d h.events (line.Near act ∷ []) from_nothing h.timely (rw h.run timely, tt);
-      run = links_append c d h.events (line.Near act ∷ []) from_nothing ∙ ap (λ x. links.acts c act x) h.run;
-      grown = grow act timely asks h.grown;
-    }
+-- ---- what an act asks of the link of its end
 
--- and octets that are handed down
-pub puts_reach : {within : Within} (cfg : Cfg) (end : Role) (os : List (List ℕ)) (v : Sessions)
-    → ((octets : List ℕ) → MayAsk within.event end (line.Put octets)) → SessionsReach within cfg end v
-    → SessionsReach within cfg end (all_act (link_of cfg end) (puts_of os) v)
-puts_reach {within} cfg end os v asks = puts_last (link_of cfg end) (SessionsReach within cfg end) (λ o x reach. sessions_act tt (asks o) reach) os
+-- what comes is taken, where it does, and then octets are put
+abbrev pub asked_of : Bool → List (List ℕ) → List line.Act
+asked_of true handed = line.Deliver ∷ puts_of handed
+asked_of false handed = puts_of handed
+
+-- so, and as octets are taken neither link is busy
+pub record TakesAndPuts (near far : LinkStation) (asked : List line.Act) : Type 0 where
+  pub comes : Bool
+  pub handed : List (List ℕ)
+  pub is : asked ≡ asked_of comes handed
+  pub free : comes ≡ true → AreFree near far
+
+pub turned_takes : {near far : LinkStation} {asked : List line.Act} → TakesAndPuts near far asked → TakesAndPuts far near asked
+turned_takes t = record { comes = t.comes; handed = t.handed; is = t.is; free = λ some. ((t.free some).1, (t.free some).0) }
+
+-- these acts, one after another
+pub record AreAsked (c : Settings) (w : World) (act : Act) (asked : List line.Act) : Type 0 where
+  pub may : Each (Asks act) asked
+  pub freely : IsReceiptOrRequest act → ActsFreely c w.near w.far.link w.back act → TakesAndPuts w.near.link w.far.link asked
+
+pub each_put : (P : line.Act → Type 0) → ((octets : List ℕ) → P (line.Put octets)) → (handed : List (List ℕ)) → Each P (puts_of handed)
+each_put P puts [] = tt
+each_put P puts (octets ∷ handed) = (puts octets, each_put P puts handed)
+
+pub asks_puts : {c : Settings} {w : World} {act : Act} → ((octets : List ℕ) → Asks act (line.Put octets)) → (handed : List (List ℕ))
+    → AreAsked c w act (puts_of handed)
+asks_puts {act} asks handed = record {
+  may = each_put (Asks act) asks handed;
+  freely = λ are free. record { comes = false; handed = handed; is = refl; free = λ some. true_false (sym some) };
+}
+
+-- By them the links go from the first to the second.
+pub record Asked (cfg : Cfg) (end : Role) (w : World) (act : Act) (v u : Sessions) : Type 0 where
+  pub asked : List line.Act
+  pub is : AreAsked (settings_from end cfg) w act asked
+  pub leads : Leads (link_of cfg end) (link_of cfg (other end)) (all_at Dte asked) v u
+
+pub asks_nothing : {cfg : Cfg} {end : Role} {w : World} {act : Act} {v : Sessions} → Asked cfg end w act v v
+asks_nothing = record {
+  asked = [];
+  is = record { may = tt; freely = λ are free. record { comes = false; handed = []; is = refl; free = λ some. true_false (sym some) } };
+  leads = record { timely = tt; run = refl };
+}
+
+-- and then octets are put
+puts_lead : (c d : LinkSettings) (os : List (List ℕ)) (v : Sessions) → Leads c d (all_at Dte (puts_of os)) v (all_act c (puts_of os) v)
+puts_lead c d [] v = record { timely = tt; run = refl }
+puts_lead c d (o ∷ os) v = (let r = puts_lead c d os (links.acts c (line.Put o) v) in record { timely = (tt, r.timely); run = r.run })
+
+all_append : (first more : List line.Act) → all_at Dte (first ++ more) ≡ all_at Dte first ++ all_at Dte more
+all_append [] more = refl
+all_append (act ∷ first) more = ap (λ es. line.Near act ∷ es) (all_append first more)
+
+pub then_puts : {cfg : Cfg} {end : Role} {w : World} {act : Act} {v u : Sessions} (first : List line.Act)
+    → Leads (link_of cfg end) (link_of cfg (other end)) (all_at Dte first) v u → (handed : List (List ℕ))
+    → AreAsked (settings_from end cfg) w act (first ++ puts_of handed) → Asked cfg end w act v (all_act (link_of cfg end) (puts_of handed) u)
+then_puts {cfg} {end} {u} first leads handed is = record {
+  asked = first ++ puts_of handed;
+  is = is;
+  leads = rw (all_append first (puts_of handed)) (then_leads leads (puts_lead (link_of cfg end) (link_of cfg (other end)) handed u));
+}
+
+-- at the far end
+
+turned_acts : (asked : List line.Act) → all_flipped (all_at Dte asked) ≡ all_at Dce asked
+turned_acts [] = refl
+turned_acts (act ∷ asked) = ap (λ es. line.Far act ∷ es) (turned_acts asked)
+
+pub leads_turned : {c d : LinkSettings} (asked : List line.Act) {v u : Sessions} → Leads d c (all_at Dte asked) (links.swapped v) u
+    → Leads c d (all_at Dce asked) v (links.swapped u)
+leads_turned {c} {d} asked {v} {u} h =
+    subst (λ x. Leads c d (all_at Dce asked) x (links.swapped u)) (twice v)
+    (subst (λ es. Leads c d es (links.swapped (links.swapped v)) (links.swapped u)) (turned_acts asked) (leads_flipped (all_at Dte asked) h))

@@ -21,6 +21,7 @@ pub record Done : Type 0 where
   pub session : ℕ
   pub what : OwnMove
 
+-- moves of an end in a session, as a trace has them
 abbrev pub moved : Role → ℕ → List OwnMove → List Done
 moved at n [] = []
 moved at n (what ∷ rest) = record { at = at; session = n; what = what } ∷ moved at n rest
@@ -35,6 +36,7 @@ own_if end at b what = []
 abbrev pub own_one : Role → ℕ → Role → ℕ → OwnMove → List OwnMove
 own_one end n at session what = own_if end at (n == session) what
 
+-- of a trace the moves of an end in a session
 abbrev pub own_in : Role → ℕ → List Done → List OwnMove
 own_in end n [] = []
 own_in end n (t ∷ trace) = own_one end n t.at t.session t.what ++ own_in end n trace
@@ -194,6 +196,7 @@ first_of_pair number Dte Dce session what es = moves_if Dte Dce (number Dce == s
 first_of_pair number Dce Dte session what es = moves_if Dce Dte (number Dte == session) what es
 first_of_pair number Dce Dce session what es = moves_if Dce Dce (number Dce == session) what es
 
+-- of two sessions that meet, an end moves as in its own
 pub moves_of_pair : (number : Role → ℕ) (end : Role) (trace : List Done) → moves_of end (pair_in number trace) ≡ own_in end (number end) trace
 moves_of_pair number Dte [] = refl
 moves_of_pair number Dce [] = refl
@@ -240,6 +243,7 @@ nothing_goes long_data channels Dce (what ∷ moves) ends h =
 abbrev pub BringOctets : Bool → List Done → Type 0
 BringOctets wide trace = Each (λ (t : Done). MovesOctets wide (as_move t.what)) trace
 
+-- these channels are pulled
 abbrev pub own_pulls : List ℕ → List OwnMove
 own_pulls [] = []
 own_pulls (h ∷ channels) = Pulls h ∷ own_pulls channels
@@ -265,6 +269,7 @@ pull_near c w h = by w.near.is_out (is_channel c.channels h)
     by true b = refl
     by false b = if_channel (is_channel c.channels h)
 
+-- pulls of the near one of two layers leave it as its own moves do
 pub near_pulls : (c : LayerSettings) (w : layer.TwoLayers) (channels : List ℕ) → (moves_all c w (pulls_of channels)).near
     ≡ own_run c (own_pulls channels) w.near
 near_pulls c w [] = refl

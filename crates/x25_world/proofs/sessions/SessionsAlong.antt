@@ -12,38 +12,37 @@ use Rattle.x25_world.specs.{World.{World, Event, happens, after, run}, laws.Clai
 use Rattle.x25_world.specs.{laws.SessionWindow.{all_at, GoesOn, StandsInWindow, SessionsStayInWindow}, laws.SessionClaims.{ThroughoutAlong}}
 use Rattle.x25_world.specs.{Healing.{AreLinksOf}, laws.LawsBelow.{SessionLaws}}
 use Rattle.x25_world.proofs.{Known.{IsConfigured, is_configured}, WorldLemmas.{run_append}}
-use Rattle.x25_world.proofs.sessions.SessionReaches.{Within, links_append, timely_append, joined_at}
-use Rattle.x25_world.proofs.{sessions.SessionJoined.{SessionsJoined}, sessions.SessionRuns.{next, begin_joined, throughout_joined}}
-use Rattle.x25_line.proofs.sessions.SessionsForgotten.{Lasts, Alike, happens_alike, runs_alike, turned_alike}
-use Rattle.x25_link.specs.{Hearing.{other}, Station.{Settings as LinkSettings, LinkStation}}
+use Rattle.x25_world.proofs.sessions.SessionReaches.{Leads, then_leads, joined_at}
+use Rattle.x25_world.proofs.{sessions.SessionJoined.{SessionsJoined}, sessions.SessionRuns.{EventGoes, next, begin_joined, throughout_joined}}
+use Rattle.x25_line.proofs.sessions.SessionsForgotten.{Lasts, Alike as AlikeAlone, happens_alike, runs_alike, turned_alike}
+use Rattle.x25_link.specs.{Hearing.{other}, Station.{LinkSettings, LinkStation}}
 use Rattle.x25_line.specs.laws.Stations as line
 use Rattle.x25_line.specs.laws.Sessions as links
 
 -- ---- along a run
 
 -- after an event
-abbrev pub After : {within : Within} {cfg : Cfg} {w : World} → SessionsJoined within cfg Dte w → Event → Type 0
-After {cfg} {w} h e = SessionsJoined (record { before = h.links; event = e }) cfg Dte (after w (happens cfg w e))
+abbrev pub After : {cfg : Cfg} {w : World} → SessionsJoined cfg Dte w → Event → Type 0
+After {cfg} {w} h e = EventGoes cfg w h.links e (after w (happens cfg w e))
 
 -- what was asked in it
-abbrev pub asked_in : {within : Within} {cfg : Cfg} {w : World} → SessionsJoined within cfg Dte w → List line.LinkEvent
-asked_in {within} j = all_at within.event.at j.reach.grown.asked
+abbrev pub asked_in : {cfg : Cfg} {w u : World} {v : Sessions} {e : Event} → EventGoes cfg w v e u → List line.LinkEvent
+asked_in {e} j = all_at e.at j.asked
 
 -- What is kept of two links and their numbers, with the sessions of a world, goes on with each event. Where they are then behind the world, they go on
 -- along a run.
 module _ (laws : SessionLaws) {cfg : Cfg} (fine : IsConfigured cfg) {V S : Type 0} (Behind : World → V → S → Type 0)
     (runs : List line.LinkEvent → V → V) (counts : List line.LinkEvent → V → S → S) (here : World) (Holds : World → Sessions → V → S → Type 0)
-    (stands : (events : List Event) (within : Within) (w : World) (h : SessionsJoined within cfg Dte w) → AreInOctets events → run cfg events w ≡ here
-    → (v : V) (s : S) → Holds w h.links v s → Behind w v s)
-    (goes : (within : Within) (w : World) (h : SessionsJoined within cfg Dte w) (e : Event) (j : After h e) (v : V) (s : S) → Holds w h.links v s
-    → Holds (after w (happens cfg w e)) j.links (runs (asked_in j) v) (counts (asked_in j) v s)) where
-  pub along : (events : List Event) {within : Within} {w : World} (h : SessionsJoined within cfg Dte w) → AreInOctets events → run cfg events w ≡ here
-      → (v : V) (s : S) → Holds w h.links v s → GoesOn Behind runs counts cfg here events w v s
-  along [] h octets is v s st = rw (sym is) (stands [] _ _ h octets is v s st)
+    (stands : (events : List Event) (w : World) (h : SessionsJoined cfg Dte w) → AreInOctets events → run cfg events w ≡ here → (v : V) (s : S)
+    → Holds w h.links v s → Behind w v s)
+    (goes : (w : World) (h : SessionsJoined cfg Dte w) (e : Event) (j : After h e) (v : V) (s : S) → Holds w h.links v s
+    → Holds (after w (happens cfg w e)) j.goes.joined.links (runs (asked_in j) v) (counts (asked_in j) v s)) where
+  pub along : (events : List Event) {w : World} (h : SessionsJoined cfg Dte w) → AreInOctets events → run cfg events w ≡ here → (v : V) (s : S)
+      → Holds w h.links v s → GoesOn Behind runs counts cfg here events w v s
+  along [] h octets is v s st = rw (sym is) (stands [] _ h octets is v s st)
   along (e ∷ events) h octets is v s st =
-      let j = (next laws cfg fine h e octets.0).joined in
-      let g = j.reach.grown in
-      (stands (e ∷ events) _ _ h octets is v s st, g.asked, g.may, along events j octets.1 is (runs (asked_in j) v) _ (goes _ _ h e j v s st))
+      let j = next laws cfg fine h e octets.0 in
+      (stands (e ∷ events) _ h octets is v s st, j.asked, j.may, along events j.goes.joined octets.1 is (runs (asked_in j) v) _ (goes _ h e j v s st))
 
 -- ---- links that have the stations of these and the octets on their lines do alike
 
@@ -54,7 +53,7 @@ of_lasts : Lasts IsOf
 of_lasts = record { station = λ e s h. h; steps = λ e s h down step. refl }
 
 abbrev AreOf : Sessions → line.Stations → Type 0
-AreOf v s = Alike IsOf ⊥ v s
+AreOf v s = AlikeAlone IsOf ⊥ v s
 
 -- the stations and the lines of a world
 abbrev end_in : LinkStation → StationEnd
@@ -65,19 +64,15 @@ seen_in w = record { near = end_in w.near.link; far = end_in w.far.link; out = w
 
 -- ---- and timer T1 is as timely
 
--- how many frames of a kind are among octets
-abbrev many_in : (Said → ℕ) → Role → ℕ → List (List ℕ) → ℕ
-many_in kind from n1 [] = 0
-many_in kind from n1 (octets ∷ line) = kind (said (frame_of from n1 octets)) + many_in kind from n1 line
-
-many_is : (kind : Said → ℕ) (from : Role) (n1 : ℕ) (es : List links.Entry) → how_many kind (letters from n1 es)
-    ≡ many_in kind from n1 (octets_of es)
-many_is kind from n1 [] = refl
-many_is kind from n1 (e ∷ es) = ap (λ n. kind (said (frame_of from n1 e.octets)) + n) (many_is kind from n1 es)
-
 many_same : (kind : Said → ℕ) (from : Role) (n1 : ℕ) (es fs : List links.Entry) → octets_of fs ≡ octets_of es
     → how_many kind (letters from n1 fs) ≡ how_many kind (letters from n1 es)
-many_same kind from n1 es fs is = many_is kind from n1 fs ∙ ap (many_in kind from n1) is ∙ sym (many_is kind from n1 es)
+many_same kind from n1 [] [] is = refl
+many_same kind from n1 (e ∷ es) (f ∷ fs) is =
+    let first : f.octets ≡ e.octets = cc in
+    let rest : octets_of fs ≡ octets_of es = cc in
+    ap₂ (λ octets n. kind (said (frame_of from n1 octets)) + n) first (many_same kind from n1 es fs rest)
+many_same kind from n1 [] (f ∷ fs) is = absurd (cc)
+many_same kind from n1 (e ∷ es) [] is = absurd (cc)
 
 asked_same : (c d : LinkSettings) {v x : Sessions} {s : line.Stations} → AreOf v s → AreOf x s → asked c d x ≡ asked c d v
 asked_same c d {v} {x} f g =
@@ -117,22 +112,67 @@ octets_behind : (xs ys : List Event) → AreInOctets (xs ++ ys) → AreInOctets 
 octets_behind [] ys h = h
 octets_behind (x ∷ xs) ys h = octets_behind xs ys h.1
 
+-- ---- links that have the links and the lines of a world
+
+pub record Alike (w : World) (v : Sessions) : Type 0 where
+  pub near : v.near.station ≡ w.near.link
+  pub far : v.far.station ≡ w.far.link
+  pub out : octets_of v.out ≡ w.out
+  pub back : octets_of v.back ≡ w.back
+
+seen_alike : {w : World} {v : Sessions} → Alike w v → AreOf v (seen_in w)
+seen_alike h = record { near = sym h.near; far = sym h.far; out = sym h.out; back = sym h.back; sent = λ never. absurd never }
+
+pub joined_alike : {cfg : Cfg} {w : World} (h : SessionsJoined cfg Dte w) → Alike w h.links
+joined_alike h = record { near = h.near.link; far = h.far.link; out = h.out; back = h.back }
+
+-- any go on so by what an event asks
+pub record AlikeGoes (cfg : Cfg) (u : World) (events : List line.LinkEvent) (v : Sessions) : Type 0 where
+  pub timely : AreTimely (link_of cfg Dte) (link_of cfg Dce) events v
+  pub alike : Alike u (links.run (link_of cfg Dte) (link_of cfg Dce) events v)
+
+pub alike_goes : {cfg : Cfg} {w : World} (h : SessionsJoined cfg Dte w) {e : Event} (j : After h e) {v : Sessions} → Alike w v
+    → AlikeGoes cfg (after w (happens cfg w e)) (asked_in j) v
+alike_goes {cfg} {w} h j like =
+    let c = link_of cfg Dte in
+    let d = link_of cfg Dce in
+    let es = asked_in j in
+    let before = seen_alike (joined_alike h) in
+    let behind : AreOf j.goes.joined.links (line.run c d es (seen_in w)) =
+    subst (λ x. AreOf x (line.run c d es (seen_in w))) j.leads.run (runs_alike of_lasts c d es before) in
+    let now = runs_alike of_lasts c d es (seen_alike like) in
+    let there = joined_alike j.goes.joined in
+    record {
+      timely = all_timely_same c d es before (seen_alike like) j.leads.timely;
+      alike = record {
+        near = sym now.near ∙ behind.near ∙ there.near;
+        far = sym now.far ∙ behind.far ∙ there.far;
+        out = sym now.out ∙ behind.out ∙ there.out;
+        back = sym now.back ∙ behind.back ∙ there.back;
+      };
+    }
+
 -- ---- over set-up and re-set-up
 
-pub links_are : {within : Within} {cfg : Cfg} {w : World} (h : SessionsJoined within cfg Dte w) → AreLinksOf cfg w h.links
-links_are {cfg} h = (
-  standing_run (link_of cfg Dte) (link_of cfg Dce) h.reach.events from_nothing (standing_at (link_of cfg Dte) (link_of cfg Dce) from_nothing),
+-- a run of links that are so
+pub run_of : (cfg : Cfg) {w : World} (events : List line.LinkEvent) {v : Sessions} → Leads (link_of cfg Dte) (link_of cfg Dce) events from_nothing v → Alike w v
+    → AreLinksOf cfg w v
+run_of cfg events leads like = (
+  standing_run (link_of cfg Dte) (link_of cfg Dce) events from_nothing (standing_at (link_of cfg Dte) (link_of cfg Dce) from_nothing),
   record {
-    events = h.reach.events;
-    timely = h.reach.timely;
-    run = h.reach.run;
+    events = events;
+    timely = leads.timely;
+    run = leads.run;
     standing = refl;
-    near = h.near.link;
-    far = h.far.link;
-    out = h.out;
-    back = h.back;
+    near = like.near;
+    far = like.far;
+    out = like.out;
+    back = like.back;
   },
 )
+
+pub links_are : {cfg : Cfg} {w : World} (h : SessionsJoined cfg Dte w) → AreLinksOf cfg w h.links
+links_are {cfg} h = run_of cfg h.reach.events h.reach.leads (joined_alike h)
 
 module _ (law : StandingGoesAlong) (cfg : Cfg) (fine : IsConfigured cfg) where
   abbrev c : LinkSettings
@@ -151,51 +191,38 @@ module _ (law : StandingGoesAlong) (cfg : Cfg) (fine : IsConfigured cfg) where
       (law c d (joined_at Dte fine) from_nothing (inl refl) events timely))
 
   -- some two links are behind each world of a run
-  pub some_stand : {within : Within} {w : World} (h : SessionsJoined within cfg Dte w) → StandsInWindow cfg w h.links (links_are h).0
+  some_stand : {w : World} (h : SessionsJoined cfg Dte w) → StandsInWindow cfg w h.links (links_are h).0
   some_stand h = (let r = (links_are h).1 in (r, stood r.events h.links (links_are h).0 r.timely r.run r.standing))
 
   -- any that are go on by an event
-  stand_next : (within : Within) (w : World) (h : SessionsJoined within cfg Dte w) (e : Event) (j : After h e) (v : Sessions) (s : Standing)
-      → StandsInWindow cfg w v s
+  stand_next : (w : World) (h : SessionsJoined cfg Dte w) (e : Event) (j : After h e) (v : Sessions) (s : Standing) → StandsInWindow cfg w v s
       → StandsInWindow cfg (after w (happens cfg w e)) (links.run c d (asked_in j) v) (standing_run c d (asked_in j) v s)
-  stand_next within w h e j v s st =
+  stand_next w h e j v s st =
       let r = st.0 in
       let es = asked_in j in
-      let seen = seen_in w in
-      let before : AreOf h.links seen = record {
-        near = sym h.near.link;
-        far = sym h.far.link;
-        out = sym h.out;
-        back = sym h.back;
-        sent = λ never. absurd never;
-      } in
-      let also : AreOf v seen = record { near = sym r.near; far = sym r.far; out = sym r.out; back = sym r.back; sent = λ never. absurd never } in
-      let behind : AreOf j.links (line.run c d es seen) =
-      subst (λ x. AreOf x (line.run c d es seen)) j.reach.grown.run (runs_alike of_lasts c d es before) in
-      let now = runs_alike of_lasts c d es also in
-      let timely : AreTimely c d (r.events ++ es) from_nothing =
-      timely_append c d r.events es from_nothing r.timely (rw r.run (all_timely_same c d es before also j.reach.grown.timely)) in
-      let runs = links_append c d r.events es from_nothing ∙ ap (links.run c d es) r.run in
+      let g = alike_goes h j (record { near = r.near; far = r.far; out = r.out; back = r.back }) in
+      let all : Leads c d (r.events ++ es) from_nothing (links.run c d es v) =
+      then_leads (record { timely = r.timely; run = r.run }) (record { timely = g.timely; run = refl }) in
       let stands : standing_run c d (r.events ++ es) from_nothing first ≡ standing_run c d es v s =
       standing_append (λ z. z ≡ standing_run c d es v s) c d r.events es from_nothing first
       (ap₂ (λ x z. standing_run c d es x z) r.run r.standing) in (
         record {
           events = r.events ++ es;
-          timely = timely;
-          run = runs;
+          timely = all.timely;
+          run = all.run;
           standing = stands;
-          near = sym now.near ∙ behind.near ∙ j.near.link;
-          far = sym now.far ∙ behind.far ∙ j.far.link;
-          out = sym now.out ∙ behind.out ∙ j.out;
-          back = sym now.back ∙ behind.back ∙ j.back;
+          near = g.alike.near;
+          far = g.alike.far;
+          out = g.alike.out;
+          back = g.alike.back;
         },
-        stood (r.events ++ es) (links.run c d es v) (standing_run c d es v s) timely runs stands,
+        stood (r.events ++ es) (links.run c d es v) (standing_run c d es v s) all.timely all.run stands,
       )
 
 pub sessions_stay : (laws : SessionLaws) → ConnectKeeps → StandingGoesAlong → ThroughoutAlong SessionsStayInWindow
 sessions_stay laws keeps law cfg fine begin is events octets =
     let at = is_configured cfg fine in
-    let h = (begin_joined laws keeps at is).1 in
+    let h = begin_joined laws keeps at is in
     let c = link_of cfg Dte in
     let d = link_of cfg Dce in
     record {
@@ -203,7 +230,7 @@ sessions_stay laws keeps law cfg fine begin is events octets =
       goes_on = λ past more all v s st.
           (let split = subst AreInOctets (sym all) octets in
           along laws at (StandsInWindow cfg) (links.run c d) (standing_run c d) (run cfg events begin) (λ w u x z. StandsInWindow cfg w x z)
-          (λ after within w j in_octets to x z so. so) (stand_next law cfg at) more
-          (throughout_joined laws keeps cfg fine begin is past (octets_before past more split)).1 (octets_behind past more split)
+          (λ after w j in_octets to x z so. so) (stand_next law cfg at) more
+          (throughout_joined laws keeps cfg fine begin is past (octets_before past more split)) (octets_behind past more split)
           (sym (run_append cfg past more begin) ∙ ap (λ es. run cfg es begin) all) v s st);
     }

@@ -18,7 +18,7 @@ use Rattle.x25_world.specs.declared.error.WorldError.{WorldError}
 use Rattle.x25_world.specs.World.{OnTap, AtEnd, World, Act, Commands, Receives, Event, happens, refusal_of, after, run}
 use Rattle.x25_world.specs.World.{AreAccepted, start, connected, established}
 use Rattle.x25_line.specs.laws.SessionClaims.{Each}
-use Rattle.x25_link.specs.{Station.{Settings as LinkSettings, is_up}, Hearing.{other}}
+use Rattle.x25_link.specs.{Station.{LinkSettings, is_up}, Hearing.{other}}
 
 -- ---- an end and its transcript
 

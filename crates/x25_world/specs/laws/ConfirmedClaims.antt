@@ -2,7 +2,7 @@
 -- ITU-T X.25 (10/96), section 4.4.1.4.
 use Rattle.std.specs.Prelude.{◌≡◌, ◌≤◌, ◌+◌, ◌==◌, ℕ, List, [], ◌∷◌, Some, None, if◌then◌else◌}
 use Rattle.x25_bits.specs.{Bits.{bit}, declared.role.Role.{Role}}
-use Rattle.x25_circuit.specs.declared.message.Message.{Message}
+use Rattle.x25_circuit.specs.Message.{Message}
 use Rattle.x25_handshakes.specs.laws.Names.{Name, both, same_name}
 use Rattle.x25_layer.specs.laws.Transcript.{under, messages_in}
 use Rattle.x25_link.specs.Hearing.{other}

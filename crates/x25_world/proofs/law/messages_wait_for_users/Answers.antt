@@ -8,8 +8,8 @@ returns c =
     let keeps = laws.stations.connect_keeps in
     let layers = c.messages_wait_for_users.ensures in
     record {
-      closed = throughout laws keeps ClosedKeepNone (λ cfg fine within w h. closed_keep laws layers.closed fine w h);
-      waits = throughout laws keeps MessagesWaitForUsers (λ cfg fine within w h. messages_wait laws layers.apart layers.still fine w h);
+      closed = throughout laws keeps ClosedKeepNone (λ cfg fine w h. closed_keep laws layers.closed fine w h);
+      waits = throughout laws keeps MessagesWaitForUsers (λ cfg fine w h. messages_wait laws layers.apart layers.still fine w h);
       left = pulls_leave_none layers.left;
-      unpulled = throughout laws keeps UnpulledWaitForUsers (λ cfg fine within w h. unpulled_wait laws layers.apart layers.restarting fine w h);
+      unpulled = throughout laws keeps UnpulledWaitForUsers (λ cfg fine w h. unpulled_wait laws layers.apart layers.restarting fine w h);
     }

@@ -11,11 +11,11 @@ returns c =
     let keeps = laws.stations.connect_keeps in
     record {
       set_up = λ cfg. set_up_accepted laws.stations cfg;
-      lawful = until_second laws keeps IsLawful (λ cfg fine within w h once. lawful_once laws cfg fine w h once);
-      named = until_second laws keeps IsNamed (λ cfg fine within w h once. named_once laws cfg fine w h once);
-      arrives = until_second laws keeps ArrivesAll (λ cfg fine within w h once. arrives_once laws cfg fine w h once);
-      quiet = until_second laws keeps HasNoProcedureError (λ cfg fine within w h once. has_no_error laws fine w h);
+      lawful = until_second laws keeps IsLawful (λ cfg fine w h once. lawful_once laws cfg fine w h once);
+      named = until_second laws keeps IsNamed (λ cfg fine w h once. named_once laws cfg fine w h once);
+      arrives = until_second laws keeps ArrivesAll (λ cfg fine w h once. arrives_once laws cfg fine w h once);
+      quiet = until_second laws keeps HasNoProcedureError (λ cfg fine w h once. has_no_error laws fine w h);
       window = stays_in_window laws keeps c.links_keep_order.ensures.window c.links_keep_order.ensures.before;
-      up_once = λ cfg fine events octets none. (let at = is_configured cfg fine in let h = (begin_joined laws keeps at (inr (inr refl))).1 in
+      up_once = λ cfg fine events octets none. (let at = is_configured cfg fine in let h = begin_joined laws keeps at (inr (inr refl)) in
           is_up_once laws at events h (are_first laws at h) octets none);
     }

@@ -16,20 +16,20 @@ use Rattle.x25_station.specs.{declared.config.Cfg.{Cfg}, Config.{Settings, setti
 use Rattle.x25_station.specs.{Step.{Step, follows, abandons, receives}, laws.JoinLaw.{station_with, IsJoined}, laws.KeepLaw.{IsKept}}
 use Rattle.x25_station.specs.laws.ReadLaw.{AreReadable}
 use Rattle.x25_world.specs.{World.{World, Receives, delivered, after, after_step}, laws.ConfirmedClaims.{confirmed_in}, laws.Claims.{link_of}}
-use Rattle.x25_world.specs.laws.LawsBelow.{SessionLaws}
+use Rattle.x25_world.specs.{laws.LawsBelow.{SessionLaws}, laws.SessionWindow.{Asks}, Healing.{ComeFreely}}
 use Rattle.x25_world.proofs.{Known.{IsConfigured, true_false}, Growing.{read_by, all_read, is_read, as_read, first_read, FrontEntry, front_entry}}
 use Rattle.x25_world.proofs.sessions.SessionTrace.{layer_of, Done, moved, own, own_goes, events_of, nothing_goes, own_pulls, pulls_take_nothing}
 use Rattle.x25_world.proofs.{sessions.SessionTrace.{pulls_bring_octets, near_pulls, take_takes}, sessions.SessionCounts.{counted_at, counted_by, counted_in}}
-use Rattle.x25_world.proofs.sessions.SessionReaches.{Within, SessionsReach, IsAt, may_ask, known_sessions, sessions_act}
+use Rattle.x25_world.proofs.sessions.SessionReaches.{SessionsReach, Leads, Asked, each_put, then_puts, known_sessions, reach_on}
 use Rattle.x25_world.proofs.sessions.SessionJoined.{HasMet, PairIsInOrder, PairsAreInOrder, SessionsJoined, Goes, gave_none, stays}
 use Rattle.x25_world.proofs.sessions.SessionBeside.{spelled_bring}
 use Rattle.x25_world.proofs.sessions.SessionKnown.{met_in_order, pair_ends, here_in, here_is, there_is, own_order, own_first, nothing_in_order}
 use Rattle.x25_world.proofs.{sessions.SessionEntries.{heard_plain, heard_beside, heard_confirms}, sessions.SessionGoes.{here_extended}}
-use Rattle.x25_world.proofs.sessions.SessionFollows.{no_command, up_puts, silent_puts, follows_silent, follows_up}
+use Rattle.x25_world.proofs.sessions.SessionFollows.{no_command, follows_silent, follows_up}
 use Rattle.x25_world.proofs.sessions.acts.SessionRequests.{pair_goes, pair_stays, puts_readable, joins}
 use Rattle.x25_line.proofs.ends.Meetings.{all_no_earlier}
-use Rattle.x25_peer.proofs.sessions.LinkSteps.{SessionGoes, StepGoes, step_as, deliver_goes, abandon_goes, spelled, PutsRead, HasPut, puts_spelled}
-use Rattle.x25_link.specs.{Station.{Settings as LinkSettings, is_up}, Hearing.{other, Step as LinkStep}, laws.NoteLaw.{IsQuiet}}
+use Rattle.x25_peer.proofs.sessions.LinkSteps.{SessionGoes, StepGoes, step_as, deliver_goes, abandon_goes, spelled, PutsRead, puts_spelled, puts_of, all_act}
+use Rattle.x25_link.specs.{Station.{LinkSettings, is_up}, Hearing.{other, LinkStep}, laws.NoteLaw.{IsQuiet}}
 use Rattle.x25_line.specs.laws.Stations as line
 use Rattle.x25_line.specs.laws.Sessions as links
 use Rattle.x25_line.specs.laws.SessionClaims as met
@@ -74,8 +74,7 @@ next_at : (cfg : Cfg) (end : Role) (ends : Ends) (packet : PlainPacket) (channel
 next_at cfg Dte ends packet channels begins = (λ out. begins, nothing_goes cfg.long_data cfg.channels Dte (own_pulls channels) _ (pulls_take_nothing channels))
 next_at cfg Dce ends packet channels begins = (λ out. begins, nothing_goes cfg.long_data cfg.channels Dce (own_pulls channels) _ (pulls_take_nothing channels))
 
-module _ {within : Within} (laws : SessionLaws) (cfg : Cfg) (fine : IsConfigured cfg) (end : Role) (w : World) (h : SessionsJoined within cfg end w)
-    (is_at : IsAt within end Receives) where
+module _ (laws : SessionLaws) (cfg : Cfg) (fine : IsConfigured cfg) (end : Role) (w : World) (h : SessionsJoined cfg end w) where
   abbrev ours : Settings
   ours = settings_from end cfg
 
@@ -84,7 +83,7 @@ module _ {within : Within} (laws : SessionLaws) (cfg : Cfg) (fine : IsConfigured
 
   -- by a step of the end, with nothing that its user gave
   abbrev To : World → Type 0
-  To u = Goes within cfg end h.links gave_none u
+  To u = Goes cfg end w Receives h.links gave_none u
 
   abbrev here : ℕ
   here = h.links.near.begun
@@ -112,7 +111,7 @@ module _ {within : Within} (laws : SessionLaws) (cfg : Cfg) (fine : IsConfigured
     pub pairs : PairsAreInOrder cfg end h.trace v.met
     pub more : (n m : ℕ) → HasMet n m h.links.met → HasMet n m v.met
 
-  have_met : {v : Sessions} {e f : SessionEnd} → SessionsReach within cfg end v → MeetsOne line.Deliver now_met e f h.links.met v.met → HaveMet v
+  have_met : {v : Sessions} {e f : SessionEnd} → SessionsReach cfg end v → MeetsOne line.Deliver now_met e f h.links.met v.met → HaveMet v
   have_met {v} reach one = elim one [
     | inl now ↦ (let step = subst InStep now.met (known_sessions met.MeetInStep laws.step fine reach) in
         record {
@@ -142,10 +141,13 @@ module _ {within : Within} (laws : SessionLaws) (cfg : Cfg) (fine : IsConfigured
         let up : is_up w.near.link.phase ≡ true = (and_parts (is_up w.near.link.phase) (is_full (layer_settings ours) w.near.layer) full).0 in
         let k = abandon_step c w.near.link in
         subst (λ os. To (after_step ours w os (follows ours w.near.layer k))) (ap (λ es. octets_of (remove es 0)) came.is ∙ came.left)
-        (follows_silent laws cfg fine end w h no_command (remove h.links.back 0) k gone h.links.met
-        (sessions_act tt (may_ask (line.Lose 0) is_at refl)
-        (sessions_act tt (may_ask line.Abandon is_at tt) h.reach))
-        h.pairs (λ n m has. has) (laws.stations.abandon_tells c w.near.link) (abandon_goes c h.links w.near.link h.near.link up) refl refl kept)
+        (follows_silent Receives laws cfg fine end w h no_command (remove h.links.back 0) k gone h.links.met h.pairs (λ n m has. has)
+        (laws.stations.abandon_tells c w.near.link) (abandon_goes c h.links w.near.link h.near.link up)
+        (record {
+          asked = line.Abandon ∷ line.Lose 0 ∷ [];
+          is = record { may = (tt, (refl, tt)); freely = λ are free. true_false (sym full ∙ (subst (ComeFreely ours w.near w.far.link) front free).0) };
+          leads = record { timely = (tt, (tt, tt)); run = refl };
+        }) refl refl kept)
 
     -- ---- where the link takes the octets
 
@@ -155,8 +157,18 @@ module _ {within : Within} (laws : SessionLaws) (cfg : Cfg) (fine : IsConfigured
     abbrev after_taken : Sessions
     after_taken = links.acts lc line.Deliver h.links
 
-    reach_taken : SessionsReach within cfg end after_taken
-    reach_taken = sessions_act tt (may_ask line.Deliver is_at tt) h.reach
+    leads_taken : Leads lc (link_of cfg (other end)) (line.Near line.Deliver ∷ []) h.links after_taken
+    leads_taken = record { timely = (tt, tt); run = refl }
+
+    reach_taken : SessionsReach cfg end after_taken
+    reach_taken = reach_on h.reach leads_taken
+
+    -- the link is asked for that, and then octets are put
+    asks_taken : (handed : List (List ℕ)) → Asked cfg end w Receives h.links (all_act lc (puts_of handed) after_taken)
+    asks_taken handed = then_puts (line.Deliver ∷ []) leads_taken handed (record {
+      may = (tt, each_put (Asks Receives) (λ o. tt) handed);
+      freely = λ are free. record { comes = true; handed = handed; is = refl; free = λ some. (subst (ComeFreely ours w.near w.far.link) front free).1 };
+    })
 
     goes_taken : StepGoes lc h.links after_taken taken came.others after_taken.met
     goes_taken = subst (λ os. StepGoes lc h.links after_taken (take_step lc os w.near.link) came.others after_taken.met) came.octets
@@ -322,9 +334,6 @@ module _ {within : Within} (laws : SessionLaws) (cfg : Cfg) (fine : IsConfigured
       packets_put : (none : abandons ours w.near ≡ false) → PutsRead ours taken.side (joined_on none).1.packets (spelled (joined_on none).1.packets) step
       packets_put none = (let j = joined_on none in puts_spelled j.1.link (joined_readable none))
 
-      handed_puts : abandons ours w.near ≡ false → HasPut ours taken.side step
-      handed_puts none = (let j = joined_on none in record { handed = spelled j.1.packets; packets = j.1.packets; put = packets_put none })
-
       -- what it confirms is told
       counts_taken : (channels : List ℕ) → IsQuiet taken → (k : ℕ) (name : Name) → confirmed_in k name step.entries
           ≤ counted_in (layer_of cfg end) k name (moves channels) own_here
@@ -354,23 +363,13 @@ module _ {within : Within} (laws : SessionLaws) (cfg : Cfg) (fine : IsConfigured
           (heard_plain ours w.near.layer taken packet_octets some quiet) kept (tt, pulls_bring_octets cfg.wide end here j.0) (there, pair_on j.0)
           (heard_beside cfg end w.near.layer taken packet_octets f.packet some quiet f.reads) gave_none
           (rw (spelled_bring laws.stations cfg j.1.packets (joined_readable none)) tt) (counts_taken j.0 quiet)
-          (λ o. may_ask (line.Put o) is_at tt) reach_taken (λ nothing. absurd (cc)) (pairs_on j.0) met_taken.more
+          (asks_taken (spelled j.1.packets)) (λ nothing. absurd (cc)) (pairs_on j.0) met_taken.more
           (λ first. inr (record {
             has_met = rw met_now (inl (refl, refl));
             restarts = restarts j.0 (layer_notices step.entries) (ap (λ e. e.taken) all ∙ takes)
                 (ap (λ e. e.told) all ∙ ap (λ e. e.told) (sym near) ∙ j.1.layer.told) first;
             begun = there_begun;
           }))
-
-    -- ---- what the layer puts
-
-    pub taken_puts : abandons ours w.near ≡ false → HasPut ours taken.side (follows ours w.near.layer taken)
-    taken_puts none = by taken.notes.up taken.packet refl refl
-      where
-        by : (up : Bool) (o : Option (List ℕ)) → taken.notes.up ≡ up → taken.packet ≡ o → HasPut ours taken.side (follows ours w.near.layer taken)
-        by true o up is = up_puts laws cfg fine end w h (laws.stations.take_tells lc octets w.near.link) up
-        by false None up is = silent_puts cfg end w.near.layer taken is up
-        by false (Some packet_octets) up is = handed_puts up packet_octets is none
 
     -- ---- all that may come
 
@@ -381,13 +380,13 @@ module _ {within : Within} (laws : SessionLaws) (cfg : Cfg) (fine : IsConfigured
         by : (up : Bool) (o : Option (List ℕ)) → taken.notes.up ≡ up → taken.packet ≡ o
             → To (after_step ours w (octets_of came.others) (follows ours w.near.layer taken))
         by true None up is =
-            follows_up laws cfg fine end w h no_command came.others taken after_taken after_taken.met reach_taken met_taken.pairs met_taken.more
-            (laws.stations.take_tells lc octets w.near.link) goes_taken (λ o. may_ask (line.Put o) is_at tt) up is kept
+            follows_up Receives laws cfg fine end w h no_command came.others taken after_taken after_taken.met met_taken.pairs met_taken.more
+            (laws.stations.take_tells lc octets w.near.link) goes_taken asks_taken up is kept
         by true (Some packet_octets) up is =
             true_false (sym up ∙ ap (λ n. n.up) ((laws.stations.take_hands_up lc octets w.near.link).quiet packet_octets is))
         by false None up is =
-            follows_silent laws cfg fine end w h no_command came.others taken after_taken after_taken.met reach_taken met_taken.pairs met_taken.more
-            (laws.stations.take_tells lc octets w.near.link) goes_taken up is kept
+            follows_silent Receives laws cfg fine end w h no_command came.others taken after_taken after_taken.met met_taken.pairs met_taken.more
+            (laws.stations.take_tells lc octets w.near.link) goes_taken (asks_taken []) up is kept
         by false (Some packet_octets) up is = handed up packet_octets is none kept
 
     came_joined : To (after_step ours w back (receives ours w.near octets))

@@ -11,14 +11,14 @@ use Rattle.x25_layer.specs.{laws.RoundLaw.{moves_all, pulls_of}, laws.Apart.{Own
 use Rattle.x25_station.specs.{declared.config.Cfg.{Cfg}, Config.{Settings, settings_from, layer_settings}, Entry.{layer_notices}, Giving.{suits}}
 use Rattle.x25_station.specs.{Step.{Step, Outcome, Did, Refused, requests, gives}, laws.GivenLaw.{GivesOctets}, laws.JoinLaw.{station_with, MovesAs}}
 use Rattle.x25_station.specs.{laws.KeepLaw.{IsKept, KeptBy}, laws.ReadLaw.{AreReadable, RequestsOctets}}
-use Rattle.x25_world.specs.{declared.error.WorldError.{WorldError}, World.{World, Commands, of_station, refusal_of, after, after_step}}
+use Rattle.x25_world.specs.{declared.error.WorldError.{WorldError}, World.{World, Act, of_station, refusal_of, after, after_step}}
 use Rattle.x25_world.specs.{laws.BesideClaims.{came_in, Gave, channel_for, gave_where, IsGiven, AreSomeOf}, laws.ConfirmedClaims.{confirmed_in}}
-use Rattle.x25_world.specs.{laws.Claims.{link_of}, laws.LawsBelow.{SessionLaws}}
+use Rattle.x25_world.specs.{laws.Claims.{link_of}, laws.SessionWindow.{Asks}, laws.LawsBelow.{SessionLaws}}
 use Rattle.x25_world.proofs.{Known.{IsConfigured}, Growing.{all_read, as_read, back_read, back_octets}}
 use Rattle.x25_world.proofs.sessions.SessionTrace.{layer_of, Done, moved, own, own_goes, same_number, pair_at, events_of, pair_more, pair_same, TakeNothing}
 use Rattle.x25_world.proofs.sessions.SessionTrace.{nothing_goes, BringOctets, own_pulls, pulls_take_nothing, pulls_bring_octets, near_pulls}
 use Rattle.x25_world.proofs.sessions.SessionCounts.{counted_in, CountNone}
-use Rattle.x25_world.proofs.sessions.SessionReaches.{Within, MayAsk, IsAt, may_ask, SessionsReach, puts_reach}
+use Rattle.x25_world.proofs.sessions.SessionReaches.{Asked, asks_puts, then_puts}
 use Rattle.x25_world.proofs.sessions.SessionJoined.{HasMet, PairIsInOrder, PairsAreInOrder, SessionsJoined, Goes, gave_none, stays}
 use Rattle.x25_world.proofs.sessions.SessionBeside.{brought, AreTold, spelled_bring, FirstMayGo, spelled_with_bring, own_goes_first}
 use Rattle.x25_world.proofs.sessions.SessionKnown.{met_in_order, pair_ends, own_quiet, own_readable, nothing_in_order}
@@ -26,7 +26,7 @@ use Rattle.x25_world.proofs.sessions.SessionEntries.{ArePlain, outcome_plain, ou
 use Rattle.x25_world.proofs.sessions.SessionGoes.{same_or_not, IsNews, goes_on}
 use Rattle.x25_line.proofs.{Lists.{each_append}, ends.Meetings.{all_map}}
 use Rattle.x25_peer.proofs.{Granted.{did_granted, gave_granted, suits_asks}, ReadLemmas.{readable_behind}}
-use Rattle.x25_peer.proofs.sessions.LinkSteps.{SessionGoes, spelled, spelled_with, PutsRead, HasPut, puts_spelled, puts_spelled_with, puts_up, puts_of, all_act}
+use Rattle.x25_peer.proofs.sessions.LinkSteps.{SessionGoes, spelled, spelled_with, PutsRead, puts_spelled, puts_spelled_with, puts_up, puts_of, all_act}
 use Rattle.x25_peer.proofs.{sessions.LinkSteps.{puts_go, stays_goes}, sessions.SessionLayers.{pulls_asked, asked_leaves}}
 use Rattle.x25_layer.specs.{Layer.{Layer, LayerNotice}, Calls.{LayerRequest, layer_outcome}, laws.Quiet.{AreNoFaults}, laws.TwoLayers.{Requests as Requested}}
 use Rattle.x25_line.specs.laws.Stations as line
@@ -76,7 +76,7 @@ module _ (laws : SessionLaws) (cfg : Cfg) (end : Role) (trace : List Done) (sess
       all_map (λ p. PairIsInOrder cfg end trace p.near p.far) (λ p. PairIsInOrder cfg end trace_on p.near p.far)
       (λ (p : Meeting) order. pair_goes_quietly nothing p.near p.far order) met pairs
 
-module _ {within : Within} (laws : SessionLaws) (cfg : Cfg) (fine : IsConfigured cfg) (end : Role) (w : World) (h : SessionsJoined within cfg end w) where
+module _ (laws : SessionLaws) (cfg : Cfg) (fine : IsConfigured cfg) (end : Role) (w : World) (h : SessionsJoined cfg end w) where
   abbrev ours : Settings
   ours = settings_from end cfg
 
@@ -121,11 +121,11 @@ module _ {within : Within} (laws : SessionLaws) (cfg : Cfg) (fine : IsConfigured
     told_then : own_then.told ≡ own_now.told ++ layer_notices step.entries
     told_then = ap (λ e. e.told) (sym near) ∙ m.told
 
-    pub joins : ((octets : List ℕ) → MayAsk within.event end (line.Put octets)) → SessionsReach within cfg end v → (lifted ≡ [] → TakeNothing moves)
+    pub joins : {act : Act} → Asked cfg end w act h.links (all_act (link_of cfg end) (puts_of handed) v) → (lifted ≡ [] → TakeNothing moves)
         → PairsAreInOrder cfg end (h.trace ++ moved end session moves) v.met → ((n m : ℕ) → HasMet n m h.links.met → HasMet n m v.met)
         → (own_now.taken ≡ [] → ((lifted ≡ []) × (layer_notices step.entries ≡ [])) ⊎ IsNews session h.links.far.begun v.met (layer_notices step.entries))
-        → Goes within cfg end h.links gave (after_step ours w (octets_of left) step)
-    joins asks reach alone pairs more news =
+        → Goes cfg end w act h.links gave (after_step ours w (octets_of left) step)
+    joins asked alone pairs more news =
         let r = puts_go ours h.links v session packets handed t step came left v.met g p in
         goes_on cfg end w h step left (all_act (link_of cfg end) (puts_of handed) v) v.met moves packets lifted handed came
         (back_read cfg handed packets p.readable) took (back_octets cfg handed packets p.readable) r
@@ -137,7 +137,7 @@ module _ {within : Within} (laws : SessionLaws) (cfg : Cfg) (fine : IsConfigured
           entries = ap (λ e. e.entries) (sym near) ∙ m.entries;
           told = told_then;
         })
-        up (puts_up laws.stations.put_tells p up_after) plain kept tells gave gives counts (puts_reach cfg end handed v asks reach) alone
+        up (puts_up laws.stations.put_tells p up_after) plain kept tells gave gives counts asked alone
         (no_faults_behind own_now.told (layer_notices step.entries)
         (subst AreNoFaults (ap (λ e. e.told) (own_goes cfg end session h.trace moves) ∙ told_then)
         (own_quiet laws cfg end session paired.0 (h.trace ++ moved end session moves) paired.1).told))
@@ -185,22 +185,20 @@ module _ {within : Within} (laws : SessionLaws) (cfg : Cfg) (fine : IsConfigured
     asked_readable = puts_readable moves a.packets (ap (λ e. e.given) (sym near_on) ∙ a.layer.given)
         ((octets, a.may), pulls_bring_octets cfg.wide end session a.channels) pair_on
 
-    asked_puts : HasPut ours (alone w.near.link) step
-    asked_puts = record { handed = a.handed; packets = a.packets; put = a.puts asked_readable }
-
-    asked_joined : ((o : List ℕ) → MayAsk within.event end (line.Put o)) → Goes within cfg end h.links gave (after_step ours w w.back step)
-    asked_joined may =
+    asked_joined : {act : Act} → ((o : List ℕ) → Asks act (line.Put o)) → Goes cfg end w act h.links gave (after_step ours w w.back step)
+    asked_joined {act} may =
         let nothing : TakeNothing moves = (tt, pulls_take_nothing a.channels) in
         let leaves = asked_leaves (layer_of cfg end) begin (Requested full request ∷ pulls_of a.channels) (tt, pulls_asked a.channels) in
         let untold : layer_notices step.entries ≡ [] =
         append_cancel_left own_now.told (layer_notices step.entries) [] (sym a.layer.told ∙ leaves.told ∙ sym (append-nil own_now.told)) in
-        subst (λ os. Goes within cfg end h.links gave (after_step ours w os step)) h.back
+        subst (λ os. Goes cfg end w act h.links gave (after_step ours w os step)) h.back
         (joins step h.links (alone w.near.link) world_on moves a.packets [] [] a.handed [] refl h.links.back
         (stays_goes (link_of cfg end) h.links w.near.link h.near.link) a.up a.up (a.puts asked_readable) a.layer near_on
         (ap (λ e. e.taken) (sym near_on) ∙ leaves.taken ∙ sym (append-nil own_now.taken))
         a.plain a.kept ((octets, a.may), pulls_bring_octets cfg.wide end session a.channels) pair_on (rw a.alone tt) gave (a.gives asked_readable)
         (λ k name. (omega (arith, a.uncounted k name)))
-        may h.reach (λ none. nothing) (pairs_go_quietly laws cfg end h.trace session moves nothing h.links.met h.pairs) (λ n m has. has)
+        (then_puts [] (record { timely = tt; run = refl }) a.handed (asks_puts may a.handed)) (λ none. nothing)
+        (pairs_go_quietly laws cfg end h.trace session moves nothing h.links.met h.pairs) (λ n m has. has)
         (λ none. inl (refl, untold)))
 
   -- ---- without anything given
@@ -227,17 +225,13 @@ module _ {within : Within} (laws : SessionLaws) (cfg : Cfg) (fine : IsConfigured
         kept = subst KeptBy is (laws.stations.request_keeps c w.near request h.near.kept);
       }
 
-  pub request_puts : (request : LayerRequest) → RequestsOctets request → (step : Step) → requests ours w.near request ≡ Did step
-      → HasPut ours (alone w.near.link) step
-  request_puts request octets step is = asked_puts request octets gave_none step (request_asked request step is)
-
   -- what is asked for may be said in full
-  pub requests_joined : (asked request : LayerRequest) → IsAt within end (Commands (command.Requests asked)) → RequestsOctets request
-      → Goes within cfg end h.links gave_none (after w (of_station ours w (requests ours w.near request)))
-  requests_joined asked request is_at octets = by (requests ours w.near request) refl
+  pub requests_joined : {act : Act} → ((o : List ℕ) → Asks act (line.Put o)) → (request : LayerRequest) → RequestsOctets request
+      → Goes cfg end w act h.links gave_none (after w (of_station ours w (requests ours w.near request)))
+  requests_joined {act} may request octets = by (requests ours w.near request) refl
     where
-      by : (o : Outcome) → requests ours w.near request ≡ o → Goes within cfg end h.links gave_none (after w (of_station ours w o))
-      by (Did step) is = asked_joined request octets gave_none step (request_asked request step is) (λ o. may_ask (line.Put o) is_at tt)
+      by : (o : Outcome) → requests ours w.near request ≡ o → Goes cfg end w act h.links gave_none (after w (of_station ours w o))
+      by (Did step) is = asked_joined request octets gave_none step (request_asked request step is) may
       by (Refused e) is = stays h gave_none
 
   -- ---- with something given
@@ -278,17 +272,12 @@ module _ {within : Within} (laws : SessionLaws) (cfg : Cfg) (fine : IsConfigured
         kept = subst KeptBy is (laws.stations.given_keeps c w.near g request h.near.kept);
       }
 
-  pub given_puts : (g : PlainGiven) (request : LayerRequest) → GivesOctets g → RequestsOctets request → (step : Step) → gives ours w.near g request ≡ Did step
-      → HasPut ours (alone w.near.link) step
-  given_puts g request of_given octets step is = asked_puts request octets (gave_by_request g request None) step (given_asked g request of_given step is)
-
-  pub gives_joined : (g : PlainGiven) (asked request : LayerRequest) → IsAt within end (Commands (command.RequestsWith g asked)) → GivesOctets g
+  pub gives_joined : {act : Act} → ((o : List ℕ) → Asks act (line.Put o)) → (g : PlainGiven) (request : LayerRequest) → GivesOctets g
       → RequestsOctets request
-      → (let o = of_station ours w (gives ours w.near g request) in Goes within cfg end h.links (gave_by_request g request (refusal_of o)) (after w o))
-  gives_joined g asked request is_at of_given octets = by (gives ours w.near g request) refl
+      → (let o = of_station ours w (gives ours w.near g request) in Goes cfg end w act h.links (gave_by_request g request (refusal_of o)) (after w o))
+  gives_joined {act} may g request of_given octets = by (gives ours w.near g request) refl
     where
       by : (o : Outcome) → gives ours w.near g request ≡ o
-          → Goes within cfg end h.links (gave_by_request g request (refusal_of (of_station ours w o))) (after w (of_station ours w o))
-      by (Did step) is =
-          asked_joined request octets (gave_by_request g request None) step (given_asked g request of_given step is) (λ o. may_ask (line.Put o) is_at tt)
+          → Goes cfg end w act h.links (gave_by_request g request (refusal_of (of_station ours w o))) (after w (of_station ours w o))
+      by (Did step) is = asked_joined request octets (gave_by_request g request None) step (given_asked g request of_given step is) may
       by (Refused e) is = stays h (gave_by_request g request (refusal_of (of_station ours w (Refused e))))

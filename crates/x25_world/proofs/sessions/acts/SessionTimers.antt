@@ -9,62 +9,80 @@ use Rattle.x25_frame.specs.declared.error.FrameError.TheVariants.{Short}
 use Rattle.x25_link.specs.laws.NoteLaw.{Tells}
 use Rattle.x25_link.specs.Link.{timer_refusal, timer_step, connect_refusal, connect_step, disconnect_refusal, disconnect_step, probe_refusal, relink_refusal}
 use Rattle.x25_link.specs.Link.{relink_step}
-use Rattle.x25_line.specs.{laws.Sessions.{begun_by, letters, IsTimely}, laws.SessionClaims.{octets_of}, laws.Stations.{is_visible}}
-use Rattle.x25_line.specs.laws.Said.{Said, said, sabm_of, ua_of, how_many}
+use Rattle.x25_line.specs.{laws.Loss.{replaced}, laws.Sessions.{Sessions, begun_by, with_octets, letters, IsTimely}}
+use Rattle.x25_line.specs.{laws.SessionClaims.{Each, octets_of}, laws.Stations.{is_visible}, laws.Said.{Said, said, sabm_of, ua_of, how_many}}
 use Rattle.x25_station.specs.{declared.config.Cfg.{Cfg}, Config.{Settings, settings_from, longest_packet}, Command.{Connects, Disconnects, Probes, Relinks}}
 use Rattle.x25_station.specs.Entry.{relink_asked}
 use Rattle.x25_station.specs.Step.{Step, follows, led_by, fires, connects, connects_asked, disconnects, probes, relinks, unless}
 use Rattle.x25_station.specs.laws.KeepLaw.{KeptBy, ConnectKeeps}
 use Rattle.x25_world.specs.{SetUp.{is_a, reads_as, carries}, declared.set_up.SetUpFrame.{SetUpFrame}, declared.set_up.SetUpFrame.TheVariants.{Sabm, Ua}}
-use Rattle.x25_world.specs.World.{World, Declined, Commands, Fires, of_station, is_on_line, fired, after, after_step, Happened, Loses, Damages}
-use Rattle.x25_world.specs.{World.{on_line, lost, damaged}, laws.Claims.{link_of}, laws.LawsBelow.{SessionLaws}}
+use Rattle.x25_world.specs.World.{World, Declined, Act, Commands, Fires, of_station, is_on_line, fired, after, after_step, Happened, Loses, Damages}
+use Rattle.x25_world.specs.{World.{on_line, lost, damaged}, laws.Claims.{link_of}, laws.SessionWindow.{Asks, all_at}, laws.LawsBelow.{SessionLaws}}
+use Rattle.x25_world.specs.Healing.{IsReceiptOrRequest}
 use Rattle.x25_world.proofs.Known.{IsConfigured, true_false}
-use Rattle.x25_world.proofs.sessions.SessionReaches.{Within, MayAsk, IsAt, may_ask, sessions_act, SessionsReach}
-use Rattle.x25_world.proofs.sessions.SessionJoined.{SessionsJoined, Goes, gave_none, stays, relined}
+use Rattle.x25_world.proofs.sessions.SessionReaches.{Leads, Asked, reach_on}
+use Rattle.x25_world.proofs.sessions.SessionJoined.{SessionsJoined, Goes, gave_none, stays}
 use Rattle.x25_world.proofs.sessions.SessionFollows.{Lead, no_command, connect, disconnect, relink, lead_of, follows_silent}
 use Rattle.x25_world.proofs.sessions.SessionBeside.{none_more}
 use Rattle.x25_peer.proofs.{Granted.{connects_in_down, relinks_in_up, timer_silent}, sessions.LinkSteps.{act_goes, probe_acts, relink_goes}}
 use Rattle.x25_line.proofs.sessions.SessionsForgotten.{octets_removed, octets_replaced}
-use Rattle.x25_link.specs.{declared.error.LinkError.{LinkError}, Station.{LinkStation, awaits_ua, Settings as LinkSettings}, Hearing.{other, Step as LinkStep}}
+use Rattle.x25_link.specs.{declared.error.LinkError.{LinkError}, Station.{LinkStation, awaits_ua, LinkSettings}, Hearing.{other, LinkStep}}
 use Rattle.x25_bits.specs.Role as bits
 use Rattle.x25_line.specs.laws.Stations as line
 use Rattle.x25_line.specs.laws.Sessions as links
 use Rattle.x25_world.specs.declared.error.WorldError.TheVariants as error
 
+-- an act by which nothing comes and the layer is asked nothing asks these, one after another
+asks_these : {cfg : Cfg} {end : Role} {w : World} {act : Act} (asked : List line.Act) {v u : Sessions} → (IsReceiptOrRequest act → ⊥) → Each (Asks act) asked
+    → Leads (link_of cfg end) (link_of cfg (other end)) (all_at Dte asked) v u → Asked cfg end w act v u
+asks_these asked never may leads = record { asked = asked; is = record { may = may; freely = λ are. absurd (never are) }; leads = leads }
+
 -- other octets are left on the line
-left_joined : {within : Within} {cfg : Cfg} {end : Role} {w : World} (h : SessionsJoined within cfg end w) (es : List links.Entry) (left : List (List ℕ))
-    → octets_of es ≡ left → SessionsReach within cfg end (record h.links { back = es })
-    → Goes within cfg end h.links gave_none (on_line w left)
-left_joined {cfg} {end} {w} h es left same reach = record {
-  joined = relined cfg end w h es left same reach;
+left_joined : {cfg : Cfg} {end : Role} {w : World} {act : Act} (h : SessionsJoined cfg end w) (es : List links.Entry) (left : List (List ℕ))
+    → octets_of es ≡ left → Asked cfg end w act h.links (record h.links { back = es }) → Goes cfg end w act h.links gave_none (on_line w left)
+left_joined {cfg} h es left same asked = record {
+  joined = record {
+    links = record h.links { back = es };
+    trace = h.trace;
+    reach = reach_on h.reach asked.leads;
+    near = h.near;
+    far = h.far;
+    out = h.out;
+    back = same;
+    tap = h.tap;
+    octets = h.octets;
+    pairs = h.pairs;
+    near_hears = h.near_hears;
+    far_hears = h.far_hears;
+  };
+  asked = asked;
   down = λ n. none_more cfg (h.links.near.down n) (h.links.near.down n) [] refl;
   far = refl;
 }
 
-pub lost_joined : {within : Within} (laws : SessionLaws) (cfg : Cfg) → IsConfigured cfg
-    → (end : Role) (w : World) (h : SessionsJoined within cfg end w) (place : ℕ) → IsAt within end (Loses place)
-    → Goes within cfg end h.links gave_none (after w (lost w place))
-lost_joined {within} laws cfg fine end w h place is_at = cond_both (nat_lt place (length w.back)) (Happened (on_line w (remove w.back place)))
-    (Declined error.NoSuchFrame) (λ o. Goes within cfg end h.links gave_none (after w o))
+pub lost_joined : {cfg : Cfg} {end : Role} {w : World} (h : SessionsJoined cfg end w) (place : ℕ)
+    → Goes cfg end w (Loses place) h.links gave_none (after w (lost w place))
+lost_joined {cfg} {end} {w} h place = cond_both (nat_lt place (length w.back)) (Happened (on_line w (remove w.back place)))
+    (Declined error.NoSuchFrame) (λ o. Goes cfg end w (Loses place) h.links gave_none (after w o))
     (λ _. left_joined h (remove h.links.back place) (remove w.back place) (sym (octets_removed h.links.back place) ∙ ap (λ l. remove l place) h.back)
-    (sessions_act tt (may_ask (line.Lose place) is_at refl) h.reach))
+    (asks_these (line.Lose place ∷ []) (λ are. are) (refl, tt) (record { timely = (tt, tt); run = refl })))
     (λ _. stays h gave_none)
 
-pub damaged_joined : {within : Within} (laws : SessionLaws) (cfg : Cfg) → IsConfigured cfg
-    → (end : Role) (w : World) (h : SessionsJoined within cfg end w) (place : ℕ) (octets : List ℕ) → IsAt within end (Damages place octets)
-    → Goes within cfg end h.links gave_none (after w (damaged w place octets))
-damaged_joined {within} laws cfg fine end w h place octets is_at =
+pub damaged_joined : {cfg : Cfg} {end : Role} {w : World} (h : SessionsJoined cfg end w) (place : ℕ) (octets : List ℕ)
+    → Goes cfg end w (Damages place octets) h.links gave_none (after w (damaged w place octets))
+damaged_joined {cfg} {end} {w} h place octets =
     by (nat_lt place (length w.back)) (is_visible octets)
-    (sessions_act tt (may_ask (line.Damage place octets) is_at (refl, refl)) h.reach)
+    (asks_these (line.Damage place octets ∷ []) (λ are. are) ((refl, refl), tt) (record { timely = (tt, tt); run = refl }))
   where
-    by : (b seen : Bool) → SessionsReach within cfg end (if seen then record h.links { back = links.replaced h.links.back place octets } else h.links)
-        → Goes within cfg end h.links gave_none
-        (after w (if b then (if seen then Happened (on_line w (line.replaced w.back place octets)) else Declined error.Unseen)
+    by : (b seen : Bool)
+        → Asked cfg end w (Damages place octets) h.links (if seen then record h.links { back = replaced h.links.back place (with_octets octets) } else h.links)
+        → Goes cfg end w (Damages place octets) h.links gave_none
+        (after w (if b then (if seen then Happened (on_line w (replaced w.back place (λ _. octets))) else Declined error.Unseen)
         else Declined error.NoSuchFrame))
-    by true true reach = left_joined h (links.replaced h.links.back place octets) (line.replaced w.back place octets)
-        (sym (octets_replaced h.links.back place octets) ∙ ap (λ l. line.replaced l place octets) h.back) reach
-    by true false reach = stays h gave_none
-    by false seen reach = stays h gave_none
+    by true true asked = left_joined h (replaced h.links.back place (with_octets octets)) (replaced w.back place (λ _. octets))
+        (sym (octets_replaced h.links.back place octets) ∙ ap (λ l. replaced l place (λ _. octets)) h.back) asked
+    by true false asked = stays h gave_none
+    by false seen asked = stays h gave_none
 
 -- ---- frames of a set-up on the line
 
@@ -96,7 +114,7 @@ pub not_begun_by : (b : Bool) (n : ℕ) → begun_by b n ≡ n → b ≡ false
 not_begun_by true n e = absurd (omega (arith, e))
 not_begun_by false n e = refl
 
-module _ {within : Within} (laws : SessionLaws) {cfg : Cfg} (fine : IsConfigured cfg) {end : Role} {w : World} (h : SessionsJoined within cfg end w) where
+module _ (laws : SessionLaws) {cfg : Cfg} (fine : IsConfigured cfg) {end : Role} {w : World} (h : SessionsJoined cfg end w) where
   abbrev ours : Settings
   ours = settings_from end cfg
 
@@ -104,31 +122,32 @@ module _ {within : Within} (laws : SessionLaws) {cfg : Cfg} (fine : IsConfigured
   lc = link_of cfg end
 
   -- by a step of the end, with nothing that its user gave
-  abbrev To : World → Type 0
-  To u = Goes within cfg end h.links gave_none u
+  abbrev To : Act → World → Type 0
+  To act u = Goes cfg end w act h.links gave_none u
 
   -- an act of the link that hands nothing up, or is refused
-  act_joined : (lead : Lead) {act : line.Act} (refusal : LinkStation → Option LinkError) (step : LinkStation → LinkStep)
+  act_joined : (lead : Lead) {asking : Act} (act : line.Act) (refusal : LinkStation → Option LinkError) (step : LinkStation → LinkStep)
       → links.acts lc act h.links
       ≡ links.unless (refusal h.links.near.station) h.links (links.after_step lc h.links h.links.back h.links.met [] (step h.links.near.station))
       → (links.acts lc act h.links).near.begun ≡ h.links.near.begun → IsTimely lc (link_of cfg (other end)) act h.links
-      → MayAsk within.event end act → (step w.near.link).packet ≡ None
+      → (IsReceiptOrRequest asking → ⊥) → Asks asking act → (step w.near.link).packet ≡ None
       → (refusal w.near.link ≡ None → Tells w.near.link (step w.near.link))
       → KeptBy (unless (refusal w.near.link) (led_by (lead_of lead) (follows ours w.near.layer (step w.near.link))))
-      → To (after w (of_station ours w (unless (refusal w.near.link) (led_by (lead_of lead) (follows ours w.near.layer (step w.near.link))))))
-  act_joined lead {act} refusal step is same timely asks none tells = by (refusal w.near.link) refl
+      → To asking (after w (of_station ours w (unless (refusal w.near.link) (led_by (lead_of lead) (follows ours w.near.layer (step w.near.link))))))
+  act_joined lead {asking} act refusal step is same timely never asks none tells = by (refusal w.near.link) refl
     where
       done : Step
       done = led_by (lead_of lead) (follows ours w.near.layer (step w.near.link))
 
-      by : (o : Option LinkError) → refusal w.near.link ≡ o → KeptBy (unless o done) → To (after w (of_station ours w (unless o done)))
+      by : (o : Option LinkError) → refusal w.near.link ≡ o → KeptBy (unless o done) → To asking (after w (of_station ours w (unless o done)))
       by (Some e) refused kept = stays h gave_none
       by None accepted kept =
           let k = step w.near.link in
           let g = act_goes lc h.links w.near.link act refusal step is h.near.link accepted in
-          subst (λ os. To (after_step ours w os done)) h.back
-          (follows_silent laws cfg fine end w h lead h.links.back k (links.acts lc act h.links) h.links.met (sessions_act timely asks h.reach) h.pairs
-          (λ n m has. has) (tells accepted) g (not_begun_by k.notes.up h.links.near.begun (sym g.begun ∙ same)) none kept)
+          subst (λ os. To asking (after_step ours w os done)) h.back
+          (follows_silent asking laws cfg fine end w h lead h.links.back k (links.acts lc act h.links) h.links.met h.pairs (λ n m has. has) (tells accepted) g
+          (asks_these (act ∷ []) never (asks, tt) (record { timely = (timely, tt); run = refl }))
+          (not_begun_by k.notes.up h.links.near.begun (sym g.begun ∙ same)) none kept)
 
   -- while UA is awaited T1 doesn't run out
   is_timely : (awaits_ua w.near.link.phase && is_on_line ours w) ≡ false → IsTimely lc (link_of cfg (other end)) line.T1 h.links
@@ -144,48 +163,48 @@ module _ {within : Within} (laws : SessionLaws) {cfg : Cfg} (fine : IsConfigured
       by Dte none = none
       by Dce none = none
 
-  pub fired_joined : IsAt within end Fires → To (after w (fired ours w))
-  fired_joined is_at = by (awaits_ua w.near.link.phase && is_on_line ours w) refl
+  pub fired_joined : To Fires (after w (fired ours w))
+  fired_joined = by (awaits_ua w.near.link.phase && is_on_line ours w) refl
     where
       by : (b : Bool) → (awaits_ua w.near.link.phase && is_on_line ours w) ≡ b
-          → To (after w (if b then Declined error.OnLine else of_station ours w (fires ours w.near)))
+          → To Fires (after w (if b then Declined error.OnLine else of_station ours w (fires ours w.near)))
       by true is = stays h gave_none
       by false is =
-          act_joined no_command timer_refusal (timer_step lc) refl (laws.hands lc lc (line.Near line.T1) h.links).0.begun (is_timely is)
-          (may_ask line.T1 is_at tt) (timer_silent lc w.near.link).0 (λ accepted. laws.stations.timer_tells lc w.near.link)
+          act_joined no_command line.T1 timer_refusal (timer_step lc) refl (laws.hands lc lc (line.Near line.T1) h.links).0.begun (is_timely is)
+          (λ are. are) tt (timer_silent lc w.near.link).0 (λ accepted. laws.stations.timer_tells lc w.near.link)
           (laws.stations.timer_keeps ours w.near h.near.kept)
 
   -- set-up is asked for, by a command or not
-  connecting : (lead : Lead) → MayAsk within.event end line.Connect
+  connecting : (lead : Lead)
       → KeptBy (unless (connect_refusal w.near.link.phase) (led_by (lead_of lead) (follows ours w.near.layer (connect_step lc w.near.link))))
-      → To
+      → To (Commands Connects)
       (after w (of_station ours w (unless (connect_refusal w.near.link.phase)
       (led_by (lead_of lead) (follows ours w.near.layer (connect_step lc w.near.link))))))
-  connecting lead asks =
-      act_joined lead (λ s. connect_refusal s.phase) (connect_step lc) refl (laws.hands lc lc (line.Near line.Connect) h.links).0.begun tt asks refl
-      (λ accepted. laws.stations.connect_tells lc w.near.link (connects_in_down w.near.link.phase accepted))
+  connecting lead =
+      act_joined lead line.Connect (λ s. connect_refusal s.phase) (connect_step lc) refl (laws.hands lc lc (line.Near line.Connect) h.links).0.begun tt
+      (λ are. are) tt refl (λ accepted. laws.stations.connect_tells lc w.near.link (connects_in_down w.near.link.phase accepted))
 
-  pub connects_joined : IsAt within end (Commands Connects) → To (after w (of_station ours w (connects_asked ours w.near)))
-  connects_joined is_at = connecting connect (may_ask line.Connect is_at tt) (laws.stations.command_keeps ours w.near Connects h.near.kept)
+  pub connects_joined : To (Commands Connects) (after w (of_station ours w (connects_asked ours w.near)))
+  connects_joined = connecting connect (laws.stations.command_keeps ours w.near Connects h.near.kept)
 
-  pub connects_alone_joined : IsAt within end (Commands Connects) → ConnectKeeps → To (after w (of_station ours w (connects ours w.near)))
-  connects_alone_joined is_at keeps = connecting no_command (may_ask line.Connect is_at tt) (keeps ours w.near h.near.kept)
+  pub connects_alone_joined : ConnectKeeps → To (Commands Connects) (after w (of_station ours w (connects ours w.near)))
+  connects_alone_joined keeps = connecting no_command (keeps ours w.near h.near.kept)
 
-  pub disconnects_joined : IsAt within end (Commands Disconnects) → To (after w (of_station ours w (disconnects ours w.near)))
-  disconnects_joined is_at =
-      act_joined disconnect (λ s. disconnect_refusal s.phase) (disconnect_step lc) refl (laws.hands lc lc (line.Near line.Disconnect) h.links).0.begun tt
-      (may_ask line.Disconnect is_at tt) refl (λ accepted. laws.stations.disconnect_tells lc w.near.link)
-      (laws.stations.command_keeps ours w.near Disconnects h.near.kept)
+  pub disconnects_joined : To (Commands Disconnects) (after w (of_station ours w (disconnects ours w.near)))
+  disconnects_joined =
+      act_joined disconnect line.Disconnect (λ s. disconnect_refusal s.phase) (disconnect_step lc) refl
+      (laws.hands lc lc (line.Near line.Disconnect) h.links).0.begun tt (λ are. are) tt refl
+      (λ accepted. laws.stations.disconnect_tells lc w.near.link) (laws.stations.command_keeps ours w.near Disconnects h.near.kept)
 
-  pub probes_joined : IsAt within end (Commands Probes) → To (after w (of_station ours w (probes ours w.near)))
-  probes_joined is_at =
-      act_joined no_command (λ s. probe_refusal s.phase) (timer_step lc) (probe_acts lc h.links) (laws.hands lc lc (line.Near line.Probe) h.links).0.begun tt
-      (may_ask line.Probe is_at tt) (timer_silent lc w.near.link).0 (λ accepted. laws.stations.timer_tells lc w.near.link)
-      (laws.stations.command_keeps ours w.near Probes h.near.kept)
+  pub probes_joined : To (Commands Probes) (after w (of_station ours w (probes ours w.near)))
+  probes_joined =
+      act_joined no_command line.Probe (λ s. probe_refusal s.phase) (timer_step lc) (probe_acts lc h.links)
+      (laws.hands lc lc (line.Near line.Probe) h.links).0.begun tt (λ are. are) tt (timer_silent lc w.near.link).0
+      (λ accepted. laws.stations.timer_tells lc w.near.link) (laws.stations.command_keeps ours w.near Probes h.near.kept)
 
   -- the link is abandoned, and then connected
-  pub relinks_joined : IsAt within end (Commands Relinks) → To (after w (of_station ours w (relinks ours w.near)))
-  relinks_joined is_at = by (relink_refusal w.near.link.phase) refl
+  pub relinks_joined : To (Commands Relinks) (after w (of_station ours w (relinks ours w.near)))
+  relinks_joined = by (relink_refusal w.near.link.phase) refl
     where
       c : LinkSettings
       c = link_of cfg end
@@ -196,12 +215,12 @@ module _ {within : Within} (laws : SessionLaws) {cfg : Cfg} (fine : IsConfigured
       step : Step
       step = led_by (relink_asked ∷ []) (follows ours w.near.layer k)
 
-      by : (o : Option LinkError) → relink_refusal w.near.link.phase ≡ o → To (after w (of_station ours w (unless o step)))
+      by : (o : Option LinkError) → relink_refusal w.near.link.phase ≡ o → To (Commands Relinks) (after w (of_station ours w (unless o step)))
       by (Some e) is = stays h gave_none
       by None is =
-          rw (sym h.back) (follows_silent laws cfg fine end w h relink h.links.back k (links.acts c line.Connect (links.acts c line.Abandon h.links))
-          h.links.met
-          (sessions_act tt (may_ask line.Connect is_at tt) (sessions_act tt (may_ask line.Abandon is_at tt) h.reach))
-          h.pairs (λ n m has. has) (laws.stations.relink_tells c w.near.link)
-          (relink_goes laws.stations.relinks c h.links w.near.link h.near.link (relinks_in_up w.near.link.phase is)) refl refl
+          subst (λ os. To (Commands Relinks) (after_step ours w os step)) h.back
+          (follows_silent (Commands Relinks) laws cfg fine end w h relink h.links.back k (links.acts c line.Connect (links.acts c line.Abandon h.links))
+          h.links.met h.pairs (λ n m has. has) (laws.stations.relink_tells c w.near.link)
+          (relink_goes laws.stations.relinks c h.links w.near.link h.near.link (relinks_in_up w.near.link.phase is))
+          (asks_these (line.Abandon ∷ line.Connect ∷ []) (λ are. are) (tt, (tt, tt)) (record { timely = (tt, (tt, tt)); run = refl })) refl refl
           (subst (λ o. KeptBy (unless o step)) is (laws.stations.command_keeps ours w.near Relinks h.near.kept)))

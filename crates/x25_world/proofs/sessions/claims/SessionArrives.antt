@@ -12,7 +12,7 @@ use Rattle.x25_station.specs.{declared.config.Cfg.{Cfg}, Config.{settings_from},
 use Rattle.x25_world.specs.{World.{World}, laws.Sessions.{last_session, handed_in, meets}, laws.SessionClaims.{OpenStretchesMeet, AllArrive}}
 use Rattle.x25_world.specs.laws.LawsBelow.{SessionLaws}
 use Rattle.x25_world.proofs.{Known.{IsConfigured, true_false}, Growing.{all_read, as_read, none_read, as_many}}
-use Rattle.x25_world.proofs.{sessions.SessionTrace.{layer_of, Done, own_in, own}, sessions.SessionReaches.{Within, known_sessions}}
+use Rattle.x25_world.proofs.{sessions.SessionTrace.{layer_of, Done, own_in, own}, sessions.SessionReaches.{known_sessions}}
 use Rattle.x25_world.proofs.sessions.SessionJoined.{HasMet, PairIsInOrder, SessionsJoined, sessions_swapped}
 use Rattle.x25_world.proofs.sessions.SessionKnown.{some_map, met_in_order, of_either}
 use Rattle.x25_line.proofs.ends.Meetings.{all_some}
@@ -107,7 +107,7 @@ module _ (laws : SessionLaws) (cfg : Cfg) where
       (λ events order. (let both = laws.layers_arrive cfg.long_data cfg.channels events order in (both.near, both.far)))
 
 -- the sessions of both ends that stand meet each other, as the near end sees it
-pub record StandingMeet {within : Within} (cfg : Cfg) (end : Role) (w : World) (h : SessionsJoined within cfg end w) : Type 0 where
+pub record StandingMeet (cfg : Cfg) (end : Role) (w : World) (h : SessionsJoined cfg end w) : Type 0 where
   pub up : is_up w.near.link.phase ≡ true
   pub told : meets end h.links.near.begun w.transcript ≡ Some h.links.far.begun
   pub has_met : HasMet h.links.near.begun h.links.far.begun h.links.met
@@ -116,7 +116,7 @@ pub record StandingMeet {within : Within} (cfg : Cfg) (end : Role) (w : World) (
 module _ (laws : SessionLaws) {cfg : Cfg} (fine : IsConfigured cfg) where
   -- ---- the sessions that stand
 
-  pub meet_from : {within : Within} {end : Role} {w : World} (h : SessionsJoined within cfg end w) (k : ℕ) (name : Name)
+  pub meet_from : {end : Role} {w : World} (h : SessionsJoined cfg end w) (k : ℕ) (name : Name)
       → stretch (settings_from end cfg) w.near k ≡ Some name → StandingMeet cfg end w h
   meet_from {end} {w} h k name here = elim (h.near_hears n)
       [ inl none ↦ absurd (not_silent none.0) | inr one ↦ standing one.session (is_latest one.session one.has_met) one.told one.has_met one.begun.1 ]
@@ -152,25 +152,25 @@ module _ (laws : SessionLaws) {cfg : Cfg} (fine : IsConfigured cfg) where
         begun = (h.near.first up, subst (λ x. 1 ≤ x) same low);
       }
 
-  pub latest_near : {within : Within} {end : Role} {w : World} (h : SessionsJoined within cfg end w) → h.links.near.begun ≡ last_session end w
+  pub latest_near : {end : Role} {w : World} (h : SessionsJoined cfg end w) → h.links.near.begun ≡ last_session end w
   latest_near h = sym (ap (λ p. p.begun) h.near.progress)
 
-  pub latest_far : {within : Within} {end : Role} {w : World} (h : SessionsJoined within cfg end w) → h.links.far.begun ≡ last_session (other end) w
+  pub latest_far : {end : Role} {w : World} (h : SessionsJoined cfg end w) → h.links.far.begun ≡ last_session (other end) w
   latest_far h = sym (ap (λ p. p.begun) h.far.progress)
 
-  latest_meet : {within : Within} {end : Role} {w : World} (h : SessionsJoined within cfg end w) (k : ℕ) (name : Name)
+  latest_meet : {end : Role} {w : World} (h : SessionsJoined cfg end w) (k : ℕ) (name : Name)
       → stretch (settings_from end cfg) w.near k ≡ Some name
       → meets end (last_session end w) w.transcript ≡ Some (last_session (other end) w)
   latest_meet {end} {w} h k name here =
       rw (sym (latest_near h)) ((meet_from h k name here).told ∙ ap (λ m. Some m) (latest_far h))
 
-  pub open_stretches_meet : {within : Within} (w : World) → SessionsJoined within cfg Dte w → OpenStretchesMeet cfg w
+  pub open_stretches_meet : (w : World) → SessionsJoined cfg Dte w → OpenStretchesMeet cfg w
   open_stretches_meet w h Dte channel there name name_there here at_other = latest_meet h channel name here
   open_stretches_meet w h Dce channel there name name_there here at_other = latest_meet (sessions_swapped h) channel name here
 
   -- ---- all arrived
 
-  arrives_from : {within : Within} {end : Role} {w : World} → SessionsJoined within cfg end w → (k : ℕ) (name : Name) → is_idle (settings_from end cfg) w.near
+  arrives_from : {end : Role} {w : World} → SessionsJoined cfg end w → (k : ℕ) (name : Name) → is_idle (settings_from end cfg) w.near
       ≡ true → stretch (settings_from end cfg) w.near k ≡ Some name
       → stretch (settings_from (other end) cfg) w.far k ≡ Some name
       → HasAllOf k name (handed_in end (last_session end w) w) (handed_in (other end) (last_session (other end) w) w)
@@ -198,6 +198,6 @@ module _ (laws : SessionLaws) {cfg : Cfg} (fine : IsConfigured cfg) where
       (subst (λ es. HasAllOf k (name_of giver.layer k) es (handed_in (other end) m w)) near_session.entries
       (subst (λ es. HasAllOf k (name_of giver.layer k) giver.entries es) far_session.entries has_all))))
 
-  pub all_arrive : {within : Within} (w : World) → SessionsJoined within cfg Dte w → AllArrive cfg w
+  pub all_arrive : (w : World) → SessionsJoined cfg Dte w → AllArrive cfg w
   all_arrive w h Dte k name idle here there = arrives_from h k name idle here there
   all_arrive w h Dce k name idle here there = arrives_from (sessions_swapped h) k name idle here there

@@ -17,7 +17,7 @@ use Rattle.x25_world.specs.laws.BesideClaims.{Came, came_in, Gave, gave_in, IsGi
 use Rattle.x25_world.specs.laws.ConfirmedClaims.{confirmed_in, asked_among, ConfirmedAreHandedUp}
 use Rattle.x25_world.proofs.{Known.{IsConfigured, is_configured}, Growing.{all_read, none_read}}
 use Rattle.x25_world.proofs.sessions.SessionTrace.{layer_of, Done, own_in, own, numbers, pair_at, moves_of_pair}
-use Rattle.x25_world.proofs.sessions.SessionReaches.{Within, known_sessions}
+use Rattle.x25_world.proofs.sessions.SessionReaches.{known_sessions}
 use Rattle.x25_world.proofs.sessions.SessionJoined.{HasMet, PairIsInOrder, SessionsJoined, sessions_swapped}
 use Rattle.x25_world.proofs.sessions.SessionKnown.{met_in_order, of_either, pair_ends, here_in, there_is}
 use Rattle.x25_world.proofs.{sessions.claims.SessionMeets.{told_met, unmet_up, begun_both}, sessions.acts.SessionRequests.{session_pair}}
@@ -64,7 +64,7 @@ before_first {p} (e ∷ entries) first =
     ap (λ b. entry_if b e ++ session_from 0 q entries) (none_is_first q goes_on) ∙ before_first entries goes_on
 
 -- a session that isn't begun has no entry
-pub unbegun_nothing : {within : Within} {cfg : Cfg} {end : Role} {w : World} (h : SessionsJoined within cfg end w) (n : ℕ) → (n ≡ 0)
+pub unbegun_nothing : {cfg : Cfg} {end : Role} {w : World} (h : SessionsJoined cfg end w) (n : ℕ) → (n ≡ 0)
     ⊎ (h.links.near.begun < n) → session_at end n w.transcript ≡ []
 unbegun_nothing {end} {w} h n never = elim never [
   | inl zeroth ↦ ap (λ k. session_from k none_begun (entries_at end w.transcript)) zeroth ∙ before_first (entries_at end w.transcript) (λ stands. absurd (cc))
@@ -73,19 +73,19 @@ unbegun_nothing {end} {w} h n never = elim never [
 
 -- ---- the session that it meets, or none
 
-record MeetsBegun {within : Within} (cfg : Cfg) (end : Role) (w : World) (h : SessionsJoined within cfg end w) (n m : ℕ) : Type 0 where
+record MeetsBegun (cfg : Cfg) (end : Role) (w : World) (h : SessionsJoined cfg end w) (n m : ℕ) : Type 0 where
   has_met : HasMet n m h.links.met
   near : (1 ≤ n) × (n ≤ h.links.near.begun)
   far : (1 ≤ m) × (m ≤ h.links.far.begun)
 
-meets_begun : {within : Within} (laws : SessionLaws) {cfg : Cfg} → IsConfigured cfg → {end : Role} {w : World} (h : SessionsJoined within cfg end w) (n m : ℕ)
+meets_begun : (laws : SessionLaws) {cfg : Cfg} → IsConfigured cfg → {end : Role} {w : World} (h : SessionsJoined cfg end w) (n m : ℕ)
     → meets end n w.transcript ≡ Some m → MeetsBegun cfg end w h n m
 meets_begun laws {cfg} fine {end} {w} h n m told =
     let met = told_met (λ n m. HasMet n m h.links.met) m (h.near_hears n) told in
     let high = begun_both h.links.near.begun h.links.far.begun h.links.met (known_sessions OnlyBegunHaveLists laws.begun fine h.reach).met met.has_met in
     record { has_met = met.has_met; near = (met.begun.0, high.0); far = (met.begun.1, high.1) }
 
-nothing_up : {within : Within} {cfg : Cfg} {end : Role} {w : World} (h : SessionsJoined within cfg end w) (n : ℕ) → meets end n w.transcript ≡ None
+nothing_up : {cfg : Cfg} {end : Role} {w : World} (h : SessionsJoined cfg end w) (n : ℕ) → meets end n w.transcript ≡ None
     → h.links.near.up n ≡ []
 nothing_up {end} {w} h n unmet = unmet_up (λ n m. HasMet n m h.links.met) (h.near_hears n) unmet
 
@@ -100,7 +100,7 @@ module _ (laws : SessionLaws) (cfg : Cfg) where
 module _ (laws : SessionLaws) {cfg : Cfg} (fine : IsConfigured cfg) where
   -- ---- in a session that meets one
 
-  lawful_from : {within : Within} {end : Role} {w : World} → SessionsJoined within cfg end w → (n m : ℕ) → meets end n w.transcript ≡ Some m
+  lawful_from : {end : Role} {w : World} → SessionsJoined cfg end w → (n m : ℕ) → meets end n w.transcript ≡ Some m
       → HandsUpLawfully (handed_in end n w) (handed_in (other end) m w)
   lawful_from {end} {w} h n m told =
       let met = meets_begun laws fine h n m told in
@@ -109,13 +109,13 @@ module _ (laws : SessionLaws) {cfg : Cfg} (fine : IsConfigured cfg) where
       subst (λ e. HandsUpLawfully e (handed_in (other end) m w)) here.entries
       (rw (sym there.entries) (own_lawful laws cfg end n m h.trace (met_in_order cfg end h.trace h.links.met n m h.pairs met.has_met)))
 
-  pub are_lawful : {within : Within} (w : World) → SessionsJoined within cfg Dte w → AreLawfulWhereMet cfg w
+  pub are_lawful : (w : World) → SessionsJoined cfg Dte w → AreLawfulWhereMet cfg w
   are_lawful w h Dte n m told = lawful_from h n m told
   are_lawful w h Dce n m told = lawful_from (sessions_swapped h) n m told
 
   -- ---- in one that meets none
 
-  untold_from : {within : Within} {end : Role} {w : World} → SessionsJoined within cfg end w → (n : ℕ) → meets end n w.transcript ≡ None
+  untold_from : {end : Role} {w : World} → SessionsJoined cfg end w → (n : ℕ) → meets end n w.transcript ≡ None
       → layer_notices (session_at end n w.transcript) ≡ []
   untold_from {end} {w} h n unmet = elim (which_session h.links.near.begun n) [
     | inl never ↦ ap layer_notices (unbegun_nothing h n never)
@@ -128,7 +128,7 @@ module _ (laws : SessionLaws) {cfg : Cfg} (fine : IsConfigured cfg) where
           sym session.told ∙ (laws.alone (layer_of cfg end) (own_in end n h.trace)
           (none_read (own cfg end n h.trace).taken (sym session.up ∙ ap (all_read cfg) (nothing_up h n unmet)))).told
 
-  pub unmet_told_nothing : {within : Within} (w : World) → SessionsJoined within cfg Dte w → UnmetAreToldNothing cfg w
+  pub unmet_told_nothing : (w : World) → SessionsJoined cfg Dte w → UnmetAreToldNothing cfg w
   unmet_told_nothing w h Dte n unmet = untold_from h n unmet
   unmet_told_nothing w h Dce n unmet = untold_from (sessions_swapped h) n unmet
 
@@ -140,7 +140,7 @@ module _ (laws : SessionLaws) (cfg : Cfg) where
       (λ events order. (let both = laws.layers_named cfg.long_data cfg.channels events order in (both.near, both.far)))
 
 module _ (laws : SessionLaws) {cfg : Cfg} (fine : IsConfigured cfg) where
-  named_from : {within : Within} {end : Role} {w : World} → SessionsJoined within cfg end w → (k : ℕ) → is_up w.near.link.phase ≡ true
+  named_from : {end : Role} {w : World} → SessionsJoined cfg end w → (k : ℕ) → is_up w.near.link.phase ≡ true
       → name_of w.near.layer k ≡ counted k first_name (layer_notices (session_at end (last_session end w) w.transcript))
   named_from {end} {w} h k up =
       let n = h.links.near.begun in
@@ -150,7 +150,7 @@ module _ (laws : SessionLaws) {cfg : Cfg} (fine : IsConfigured cfg) where
       ap (λ l. name_of l k) (sym now.layer) ∙ own_counts laws cfg end n pair.0 h.trace pair.1 k now.out ∙ ap (λ ns. counted k first_name ns) session.told
       ∙ ap (λ p. counted k first_name (layer_notices (session_at end p.begun w.transcript))) (sym h.near.progress)
 
-  pub are_named : {within : Within} (w : World) → SessionsJoined within cfg Dte w → AreNamedInSessions cfg w
+  pub are_named : (w : World) → SessionsJoined cfg Dte w → AreNamedInSessions cfg w
   are_named w h Dte k up = named_from h k up
   are_named w h Dce k up = named_from (sessions_swapped h) k up
 
@@ -168,7 +168,7 @@ begin_given cfg told up gave tells begins given =
 all_given : {cfg : Cfg} {down : List (List ℕ)} {gave : List Gave} → MoreIs cfg [] down gave → AreSomeOf IsGiven (brought cfg down) gave
 all_given m = rw m.is m.given
 
-module _ (laws : SessionLaws) {cfg : Cfg} (fine : IsConfigured cfg) {within : Within} {end : Role} {w : World} (h : SessionsJoined within cfg end w) where
+module _ (laws : SessionLaws) {cfg : Cfg} (fine : IsConfigured cfg) {end : Role} {w : World} (h : SessionsJoined cfg end w) where
   given_from : (n m : ℕ) (gave : List Gave) → AreSomeOf IsGiven (brought cfg (h.links.far.down m)) gave → meets end n w.transcript ≡ Some m
       → AreSomeOf IsGiven (came_in (session_at end n w.transcript)) gave
   given_from n m gave given told =
@@ -185,8 +185,8 @@ module _ (laws : SessionLaws) {cfg : Cfg} (fine : IsConfigured cfg) {within : Wi
         (subst (λ os. AreTold (came_in (session_at end n w.transcript)) (brought cfg os)) (nothing_up h n unmet) (h.near.sessions n begun.0 begun.1).beside)
   ]
 
-module _ {within : Within} (laws : SessionLaws) {cfg : Cfg} (fine : IsConfigured cfg) (begin : World) (events : List Event) {w : World}
-    (r : RunGoes within cfg from_nothing (λ n. gave_in cfg Dte n events begin) (λ n. gave_in cfg Dce n events begin) w) where
+module _ (laws : SessionLaws) {cfg : Cfg} (fine : IsConfigured cfg) (begin : World) (events : List Event) {w : World}
+    (r : RunGoes cfg from_nothing (λ n. gave_in cfg Dte n events begin) (λ n. gave_in cfg Dce n events begin) w) where
   met_given : (end : Role) (n m : ℕ) → meets end n w.transcript ≡ Some m
       → AreSomeOf IsGiven (came_in (session_at end n w.transcript)) (gave_in cfg (other end) m events begin)
   unfolding sessions_swapped
@@ -200,7 +200,7 @@ module _ {within : Within} (laws : SessionLaws) {cfg : Cfg} (fine : IsConfigured
 
 pub beside_given : SessionLaws → ConnectKeeps → ThroughoutAlong BesideIsGiven
 beside_given laws keeps cfg fine begin is events octets =
-    let r = (throughout_goes laws keeps cfg fine begin is events octets).1 in
+    let r = throughout_goes laws keeps cfg fine begin is events octets in
     let w = run cfg events begin in
     record { met = met_given laws (is_configured cfg fine) begin events r; unmet = unmet_untold laws (is_configured cfg fine) begin events r }
 
@@ -223,7 +223,7 @@ module _ (laws : SessionLaws) (cfg : Cfg) (k : ℕ) (name : Name) where
       ≤ up_of k name (own cfg (other end) m trace)
   own_confirms end n m trace order = rw (sym (there_is laws cfg end n m trace)) (pair_confirms end n m trace order)
 
-module _ (laws : SessionLaws) {cfg : Cfg} (fine : IsConfigured cfg) {within : Within} {end : Role} {w : World} (h : SessionsJoined within cfg end w) where
+module _ (laws : SessionLaws) {cfg : Cfg} (fine : IsConfigured cfg) {end : Role} {w : World} (h : SessionsJoined cfg end w) where
   confirmed_from : (n m : ℕ) → meets end n w.transcript ≡ Some m → (k : ℕ) (name : Name)
       → confirmed_in k name (session_at end n w.transcript) ≤ asked_among (messages_in (under k name (handed_in (other end) m w))).up
   confirmed_from n m told k name =
@@ -238,7 +238,7 @@ module _ (laws : SessionLaws) {cfg : Cfg} (fine : IsConfigured cfg) {within : Wi
       let none = none_counted (layer_of cfg end) k name (own_in end n h.trace) (started (goes_up (layer_of cfg end))) (h.near.alone n (nothing_up h n unmet)) in
       omega (arith, h.near.confirmed n k name, none)
 
-module _ (laws : SessionLaws) {cfg : Cfg} (fine : IsConfigured cfg) {within : Within} {w : World} (h : SessionsJoined within cfg Dte w) where
+module _ (laws : SessionLaws) {cfg : Cfg} (fine : IsConfigured cfg) {w : World} (h : SessionsJoined cfg Dte w) where
   met_confirmed : (end : Role) (n m : ℕ) → meets end n w.transcript ≡ Some m → (k : ℕ) (name : Name)
       → confirmed_in k name (session_at end n w.transcript) ≤ asked_among (messages_in (under k name (handed_in (other end) m w))).up
   met_confirmed Dte n m told = confirmed_from laws fine h n m told
@@ -248,5 +248,5 @@ module _ (laws : SessionLaws) {cfg : Cfg} (fine : IsConfigured cfg) {within : Wi
   unmet_confirmed Dte n none = unconfirmed_from laws fine h n none
   unmet_confirmed Dce n none = unconfirmed_from laws fine (sessions_swapped h) n none
 
-pub are_confirmed : SessionLaws → (cfg : Cfg) → IsConfigured cfg → {within : Within} (w : World) → SessionsJoined within cfg Dte w → ConfirmedAreHandedUp cfg w
+pub are_confirmed : SessionLaws → (cfg : Cfg) → IsConfigured cfg → (w : World) → SessionsJoined cfg Dte w → ConfirmedAreHandedUp cfg w
 are_confirmed laws cfg fine w h = record { met = met_confirmed laws fine h; unmet = unmet_confirmed laws fine h }

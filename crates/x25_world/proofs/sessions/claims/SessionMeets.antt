@@ -5,7 +5,7 @@ use Rattle.x25_link.specs.Hearing.{other}
 use Rattle.x25_line.specs.{laws.Sessions.{Meeting}, laws.SessionClaims.{Each, IsNoEarlier, InStep, OnlyBegunHaveLists}}
 use Rattle.x25_station.specs.declared.config.Cfg.{Cfg}
 use Rattle.x25_world.specs.{World.{World}, laws.Sessions.{last_session, meets}, laws.SessionClaims.{MeetInStep}, laws.LawsBelow.{SessionLaws}}
-use Rattle.x25_world.proofs.{Known.{IsConfigured}, sessions.SessionReaches.{Within, known_sessions}, sessions.SessionJoined.{HasMet, Hears, SessionsJoined}}
+use Rattle.x25_world.proofs.{Known.{IsConfigured}, sessions.SessionReaches.{known_sessions}, sessions.SessionJoined.{HasMet, Hears, SessionsJoined}}
 use Rattle.x25_line.proofs.ends.Meetings.{all_no_earlier, all_some}
 use Rattle.x25_line.specs.laws.SessionClaims as line
 
@@ -77,7 +77,7 @@ told_met Met {n} m hears some = elim hears [
     some_is : (a b : ℕ) → Some a ≡ Some b → a ≡ b
     some_is a b e = cc
 
-module _ {within : Within} (laws : SessionLaws) (cfg : Cfg) (fine : IsConfigured cfg) (w : World) (h : SessionsJoined within cfg Dte w) where
+module _ (laws : SessionLaws) (cfg : Cfg) (fine : IsConfigured cfg) (w : World) (h : SessionsJoined cfg Dte w) where
   met_by_links : (end : Role) (n m : ℕ) → meets end n w.transcript ≡ Some m → MetBegun (HasMetAt end n m h.links.met) n m
   met_by_links Dte n m told = told_met (λ n m. HasMet n m h.links.met) m (h.near_hears n) told
   met_by_links Dce n m told = told_met (λ n m. HasMet m n h.links.met) m (h.far_hears n) told

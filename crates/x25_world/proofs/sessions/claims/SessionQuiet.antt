@@ -9,7 +9,7 @@ use Rattle.x25_station.specs.{Config.{longest_packet}, declared.config.Cfg.{Cfg}
 use Rattle.x25_world.specs.{World.{OnTap, World}, laws.Claims.{IsQuietRead, IsQuietFrame, IsQuietTap, HasNoProcedureError, entries_at}}
 use Rattle.x25_world.specs.{laws.LawsBelow.{SessionLaws}, laws.TapOctets.{AreOfFrame, AreOfFrames, IsTapOfOctets}}
 use Rattle.x25_world.proofs.{Growing.{read_by, all_read, as_read, first_read, rest_read, AllAreOctets, AreOnTap, octets_in}, Known.{IsConfigured}}
-use Rattle.x25_world.proofs.{sessions.SessionTrace.{own}, sessions.SessionReaches.{Within, known_sessions}}
+use Rattle.x25_world.proofs.{sessions.SessionTrace.{own}, sessions.SessionReaches.{known_sessions}}
 use Rattle.x25_world.proofs.{sessions.SessionJoined.{SessionsJoined, sessions_swapped, links_swapped}, sessions.SessionKnown.{own_quiet}}
 use Rattle.x25_world.proofs.{sessions.claims.SessionLawful.{which_session}, sessions.acts.SessionRequests.{session_pair}, FrameOctets.{spelled_of_frame}}
 
@@ -69,7 +69,7 @@ module _ (laws : SessionLaws) {cfg : Cfg} (fine : IsConfigured cfg) where
   nowhere P octets (k, low, is) = absurd (omega (arith, low))
 
   held_from : {P : List ℕ → Type 0} → HoldsOfQuiet P
-      → {within : Within} {end : Role} {w : World} (h : SessionsJoined within cfg end w) (n : ℕ) (octets : List ℕ) → Contains (h.links.near.down n) octets
+      → {end : Role} {w : World} (h : SessionsJoined cfg end w) (n : ℕ) (octets : List ℕ) → Contains (h.links.near.down n) octets
       → P octets
   held_from {P} holds {end} {w} h n octets there = elim (which_session h.links.near.begun n) [
     | inl never ↦ nowhere P octets (subst (λ l. Contains l octets) (nothing_down never) there)
@@ -89,7 +89,7 @@ module _ (laws : SessionLaws) {cfg : Cfg} (fine : IsConfigured cfg) where
           (h.near.octets n) octets there
 
   -- holds of each packet that an end was handed down
-  pub held_of_given : {P : List ℕ → Type 0} → HoldsOfQuiet P → {within : Within} {w : World} (h : SessionsJoined within cfg Dte w) (octets : List ℕ)
+  pub held_of_given : {P : List ℕ → Type 0} → HoldsOfQuiet P → {w : World} (h : SessionsJoined cfg Dte w) (octets : List ℕ)
       → ((n : ℕ) × Contains (h.links.near.down n) octets) ⊎ ((n : ℕ) × Contains (h.links.far.down n) octets) → P octets
   held_of_given {P} holds {w} h octets down = elim down [
     | inl near ↦ held_from holds h near.0 octets near.1
@@ -98,7 +98,7 @@ module _ (laws : SessionLaws) {cfg : Cfg} (fine : IsConfigured cfg) where
 
   -- ---- of a world
 
-  pub has_no_error : {within : Within} (w : World) → SessionsJoined within cfg Dte w → HasNoProcedureError cfg w
+  pub has_no_error : (w : World) → SessionsJoined cfg Dte w → HasNoProcedureError cfg w
   has_no_error w h =
       let whole = known_sessions AllSessionsSendWhole laws.whole fine h.reach in
       record {
@@ -132,7 +132,7 @@ tap_octets given holds (t ∷ tap) (f ∷ fs) on whole none =
     )
 tap_octets given holds tap fs on whole none = absurd on
 
-pub is_of_octets : (laws : SessionLaws) (cfg : Cfg) (fine : IsConfigured cfg) {within : Within} (w : World) → SessionsJoined within cfg Dte w
+pub is_of_octets : (laws : SessionLaws) (cfg : Cfg) (fine : IsConfigured cfg) (w : World) → SessionsJoined cfg Dte w
     → IsTapOfOctets cfg w
 is_of_octets laws cfg fine w h =
     let whole = known_sessions AllSessionsSendWhole laws.whole fine h.reach in

@@ -18,7 +18,7 @@ use Rattle.x25_world.specs.{World.{World, mirrored, WorldOutcome, Happened, Decl
 use Rattle.x25_world.specs.laws.WaitClaims.{WaitsForUser, Arrived, NotReady, MessagesWaitForUsers, ClosedKeepNone, PullsLeaveNone, UnpulledWaitForUsers}
 use Rattle.x25_world.specs.laws.LawsBelow.{SessionLaws}
 use Rattle.x25_world.proofs.{Known.{IsConfigured, true_false}, Growing.{all_read, as_read, as_many}, sessions.SessionTrace.{layer_of, Done, own}}
-use Rattle.x25_world.proofs.{sessions.SessionReaches.{Within, known_sessions}, sessions.SessionJoined.{PairIsInOrder, SessionsJoined, sessions_swapped}}
+use Rattle.x25_world.proofs.{sessions.SessionReaches.{known_sessions}, sessions.SessionJoined.{PairIsInOrder, SessionsJoined, sessions_swapped}}
 use Rattle.x25_world.proofs.{sessions.SessionKnown.{some_map, met_in_order, of_either}, sessions.acts.SessionRequests.{session_pair}}
 use Rattle.x25_world.proofs.sessions.claims.SessionArrives.{stretch_of, name_if, open_if, meet_from, latest_near, latest_far}
 use Rattle.x25_link.specs.Outgoing as outgoing
@@ -77,7 +77,8 @@ module _ (laws : SessionLaws) (waits_law : LayersWait) (cfg : Cfg) where
       (let w = as_world (apart_run cfg.long_data cfg.channels events (apart_start cfg.long_data cfg.channels)) in
       let keeps = laws.layers_order cfg.long_data cfg.channels events order in
       let wait_for = waits_law cfg.long_data cfg.channels events order in
-      let drained : w.near.is_out ≡ false → w.far.is_out ≡ false → length w.far.taken ≡ length w.near.given → length w.near.taken ≡ length w.far.given → IsDrained w =
+      let drained : w.near.is_out ≡ false → w.far.is_out ≡ false → length w.far.taken ≡ length w.near.given → length w.near.taken ≡ length w.far.given
+      → IsDrained w =
       λ up up_there all all_back. record {
         near_up = up;
         far_up = up_there;
@@ -98,7 +99,7 @@ stretch_is c s k name channel opened named =
     ∙ ap (λ n. Some n) named
 
 module _ (laws : SessionLaws) (waits_law : LayersWait) {cfg : Cfg} (fine : IsConfigured cfg) where
-  waits_from : {within : Within} {end : Role} {w : World} → SessionsJoined within cfg end w → (k : ℕ) (name : Name) → link.is_idle w.near.link ≡ true
+  waits_from : {end : Role} {w : World} → SessionsJoined cfg end w → (k : ℕ) (name : Name) → link.is_idle w.near.link ≡ true
       → link.is_idle w.far.link ≡ true
       → PullsNone (layer_of cfg end) w.near.layer → stretch (settings_from end cfg) w.near k ≡ Some name
       → (stretch (settings_from (other end) cfg) w.far k ≡ Some name)
@@ -171,7 +172,7 @@ swapped_is (Happened v) w is = ap (λ u. swapped_back u) is
 swapped_is (Declined e) w is = absurd (cc)
 
 module _ (laws : SessionLaws) (waits_law : LayersWait) (still_law : StillPullsNone) {cfg : Cfg} (fine : IsConfigured cfg) where
-  pub messages_wait : {within : Within} (w : World) → SessionsJoined within cfg Dte w → MessagesWaitForUsers cfg w
+  pub messages_wait : (w : World) → SessionsJoined cfg Dte w → MessagesWaitForUsers cfg w
   messages_wait w h Dte k name idle idle_there still here =
       waits_from laws waits_law fine h k name idle idle_there (had_nothing still_law (settings_from Dte cfg) w idle still) here
   messages_wait w h Dce k name idle idle_there still here =
@@ -188,7 +189,7 @@ module _ (laws : SessionLaws) (closed_law : LayersKeepNone) {cfg : Cfg} (fine : 
   own_closed = of_either laws cfg (λ end e f. KeepsNoneClosed e)
       (λ events order. (let both = closed_law cfg.long_data cfg.channels events order in (both.near, both.far)))
 
-  closed_from : {within : Within} {end : Role} {w : World} → SessionsJoined within cfg end w → (k : ℕ) → is_open (w.near.layer.circuits k) ≡ false
+  closed_from : {end : Role} {w : World} → SessionsJoined cfg end w → (k : ℕ) → is_open (w.near.layer.circuits k) ≡ false
       → waits (w.near.layer.circuits k) ≡ 0
   closed_from {end} {w} h k closed = by (is_up w.near.link.phase) refl
     where
@@ -199,7 +200,7 @@ module _ (laws : SessionLaws) (closed_law : LayersKeepNone) {cfg : Cfg} (fine : 
           ap (λ l. waits (l.circuits k)) (sym same) ∙ own_closed end h.links.near.begun pair.0 h.trace pair.1 k (ap (λ l. is_open (l.circuits k)) same ∙ closed)
       by false down = ap (λ l. waits (l.circuits k)) (h.near.kept.rests down)
 
-  pub closed_keep : {within : Within} (w : World) → SessionsJoined within cfg Dte w → ClosedKeepNone cfg w
+  pub closed_keep : (w : World) → SessionsJoined cfg Dte w → ClosedKeepNone cfg w
   closed_keep w h Dte k closed = closed_from h k closed
   closed_keep w h Dce k closed = closed_from (sessions_swapped h) k closed
 
@@ -214,7 +215,7 @@ module _ (laws : SessionLaws) (shut_law : LayersOpenNone) {cfg : Cfg} (fine : Is
   own_shut = of_either laws cfg (λ end e f. OpensNoneInRestart e)
       (λ events order. (let both = shut_law cfg.long_data cfg.channels events order in (both.near, both.far)))
 
-  shut_from : {within : Within} (end : Role) (w : World) → SessionsJoined within cfg end w → w.near.layer.restarting ≡ true → (k : ℕ)
+  shut_from : (end : Role) (w : World) → SessionsJoined cfg end w → w.near.layer.restarting ≡ true → (k : ℕ)
       → is_open (w.near.layer.circuits k) ≡ false
   shut_from end w h restarts k = by (is_up w.near.link.phase) refl
     where
@@ -226,7 +227,7 @@ module _ (laws : SessionLaws) (shut_law : LayersOpenNone) {cfg : Cfg} (fine : Is
       by false down = absurd (true_false (sym restarts ∙ ap (λ l. l.restarting) (h.near.kept.rests down)))
 
 module _ (laws : SessionLaws) (waits_law : LayersWait) (shut_law : LayersOpenNone) {cfg : Cfg} (fine : IsConfigured cfg) where
-  unpulled_from : {within : Within} {end : Role} {w : World} → SessionsJoined within cfg end w → (k : ℕ) (name : Name) → link.is_idle w.near.link ≡ true
+  unpulled_from : {end : Role} {w : World} → SessionsJoined cfg end w → (k : ℕ) (name : Name) → link.is_idle w.near.link ≡ true
       → link.is_idle w.far.link ≡ true
       → (w.near.layer.restarting ≡ false → PullsNone (layer_of cfg end) w.near.layer) → stretch (settings_from end cfg) w.near k ≡ Some name
       → (stretch (settings_from (other end) cfg) w.far k ≡ Some name)
@@ -238,7 +239,7 @@ module _ (laws : SessionLaws) (waits_law : LayersWait) (shut_law : LayersOpenNon
       by false is = is
       by true is = absurd (true_false (sym (stretch_of cfg.channels w.near.layer k name here).opened ∙ shut_from laws shut_law fine end w h is k))
 
-  pub unpulled_wait : {within : Within} (w : World) → SessionsJoined within cfg Dte w → UnpulledWaitForUsers cfg w
+  pub unpulled_wait : (w : World) → SessionsJoined cfg Dte w → UnpulledWaitForUsers cfg w
   unpulled_wait w h idle idle_there none none_there Dte k name here = unpulled_from h k name idle idle_there none here
   unpulled_wait w h idle idle_there none none_there Dce k name here = unpulled_from (sessions_swapped h) k name idle_there idle none_there here
 
