@@ -40,13 +40,13 @@ def taken(task, trace):
         with tempfile.TemporaryFile() as file:
             file.writelines(lines)
             file.seek(0)
-            counts.append(instructions([program, task], file, (0, 1)))
+            counts.append(instructions([program, *task], file, (0, 1)))
     return counts[0] - counts[1]
 
 
 def told(name, trace):
     """Writes the line of a trace."""
-    judge, decode = (taken(task, trace) / len(trace) for task in ("judge", "decode"))
+    judge, decode = (taken(task, trace) / len(trace) for task in (["judge", "--at", "line"], ["decode"]))
     print(f"{name:24s} judge {judge:6,.0f} a line, decode {decode:5,.0f}: {judge / decode:.2f} times")
 
 

@@ -1,18 +1,18 @@
-"""Random traces of two ends that keep the rules of the packet layer and ask again before an answer comes, judged: none is told of.
+"""Random traces of two ends that keep the rules of the packet layer and ask again before an answer comes, judged beside an oracle.
 
     again_runs.py [--program PROGRAM] [--from SEED] [RUNS]
 
 Both ends keep the rules of docs/PEER.md on two channels, over a link that loses nothing, but that they send RESTART, CLEAR and RESET again
 at any moment while the answer is due, as timers T20, T22 and T23 have it, and take CLEAR and RESTART before they answer what these end.
 Packets wait on their way as long as chance has it, so one that is sent again often crosses the answer. Some links are set up by a SABM that
-goes again while its UA is on the way, and then anew. `make judge-runs` plays 10,000.
+goes again while its UA is on the way, and then anew. No rule may be told, nor is one broken by rules.py. `make judge-runs` plays 10,000.
 
-Exit status: 0; 1 where a rule or manners were told, with the seed of that run; 2 for bad words, or where there is no program.
+Exit status: 0; 1 where one was, with the seed of that run; 2 for bad words, or where there is no program.
 """
 
-import subprocess
 import sys
 
+import rules_runs
 import runs
 from runs import ACCEPTED, CALL, CLEAR, CLEAR_CONFIRMATION, INTERRUPT, INTERRUPT_CONFIRMATION
 from runs import OTHERS, RESET, RESET_CONFIRMATION, RESTART, RESTART_CONFIRMATION, RR, Numbers
@@ -204,17 +204,13 @@ def trace(seed):
         yield line(other, False, counts[mark] % 8 << 5 | RR)
 
 
-def told(program, seed):
-    """The lines that tell a rule, and how many frames the run has."""
+def play(program, seed):
+    """What comes of a run; manners are none either, and both ends keep the rules."""
     lines = list(trace(seed))
-    done = subprocess.run([program, "judge"], input="".join(lines), stdout=subprocess.PIPE, text=True)
-    return [text for text in done.stdout.splitlines() if runs.TOLD.search(text)], len(lines)
-
-
-def main():
-    options = runs.options_of(runs.words(__doc__, 10_000))
-    return runs.tell(options, lambda seed: told(options.program, seed))
+    played = rules_runs.compared(program, seed, [(lines, None)])
+    told = [f"seed {seed}: {text}" for text in rules_runs.judged(program, lines) if runs.TOLD.search(text)]
+    return played._replace(wrong=played.wrong + told + [f"seed {seed}: a rule is broken"] * played.broken)
 
 
 if __name__ == "__main__":
-    sys.exit(main())
+    sys.exit(rules_runs.main(play, __doc__, 10_000))

@@ -101,7 +101,7 @@ def frames_of(program, words, script):
 
 def judged(program, words, frames):
     """The lines of a trace that tell of a rule, and how many frames it has."""
-    done = subprocess.run([program, "judge", *words], input="".join(frames), stdout=subprocess.PIPE, text=True)
+    done = subprocess.run([program, "judge", "--at", "line", *words], input="".join(frames), stdout=subprocess.PIPE, text=True)
     lines = done.stdout.splitlines()
     at_fault = [line for line in lines if runs.TOLD.search(line) or line == "? 60"]
     if done.returncode != (0 if frames else 1) and not at_fault:

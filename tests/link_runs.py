@@ -1,26 +1,24 @@
-"""Random traces of an end that keeps the rules of the link beside one that sends what it likes, judged: no rule of order is told of it.
+"""Random traces of an end that keeps the rules of the link beside one that sends what it likes, judged beside an oracle.
 
     link_runs.py [--program PROGRAM] [--from SEED] [RUNS]
 
 The end, either of the two, keeps rules 1 to 6 and 20 to 24 of docs/PEER.md over any number of set-ups, but that it sends SABM again at any
 moment while it awaits UA. It hears and takes what comes, or passes over it. Lines of both ends are damaged in the trace: such a line of the
-other end is a loss, and one of its own may have been any frame that it sends. `make judge-runs` plays 10,000.
+other end is a loss, and one of its own may have been any frame that it sends. No rule of order may be told of it, and what is told of both is
+compared with what rules.py says, as in rules_runs.py. `make judge-runs` plays 10,000.
 
-Exit status: 0; 1 where such a rule was told of it, with the seed of that run; 2 for bad words, or where there is no program.
+Exit status: 0; 1 where one was, or an end was missed or accused, with the seed of that run; 2 for bad words, or where there is no program.
 """
 
-import subprocess
 import sys
 from collections import namedtuple
 
+import rules_runs
 import runs
 from runs import DISC, DM, FRMR, P_OR_F, REJ, RNR, RR, SABM, UA
 
 from x25tools import losses  # where runs finds it
 
-NAMES = {">": "dte", "<": "dce"}
-# What `judge` tells of a frame that breaks a rule of order of the link layer.
-ORDER = ("no frame of LAPB", "UA answers", "no I frame", "N(R) ", "an I frame sent again", "more I frames are unacknowledged")
 # What the other end sends, the kinds that it sends most several times.
 KINDS = (SABM,) * 12 + (DISC,) * 2 + (UA,) * 8 + (DM, FRMR) + ("I",) * 16 + (RR,) * 8 + (REJ,) * 4
 OUT, ASKING, IN = "out", "asking", "in"
@@ -151,18 +149,13 @@ class Run:
         numbers.told = told
 
 
-def told(program, seed):
-    """The lines that tell such a rule of the end, and how many frames the run has."""
+def play(program, seed):
+    """What comes of a run, of which the end has broken no rule."""
     run = Run(seed)
-    done = subprocess.run([program, "judge"], input="".join(run.trace), stdout=subprocess.PIPE, text=True)
-    marks = tuple(f" ! {NAMES[run.mark]}: {rule}" for rule in ORDER)
-    return [line for line in done.stdout.splitlines() if any(mark in line for mark in marks)], len(run.trace)
-
-
-def main():
-    options = runs.options_of(runs.words(__doc__, 10_000))
-    return runs.tell(options, lambda seed: told(options.program, seed))
+    played = rules_runs.compared(program, seed, [(run.trace, None)])
+    told = [rule for rule in rules_runs.told_of(rules_runs.judged(program, run.trace)) if rule.end == run.mark and rule.is_rule]
+    return played._replace(wrong=[f"seed {seed}: {rule}" for rule in told if not rule.is_of_packets] + played.wrong)
 
 
 if __name__ == "__main__":
-    sys.exit(main())
+    sys.exit(rules_runs.main(play, __doc__, 10_000))

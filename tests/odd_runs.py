@@ -1,19 +1,20 @@
-"""Random runs of a station beside an end whose packets break rules, judged: nothing may be told of the station.
+"""Random runs of a station beside an end whose packets break rules, judged beside an oracle: nothing may be told of the station.
 
     odd_runs.py [--program PROGRAM] [--from SEED] [--midst] [RUNS]
 
 The station is `x25 station`, of either end, with a user who calls, accepts, sends, clears, resets and restarts at random. The other end
 keeps the rules of the link and restarts first; its packets have wrong P(S)s and P(R)s at times, are confirmations of nothing, calls where a
-call is, data of any length, and octets that are no packet, and it confirms late, in another order or never. What both send goes through
-`judge`. With --midst it is judged from a frame in its midst on: then the faults of the other end may stand before the trace begins, so a
-station may be told of at times.
+call is, data of any length, and octets that are no packet, and it confirms late, in another order or never. What `judge` tells of both is
+compared with what rules.py says, as in rules_runs.py. With --midst each run is judged from a frame in its midst on: then the faults of the
+other end may stand before the trace begins, so a station may be told of at times.
 
-Exit status: 0; 1 where a rule or manners were told of the station, with the seed of that run; 2 for bad words, or where there is no program.
+Exit status: 0; 1 where a rule or manners were told of the station, or the other end was missed or accused, with the seed of that run; 2 for bad
+words, or where there is no program.
 """
 
-import subprocess
 import sys
 
+import rules_runs
 import runs
 from runs import ACCEPTED, CALL, CLEAR, CLEAR_CONFIRMATION, INTERRUPT, INTERRUPT_CONFIRMATION
 from runs import P_OR_F, RESET, RESET_CONFIRMATION, RESTART, RESTART_CONFIRMATION, RNR, RR, SABM, Numbers
@@ -197,25 +198,21 @@ class Run:
                 self.step()
 
 
-def told(program, frames, end):
-    """The lines that tell a rule of an end."""
-    done = subprocess.run([program, "judge"], input="".join(frames), stdout=subprocess.PIPE, text=True)
-    return [line for line in done.stdout.splitlines() if (told := runs.TOLD.search(line)) and told[1].startswith(end)]
-
-
 def play(program, seed, from_midst=False):
-    """The lines that tell of the station of a run, of the whole trace or of it from a frame in its midst on, and how many frames it has."""
+    """What comes of a run, of the whole trace or of it from a frame in its midst on."""
     run = Run(program, seed)
     run.play()
-    midst = losses.Dice(seed).below(len(run.trace)) if from_midst else 0
-    return told(program, run.trace[midst:], run.end), len(run.trace)
+    lines = run.trace[losses.Dice(seed).below(len(run.trace)) if from_midst else 0 :]
+    played = rules_runs.compared(program, seed, [(lines, None)])
+    told = [text for text in rules_runs.judged(program, lines) if (found := runs.TOLD.search(text)) and found[1].startswith(run.end)]
+    return played._replace(wrong=[f"seed {seed}: {text}" for text in told] + played.wrong)
 
 
 def main():
     parser = runs.words(__doc__, 5_000)
     parser.add_argument("--midst", action="store_true", help="judge each trace from a frame in its midst on")
     options = runs.options_of(parser)
-    return runs.tell(options, lambda seed: play(options.program, seed, options.midst))
+    return rules_runs.tell(options, lambda seed: play(options.program, seed, options.midst))
 
 
 if __name__ == "__main__":

@@ -14,7 +14,6 @@ import sys
 from typing import NamedTuple
 
 import judge_runs
-import rules
 import rules_runs
 from runs import RNR, RR
 
@@ -155,9 +154,8 @@ def trace(program, seed):
 def play(program, seed):
     """A run, and copies of it with one frame changed: how many they are, in how many a rule is broken, and what is wrong with what was told."""
     frames, dice = trace(program, seed), losses.Dice(seed)
-    traces = [frames] + [dice.one_of(CHANGES)(dice, frames) for _ in range(COPIES if infos(frames) else 0)]
-    played = [rules_runs.compare(program, [rules.frame_of(*frame) for frame in copy], [frame.line() for frame in copy]) for copy in traces]
-    return rules_runs.Played(len(traces), sum(broken for broken, _ in played), [f"seed {seed}: {text}" for _, wrong in played for text in wrong])
+    copies = [frames] + [dice.one_of(CHANGES)(dice, frames) for _ in range(COPIES if infos(frames) else 0)]
+    return rules_runs.compared(program, seed, [([frame.line() for frame in copy], None) for copy in copies])
 
 
 if __name__ == "__main__":

@@ -1,4 +1,4 @@
-"""The rules of docs/PEER.md, told apart from `x25 judge`: in which states each end of a whole trace may be.
+"""The rules of docs/PEER.md, told apart from `x25 judge`: in which states each end of a trace may be.
 
 Of each end all is held that it may have come to: where it stands with the link, with restarts and with each channel, by whole numbers, and
 what of the other end may come to it yet. What it loses nothing by it hears and takes at once; in front of anything else it waits, or goes on.
@@ -6,20 +6,27 @@ A frame leaves the states that may send it. Where none is left the end has broke
 
 SABM, RESTART, CLEAR and RESET may be sent again while they wait. CLEAR and RESTART end what waits for an answer. A number goes first after
 all below it, as a tape doesn't show what is left out.
+
+As a trace begins each end may be anywhere, and SABM and DISC of before may come, but no UA, and nothing with a number. Octets that spell no
+frame may have been any, or none, and may have come or not. After a gap of an end that is so again, but that anything of it may come. In front
+of an end a trace lacks what the line lost of the other one. What an I frame carried that wasn't seen isn't known, nor is where its end is with
+packets then, up to the next set-up.
 """
 
-from typing import NamedTuple, Optional, Tuple
+from typing import NamedTuple, Optional, Tuple, Union
 
 from runs import ACCEPTED, CALL, CLEAR, CLEAR_CONFIRMATION, DISC, DM, FRMR, INTERRUPT, INTERRUPT_CONFIRMATION
 from runs import OTHERS, REJ, RESET, RESET_CONFIRMATION, RESTART, RESTART_CONFIRMATION, RNR, RR, SABM, UA
 
 DATA, INFO = 0, 0
-USUAL = (128, 128)
+# What may stand in a trace beside frames: octets that spell no frame, and a gap, any number of frames. And what stood before it began.
+UNREAD, UNSEEN, BEFORE = "unread", "unseen", "before"
+USUAL, USUAL_WINDOWS = (128, 128), (2, 2)
 UNNUMBERED = (SABM, DISC, UA, DM, FRMR)
 
 
 class Packet(NamedTuple):
-    """A packet; `sizes` are those of the called and of the calling end, where a call says them."""
+    """A packet; `sizes` are those of the called and of the calling end, where a call says them, and so are `windows`."""
 
     channel: int
     kind: int
@@ -29,6 +36,7 @@ class Packet(NamedTuple):
     m: bool = False
     size: int = 0
     sizes: Optional[Tuple[int, int]] = None
+    windows: Optional[Tuple[int, int]] = None
 
 
 def packet_of(octets):
@@ -43,17 +51,20 @@ def packet_of(octets):
     if kind & 0x1F in (RR, RNR) and not rest:
         return Packet(channel, kind & 0x1F, kind >> 5)
     if kind in (CALL, ACCEPTED):
-        return Packet(channel, kind, sizes=sizes_in(rest) if rest else None)
+        sizes, windows = said_in(rest, 0x42), said_in(rest, 0x43)
+        return Packet(channel, kind, sizes=sizes and (1 << sizes[0], 1 << sizes[1]), windows=windows)
     return Packet(channel, kind) if kind in KINDS and len(rest) in LENGTHS.get(kind, (0,)) else None
 
 
-def sizes_in(octets):
-    """The packet sizes that the facilities of a call say, after its addresses."""
+def said_in(octets, code):
+    """What a facility of a call says of the called and of the calling end, after its addresses."""
+    if not octets:
+        return None
     place = 1 + (octets[0] // 16 + octets[0] % 16 + 1) // 2
     field = octets[place + 1 : place + 1 + sum(octets[place : place + 1])]
     while field:
-        if field[0] == 0x42:
-            return 1 << field[1], 1 << field[2]
+        if field[0] == code:
+            return field[1], field[2]
         field = field[(2, 3, 4)[field[0] >> 6] if field[0] < 0xC0 else 2 + field[1] :]
     return None
 
@@ -68,6 +79,11 @@ def resolved(low, number):
     return low + (number - low) % 8
 
 
+def is_toward(proposed, usual, answered):
+    """Whether what is answered lies between what was proposed and what is usual."""
+    return all(min(a, b) <= n <= max(a, b) for a, b, n in zip(proposed, usual, answered or proposed))
+
+
 # ---- an end of a channel
 
 IDLE, CALLS, CALLED, TALKS, RESETS, WAS_RESET, CLEARS, WAS_CLEARED = range(8)
@@ -76,6 +92,7 @@ IDLE, CALLS, CALLED, TALKS, RESETS, WAS_RESET, CLEARS, WAS_CLEARED = range(8)
 class Channel(NamedTuple):
     stand: int = IDLE
     sizes: Tuple[int, int] = USUAL
+    windows: Tuple[int, int] = USUAL_WINDOWS
     most: int = 0
     sent: int = 0
     acked: int = 0
@@ -93,7 +110,7 @@ class Channel(NamedTuple):
         if kind == CLEAR:
             return Channel(WAS_CLEARED)
         if kind == CALL and (stand == IDLE or stand == CALLS and is_dce):
-            return Channel(CALLED, packet.sizes or USUAL)
+            return Channel(CALLED, packet.sizes or USUAL, packet.windows or USUAL_WINDOWS)
         if kind == ACCEPTED and stand == CALLS:
             return Channel(TALKS, most=(packet.sizes or self.sizes)[1])
         if stand == RESETS and kind in (RESET, RESET_CONFIRMATION):
@@ -128,7 +145,8 @@ class Channel(NamedTuple):
         if kind == CALL and stand == IDLE:
             return Channel(CALLS, packet.sizes or USUAL)
         if kind == ACCEPTED and stand == CALLED:
-            return Channel(TALKS, most=(packet.sizes or self.sizes)[0])
+            is_right = is_toward(self.sizes, USUAL, packet.sizes) and is_toward(self.windows, USUAL_WINDOWS, packet.windows)
+            return Channel(TALKS, most=(packet.sizes or self.sizes)[0]) if is_right else None
         if kind == CLEAR_CONFIRMATION and stand == WAS_CLEARED:
             return Channel()
         if kind == RESET_CONFIRMATION and stand == WAS_RESET:
@@ -220,14 +238,18 @@ class Layer(NamedTuple):
 
 # ---- an end of the link
 
-OUT, ASKS, IN = range(3)
+# ANYWHERE is any of the others, with any numbers.
+OUT, ASKS, IN, ANYWHERE = range(4)
+# As many frames as may be missing, and more than a trace has.
+MANY = 1 << 30
 
 
 class Frame(NamedTuple):
-    """A frame, with its end, `>` or `<`: of an unnumbered one its kind, else INFO, RR, RNR or REJ; or one that LAPB doesn't have."""
+    """A frame, with its end, `>` or `<`: of an unnumbered one its kind, else INFO, RR, RNR or REJ; or one that LAPB doesn't have; or UNREAD or
+    UNSEEN."""
 
     end: str
-    kind: Optional[int]
+    kind: Union[int, str, None]
     nr: Optional[int] = None
     ns: Optional[int] = None
     information: bytes = b""
@@ -245,20 +267,27 @@ def frame_of(end, octets):
 
 
 class Link(NamedTuple):
-    """`given` has what the last seven I frames carried. There is no layer where it isn't known what that took."""
+    """`given` has what the last seven I frames carried, None where that isn't known. There is no layer where it isn't known what that took."""
 
     stand: int = OUT
     sent: int = 0
     acked: int = 0
     taken: int = 0
     told: int = 0
-    given: Tuple[bytes, ...] = ()
+    given: Tuple[Optional[bytes], ...] = ()
     layer: Optional[Layer] = None
     way: Tuple[Frame, ...] = ()
 
+    def front(self):
+        return self.way[0].kind if self.way else None
+
+    def passed(self):
+        """Once it has passed what is in front."""
+        return self._replace(way=self.way[1:])
+
     def hears(self, frame):
         """It hears and takes what it may of a frame in front."""
-        rest = self._replace(way=self.way[1:])
+        rest = self.passed()
         if self.stand != IN or frame.nr is None:
             return rest
         rest = rest._replace(acked=resolved(self.acked, frame.nr))
@@ -269,37 +298,47 @@ class Link(NamedTuple):
         return rest._replace(taken=self.taken + 1, layer=layer)
 
     def begun(self, is_known):
-        return Link(IN, layer=Layer() if is_known else None, way=self.way[1:])
+        return Link(IN, layer=Layer() if is_known else None, way=self.way)
 
     def settled(self):
         """With all heard and taken in front of a frame that it may also pass over."""
         link = self
-        while link.way and link.way[0].kind not in (SABM, DISC) and (link.way[0].kind != UA or link.stand != ASKS):
+        while link.way and link.front() not in (SABM, DISC, UNREAD, UNSEEN, BEFORE) and (link.front() != UA or link.stand not in (ASKS, ANYWHERE)):
             link = link.hears(link.way[0])
         return link
 
     def onward(self, is_known):
         """All that it may be, now or once more has come."""
         link = self.settled()
+        front = link.front()
         yield link
-        if link.way:
-            if link.way[0].kind == UA:
-                yield from link.begun(is_known).onward(is_known)
-            yield from link._replace(way=link.way[1:]).onward(is_known)
+        if link.stand == IN and front == UNREAD:
+            yield from link.passed()._replace(acked=link.acked + 7, taken=link.taken + 1, layer=None).onward(is_known)
+        elif link.way:
+            yield from link.passed().onward(is_known)
+        if link.stand == ASKS and front in (UA, UNREAD):
+            yield from link.passed().begun(is_known).onward(is_known)
+        if link.stand == ASKS and front == UNSEEN:
+            yield from link.begun(is_known).onward(is_known)
+        if link.stand == IN and front == UNSEEN and link.acked < MANY:
+            for taken in range(MANY, MANY + 8):
+                yield from link._replace(acked=MANY, taken=taken, layer=None).onward(is_known)
 
     def sends(self, frame, is_known):
         """What it may be once it has sent a frame, but for what its layer says."""
         kind = frame.kind
-        if kind == UA and self.way and self.way[0].kind == DISC:
-            yield Link(way=self.way[1:])
-        elif kind == UA and self.way and self.way[0].kind == SABM:
-            yield self.begun(is_known)
-            if self.stand == ASKS:
-                yield self._replace(way=self.way[1:])
-        elif kind == SABM and (self.stand == ASKS or all(other.kind != UA for other in self.way)):
+        if kind == UA:
+            yield from self.answers(is_known)
+        elif kind == SABM and (self.stand in (ASKS, ANYWHERE) or all(other.kind != UA for other in self.way)):
             yield Link(ASKS, way=self.way)
+        elif kind == DM and self.stand in (ASKS, ANYWHERE):
+            yield self
         elif kind in (DISC, FRMR, DM):
-            yield Link(ASKS if kind == DM and self.stand == ASKS else OUT, way=self.way)
+            yield Link(OUT, way=self.way)
+        elif kind == UNREAD:
+            yield from self.might_send(frame, is_known)
+        elif frame.nr is not None and self.stand == ANYWHERE:
+            yield self
         elif frame.nr is not None and self.stand == IN and resolved(self.told, frame.nr) <= self.taken:
             told = self._replace(told=resolved(self.told, frame.nr))
             if frame.ns is None:
@@ -307,31 +346,62 @@ class Link(NamedTuple):
             else:
                 yield from told.numbers(frame)
 
+    def answers(self, is_known):
+        """After a UA, to SABM or DISC in front, or to one that isn't seen."""
+        front = self.front()
+        rest = self.passed() if front in (SABM, DISC, UNREAD) else self
+        if front == DISC:
+            yield Link(way=rest.way)
+        if front in (SABM, UNREAD, UNSEEN, BEFORE):
+            yield rest.begun(is_known)
+            if self.stand in (ASKS, ANYWHERE):
+                yield Link(ASKS, way=rest.way)
+
+    def might_send(self, frame, is_known):
+        """After octets that spell no frame, which may have been any, or none. DISC, DM and FRMR leave nothing more to send than none."""
+        yield self
+        for kind in (SABM, UA):
+            yield from self.sends(frame._replace(kind=kind), is_known)
+        if self.stand == IN and self.sent < self.acked + 7:
+            yield self._replace(sent=self.sent + 1, given=(self.given + (None,))[-7:], layer=None)
+
     def numbers(self, frame):
         number = resolved(max(0, self.sent - 7), frame.ns)
         if number >= self.acked + 7 or number > self.sent:
             return
         if number == self.sent:
             yield self._replace(sent=number + 1, given=(self.given + (frame.information,))[-7:])
-        elif self.given[number - self.sent] == frame.information:
-            yield self
+        elif self.given[number - self.sent] in (None, frame.information):
+            place = len(self.given) + number - self.sent
+            yield self._replace(given=(*self.given[:place], frame.information, *self.given[place + 1 :]))
 
 
 class Ends:
-    """Both ends of a trace that begins with a set-up: for each the states in which it may be. `links` and `packets` have the places where an
-    end broke its first rule of each layer. After the first one of the link, at `known`, nothing is known of packets."""
+    """Both ends of a trace: for each the states in which it may be, at first any, and what these are for the link alone. `links` and `packets`
+    have the places where an end broke its first rule of each layer. After the first one of the link, at `known`, nothing is known of packets,
+    nor at each place in `blind`, as no layer is of some state. `at` is the sign of the end in front of which the trace is taken, or None."""
 
-    def __init__(self):
-        self.states = {end: [Link()] for end in OTHERS}
+    def __init__(self, at=None):
+        self.states = {end: [Link(ANYWHERE, way=(Frame(other, BEFORE),))] for end, other in OTHERS.items()}
+        self.bare = dict(self.states)
+        self.far = at and OTHERS[at]
         self.places, self.known = 0, None
-        self.links, self.packets = {}, {}
+        self.links, self.packets, self.blind = {}, {}, set()
 
-    def onward(self, end):
-        return list(dict.fromkeys(later for link in self.states[end] for later in link.onward(self.known is None)))
+    def onward(self, end, is_bare=False):
+        """The states in which an end may be in front of a frame. What the line lost of the far end it has sent there, and nothing came of it."""
+        is_known = self.known is None and not is_bare
+        links = fresh = dict.fromkeys(later for link in (self.bare if is_bare else self.states)[end] for later in link.onward(is_known))
+        while end == self.far and fresh:
+            lost = (sent for link in fresh for sent in link.might_send(Frame(end, UNREAD), is_known))
+            fresh = {later: None for link in lost for later in link.onward(is_known) if later not in links}
+            links.update(fresh)
+        return list(links)
 
-    def allowed(self, frame):
+    def allowed(self, frame, is_bare=False):
         """What its end may be once it has sent a frame: for the link, and for both layers."""
-        links = [(link, sent) for link in self.onward(frame.end) for sent in link.sends(frame, self.known is None)]
+        is_known = self.known is None and not is_bare
+        links = [(link, sent) for link in self.onward(frame.end, is_bare) for sent in link.sends(frame, is_known)]
         packet, both = packet_of(frame.information), []
         for link, sent in links:
             if frame.ns is None or sent.sent == link.sent or sent.layer is None:
@@ -339,25 +409,35 @@ class Ends:
             elif packet:
                 layers = [layer.sends(packet) for layer in sent.layer.onward(frame.end == "<", packet.channel)]
                 both += [sent._replace(layer=layer) for layer in layers if layer]
-        return [sent for _, sent in links], both
+        return list(dict.fromkeys(sent for _, sent in links)), list(dict.fromkeys(both))
 
     def passes(self, frame):
         """A frame goes."""
-        end, other = frame.end, OTHERS[frame.end]
-        if end not in self.links:
-            links, both = self.allowed(frame)
-            if not links:
-                self.links[end] = self.places
-                self.known = self.places if self.known is None else self.known
-            elif not both:
-                self.packets.setdefault(end, self.places)
-            self.states[end] = both or links
-            if self.known is not None or not both:
-                self.forgets(end)
+        if frame.kind == UNSEEN:
+            self.states = {end: [Link(ANYWHERE, way=(Frame(OTHERS[end], BEFORE if end == frame.end else UNSEEN),))] for end in OTHERS}
+            self.bare = dict(self.states)
+        elif frame.end not in self.links:
+            self.judges(frame)
         if self.known is not None:
-            self.forgets(other)
-        self.states[other] = list(dict.fromkeys(link._replace(way=link.way + (frame,)).settled() for link in self.states[other]))
+            self.states = dict(self.bare)
+        if frame.kind != UNSEEN:
+            for states in (self.states, self.bare):
+                states[OTHERS[frame.end]] = self.shown(states[OTHERS[frame.end]], frame)
         self.places += 1
 
-    def forgets(self, end):
-        self.states[end] = [link._replace(layer=None) for link in self.states[end]]
+    def judges(self, frame):
+        end = frame.end
+        links, both = self.allowed(frame)
+        self.bare[end] = self.allowed(frame, is_bare=True)[0]
+        if not self.bare[end]:
+            self.links[end] = self.places
+            self.known = self.places if self.known is None else self.known
+        elif links and not both:
+            self.packets.setdefault(end, self.places)
+        if not links or any(link.layer is None for link in links):
+            self.blind.add(self.places)
+        self.states[end] = both or self.bare[end]
+
+    @staticmethod
+    def shown(links, frame):
+        return list(dict.fromkeys(link._replace(way=link.way + (frame,)).settled() for link in links))

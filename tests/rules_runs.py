@@ -4,8 +4,10 @@
 
 A tape begins with a set-up, a RESTART and its confirmation. Then come frames that their ends may send by rules.py, and at times any: I frames
 with packets on two channels, RR, RNR and REJ, and in half of the tapes SABM, UA, DISC, DM and FRMR. In copies of it a frame is left out, comes
-twice, or changes places with the next one. An end is accused where `judge` tells a rule of it, and by rules.py it has broken none of that layer
-up to there. It is missed where it breaks its first rule of a layer, and `judge` tells nothing of it up to there but counts that as judged.
+twice, or changes places with the next one; and in others what a trace may lack is missing: its beginning, a stretch in place of which gaps
+stand, frames that the line loses before a place where it is taken, or frames that can't be read. An end is accused where `judge` tells a rule
+of it without doubt, and by rules.py it has broken none of that layer up to there. It is missed where it breaks its first rule of a layer, and
+`judge` tells nothing of it up to there but counts that as judged.
 
 Exit status: 0; 1 where one was missed or accused, with the seed; 2 for bad words, or where there is no program.
 """
@@ -17,13 +19,17 @@ from typing import NamedTuple
 
 import rules
 import runs
-from link_runs import NAMES, ORDER
-from rules import DATA, INFO, KINDS, Frame
+from rules import DATA, INFO, KINDS, UNREAD, UNSEEN, Frame
 from runs import ACCEPTED, CALL, CLEAR, CLEAR_CONFIRMATION, DISC, DM, FRMR, INTERRUPT, OTHERS, P_OR_F
 from runs import REJ, RESET, RESET_CONFIRMATION, RESTART, RESTART_CONFIRMATION, RNR, RR, SABM, UA
 
-from x25tools import losses  # where runs finds it
+from x25tools import losses, x25lines  # where runs finds it
 
+NAMES = {">": "dte", "<": "dce"}
+# What `judge` tells of a frame that breaks a rule of order of the link layer.
+ORDER = ("no frame of LAPB", "UA answers", "no I frame", "N(R) ", "an I frame sent again", "more I frames are unacknowledged")
+# A rule or manners, with a sign where what isn't in the trace would explain that.
+TOLD = re.compile(r" (?:!|~)(\??)(?: manners:)? (d[tc]e: .*)")
 LENGTH, COPIES = 16, 3
 # What a frame and a packet is, the kinds that come most several times; the last is none of X.25.
 UNNUMBERED = (SABM,) * 4 + (UA,) * 6 + (DISC, DM, FRMR)
@@ -111,42 +117,86 @@ class Tape:
         return packet(number, kind | pr if kind in (RR, RNR) else kind)
 
     def copies(self):
-        """The tape, and some in which a frame after its beginning is left out, comes twice, or changes places with the next one."""
-        yield self.frames
+        """The lines of the tape, and of some in which a frame after its beginning is left out, comes twice, or changes places with the next one."""
+        yield self.lines(self.frames)
         for _ in range(COPIES):
             place = len(BEGINNING) + self.dice.below(LENGTH - 1)
             one, two = self.frames[place : place + 2]
-            yield [*self.frames[:place], *self.dice.one_of(([two], [one, one, two], [two, one], [one, two, one])), *self.frames[place + 2 :]]
+            yield self.lines([*self.frames[:place], *self.dice.one_of(([two], [one, one, two], [two, one], [one, two, one])), *self.frames[place + 2 :]])
 
     def lines(self, frames):
         return [line(frame, P_OR_F if self.dice.chance(0.3) else 0) for frame in frames]
 
 
+# ---- traces in which something is missing
+
+
+def from_the_midst(dice, lines):
+    return lines[dice.below(len(lines)) :], None
+
+
+def with_gaps(dice, lines):
+    """A stretch is left out, and of each of its ends there is a gap."""
+    place = dice.below(len(lines))
+    later = place + 1 + dice.below(4)
+    return lines[:place] + [f"{end} {x25lines.GAP}\n" for end in sorted({line[0] for line in lines[place:later]})] + lines[later:], None
+
+
+def at_an_end(dice, lines):
+    """The line loses some frames of the far end before the place where the trace is taken."""
+    at = dice.one_of("<>")
+    return [line for line in lines if line[0] == at or not dice.chance(0.15)], at
+
+
+def damaged(dice, lines):
+    """The frame check sequences of some frames are wrong."""
+    return [f"{line[:-5]}0000\n" if dice.chance(0.1) else line for line in lines], None
+
+
+MISSING = (from_the_midst, with_gaps, at_an_end, damaged)
+
+
+# ---- what is told
+
+
 class Told(NamedTuple):
-    """What `judge` tells of a frame: its place, its end, whether it is a rule and of packets. Else it is that a number is left out, of manners."""
+    """What `judge` tells of a frame: its place, its end, whether it is a rule and of packets. Else it is that a number is left out, of manners.
+    It is sure where nothing that isn't in the trace would explain it."""
 
     place: int
     end: str
     is_rule: bool
     is_of_packets: bool
+    is_sure: bool = True
 
 
 def told_of(texts):
     """What is told in the answers to lines."""
     for place, text in enumerate(texts):
-        found = runs.TOLD.search(text)
-        if found and (" ! " in text or "N(S) skips" in text):
-            yield Told(place, text[0], " ! " in text, not found[1][len("dte: ") :].startswith((*ORDER, "N(S)")))
+        found = TOLD.search(text)
+        if found and ("manners:" not in text or "N(S) skips" in text):
+            yield Told(place, text[0], "manners:" not in text, not found[2][len("dte: ") :].startswith((*ORDER, "N(S)")), not found[1])
 
 
-def judged(program, lines):
-    return subprocess.run([program, "judge"], input="".join(lines), stdout=subprocess.PIPE, text=True).stdout.splitlines()
+def frame_in(line):
+    """What stands in a line."""
+    end, text = line[0], line[2:].strip()
+    octets = b"" if text == x25lines.GAP else bytes.fromhex(text)
+    if text == x25lines.GAP or not x25lines.is_sealed(octets):
+        return Frame(end, UNSEEN if text == x25lines.GAP else UNREAD)
+    return rules.frame_of(end, octets[:-2])
 
 
-def counts_as_judged(program, lines, frame, is_of_packets):
+def judged(program, lines, at=None):
+    words = ["--at", NAMES[at] if at else "line"]
+    return subprocess.run([program, "judge", *words], input="".join(lines), stdout=subprocess.PIPE, text=True).stdout.splitlines()
+
+
+def counts_as_judged(program, lines, at, is_of_packets):
     """Whether the last frame, or the packet in it, is counted as judged, in the line of its end or of its channel."""
+    frame = frame_in(lines[-1])
     name = NAMES[frame.end] + (f" channel {int.from_bytes(frame.information[:2], 'big') & 0xFFF}" if is_of_packets else "")
-    before, now = (re.search(rf"^# {name}: .* (\d+) judged", "\n".join(judged(program, some)), re.MULTILINE) for some in (lines[:-1], lines))
+    before, now = (re.search(rf"^# {name}: .* (\d+) judged", "\n".join(judged(program, some, at)), re.MULTILINE) for some in (lines[:-1], lines))
     return now is not None and int(now[1]) > int(before[1] if before else 0)
 
 
@@ -162,22 +212,23 @@ def faults(ends, told):
     for end in OTHERS:
         for is_of_packets, broken in ((False, ends.links), (True, ends.packets)):
             first = broken.get(end, ends.places)
-            # What is told of packets after a broken rule of the link isn't compared.
+            # What is told of packets isn't compared where nothing is known of them.
             last = first if ends.known is None or not is_of_packets else min(first, ends.known + 1)
-            accused = [rule.place for rule in told if rule.end == end and rule.is_rule and rule.is_of_packets == is_of_packets]
+            blind = ends.blind if is_of_packets else ()
+            accused = [rule.place for rule in told if rule[1:] == (end, True, is_of_packets, True) and rule.place not in blind]
             if accused and accused[0] < last:
                 yield Fault("accused", accused[0], end, is_of_packets)
             elif end in broken and not any(rule.end == end and (rule.place == first or rule.is_rule and rule.place < first) for rule in told):
                 yield Fault("missed", first, end, is_of_packets)
 
 
-def compare(program, frames, lines):
-    """Whether the frames break a rule, and what is wrong with what is told of their lines."""
-    ends, wrong = rules.Ends(), []
-    for frame in frames:
-        ends.passes(frame)
-    for what, place, end, is_of_packets in faults(ends, [*told_of(judged(program, lines))]):
-        if what == "accused" or counts_as_judged(program, lines[: place + 1], frames[place], is_of_packets):
+def compare(program, lines, at=None):
+    """Whether lines break a rule, and what is wrong with what is told of them, where they are taken at an end, or on the line."""
+    ends, wrong = rules.Ends(at), []
+    for text in lines:
+        ends.passes(frame_in(text))
+    for what, place, end, is_of_packets in faults(ends, [*told_of(judged(program, lines, at))]):
+        if what == "accused" or counts_as_judged(program, lines[: place + 1], at, is_of_packets):
             wrong.append(f"{NAMES[end]} is {what} at line {place + 1} of\n{''.join(lines[: place + 1])}")
     return bool(ends.links or ends.packets), wrong
 
@@ -190,18 +241,29 @@ class Played(NamedTuple):
     wrong: list
 
 
-def play(program, seed):
-    tape = Tape(seed)
-    played = [compare(program, frames, tape.lines(frames)) for frames in tape.copies()]
+def compared(program, seed, traces):
+    """What comes of the traces of a run, each with the end where it is taken."""
+    played = [compare(program, lines, at) for lines, at in traces]
     return Played(len(played), sum(broken for broken, _ in played), [f"seed {seed}: {text}" for _, wrong in played for text in wrong])
 
 
+def play(program, seed):
+    tape = Tape(seed)
+    traces = [(lines, None) for lines in tape.copies()]
+    return compared(program, seed, traces + [lacks(tape.dice, traces[0][0]) for lacks in MISSING])
+
+
 def main(play, about, count):
-    """Plays the runs of some words, and says of each what is wrong with it; answers the exit status."""
+    """Plays the runs of some words; answers the exit status."""
     options = runs.options_of(runs.words(about, count))
+    return tell(options, lambda seed: play(options.program, seed))
+
+
+def tell(options, play):
+    """Says of each run what is wrong with it, and what came of all; answers the exit status."""
     tapes = broken = wrong = 0
     for seed in options.seeds:
-        played = play(options.program, seed)
+        played = play(seed)
         tapes, broken, wrong = tapes + played.tapes, broken + played.broken, wrong + len(played.wrong)
         for text in played.wrong:
             print(text)

@@ -377,7 +377,7 @@ class Two(ToolCase):
         self.play(dte, dce, OPENING + sends.format("dte"), ANSWER + sends.format("dce"))
         rows = support.read(trace).splitlines()
         given = b"".join(row.split(b"\t")[1] + b"\n" for row in rows)
-        told = subprocess.run([support.PROGRAM, "judge"], input=given, capture_output=True, timeout=60)
+        told = subprocess.run([support.PROGRAM, "judge", "--at", "line"], input=given, capture_output=True, timeout=60)
         self.assertEqual((told.returncode, re.findall(b".* ! .*", told.stdout)), (0, []))
 
     @unittest.skipUnless(os.geteuid() == 0 and shutil.which("ip") and shutil.which("unshare"), "only root makes interfaces of Ethernet, by ip and unshare")

@@ -64,7 +64,7 @@ class Lemmas(unittest.TestCase):
         ("x25_world", "x25_peer"): {"Granted", "LinkSteps", "ReadLemmas", "SessionLayers"},
         ("x25_world", "x25_line"): {"HealingSteps", "Lists", "Meetings", "SessionLines", "SessionsForgotten"},
         ("x25_sim", "x25_world"): {"Established", "WorldLemmas"},
-        ("x25_joined", "x25_world"): {"Growing", "SessionRequests", "WorldLemmas"},
+        ("x25_joined", "x25_world"): {"Growing", "SessionEntries", "SessionRequests", "WorldLemmas"},
         ("x25_joined", "x25_peer"): {"Granted"},
         ("x25_judge", "x25_line"): {"StationLines", "StationPeers", "StationRuns", "StationSays", "StationSends"},
         ("x25_judge", "x25_possible_links"): {"Alike", "Covering", "Covers", "Leads", "Sends", "SetLemmas", "Stands", "StepLemmas"},

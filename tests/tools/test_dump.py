@@ -285,7 +285,7 @@ class Dump(ToolCase):
         done = subprocess.run([support.PROGRAM, "decode", "--wide"], input=trace, capture_output=True, timeout=60)
         self.assertEqual(text, done.stdout.decode())
         judged = self.dump(trace[:60_000], "--judge", "--x25", support.PROGRAM, status=1).replace("? 60 no such line", "? 60")
-        self.assertEqual(judged, subprocess.run([support.PROGRAM, "judge", "--wide"], input=trace[:60_000], capture_output=True, timeout=60).stdout.decode())
+        self.assertEqual(judged, subprocess.run([support.PROGRAM, "judge", "--at", "line", "--wide"], input=trace[:60_000], capture_output=True, timeout=60).stdout.decode())
 
     @support.needs_program
     def test_messages_of_a_run_with_losses_have_those_that_its_users_were_told(self):

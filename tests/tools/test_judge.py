@@ -21,8 +21,9 @@ import rules_runs
 import runs
 from x25tools.x25lines import fcs, is_sealed
 
-# In the gate, RUNS also of ends that ask again; `make judge-runs` plays 10,000 of each, 10,000, 5,000, 3,600 and 2,500.
+# In the gate; `make judge-runs` plays 10,000 of each of the first three, 5,000, 3,600 and 2,500.
 RUNS = 300
+AGAIN_RUNS = 300
 LINK_RUNS = 200
 ODD_RUNS = 100
 ORDER_RUNS = 20
@@ -116,7 +117,7 @@ class Forms(support.ToolCase):
 
     def judged(self, trace, *words):
         """What is told and noted line by line, and how much was judged."""
-        done = subprocess.run([PROGRAM, "judge", *words], input=trace, stdout=subprocess.PIPE, timeout=60)
+        done = subprocess.run([PROGRAM, "judge", "--at", "line", *words], input=trace, stdout=subprocess.PIPE, timeout=60)
         return done.returncode, [re.sub(rb"^[<>].*?(?= ! | ~ manners: | ~ note: |$)", b"", line).replace(b" ~ wide", b"") for line in done.stdout.splitlines()]
 
     def test_each_is_judged_as_the_one_that_a_station_writes(self):
@@ -134,13 +135,13 @@ class Forms(support.ToolCase):
 @support.needs_program
 class Missing(support.ToolCase):
     def test_any_one_i_frame(self):
-        """Nothing is told where a gap stands for it, and nothing without doubt where the trace may lack any frame."""
+        """Nothing is told where a gap stands for it, and nothing without doubt where nothing says that the trace has all frames."""
         lines = support.read("examples", "exchange.trace").splitlines()
         places = [place for place, line in enumerate(lines) if len(line) > 8 and not int(line[4:6], 16) & 1]
         self.assertGreater(len(places), 9)
         for place in places:
             gap, doubts = [*lines[:place], lines[place][:1] + b" .."], 0
-            for words, given in ([], gap), (["--at", "either"], gap[:-1]):
+            for words, given in (["--at", "line"], gap), ([], gap[:-1]):
                 trace = b"\n".join([*given, *lines[place + 1 :], b""])
                 done = subprocess.run([PROGRAM, "judge", *words], input=trace, stdout=subprocess.PIPE, timeout=60)
                 self.assertEqual((done.returncode, b" ! " in done.stdout), (0, False), done.stdout)
@@ -156,7 +157,7 @@ class Idle(support.ToolCase):
     WRONG = {"dte": "> 01611064\n", "dce": "< 0361a057\n"}
 
     def judged(self, *parts):
-        done = subprocess.run([PROGRAM, "judge"], input="".join(parts), stdout=subprocess.PIPE, text=True, timeout=60)
+        done = subprocess.run([PROGRAM, "judge", "--at", "line"], input="".join(parts), stdout=subprocess.PIPE, text=True, timeout=60)
         return [line for line in done.stdout.splitlines() if " ! " in line or " ~ " in line or line.startswith("#")]
 
     def test_each_end_is_judged_on(self):
@@ -178,35 +179,33 @@ class Runs(support.ToolCase):
             self.assertEqual(judge_runs.told(PROGRAM, seed)[0], [], f"seed {seed}")
 
 
-@support.needs_program
-class Link(support.ToolCase):
-    def test_no_rule_of_order_is_told_of_an_end_that_keeps_them(self):
-        for seed in range(LINK_RUNS):
-            self.assertEqual(link_runs.told(PROGRAM, seed)[0], [], f"seed {seed}")
+class Oracle(support.ToolCase):
+    """No break is missed and no innocent accused, by an oracle of the rules."""
 
+    def none_is_wrong(self, play, count, broken):
+        played = [play(PROGRAM, seed) for seed in range(count)]
+        self.assertEqual([line for run in played for line in run.wrong], [])
+        self.assertGreaterEqual(sum(run.broken for run in played), broken * sum(run.tapes for run in played))
 
-@support.needs_program
-class Again(support.ToolCase):
-    def test_nothing_is_told_of_ends_that_ask_again(self):
-        for seed in range(RUNS):
-            self.assertEqual(again_runs.told(PROGRAM, seed)[0], [], f"seed {seed}")
+    @support.needs_program
+    def test_of_one_end_of_the_link(self):
+        self.none_is_wrong(link_runs.play, LINK_RUNS, 2 / 3)
 
+    @support.needs_program
+    def test_of_ends_that_ask_again(self):
+        self.none_is_wrong(again_runs.play, AGAIN_RUNS, 0)
 
-@support.needs_station
-class Odd(support.ToolCase):
-    def test_nothing_is_told_of_a_station_beside_an_odd_end(self):
-        for seed in range(ODD_RUNS):
-            self.assertEqual(odd_runs.play(PROGRAM, seed)[0], [], f"seed {seed}")
+    @support.needs_station
+    def test_of_a_station_beside_an_odd_end(self):
+        self.none_is_wrong(odd_runs.play, ODD_RUNS, 2 / 3)
 
+    @support.needs_program
+    def test_of_two_stations_with_one_frame_changed(self):
+        self.none_is_wrong(order_runs.play, ORDER_RUNS, 1 / 3)
 
-@support.needs_program
-class Order(support.ToolCase):
-    def test_no_break_is_missed_and_no_innocent_accused(self):
-        """By an oracle of the rules, where one frame of a trace is changed, and of short tapes."""
-        for count, play in ((ORDER_RUNS, order_runs.play), (RULES_RUNS, rules_runs.play)):
-            played = [play(PROGRAM, seed) for seed in range(count)]
-            self.assertEqual([line for run in played for line in run.wrong], [])
-            self.assertGreater(sum(run.broken for run in played), sum(run.tapes for run in played) / 3)
+    @support.needs_program
+    def test_of_short_tapes(self):
+        self.none_is_wrong(rules_runs.play, RULES_RUNS, 1 / 3)
 
 
 @support.needs_program
@@ -214,7 +213,7 @@ class Recorded(support.ToolCase):
     def test_nothing_is_told_of_linux(self):
         """Linux 6.1 as the DTE and a station as the DCE, no frame lost: all rows of interop/play.py, 1,641 frames."""
         trace = gzip.decompress(support.read("tests", "traces", "linux.trace.gz"))
-        done = subprocess.run([PROGRAM, "judge"], input=trace, stdout=subprocess.PIPE, timeout=60)
+        done = subprocess.run([PROGRAM, "judge", "--at", "line"], input=trace, stdout=subprocess.PIPE, timeout=60)
         self.assertEqual([line for line in done.stdout.decode().splitlines() if runs.TOLD.search(line) or line == "? 60"], [])
         self.assertEqual(len([line for line in done.stdout.splitlines() if not line.startswith(b"# ")]), 1641)
         self.assertEqual(done.returncode, 0)
@@ -222,10 +221,11 @@ class Recorded(support.ToolCase):
     def test_what_is_told_of_a_soak(self):
         """Four rounds of interop/soak.py with Linux 6.1 as the DTE, with 0, 10, 10 and 3 of 100 frames lost, one after another."""
         trace = gzip.decompress(support.read("tests", "traces", "soak.trace.gz"))
-        done = subprocess.run([PROGRAM, "judge", "--wide"], input=trace, stdout=subprocess.PIPE, timeout=60)
+        done = subprocess.run([PROGRAM, "judge", "--at", "line", "--wide"], input=trace, stdout=subprocess.PIPE, timeout=60)
         lines = [line for line in done.stdout.decode().splitlines() if not line.startswith("# ")]
         told = collections.Counter(told[1].split(" (")[0] for line in lines if (told := runs.TOLD.search(line)))
-        clears = {"dte: CLEAR CONFIRMATION of no CLEAR": 6, "dte: nothing but CLEAR goes before its confirmation": 1}
+        # Two more CLEAR CONFIRMATIONs of no CLEAR aren't judged: packets weren't seen since the set-up before them.
+        clears = {"dte: CLEAR CONFIRMATION of no CLEAR": 4, "dte: nothing but CLEAR goes before its confirmation": 1}
         order = {"dte: P(R) falls": 1, "dte: an I frame sent again has other octets": 1}
         self.assertEqual(told, {**clears, **order, "dte: N(S) repeats without REJ or a poll": 3})
         ends = rules.Ends()

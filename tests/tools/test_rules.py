@@ -8,9 +8,9 @@ import support  # noqa: F401, by which the scripts are found
 import golden
 import rules
 import rules_runs
-from rules import INFO, Frame
+from rules import INFO, UNREAD, UNSEEN, Frame
 from rules_runs import BEGINNING, packet
-from runs import ACCEPTED, CALL, CLEAR, CLEAR_CONFIRMATION, DISC, INTERRUPT, INTERRUPT_CONFIRMATION, OTHERS
+from runs import ACCEPTED, CALL, CLEAR, CLEAR_CONFIRMATION, DISC, DM, INTERRUPT, INTERRUPT_CONFIRMATION, OTHERS
 from runs import RESET, RESET_CONFIRMATION, RESTART, RESTART_CONFIRMATION, RNR, RR, SABM, UA
 
 from x25tools.x25lines import is_sealed  # where runs finds it
@@ -31,6 +31,9 @@ KINDS = {
     "sabm": SABM,
     "disc": DISC,
     "ua": UA,
+    "dm": DM,
+    "unread": UNREAD,
+    "unseen": UNSEEN,
 }
 OPEN = ">call <accepted "
 # The last packet of each breaks a rule of docs/PEER.md: its number.
@@ -48,6 +51,7 @@ BROKEN_PACKETS = {
     OPEN + "<clear >cleared >rr:0": 12,
     ">call >call": 13,
     ">accepted": 13,
+    ">call <accepted:16": 13,
     ">call <call >accepted": 13,
     ">rr:0": 13,
     OPEN + ">data:1:0": 15,
@@ -76,7 +80,7 @@ KEPT_PACKETS = (
     OPEN + ">clear >restart <restarted",
     OPEN + "<restart >rr:0 >clear >restarted",
     OPEN + " ".join(f">data:{number}:0" for number in range(7)) + " <rr:1 >data:7:0",
-    ">call <accepted:16 >data:0:0:16",
+    ">call:16 <accepted:16 >data:0:0:16",
 )
 # The same of frames: I frames have N(S), N(R) and what they carry.
 BROKEN_FRAMES = {
@@ -98,9 +102,70 @@ KEPT_FRAMES = (
     "<sabm >sabm >ua >rr:0",
     ">sabm <sabm >ua <ua >rr:0",
     "<sabm <disc >rr:1",
+    ">sabm >dm <ua >rr:0",
     "<disc >ua <sabm >ua >rr:0",
     f">sabm <ua <i:0:0:{packet(0, RESTART).hex()} >sabm >i:0:1:{packet(0, RESTART_CONFIRMATION).hex()}",
 )
+# The same where something is missing: the beginning of a tape, frames that can't be read, or in place of which a gap stands, and, in front of
+# the DTE, what the line lost of the DCE.
+BROKEN_FROM_THE_MIDST = {
+    ">disc >rr:1": 20,
+    ">sabm >rr:1": 20,
+    ">sabm <ua >rr:1": 21,
+    "<sabm >ua <ua <rr:1": 22,
+    ">ua <ua >i:0:0:a >i:0:0:b": 1,
+}
+KEPT_FROM_THE_MIDST = (
+    ">rr:3 <i:5:2:a >rr:1 >i:4:1:a >i:4:1:b",
+    ">ua >ua <ua",
+    ">dm <ua >rr:0",
+    "<ua >sabm >rr:0",
+    ">ua >rr:0",
+    "<sabm >ua >rr:0 >sabm",
+)
+BROKEN_WHERE_UNREAD = {
+    "<unread >rr:3": 5,
+    "<unread >ua >ua": 22,
+    ">unread >ua": 22,
+    ">unread >i:3:1:a": 2,
+    ">unread >i:1:1:a >i:1:1:b": 1,
+}
+KEPT_WHERE_UNREAD = (
+    "<unread >rr:2 >rr:2",
+    "<unread >ua >rr:0",
+    ">sabm <unread >rr:0",
+    "<unread " + " ".join(f">i:{number % 8}:1:a" for number in range(1, 9)),
+    ">unread >i:2:1:a >i:1:1:b",
+    ">unread <ua >rr:0",
+    " ".join(f">i:{number}:1:a" for number in range(1, 8)) + " <rr:2 >unread >i:1:1:a",
+    "<sabm >unread <i:0:0:a >rr:1",
+)
+BROKEN_BEHIND_A_GAP = {
+    "<unseen >disc >rr:1": 20,
+    "<unseen >sabm <ua >i:0:0:a <rr:1 <rr:2": 5,
+    ">unseen <sabm <ua >sabm <ua >i:0:0:a >i:0:0:b": 1,
+}
+KEPT_BEHIND_A_GAP = (
+    ">unseen >sabm <ua >i:0:0:a <rr:1 <rr:2",
+    "<unseen >rr:5 >rr:3",
+    "<unseen >ua >i:0:3:a >rr:4",
+    ">unseen >i:5:1:a",
+    "<unseen >sabm >rr:5",
+)
+BROKEN_AT_THE_DTE = {
+    ">rr:2": 5,
+    "<rr:2": 5,
+    "<ua": 22,
+    "<i:3:1:a <i:3:1:b": 1,
+    "<i:7:1:a <i:0:1:a": 2,
+    "<disc <rr:1": 20,
+}
+KEPT_AT_THE_DTE = (
+    "<i:3:1:a <i:1:1:b",
+    ">sabm <rr:0",
+)
+# Of two frames that can't be read one is SABM; the other one is an I frame by the packet that goes next, and SABM too by the second UA.
+EITHER_WAY = f"<unread <unread >ua >i:0:0:{packet(1, RR).hex()} >ua"
 
 
 class Tape:
@@ -129,9 +194,9 @@ class Tape:
         return Frame(end, KINDS[kind], *map(int, rest))
 
 
-def played(frames):
-    ends = rules.Ends()
-    for frame in [*BEGINNING, *frames]:
+def played(frames, beginning=BEGINNING, at=None):
+    ends = rules.Ends(at)
+    for frame in [*beginning, *frames]:
         ends.passes(frame)
     return ends, ends.places - 1
 
@@ -142,6 +207,13 @@ class Rules(unittest.TestCase):
         for text in BROKEN_PACKETS:
             with self.subTest(text):
                 ends, last = played(map(Tape().packet, text.split()))
+                self.assertEqual((ends.links, ends.packets), ({}, {text.split()[-1][0]: last}))
+
+    def test_they_do_in_front_of_an_end_too(self):
+        """Those of the near end, of which nothing is missing; of the far end one may have been lost that explains them."""
+        for text in BROKEN_PACKETS:
+            with self.subTest(text):
+                ends, last = played(map(Tape().packet, text.split()), at=text.split()[-1][0])
                 self.assertEqual((ends.links, ends.packets), ({}, {text.split()[-1][0]: last}))
 
     def test_packets_that_break_none(self):
@@ -162,6 +234,22 @@ class Rules(unittest.TestCase):
             with self.subTest(text):
                 self.assertEqual(played(map(Tape.frame, text.split()))[0].links, {})
 
+    def test_packets_say_nothing_of_the_link(self):
+        ends, _ = played(map(Tape.frame, EITHER_WAY.split()))
+        self.assertEqual((ends.links, ends.packets), ({}, {}))
+
+    def test_where_something_is_missing(self):
+        for broken, kept, given in (
+            (BROKEN_FROM_THE_MIDST, KEPT_FROM_THE_MIDST, {"beginning": ()}),
+            (BROKEN_WHERE_UNREAD, KEPT_WHERE_UNREAD, {}),
+            (BROKEN_BEHIND_A_GAP, KEPT_BEHIND_A_GAP, {}),
+            (BROKEN_AT_THE_DTE, KEPT_AT_THE_DTE, {"at": ">"}),
+        ):
+            for text in (*broken, *kept):
+                with self.subTest(text, **given):
+                    ends, last = played(map(Tape.frame, text.split()), **given)
+                    self.assertEqual(ends.links, {text.split()[-1][0]: last} if text in broken else {})
+
 
 class Faults(unittest.TestCase):
     def test_a_judge_that_is_silent_or_accuses_is_seen(self):
@@ -171,6 +259,15 @@ class Faults(unittest.TestCase):
         self.assertEqual([*rules_runs.faults(ends, [])], [("missed", last, ">", True)])
         for told in (right._replace(place=last - 1), right._replace(end="<"), right._replace(is_of_packets=False)):
             self.assertIn("accused", [fault.what for fault in rules_runs.faults(ends, [told])])
+
+    def test_packets_are_compared_where_all_are_known(self):
+        words = (OPEN + ">rr:0").split()
+        unread = [{"beginning": (*BEGINNING, Frame(end, UNREAD))} for end in OTHERS]
+        for given in ({}, {"at": ">"}, {"beginning": ()}, *unread, {"at": "<"}):
+            with self.subTest(**given):
+                ends, last = played(map(Tape().packet, words), **given)
+                accused = [("accused", last, ">", True)] if given in ({}, {"at": ">"}) else []
+                self.assertEqual([*rules_runs.faults(ends, [rules_runs.Told(last, ">", True, True)])], accused)
 
     def test_manners_tell_of_a_number_out_of_order_alone(self):
         ends, last = played(map(Tape.frame, ">i:2:1:a".split()))
@@ -185,7 +282,8 @@ class Stored(unittest.TestCase):
         count = 0
         for case in golden.cases(golden.chosen(["judge"])[0]):
             lines = case.input.decode("latin1").splitlines()
-            if {*case.words} & {"--at", "--wide", "--loose", "--long"} or len(lines) > 60 or not all(re.fullmatch("[<>] (?:[0-9a-f]{2}){4,}", line) for line in lines):
+            words = {*re.sub("--at line", "", " ".join(case.words)).split()}
+            if words & {"--at", "--wide", "--loose", "--long"} or len(lines) > 60 or not all(re.fullmatch("[<>] (?:[0-9a-f]{2}){4,}", line) for line in lines):
                 continue
             octets = [bytes.fromhex(line[2:]) for line in lines]
             frames = [rules.frame_of(line[0], frame[:-2]) for line, frame in zip(lines, octets)]

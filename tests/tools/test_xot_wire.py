@@ -340,7 +340,7 @@ class Circuits(ToolCase):
         self.assertEqual((listed.returncode, listed.stdout.count(b"\n")), (0, 4))
         for number in range(1, 5):
             trace = support.run("pcap2x25.py", "--connection", str(number), capture).stdout
-            told = subprocess.run([support.PROGRAM, "judge"], input=trace, capture_output=True, timeout=60)
+            told = subprocess.run([support.PROGRAM, "judge", "--at", "line"], input=trace, capture_output=True, timeout=60)
             self.assertEqual((told.returncode, re.findall(b".*(?: ! |fault).*", told.stdout)), (0, []))
             self.assertGreater(trace.count(b"\n"), 800)
 

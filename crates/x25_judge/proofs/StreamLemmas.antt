@@ -2,12 +2,10 @@
 use Rattle.std.proofs.Common.{◌≡◌, ◌∙◌, ◌||◌, ℕ, Bool, false, List, [], ◌∷◌, ◌++◌, Option, append_assoc, ap, sym, subst}
 use Rattle.std.specs.Io.KnownBytes.{Appends}
 use Rattle.std.proofs.{Math.Bool.{or_assoc}, lemmas.List.{append-nil}}
-use Rattle.x25_io.specs.{HeldLine.{HoldsLine}, declared.held_line.HeldLine.{HeldLine}}
-use Rattle.x25_io.specs.{Lines.{lines_of}, code.LinesLead.{LinesLead}}
+use Rattle.x25_io.specs.{HeldLine.{HoldsLine}, declared.held_line.HeldLine.{HeldLine}, Lines.{lines_of}, code.LinesLead.{LinesLead}}
 use Rattle.x25_io.specs.code.Written.{AppendsPrefix, Tells}
 use Rattle.x25_io.proofs.{TakerLemmas.{between}, ToldLemmas.{prefix_more, none_told, part_of_all, told_prefix}}
-use Rattle.x25_judge.specs.{Answerer.{reply, output_by, text_of, has_fault}, Judge.{counts_text, is_nothing}}
-use Rattle.x25_judge.specs.{code.Stream.{JudgesOn, WritesLines}, declared.answerer.Answerer.{Answerer}}
+use Rattle.x25_judge.specs.{Answerer.{reply, output_by, text_of, has_fault}, Judge.{counts_text, is_nothing}, code.Stream.{JudgesOn, WritesLines}, declared.answerer.Answerer.{Answerer}}
 use Rattle.x25_judge.specs.declared.judge.Judge.{Judge}
 use Rattle.x25_judge.proofs.LineLemmas.{text_first, fault_first, no_text, no_fault}
 

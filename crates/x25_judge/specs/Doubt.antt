@@ -9,7 +9,7 @@ use Rattle.x25_judge.specs.declared.doubt.Lack.{Lack}
 use Rattle.x25_judge.specs.declared.doubt.Lack.TheVariants.{Nothing, Lost, Any}
 use Rattle.x25_judge.specs.declared.rule.Rule.{Rule}
 use Rattle.x25_judge.specs.declared.rule.Rule.TheVariants.{NoFrame, Differs}
-use Rattle.x25_possible_links.specs.code.Steps.{has_request}
+use Rattle.x25_possible_links.specs.code.Steps.{awaits_before, has_request}
 use Rattle.x25_possible_links.specs.declared.set.LinkSet.{LinkSet}
 
 -- of the far end; where SABM or DISC waits for it, its UA may have been lost
@@ -17,13 +17,17 @@ abbrev pub lost : LinkSet → Lack
 lost s = if has_request s.way.items then Any else Lost
 
 -- In front of an end all is there that it sent, and all that came to it.
+abbrev pub lack_at : At → Role → LinkSet → Lack
+lack_at at.Line from s = Nothing
+lack_at at.Dte Dte s = Nothing
+lack_at at.Dte Dce s = lost s
+lack_at at.Dce Dte s = lost s
+lack_at at.Dce Dce s = Nothing
+lack_at at.Either from s = Any
+
+-- and in front of the trace a UA may stand that an end awaits
 abbrev pub lack : At → Role → LinkSet → Lack
-lack at.Line from s = Nothing
-lack at.Dte Dte s = Nothing
-lack at.Dte Dce s = lost s
-lack at.Dce Dte s = lost s
-lack at.Dce Dce s = Nothing
-lack at.Either from s = Any
+lack at from s = if awaits_before s then Any else lack_at at from s
 
 -- No frame that is missing makes a frame of octets that spell none. A number behind I frames that the line lost is a
 -- new one.

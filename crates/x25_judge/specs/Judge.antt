@@ -24,12 +24,10 @@ use Rattle.x25_packet.specs.Reading.{channel_in}
 use Rattle.x25_possible_links.specs.code.Steps.{is_followed, is_known, unknown}
 use Rattle.x25_packet_judge.specs.declared.book.Book.{Book}
 use Rattle.x25_packet_judge.specs.declared.book.Verdict.{Verdict}
-use Rattle.x25_judge.specs.declared.counts.Line.{Line}
-use Rattle.x25_judge.specs.declared.counts.Line.TheVariants.{Nothing, Told}
+use Rattle.x25_judge.specs.declared.{counts.Line.{Line}, counts.Line.TheVariants.{Nothing, Told}}
 use Rattle.x25_judge.specs.declared.doubt.At.{At}
 use Rattle.x25_judge.specs.declared.doubt.At.TheVariants.{Line as OnLine}
-use Rattle.x25_judge.specs.declared.doubt.Lack.{Lack}
-use Rattle.x25_judge.specs.declared.doubt.Lack.TheVariants.{Any}
+use Rattle.x25_judge.specs.declared.{doubt.Lack.{Lack}, doubt.Lack.TheVariants.{Any}}
 use Rattle.x25_judge.specs.declared.judge.Judge.{Judge}
 use Rattle.x25_judge.specs.declared.links.End.{End}
 use Rattle.x25_judge.specs.declared.links.Seen.{Seen}

@@ -29,18 +29,16 @@ pub(crate) enum Lack {
 }
 
 impl At {
-    /// Which frames of an end may be missing, with the places in which that may be. Where SABM or DISC waits for the
-    /// far end, its UA may have been lost.
+    /// Which frames of an end may be missing, with the places in which that may be. A UA that it awaits may stand in
+    /// front of the trace. Where SABM or DISC waits for the far end, its UA may have been lost.
     pub(crate) fn lack(self, from: Role, own: &LinkSet) -> Lack
         ensures { result ≡ definition.lack self from own.now }
     {
         match (self, from) {
+            _ if own.awaits_before() => Lack::Any,
             (At::Line, _) | (At::Dte, Role::Dte) | (At::Dce, Role::Dce) => Lack::Nothing,
-            (At::Dte, Role::Dce) | (At::Dce, Role::Dte) => if own.has_request() {
-                Lack::Any
-            } else {
-                Lack::Lost
-            },
+            _ if own.has_request() => Lack::Any,
+            (At::Dte, Role::Dce) | (At::Dce, Role::Dte) => Lack::Lost,
             (At::Either, _) => Lack::Any,
         }
     }

@@ -1,9 +1,8 @@
 -- What a packet makes of a book, and what is told of it.
-use Rattle.x25_packet_judge.proofs.Names.{or_parts, ◌≡◌, ◌∙◌, ℕ, Bool, true, false, Some, None, refl, sym, ap, arith, ◌%◌, ◌==◌, ◌&&◌, ◌||◌, not, if◌then◌else◌, unwrap_or, Role, Dte, Dce, PlainPacket, is_of_all, is_restart, any_channel, rule_of, sent, Channels, channel_of, put, item_of, Book, Channel, RestartAwaited, asked_of, awaits, behind_item, end_of, is_quiet, refuses, seen_by, set_of, BooksFollowTapes, is_known, sends_to, Packet, Elsewhere, Set, Nothing}
+use Rattle.x25_packet_judge.proofs.Names.{or_parts, ◌≡◌, ◌∙◌, ℕ, Bool, true, false, Some, None, refl, sym, ap, arith, ◌%◌, ◌==◌, ◌&&◌, ◌||◌, not, if◌then◌else◌, unwrap_or, Role, Dte, Dce, PlainPacket, is_of_all, is_restart, lost, rule_of, sent, Channels, channel_of, put, item_of, Book, Channel, RestartAwaited, asked_of, awaits, behind_item, end_of, is_quiet, refuses, seen_by, set_of, BooksFollowTapes, is_known, sends_to, Packet, Elsewhere, Set, Nothing}
 use Rattle.std.specs.Prelude.{slice_index_or}
 use Rattle.std.proofs.lemmas.Bool.Decides.{nat_tests}
-use Rattle.x25_packet_judge.specs.declared.book.Verdict.{Verdict}
-use Rattle.x25_packet_judge.specs.declared.channel.Event.TheVariants.{Sends}
+use Rattle.x25_packet_judge.specs.declared.{book.Verdict.{Verdict}, channel.Event.TheVariants.{Sends}}
 use Rattle.x25_packet_judge.proofs.ChannelsLemmas.{happens_on, put_other, put_same}
 use Rattle.x25_packet_judge.proofs.TellingLemmas.{ends_move, judged_ends, judged_is, judged_rule}
 use Rattle.x25_packet_judge.specs.Book as book
@@ -50,8 +49,8 @@ restarts_follow : (b : Book) (role from : Role) (of : ℕ) (packet : PlainPacket
 restarts_follow b role from of packet true is loud = restarts_of_all b role from of packet is
 restarts_follow b role from of packet false is loud =
     ap (λ (s : book.Seen). end_of role s.book.restarts) (takes_is from of packet b false is)
-    ∙ ends_move role from Elsewhere (if is_quiet from b then any_channel else b.restarts)
-    ∙ ap (λ q. behind_item (seen_by role from Elsewhere) (end_of role (if q then any_channel else b.restarts))) loud
+    ∙ ends_move role from Elsewhere (if is_quiet from b then lost b.restarts else b.restarts)
+    ∙ ap (λ q. behind_item (seen_by role from Elsewhere) (end_of role (if q then lost b.restarts else b.restarts))) loud
 
 -- ---- an end that has sent
 
@@ -101,7 +100,7 @@ one_judged from of x c true = refl
 one_judged from of x c false = judged_is of from x c
 
 abbrev is_early : Role → Book → Bool
-is_early from b = refuses from (if is_quiet from b then any_channel else b.restarts)
+is_early from b = refuses from (if is_quiet from b then lost b.restarts else b.restarts)
 
 abbrev asked : Role → ℕ → Book → Bool → Set
 asked from of b all = if all then end_of from b.restarts else set_of from of b

@@ -3,11 +3,9 @@ use Rattle.x25_packet_judge.proofs.Names.{◌≡◌, ◌∙◌, false, map, ◌<
 use Rattle.std.specs.Prelude.{slice_index_or}
 use Rattle.std.proofs.Math.ListN.{get_or-map}
 use Rattle.std.specs.Option.{option_map}
-use Rattle.x25_packet_judge.specs.declared.channel.Event.{Event}
-use Rattle.x25_packet_judge.specs.declared.channel.Event.TheVariants.{Loss}
+use Rattle.x25_packet_judge.specs.declared.{channel.Event.{Event}, channel.Event.TheVariants.{Loss}}
 use Rattle.x25_possible.specs.code.Steps.{hidden_by, lost}
-use Rattle.x25_possible.specs.declared.set.Knowledge.{Knowledge}
-use Rattle.x25_possible.specs.declared.set.Knowledge.TheVariants.{Blind, Lost}
+use Rattle.x25_possible.specs.declared.{set.Knowledge.{Knowledge}, set.Knowledge.TheVariants.{Blind, Lost}}
 
 -- a place without a channel is none
 abbrev none : Option Channel

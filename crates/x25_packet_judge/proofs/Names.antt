@@ -7,7 +7,7 @@ pub use Rattle.x25_bits.specs.declared.role.Role.{Role}
 pub use Rattle.x25_bits.specs.declared.role.Role.TheVariants.{Dte, Dce}
 pub use Rattle.x25_packet.specs.Packet.{PlainPacket, restart, restart_conf}
 pub use Rattle.x25_packet_judge.specs.Book.{is_of_all, is_restart, takes}
-pub use Rattle.x25_packet_judge.specs.Channel.{any_channel, rule_of, sent, happens, begun_channel, ready_channel}
+pub use Rattle.x25_packet_judge.specs.Channel.{lost, rule_of, sent, happens, begun_channel, ready_channel}
 pub use Rattle.x25_packet_judge.specs.Channels.{Channels, all_happens, channel_of, put, padded, all_alike}
 unfoldable pub use Rattle.x25_packet_judge.specs.Item.{item_of}
 pub use Rattle.x25_packet_judge.specs.PacketRule.{is_order, is_of_manners}

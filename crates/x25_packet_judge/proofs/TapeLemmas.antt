@@ -1,5 +1,5 @@
 -- What is told of an end, packet by packet and over whole tapes, by the laws of its sets.
-use Rattle.x25_packet_judge.proofs.Names.{and_parts, ◌≡◌, ◌∙◌, ℕ, Bool, true, false, List, [], ◌∷◌, Some, refl, sym, ap, ◌||◌, ◌&&◌, is_some, if◌then◌else◌, not, Role, Dte, Dce, PlainPacket, is_of_all, is_restart, takes, any_channel, rule_of, item_of, is_order, Book, RestartAwaited, asked_of, awaits, behind_all, behind_item, end_of, is_manners, is_on, is_quiet, moved, of_restarts, refuses, seen_by, set_of, tape_of_restarts, tape_on, rule_told, BooksTellExactly, InnocentTapesStayUntold, IsBehind, MaySend, Spoken, InnocentsStayUntold, IsRude, PoliteStayUntold, SendsExactly, behind, is_known, sends_to, Packet, Elsewhere, Told}
+use Rattle.x25_packet_judge.proofs.Names.{and_parts, ◌≡◌, ◌∙◌, ℕ, Bool, true, false, List, [], ◌∷◌, Some, refl, sym, ap, ◌||◌, ◌&&◌, is_some, if◌then◌else◌, not, Role, Dte, Dce, PlainPacket, is_of_all, is_restart, takes, lost, rule_of, item_of, is_order, Book, RestartAwaited, asked_of, awaits, behind_all, behind_item, end_of, is_manners, is_on, is_quiet, moved, of_restarts, refuses, seen_by, set_of, tape_of_restarts, tape_on, rule_told, BooksTellExactly, InnocentTapesStayUntold, IsBehind, MaySend, Spoken, InnocentsStayUntold, IsRude, PoliteStayUntold, SendsExactly, behind, is_known, sends_to, Packet, Elsewhere, Told}
 use Rattle.x25_packet_judge.proofs.BookLemmas.{books_follow_tapes, judged_so, told_is}
 use Rattle.x25_packet_judge.proofs.TellingLemmas.{broken, polite, rude, unbroken, untold}
 use Rattle.x25_possible.specs.laws.Possible.{Item, Own, Other}
@@ -14,7 +14,7 @@ module _ (sets : SendsExactly) where
   refused : (from : Role) (packet : PlainPacket) (b : Book) → awaits from packet b ≡ true → is_quiet from b ≡ false
       → is_order (rule_of (sends_to Elsewhere (end_of from b.restarts)).told Elsewhere) ≡ true
   refused from packet b is loud =
-      (and_parts (not (is_of_all packet)) _ (ap (λ q. not (is_of_all packet) && refuses from (if q then any_channel else b.restarts)) (sym loud) ∙ is)).1
+      (and_parts (not (is_of_all packet)) _ (ap (λ q. not (is_of_all packet) && refuses from (if q then lost b.restarts else b.restarts)) (sym loud) ∙ is)).1
 
   pub tell_exactly : BooksTellExactly
   tell_exactly = record {
@@ -88,7 +88,7 @@ module _ (from : Role) (channel : ℕ) (tape restarts : List (Item Packet)) (b :
 
     not_early : (packet : PlainPacket) → MaySend from (tape_of_restarts from ps restarts) Elsewhere → awaits from packet (behind_all ps b) ≡ false
     not_early packet may = ap (λ e. not (is_of_all packet) && e)
-        (ap (λ q. refuses from (if q then any_channel else (behind_all ps b).restarts)) (loud ps from)
+        (ap (λ q. refuses from (if q then lost (behind_all ps b).restarts else (behind_all ps b).restarts)) (loud ps from)
         ∙ ap (λ s. is_order (rule_of (sends_to Elsewhere s).told Elsewhere)) (restarts_set ps)
         ∙ untold (sends_to Elsewhere (behind from (tape_of_restarts from ps restarts))).told Elsewhere (innocents from (tape_of_restarts from ps restarts) Elsewhere may.0 may.1.0 may.1.1))
         ∙ none (not (is_of_all packet))
@@ -98,7 +98,7 @@ module _ (from : Role) (channel : ℕ) (tape restarts : List (Item Packet)) (b :
         none false = refl
 
     never : (packet : PlainPacket) → is_of_all packet ≡ true → awaits from packet (behind_all ps b) ≡ false
-    never packet is = ap (λ a. not a && refuses from (if is_quiet from (behind_all ps b) then any_channel else (behind_all ps b).restarts)) is
+    never packet is = ap (λ a. not a && refuses from (if is_quiet from (behind_all ps b) then lost (behind_all ps b).restarts else (behind_all ps b).restarts)) is
 
     one : (packet : PlainPacket) → is_of_all packet ≡ false → asked_of from channel packet (behind_all ps b) ≡ set_of from channel (behind_all ps b)
     one packet is = ap (λ a. if a then end_of from (behind_all ps b).restarts else set_of from channel (behind_all ps b)) is

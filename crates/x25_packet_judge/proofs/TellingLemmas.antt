@@ -1,11 +1,8 @@
 -- What is told of a packet, by the set of its sender.
 use Rattle.x25_packet_judge.proofs.Names.{and_parts, or_parts, both_ways, cond_both, ◌≡◌, ◌∙◌, ℕ, Bool, true, false, Option, Some, None, refl, sym, ap, ◌-◌, ◌%◌, ◌==◌, is_some, not, ◌&&◌, ◌||◌, if◌then◌else◌, nat_lt, nat_le, unwrap_or, Role, Dte, Dce, rule_of, sent, is_of_manners, is_order, Channel, PacketUnsent, end_of, is_manners, seen_by, behind_item, IsBroken, IsRude, IsUntold, is_known, sends_to, Packet, Data, RestartConf, Rr, Rnr, Set, Told, Nothing, Rude, Broken}
 use Rattle.x25_packet_judge.specs.Numbers.{apart}
-use Rattle.x25_packet_judge.specs.declared.book.Verdict.{Verdict}
-use Rattle.x25_packet_judge.specs.declared.packet_rule.PacketRule.{PacketRule}
-use Rattle.x25_possible.specs.declared.phase.Phase.{Phase}
-use Rattle.x25_possible.specs.declared.phase.Phase.TheVariants.{Talks}
-use Rattle.x25_possible.specs.declared.phase.Talk.{Talk}
+use Rattle.x25_packet_judge.specs.declared.{book.Verdict.{Verdict}, packet_rule.PacketRule.{PacketRule}}
+use Rattle.x25_possible.specs.declared.{phase.Phase.{Phase}, phase.Phase.TheVariants.{Talks}, phase.Talk.{Talk}}
 use Rattle.x25_packet_judge.specs.Channel as channels
 use Rattle.x25_packet_judge.specs.Reason as reason
 

@@ -1,29 +1,24 @@
 -- The packet layers of both ends and all their channels, and what a frame changes and breaks. ITU-T X.25 (10/96),
 -- sections 3 and 4.
 use Rattle.std.specs.Prelude.{ℕ, ◌≡◌, ◌/◌, ◌%◌, ◌==◌, Bool, true, false, ◌&&◌, ◌||◌, if◌then◌else◌, List, [], ◌∷◌}
-use Rattle.std.specs.Prelude.{Option, Some, None, Result, Ok, Err, IfOk}
+use Rattle.std.specs.Prelude.{not, Option, Some, None, Result, Ok, Err, IfOk}
 use Rattle.x25_bits.specs.declared.role.Role.{Role}
 use Rattle.x25_frame.specs.Frame.{PlainFrame, info, rr, rnr, rej, sabm, disc, ua, dm, frmr}
 use Rattle.x25_packet.specs.Packet.{PlainPacket, plain, restart, restart_conf}
 use Rattle.x25_packet.specs.Reading.{channel_in, packet_of}
 use Rattle.x25_packet.specs.Spelling.{IsInRange, longest_user}
-use Rattle.x25_packet.specs.declared.error.PacketError.{PacketError}
-use Rattle.x25_packet.specs.declared.packet.Packet.{Packet}
+use Rattle.x25_packet.specs.declared.{error.PacketError.{PacketError}, packet.Packet.{Packet}}
 use Rattle.x25_decode.specs.declared.answer.Reading.{Reading}
 use Rattle.x25_packet_judge.specs.Channel as channels
-use Rattle.x25_packet_judge.specs.Channel.{by_end}
 use Rattle.x25_packet_judge.specs.Channels.{all_alike, all_happens, channel_of, put}
 use Rattle.x25_packet_judge.specs.Item.{item_of}
-use Rattle.x25_packet_judge.specs.Layers.{unseen}
 use Rattle.x25_packet_judge.specs.Layers as layers
-use Rattle.x25_packet_judge.specs.declared.book.{Book.{Book}, Noted.{Noted}, Verdict.{Verdict}}
-use Rattle.x25_packet_judge.specs.declared.book.Noted.TheVariants.{Unjudged}
-use Rattle.x25_packet_judge.specs.declared.channel.Channel.{Channel}
-use Rattle.x25_packet_judge.specs.declared.channel.Event.TheVariants.{Sends, Loss}
-use Rattle.x25_packet_judge.specs.declared.layers.Layers.{Layers}
-use Rattle.x25_packet_judge.specs.declared.packet_rule.PacketRule.TheVariants.{NoPacket, RestartAwaited}
-use Rattle.x25_possible.specs.declared.packet.Packet.{Packet as Item}
-use Rattle.x25_possible.specs.declared.packet.Packet.TheVariants.{Elsewhere}
+use Rattle.x25_packet_judge.specs.declared.{book.Book.{Book}, book.Noted.{Noted}, book.Verdict.{Verdict}}
+use Rattle.x25_packet_judge.specs.declared.{book.Noted.TheVariants.{Unjudged}, channel.Channel.{Channel}}
+use Rattle.x25_packet_judge.specs.declared.{channel.Event.TheVariants.{Sends, Loss}, layers.Layers.{Layers}}
+use Rattle.x25_packet_judge.specs.declared.packet_rule.PacketRule.{PacketRule}
+use Rattle.x25_packet_judge.specs.declared.packet_rule.PacketRule.TheVariants as rules
+use Rattle.x25_possible.specs.declared.packet.{Packet.{Packet as Item}, Packet.TheVariants.{Elsewhere}}
 use Rattle.x25_packet.specs.Form as form
 use Rattle.x25_packet.specs.Form.{PlainKind, PlainForm}
 use Rattle.x25_packet.specs.Grammar.{Gives, form_in}
@@ -32,27 +27,28 @@ use Rattle.x25_packet.specs.Taking.{taken_in}
 -- nothing was sent
 abbrev pub empty : Book
 empty = record {
-  dte = unseen;
-  dce = unseen;
+  dte = layers.unseen;
+  dce = layers.unseen;
   restarts = channels.any_channel;
   channels = all_alike channels.any_channel;
+  is_whole = false;
 }
 
 -- ---- parts: the end that sends comes first
 
 abbrev pub layers_of : Role → Book → Layers
-layers_of from b = record { own = by_end from b.dte b.dce; other = by_end from b.dce b.dte }
+layers_of from b = record { own = channels.by_end from b.dte b.dce; other = channels.by_end from b.dce b.dte }
 
 abbrev pub keeps : Role → Layers → Book → Book
-keeps from t b = record b { dte = by_end from t.own t.other; dce = by_end from t.other t.own }
+keeps from t b = record b { dte = channels.by_end from t.own t.other; dce = channels.by_end from t.other t.own }
 
 -- packets of an end were missed, of any channels
 abbrev pub forgets : Book → Book
-forgets b = record b { restarts = channels.lost b.restarts; channels = all_happens Loss b.channels }
+forgets b = record b { restarts = channels.lost b.restarts; channels = all_happens Loss b.channels; is_whole = false }
 
 -- frames weren't seen, of either end
 abbrev pub passes_gap : Book → Book
-passes_gap b = forgets (record { dte = unseen; dce = unseen; restarts = b.restarts; channels = b.channels })
+passes_gap b = forgets (record b { dte = layers.unseen; dce = layers.unseen })
 
 -- ---- a packet
 
@@ -77,7 +73,7 @@ puts channel f b = seen (record b { channels = put channel f.channel b.channels 
 -- a packet of a channel, before which RESTART may have to be answered
 abbrev pub told_early : Bool → Seen → Seen
 told_early is_early s = seen s.book
-    (if is_early then record { rule = Some RestartAwaited; noted = None; is_judged = true } else s.verdict)
+    (if is_early then record { rule = Some rules.RestartAwaited; noted = None; is_judged = true } else s.verdict)
 
 abbrev pub with_restarts : Channel → Book → Book
 with_restarts c b = record b { restarts = c }
@@ -90,7 +86,7 @@ judges from channel x b = told_early (channels.is_early from b.restarts)
 -- where nothing was sent since the set-up, the packet layer may go on from before it
 abbrev pub follows : Role → ℕ → Item → Bool → Book → Seen
 follows from channel x is_first b =
-    judges from channel x (with_restarts (if is_first then channels.any_channel else b.restarts) b)
+    judges from channel x (with_restarts (if is_first then channels.lost b.restarts else b.restarts) b)
 
 -- RESTART and its confirmation are packets of all channels; of RESTART itself no rule is told
 abbrev pub restarts : Role → Item → Bool → Book → Seen
@@ -140,7 +136,7 @@ is_modulo_8 (first ∷ octets) = first / 16 % 4 == 1
 
 abbrev pub tells_no_packet : ℕ → Book → Seen
 tells_no_packet channel b =
-    seen (misses_on channel b).book (record { rule = Some NoPacket; noted = None; is_judged = true })
+    seen (misses_on channel b).book (record { rule = Some rules.NoPacket; noted = None; is_judged = true })
 
 -- which no station takes: DIAGNOSTIC, another packet, or of that format none in any form
 abbrev pub untaken : ℕ → List ℕ → Result PlainForm PacketError → Book → Seen
@@ -156,12 +152,6 @@ abbrev pub reads_any : Role → ℕ → ℕ → List ℕ → Book → Seen
 reads_any from channel most octets b =
     takes_any from channel octets (form_in most octets) (taken_in most octets) b
 
-abbrev pub reads_on : Role → Reading → List ℕ → Option ℕ → Book → Seen
-reads_on from reading octets None b = quiet b
-reads_on from reading octets (Some channel) b =
-    if reading.wide then reads_any from channel (longest_user reading.long) octets b
-    else takes_read from channel (packet_of (longest_user reading.long) octets) b
-
 -- what information reads as, in the form that a station writes
 abbrev pub IsPacketOf : Bool → List ℕ → Result Packet PacketError → Type 0
 IsPacketOf long octets packet =
@@ -172,9 +162,22 @@ abbrev pub IsRead : Reading → PlainFrame → Result Packet PacketError → Typ
 IsRead reading (info ns nr p octets) packet = reading.wide ≡ false → IsPacketOf reading.long octets packet
 IsRead reading frame packet = Unit {0}
 
+-- where packets weren't seen since the last set-up, an answer of no request may be that of one of these
+abbrev pub is_answer : Option PacketRule → Bool
+is_answer (Some rules.RestartUnasked) = true
+is_answer (Some rules.ClearUnasked) = true
+is_answer (Some rules.AcceptUnasked) = true
+is_answer rule = false
+
+abbrev pub excused : ℕ → Seen → Seen
+excused channel s = seen s.book (if s.book.is_whole || not (is_answer s.verdict.rule) then s.verdict
+    else record { rule = None; noted = Some (Unjudged channel); is_judged = false })
+
 -- the information of an I frame
-unfoldable pub reads : Role → Reading → List ℕ → Book → Seen
-reads from reading octets b = reads_on from reading octets (channel_in octets) b
+unfoldable pub reads : Role → Reading → ℕ → List ℕ → Book → Seen
+reads from reading channel octets b = excused channel
+    (if reading.wide then reads_any from channel (longest_user reading.long) octets b
+    else takes_read from channel (packet_of (longest_user reading.long) octets) b)
 
 -- ---- a frame
 
@@ -185,10 +188,17 @@ hears from number b =
     then keeps from (layers.hears number (layers_of from b)) (forgets b)
     else keeps from (layers.hears number (layers_of from b)) b
 
--- an I frame, by N(S)
+-- an I frame, by N(S): where an end isn't followed before its next set-up no packet is judged
+abbrev pub carries : Role → Reading → Bool → List ℕ → Option ℕ → Book → Seen
+carries from reading may_judge octets None b = quiet b
+carries from reading may_judge octets (Some channel) b =
+    if may_judge then reads from reading channel octets b
+    else if layers.are_dropped (layers_of from b) then misses_on channel b else quiet b
+
 unfoldable pub moves : Role → Reading → ℕ → List ℕ → Book → Seen
-moves from reading number octets b = let next = keeps from (layers.moves number (layers_of from b)) b in
-    if layers.may_judge number (layers_of from b) then reads from reading octets next else quiet next
+moves from reading number octets b =
+    carries from reading (layers.may_judge number (layers_of from b)) octets (channel_in octets)
+    (keeps from (layers.moves number (layers_of from b)) b)
 
 -- one that breaks a rule of the link layer may hide packets
 unfoldable pub sends_info : Role → Reading → ℕ → ℕ → List ℕ → Bool → Book → Seen
@@ -198,8 +208,11 @@ sends_info from reading ns nr octets is_broken b =
 
 -- both packet layers begin anew; a call that was up may go on
 unfoldable pub begins : Role → Layers → Book → Book
-begins from t b =
-    keeps from t (record b { restarts = channels.begun_channel; channels = all_alike channels.ready_channel })
+begins from t b = keeps from t (record b {
+  restarts = channels.begun_channel;
+  channels = all_alike channels.ready_channel;
+  is_whole = true;
+})
 
 unfoldable pub asks : Role → Layers → Book → Book
 asks from t b = if layers.is_asked_again t then keeps from (layers.asks t) b else begins from (layers.asks t) b

@@ -1,19 +1,15 @@
 -- Both ends of a logical channel, each as the set of states in which it may be, and what is told of a packet.
 use Rattle.std.specs.Prelude.{ℕ, Bool, true, false, not, ◌&&◌, ◌||◌, if◌then◌else◌, Option, Some, None, is_some}
-use Rattle.x25_bits.specs.declared.role.Role.{Role}
-use Rattle.x25_bits.specs.declared.role.Role.TheVariants.{Dte, Dce}
+use Rattle.x25_bits.specs.declared.{role.Role.{Role}, role.Role.TheVariants.{Dte, Dce}}
 use Rattle.x25_packet_judge.specs.PacketRule.{is_order}
 use Rattle.x25_packet_judge.specs.Reason.{manners, reason}
-use Rattle.x25_packet_judge.specs.declared.channel.Channel.{Channel}
-use Rattle.x25_packet_judge.specs.declared.channel.Event.{Event}
+use Rattle.x25_packet_judge.specs.declared.{channel.Channel.{Channel}, channel.Event.{Event}}
 use Rattle.x25_packet_judge.specs.declared.channel.Event.TheVariants.{Sends, Loss}
-use Rattle.x25_packet_judge.specs.declared.book.Noted.TheVariants.{Again, Unjudged}
-use Rattle.x25_packet_judge.specs.declared.book.Verdict.{Verdict}
+use Rattle.x25_packet_judge.specs.declared.{book.Noted.TheVariants.{Again, Unjudged}, book.Verdict.{Verdict}}
 use Rattle.x25_packet_judge.specs.declared.packet_rule.PacketRule.{PacketRule}
 use Rattle.x25_possible.specs.code.Steps as sets
-use Rattle.x25_possible.specs.declared.packet.Packet.TheVariants.{Elsewhere}
-use Rattle.x25_possible.specs.declared.{packet.Packet.{Packet}, set.Set.{Set}, set.Told.{Told}}
-use Rattle.x25_possible.specs.declared.set.Told.TheVariants.{Nothing, Rude, Broken}
+use Rattle.x25_possible.specs.declared.{packet.Packet.TheVariants.{Elsewhere}, packet.Packet.{Packet}, set.Set.{Set}}
+use Rattle.x25_possible.specs.declared.{set.Told.{Told}, set.Told.TheVariants.{Nothing, Rude, Broken}}
 
 -- nothing is known; or both have restarted
 abbrev pub any_channel : Channel

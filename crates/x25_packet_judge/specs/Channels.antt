@@ -3,8 +3,7 @@ use Rattle.std.specs.Prelude.{ℕ, suc, ◌-◌, ◌%◌, List, [], ◌++◌, le
 use Rattle.std.specs.Prelude.{◌≡◌, slice_index_or, slice_set}
 use Rattle.std.specs.Option.{option_map}
 use Rattle.x25_packet_judge.specs.Channel.{happens}
-use Rattle.x25_packet_judge.specs.declared.channel.Channel.{Channel}
-use Rattle.x25_packet_judge.specs.declared.channel.Event.{Event}
+use Rattle.x25_packet_judge.specs.declared.{channel.Channel.{Channel}, channel.Event.{Event}}
 use Rattle.x25_packet_judge.specs.declared.channel.Event.TheVariants.{Loss}
 
 pub record Channels : Type 0 where

@@ -5,17 +5,13 @@ use Rattle.std.specs.Prelude.{Err}
 use Rattle.x25_packet.specs.Facilities.{facilities_of}
 use Rattle.x25_packet.specs.Packet.{PlainPacket, call, accept, clear, clear_conf, user_data, rr, rnr, interrupt}
 use Rattle.x25_packet.specs.Packet.{interrupt_conf, reset, reset_conf, restart, restart_conf}
-use Rattle.x25_packet.specs.declared.error.PacketError.{PacketError}
-use Rattle.x25_packet.specs.declared.facilities.Directions.{Directions}
+use Rattle.x25_packet.specs.declared.{error.PacketError.{PacketError}, facilities.Directions.{Directions}}
 use Rattle.x25_packet.specs.declared.facilities.Facilities.{Facilities}
 use Rattle.x25_possible.specs.declared.packet.Packet.{Packet as Item}
 use Rattle.x25_possible.specs.declared.packet.Packet.TheVariants.{Call, Accept, Clear, ClearConf, Reset, ResetConf}
 use Rattle.x25_possible.specs.declared.packet.Packet.TheVariants.{Restart, RestartConf, Data, Rr, Rnr, Interrupt}
-use Rattle.x25_possible.specs.declared.packet.Packet.TheVariants.{InterruptConf}
-use Rattle.x25_possible.specs.declared.packet.Said.{Said}
-use Rattle.x25_possible.specs.declared.packet.Sizes.{Sizes}
-use Rattle.x25_possible.specs.declared.packet.Terms.{Terms}
-use Rattle.x25_possible.specs.declared.packet.Windows.{Windows}
+use Rattle.x25_possible.specs.declared.{packet.Packet.TheVariants.{InterruptConf}, packet.Said.{Said}}
+use Rattle.x25_possible.specs.declared.{packet.Sizes.{Sizes}, packet.Terms.{Terms}, packet.Windows.{Windows}}
 
 -- the packet sizes that a facility names, in octets (section 7.2.2.1.1)
 abbrev pub octets_of : ℕ → ℕ

@@ -1,27 +1,22 @@
 -- The packet layers of both ends, as the frames of the link show them: which of their packets are followed (profile).
 use Rattle.std.specs.Prelude.{ℕ, ◌+◌, ◌%◌, ◌==◌, nat_lt, Bool, true, false, not, ◌&&◌, ◌||◌, if◌then◌else◌, min}
 use Rattle.x25_packet_judge.specs.Numbers.{apart, less}
-use Rattle.x25_packet_judge.specs.declared.layers.Layer.{Layer}
-use Rattle.x25_packet_judge.specs.declared.layers.Layers.{Layers}
-use Rattle.x25_packet_judge.specs.declared.layers.Track.{Track}
+use Rattle.x25_packet_judge.specs.declared.layers.{Layer.{Layer}, Layers.{Layers}, Track.{Track}}
 use Rattle.x25_packet_judge.specs.declared.layers.Track.TheVariants.{Unseen, Dropped, Followed}
 
 -- ---- one end
 
 abbrev pub is_unseen : Track → Bool
 is_unseen Unseen = true
-is_unseen Dropped = false
-is_unseen Followed = false
+is_unseen track = false
 
 abbrev pub is_dropped : Track → Bool
-is_dropped Unseen = false
 is_dropped Dropped = true
-is_dropped Followed = false
+is_dropped track = false
 
 abbrev pub is_followed : Track → Bool
-is_followed Unseen = false
-is_followed Dropped = false
 is_followed Followed = true
+is_followed track = false
 
 -- nothing is known
 abbrev pub unseen : Layer
@@ -47,15 +42,10 @@ is_under_way l = is_followed l.track && not l.is_fresh
 abbrev pub set_up_again : Layer → Layer
 set_up_again l = if is_followed l.track && l.is_fresh then begun l.asked else record l { track = Dropped }
 
-abbrev pub behind_ua : Track → Track
-behind_ua Unseen = Unseen
-behind_ua Dropped = Dropped
-behind_ua Followed = Dropped
-
 -- UA again: it changes nothing where the first end sent nothing since the first one. Else its numbers begin anew, and
 -- the other end may take those of before or these.
 abbrev pub late : Layer → Layer
-late l = record l { track = if l.is_fresh then l.track else behind_ua l.track; asked = less l.asked }
+late l = record l { track = if is_under_way l then Dropped else l.track; asked = less l.asked }
 
 -- ---- both
 
@@ -92,6 +82,10 @@ hears number t =
     if finds_other number t then record (worn t) { other = found_at number t.other }
     else if may_hear t then record (worn t) { other = record t.other { acked = number } }
     else worn t
+
+-- one of both isn't followed before its next set-up
+abbrev pub are_dropped : Layers → Bool
+are_dropped t = is_dropped t.own.track || is_dropped t.other.track
 
 -- packets are seen in the order of N(S), each once
 abbrev pub is_next : ℕ → Layers → Bool

@@ -8,8 +8,7 @@ use Rattle.x25_packet_judge.specs.declared.packet_rule.PacketRule.TheVariants as
 use Rattle.x25_possible.specs.declared.packet.Packet.{Packet}
 use Rattle.x25_possible.specs.declared.packet.Packet.TheVariants.{Call, Accept, ClearConf, ResetConf, RestartConf}
 use Rattle.x25_possible.specs.declared.packet.Packet.TheVariants.{Data, Rr, Rnr, Interrupt, InterruptConf}
-use Rattle.x25_possible.specs.declared.phase.Phase.{Phase}
-use Rattle.x25_possible.specs.declared.phase.Phase.TheVariants.{Talks, Resets, Clears, Restarts}
+use Rattle.x25_possible.specs.declared.{phase.Phase.{Phase}, phase.Phase.TheVariants.{Talks, Resets, Clears, Restarts}}
 use Rattle.x25_possible.specs.declared.phase.Talk.{Talk}
 
 -- ---- what breaks a rule of its own wherever it isn't allowed, and any other packet

@@ -25,6 +25,8 @@ pub struct Book {
     /// A channel on which nothing but RESTART and its confirmation was sent, by which these are judged.
     pub(crate) restarts: Channel,
     pub(crate) channels: Channels,
+    /// The link was set up, and no packet was missed since then.
+    pub(crate) is_whole: bool,
 }
 
 /// What is noted of a packet: the end's RESTART, CLEAR or RESET goes again before its answer; or a channel isn't judged
@@ -85,6 +87,7 @@ impl Book {
             dce: Layer::unseen(),
             restarts: Channel::any(),
             channels,
+            is_whole: false,
         })
     }
 
@@ -163,7 +166,7 @@ impl Book {
             Packet::RestartConf => self.restarts(from, Item::RestartConf, false),
             _ => {
                 if is_first {
-                    self.restarts = Channel::any();
+                    self.restarts.lose();
                 }
                 self.judges(from, channel, &item_of(packet))
             }
@@ -176,6 +179,7 @@ impl Book {
     {
         self.restarts.lose();
         self.channels.lose();
+        self.is_whole = false;
     }
 
     /// Frames of either end weren't seen, any number of them.
@@ -232,23 +236,35 @@ impl Book {
         &mut self,
         from: Role,
         reading: Reading,
+        channel: u16,
         octets: &[u8],
         packet: &Result<Packet, PacketError>,
     ) -> Verdict
         requires { reading.wide ≡ false → definition.IsPacketOf reading.long octets.now packet.now }
-        ensures book { self.new ≡ (definition.reads from reading octets.now self.old).book }
-        ensures verdict { result ≡ (definition.reads from reading octets.now self.old).verdict }
+        ensures book { self.new ≡ (definition.reads from reading channel octets.now self.old).book }
+        ensures verdict { result ≡ (definition.reads from reading channel octets.now self.old).verdict }
     {
-        let Some(channel) = channel(octets) else {
-            return passed(None);
-        };
-        if reading.wide {
+        let verdict = if reading.wide {
             self.reads_any(from, channel, longest_user(reading.long), octets)
         } else {
             match packet {
                 Ok(packet) => self.takes(from, channel, packet),
                 Err(_) => self.misses_on(channel),
             }
+        };
+        self.excused(channel, verdict)
+    }
+
+    /// Where packets weren't seen since the last set-up, an answer of no request may be that of one of these.
+    fn excused(&self, channel: u16, verdict: Verdict) -> Verdict
+        ensures { result ≡ (definition.excused channel (definition.seen self.now verdict)).verdict }
+    {
+        match verdict.rule {
+            Some(PacketRule::RestartUnasked)
+            | Some(PacketRule::ClearUnasked)
+            | Some(PacketRule::AcceptUnasked)
+                if !self.is_whole => passed(Some(Noted::Unjudged(channel))),
+            _ => verdict,
         }
     }
 
@@ -273,6 +289,7 @@ impl Book {
     {
         self.restarts = Channel::begun();
         self.channels.begin(Channel::ready());
+        self.is_whole = true;
         self.keep(from, layers);
     }
 
@@ -335,8 +352,13 @@ impl Book {
             Role::Dte => advance(&mut self.dte, &self.dce, numbers.0),
             Role::Dce => advance(&mut self.dce, &self.dte, numbers.0),
         };
+        let Some(channel) = channel(octets) else {
+            return passed(None);
+        };
         if may_judge {
-            self.reads(from, reading, octets, packet)
+            self.reads(from, reading, channel, octets, packet)
+        } else if self.layers(from).are_dropped() {
+            self.misses_on(channel)
         } else {
             passed(None)
         }

@@ -49,23 +49,6 @@ fn pad(seen: &mut Vec<Option<Channel>>, index: usize)
     }
 }
 
-/// The first packet of one.
-fn begins(
-    place: &mut Option<Channel>,
-    usual: &Channel,
-    number: u16,
-    from: Role,
-    packet: &Packet,
-) -> Verdict
-    ensures place { place.new ≡ Some (definition.judges number from packet.now usual.now).channel }
-    ensures verdict { result ≡ (definition.judges number from packet.now usual.now).verdict }
-{
-    let mut channel = usual.copy();
-    let verdict = channel.judges(number, from, packet);
-    *place = Some(channel);
-    verdict
-}
-
 /// A packet of one.
 fn judges(
     place: &mut Option<Channel>,
@@ -80,7 +63,12 @@ fn judges(
 {
     match place {
         Some(channel) => channel.judges(number, from, packet),
-        None => begins(place, usual, number, from, packet),
+        None => {
+            let mut channel = usual.copy();
+            let verdict = channel.judges(number, from, packet);
+            *place = Some(channel);
+            verdict
+        }
     }
 }
 

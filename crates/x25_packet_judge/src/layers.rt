@@ -78,7 +78,7 @@ impl Layer {
         ensures { result ≡ definition.late self }
     {
         self.asked = less(self.asked);
-        if !self.is_fresh && matches!(self.track, Track::Followed) {
+        if self.is_under_way() {
             self.track = Track::Dropped;
         }
         self
@@ -93,6 +93,13 @@ pub(crate) struct Layers {
 }
 
 impl Layers {
+    /// One of both isn't followed before its next set-up.
+    pub(crate) fn are_dropped(&self) -> bool
+        ensures { result ≡ definition.are_dropped self.now }
+    {
+        matches!(self.own.track, Track::Dropped) || matches!(self.other.track, Track::Dropped)
+    }
+
     /// Packets of the end that sends were missed.
     pub(crate) fn lost(self) -> Layers
         ensures { result ≡ definition.loses self }

@@ -20,7 +20,7 @@ fn words(rule: PacketRule) -> &'static [u8]
         PacketRule::ClearAwaited => b"nothing but CLEAR goes before its confirmation (4.1.7)",
         PacketRule::ClearUnasked => b"CLEAR CONFIRMATION of no CLEAR (4.1.7)",
         PacketRule::CallAgain => b"CALL where the channel has a call (4.1.2)",
-        PacketRule::AcceptUnasked => b"CALL ACCEPTED of no call (4.1.4)",
+        PacketRule::AcceptUnasked => b"CALL ACCEPTED of no call, or not as proposed (4.1.4, 6.12)",
         PacketRule::NoCall => b"no call is up on the channel (4.3)",
         PacketRule::ResetAwaited => b"nothing but RESET goes before its confirmation (4.4.3)",
         PacketRule::ResetUnasked => b"RESET CONFIRMATION of no RESET (4.4.3.4)",

@@ -52,6 +52,28 @@ called_limits terms said = record {
 abbrev pub limits_of : Talk → Limits
 limits_of k = record { most = k.most; window = k.window }
 
+-- what is answered lies between what was proposed and what is usual: 128 octets, 2 packets; a size of 0 isn't known
+abbrev pub is_between : ℕ → ℕ → ℕ → Bool
+is_between a b n = nat_le a n && nat_le n b
+
+abbrev pub is_toward : ℕ → ℕ → ℕ → Bool
+is_toward usual proposed n = is_between usual proposed n || is_between proposed usual n
+
+abbrev pub is_size : ℕ → ℕ → Bool
+is_size proposed n = proposed == 0 || is_toward 128 proposed n
+
+abbrev pub may_have_sizes : Terms → Option Sizes → Bool
+may_have_sizes terms None = true
+may_have_sizes terms (Some said) = is_size terms.called_size said.called && is_size terms.calling_size said.calling
+
+abbrev pub may_have_windows : Terms → Option Windows → Bool
+may_have_windows terms None = true
+may_have_windows terms (Some said) =
+    is_toward 2 terms.called_window said.called && is_toward 2 terms.calling_window said.calling
+
+abbrev pub may_answer : Terms → Said → Bool
+may_answer terms said = may_have_sizes terms said.sizes && may_have_windows terms said.windows
+
 -- ---- data transfer, within a stretch (4.3, 4.4.1)
 
 -- the first whole number from low on that is this one modulo 8
@@ -145,7 +167,7 @@ idle_sends x = ending_sends Idle x
 
 -- p3 (4.1.4)
 abbrev pub called_sends : Terms → Packet → Option Phase
-called_sends terms (Accept said) = Some (fresh (called_limits terms said))
+called_sends terms (Accept said) = if may_answer terms said then Some (fresh (called_limits terms said)) else None
 called_sends terms x = ending_sends (WasCalled terms) x
 
 -- d1

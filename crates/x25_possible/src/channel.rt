@@ -6,7 +6,7 @@ ghost use Rattle.x25_possible.specs.code.Steps as steps;
 ghost use Rattle.x25_possible.specs.declared.packet.Packet.TheVariants.{Data, Rr};
 ghost use Rattle.x25_possible.specs.declared.phase.Phase.TheVariants.{Talks};
 
-use crate::packet::{Packet, Said, Terms};
+use crate::packet::{Packet, Said, Sizes, Terms, Windows};
 use crate::phase::{Limits, Phase, Talk};
 use x25_bits::Role;
 
@@ -68,6 +68,39 @@ fn called_limits(terms: Terms, said: Said) -> Limits
             Some(windows) => windows.called,
             None => terms.called_window,
         },
+    }
+}
+
+/// What is answered lies between what was proposed and what is usual.
+fn is_toward(usual: u16, proposed: u16, n: u16) -> bool
+    ensures { result ≡ definition.is_toward usual proposed n }
+{
+    (usual <= n && n <= proposed) || (proposed <= n && n <= usual)
+}
+
+fn is_size(proposed: u16, n: u16) -> bool
+    ensures { result ≡ definition.is_size proposed n }
+{
+    proposed == 0 || is_toward(128, proposed, n)
+}
+
+fn may_have_sizes(terms: Terms, said: Option<Sizes>) -> bool
+    ensures { result ≡ definition.may_have_sizes terms said }
+{
+    match said {
+        Some(sizes) => is_size(terms.called_size, sizes.called)
+            && is_size(terms.calling_size, sizes.calling),
+        None => true,
+    }
+}
+
+fn may_have_windows(terms: Terms, said: Option<Windows>) -> bool
+    ensures { result ≡ definition.may_have_windows terms said }
+{
+    match said {
+        Some(windows) => is_toward(2, terms.called_window.into(), windows.called.into())
+            && is_toward(2, terms.calling_window.into(), windows.calling.into()),
+        None => true,
     }
 }
 
@@ -251,7 +284,14 @@ fn called_sends(terms: Terms, packet: Packet) -> Option<Phase>
     ensures { result ≡ definition.called_sends terms packet }
 {
     match packet {
-        Packet::Accept(said) => Some(fresh(called_limits(terms, said))),
+        Packet::Accept(said) => {
+            let may = may_have_sizes(terms, said.sizes) && may_have_windows(terms, said.windows);
+            if may {
+                Some(fresh(called_limits(terms, said)))
+            } else {
+                None
+            }
+        },
         _ => ending_sends(Phase::WasCalled(terms), packet),
     }
 }

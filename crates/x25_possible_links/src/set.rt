@@ -203,6 +203,13 @@ impl LinkSet {
         has_all(self.way.as_slice())
     }
 
+    /// Whether it awaits UA, and UA to what was sent before may come to it.
+    pub fn awaits_before(&self) -> bool
+        ensures { result ≡ definition.awaits_before self.now }
+    {
+        !self.is_followed() && matches!(self.latest(), Stand::Asking)
+    }
+
     /// Takes what has come to all places off the way.
     fn trim(&mut self)
         ensures { self.new ≡ definition.trimmed self.old }

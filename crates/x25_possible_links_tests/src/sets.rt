@@ -114,6 +114,19 @@ fn may_miss_its_answer(rt: HostRuntime) {
     assert!(rt; set.is_known());
 }
 
+/// UA to what was sent before may come to it as long as it awaits UA, and none that is shown may have come.
+#[test]
+fn awaits_an_answer_of_before(rt: HostRuntime) {
+    let waits: [&[u8]; 3] = [b">S", b">S<S", b"<S>U>S<0"];
+    for tape in waits {
+        assert!(rt; behind(tape).awaits_before(), "{tape:?}");
+    }
+    let others: [&[u8]; 5] = [b"", b">D", b">S<U", b">S<U>0S", b">S0"];
+    for tape in others {
+        assert!(rt; !behind(tape).awaits_before(), "{tape:?}");
+    }
+}
+
 /// Where there is no room for its places it may be anywhere, and what is on the way is.
 #[test]
 fn keeps_the_way_without_room(rt: HostRuntime) {

@@ -18,9 +18,10 @@ use Rattle.x25_possible.specs.laws.Possible.{Item, Own, Stands}
 use Rattle.x25_possible.specs.laws.Possible.{Begins as RunBegins, Sends as RunSends, Shows as RunShows, Takes as RunTakes}
 use Rattle.x25_possible.specs.declared.packet.Packet.{Packet}
 use Rattle.x25_possible.specs.declared.packet.Packet.TheVariants as item
+use Rattle.x25_possible.specs.declared.phase.Limits.{Limits}
 use Rattle.x25_possible.specs.declared.phase.Phase.{Phase}
 use Rattle.x25_possible.specs.declared.phase.Phase.TheVariants as phase
-use Rattle.x25_possible_peers.specs.laws.Peers.{item_of, phase_of, stage_phase, transfer_phase, IsOfRole, confirmed}
+use Rattle.x25_possible_peers.specs.laws.Peers.{item_of, phase_of, stage_phase, transfer_phase, limits, IsOfRole, confirmed}
 use Rattle.x25_possible_peers.specs.laws.LayerPeers.{phase_on, item_on, confirmed_on, comes_on, way_on, shown_on, LayerStands, Begins, Does, Shown, Hears, HearsChannel}
 use Rattle.x25_possible_peers.proofs.PeerLemmas.{channel_sends, channel_takes}
 use Rattle.x25_possible_peers.proofs.TapeLemmas.{does_of_role, takes_of_role, fresh_of_role, taken_so}
@@ -29,22 +30,22 @@ use Rattle.x25_possible_peers.proofs.TapeLemmas.{does_of_role, takes_of_role, fr
 
 module _ (P : Phase → Type 0) (idle : P phase.Idle) (calls : (t : _) → P (phase.Calls t)) (called : (t : _) → P (phase.WasCalled t))
     (talks : (k : _) → P (phase.Talks k)) (resets : (l : _) → P (phase.Resets l)) (clears : P phase.Clears) where
-  in_transfer : (size : ℕ) (y : Side PeerStretch) → P (transfer_phase size y)
-  in_transfer size (Live y) = talks _
-  in_transfer size (Left y) = resets _
+  in_transfer : (l : Limits) (y : Side PeerStretch) → P (transfer_phase l y)
+  in_transfer l (Live y) = talks _
+  in_transfer l (Left y) = resets _
 
   in_stage : (stage : Stage (At PeerStretch)) → P (stage_phase stage)
   in_stage Unused = idle
   in_stage (Waiting mine) = calls _
   in_stage (Offered theirs) = called _
   in_stage (Crossed mine) = calls _
-  in_stage (Talking t b at) = in_transfer t.size at.side
+  in_stage (Talking t b at) = in_transfer (limits t) at.side
 
-  in_phase : (y : Side PeerCall) → P (phase_of y)
+  pub in_phase : (y : Side PeerCall) → P (phase_of y)
   in_phase (Live c) = in_stage c.stage
   in_phase (Left c) = clears
 
-sends_elsewhere : (y : Side PeerCall) → sends_as 0 (phase_of y) item.Elsewhere ≡ Some (phase_of y)
+pub sends_elsewhere : (y : Side PeerCall) → sends_as 0 (phase_of y) item.Elsewhere ≡ Some (phase_of y)
 sends_elsewhere y =
     in_phase (λ s. sends_as 0 s item.Elsewhere ≡ Some s) refl (λ t. refl) (λ t. refl) (λ k. refl) (λ l. refl) refl y
 
@@ -52,15 +53,15 @@ sends_restart : (y : Side PeerCall) → sends_as 0 (phase_of y) item.Restart ≡
 sends_restart y =
     in_phase (λ s. sends_as 0 s item.Restart ≡ Some phase.Restarts) refl (λ t. refl) (λ t. refl) (λ k. refl) (λ l. refl) refl y
 
-takes_restart : (r : Role) (y : Side PeerCall) → takes r (phase_of y) item.Restart ≡ Some phase.WasRestarted
+pub takes_restart : (r : Role) (y : Side PeerCall) → takes r (phase_of y) item.Restart ≡ Some phase.WasRestarted
 takes_restart r y =
     in_phase (λ s. takes r s item.Restart ≡ Some phase.WasRestarted) refl (λ t. refl) (λ t. refl) (λ k. refl) (λ l. refl) refl y
 
-takes_confirmation : (r : Role) (y : Side PeerCall) → takes r (phase_of y) item.RestartConf ≡ Some (phase_of y)
+pub takes_confirmation : (r : Role) (y : Side PeerCall) → takes r (phase_of y) item.RestartConf ≡ Some (phase_of y)
 takes_confirmation r y =
     in_phase (λ s. takes r s item.RestartConf ≡ Some s) refl (λ t. refl) (λ t. refl) (λ k. refl) (λ l. refl) refl y
 
-drops : (r : Role) (p : theirs.Packet) → takes r phase.Restarts (item_of p) ≡ Some phase.Restarts
+pub drops : (r : Role) (p : theirs.Packet) → takes r phase.Restarts (item_of p) ≡ Some phase.Restarts
 drops r (theirs.Data ns nr (More q user)) = refl
 drops r (theirs.Data ns nr (Last q user)) = refl
 drops r p = refl

@@ -5,7 +5,7 @@ use Rattle.std.proofs.lemmas.Bool.{and_from, eq-eqb, eqb-true, le-leb, lt-ltb, b
 use Rattle.std.proofs.lemmas.List.{append-nil, append_cancel_left, append_cancel_right, length_push}
 use Rattle.x25_window.specs.code.Modulo.{resolved}
 use Rattle.x25_line.specs.laws.Ends as line
-use Rattle.x25_line.specs.laws.Ends.{Ends, Letter, letter, Two, Does, Moves, near_now, put_for, with_near, how_many, IsPatient}
+use Rattle.x25_line.specs.laws.Ends.{Ends, Letter, letter, Does, near_now, put_for, how_many}
 use Rattle.x25_line.specs.laws.Peer as peer
 use Rattle.x25_line.specs.laws.Peer.{Peer, fresh_peer, MayAcknowledge, MayNumber}
 use Rattle.x25_line.specs.laws.Said as read
@@ -13,7 +13,7 @@ use Rattle.x25_line.specs.laws.Said.{Said, Carried, ua_of}
 use Rattle.x25_line.specs.laws.Tape.{same_octets, is_item}
 use Rattle.x25_possible.specs.laws.Possible.{IsIn}
 use Rattle.x25_possible_links.specs.laws.Link as link
-use Rattle.x25_possible_links.specs.laws.Link.{At, Owes, MaySend, MayTake, fresh, has_ua, is_asking, is_ua, may_acknowledge, may_number, owed, sends_as, heard}
+use Rattle.x25_possible_links.specs.laws.Link.{At, Owes, MaySend, MayTake, fresh, has_ua, is_asking, is_ua, may_acknowledge, may_number, owed, sends_as}
 use Rattle.x25_possible_links.specs.declared.frame.Frame.{Frame}
 use Rattle.x25_possible_links.specs.declared.frame.Frame.TheVariants as frame
 use Rattle.x25_possible_links.specs.declared.stand.Stand.{Stand}
@@ -237,7 +237,7 @@ stays s w v (inr out) near now = inr (ap (λ (n : line.Stander). n.stand) near �
 
 -- ---- each step
 
-only : (x y : Frame) → IsIn x (y ∷ []) → x ≡ y
+pub only : (x y : Frame) → IsIn x (y ∷ []) → x ≡ y
 only x y (inl is) = is
 only x y (inr none) = absurd none
 

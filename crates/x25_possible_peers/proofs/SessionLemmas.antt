@@ -4,18 +4,31 @@ use Rattle.std.proofs.lemmas.Bool.{and_parts, eqb-true, leb-true, ltb-true}
 use Rattle.std.proofs.lemmas.Option.{cond_some}
 use Rattle.x25_window.specs.code.Modulo.{resolved}
 use Rattle.x25_line.specs.laws.Peer as peer
-use Rattle.x25_line.specs.laws.Peer.{Peer, MayAcknowledge, MayNumber}
+use Rattle.x25_line.specs.laws.Peer.{Peer, MaySay, MayMake, MayAcknowledge, MayNumber}
 use Rattle.x25_line.specs.laws.Said as read
-use Rattle.x25_line.specs.laws.Said.{Carried}
+use Rattle.x25_line.specs.laws.Said.{Said, Carried}
 use Rattle.x25_line.specs.laws.Tape.{same_octets, is_item}
 use Rattle.x25_possible.specs.laws.Possible.{IsIn}
 use Rattle.x25_possible_links.specs.laws.Link as link
 use Rattle.x25_possible_links.specs.laws.Link.{may_acknowledge, may_number, sends_as, heard}
 use Rattle.x25_possible_links.specs.declared.frame.Frame.{Frame}
 use Rattle.x25_possible_links.specs.declared.frame.Frame.TheVariants as frame
+use Rattle.x25_possible_links.specs.declared.stand.Numbers.{Numbers}
+use Rattle.x25_possible_links.specs.declared.stand.Stand.{Stand}
 use Rattle.x25_possible_links.specs.declared.stand.Stand.TheVariants.{Up}
-use Rattle.x25_possible_peers.specs.laws.LinkPeers.{numbers_of, differs, frames_of, IsGiven, MayMakeIt, SessionSendsArePeers, SessionTakesArePeers}
+use Rattle.x25_possible_peers.specs.laws.LinkPeers.{numbers_of, differs, frames_of, IsShown}
+use Rattle.x25_possible_peers.specs.laws.LinkAsPeers.{IsGiven}
 use Rattle.x25_possible_peers.proofs.LinkLemmas.{number_is, one_more, sent_is}
+
+pub record MaySayIt (p : Peer) (said : Said) (r : Stand) : Type 0 where
+  pub next : Peer
+  pub may : MaySay ⊥ p said next
+  pub stands : r ≡ Up (numbers_of next)
+
+pub record MayMakeIt (p : Peer) (said : Said) (k : Numbers) : Type 0 where
+  pub next : Peer
+  pub may : MayMake p said next
+  pub stands : k ≡ numbers_of next
 
 acknowledges : (p : Peer) (nr t : ℕ) → may_acknowledge t (numbers_of p) nr ≡ true → MayAcknowledge p nr t
 acknowledges p nr t h =
@@ -39,9 +52,9 @@ not_both true h = refl
 not_both false h = cc
 
 -- it carries the packet of its number
-same_item : (p : Peer) (c : Carried) (n : ℕ) → IsGiven p (Some c) → c.ns ≡ n % 8 → n ≤ p.sent → p.sent ≤ n + 7
+same_item : (p : Peer) (c : Carried) (nr n : ℕ) → IsGiven p (read.Tells (Some c) nr) → c.ns ≡ n % 8 → n ≤ p.sent → p.sent ≤ n + 7
     → (n == p.sent || not (not (is_item (slice_get p.given (resolved (p.sent - 7) c.ns)) c.packet))) ≡ true → slice_get p.given n ≡ Some c.packet
-same_item p c n given number low again h = go (n == p.sent) refl h
+same_item p c nr n given number low again h = go (n == p.sent) refl h
   where
     go : (b : Bool) → (n == p.sent) ≡ b → (b || not (not (is_item (slice_get p.given (resolved (p.sent - 7) c.ns)) c.packet))) ≡ true
         → slice_get p.given n ≡ Some c.packet
@@ -57,7 +70,7 @@ record Number (p : Peer) (c : Carried) (n : ℕ) : Type 0 where
   low : n ≤ p.sent
   may : MayNumber p c.ns c.packet n
 
-numbers : (p : Peer) (c : Carried) (nr n : ℕ) → IsGiven p (Some c) → may_number n (numbers_of p) c.ns (differs p (read.Tells (Some c) nr)) ≡ true → Number p c n
+numbers : (p : Peer) (c : Carried) (nr n : ℕ) → IsGiven p (read.Tells (Some c) nr) → may_number n (numbers_of p) c.ns (differs p (read.Tells (Some c) nr)) ≡ true → Number p c n
 numbers p c nr n given h =
     let d = differs p (read.Tells (Some c) nr) in
     let a = and_parts (c.ns == n % 8) (nat_le n p.sent && (nat_le p.sent (n + 7) && (nat_lt n (p.acked + 7) && (n == p.sent || not d)))) h in
@@ -71,13 +84,15 @@ numbers p c nr n given h =
       low = low;
       may = record {
         number = number;
-        same = same_item p c n given number low again f.1;
+        same = same_item p c nr n given number low again f.1;
         window = ltb-true n (p.acked + 7) f.0;
         again = again;
       };
     }
 
-pub session_sends : SessionSendsArePeers
+pub session_sends : (p : Peer) (way : List Frame) (carried : Option Carried) (nr n t : ℕ) (x : Frame) (r : Stand) → IsGiven p (read.Tells carried nr)
+    → IsIn x (frames_of (differs p (read.Tells carried nr)) (read.Tells carried nr)) → sends_as n t (Up (numbers_of p)) way x ≡ Some r
+    → MaySayIt p (read.Tells carried nr) r
 session_sends p way None nr n t x r given (inl is) e =
     let parts = cond_some (may_acknowledge t (numbers_of p) nr) (Up (link.told_to t (numbers_of p))) r
     (ap (λ y. sends_as n t (Up (numbers_of p)) way y) (sym is) ∙ e) in
@@ -140,5 +155,6 @@ made p (Some c) nr x hears takes d (inl is) =
     (packet_made p c nr d hears takes (c.ns == length p.taken % 8) refl)
 made p (Some c) nr x hears takes d (inr none) = absurd none
 
-pub session_takes : SessionTakesArePeers
+pub session_takes : (p : Peer) (carried : Option Carried) (nr : ℕ) (x : Frame) (hears takes : Bool) → IsShown (read.Tells carried nr) x
+    → MayMakeIt p (read.Tells carried nr) (heard hears takes (numbers_of p) x)
 session_takes p carried nr x hears takes shown = made p carried nr x hears takes shown.0 shown.1

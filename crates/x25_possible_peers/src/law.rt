@@ -1,10 +1,11 @@
 //! The peers of docs/PEER.md keep the rules of a channel and of a link: each law is the contract of a function that
 //! does nothing.
+ghost use Rattle.x25_possible_peers.specs.laws.AsPeers.{ChannelRulesArePeers};
+ghost use Rattle.x25_possible_peers.specs.laws.LayerAsPeers.{RestartRulesArePeers};
 ghost use Rattle.x25_possible_peers.specs.laws.LayerPeers.{NoLayerPeerIsTold};
+ghost use Rattle.x25_possible_peers.specs.laws.LinkAsPeers.{LinkRulesArePeers};
 ghost use Rattle.x25_possible_peers.specs.laws.LinkPeers.{LinkStepsAreAllowed, NoLinkPeerIsTold};
-ghost use Rattle.x25_possible_peers.specs.laws.LinkPeers.{SessionSendsArePeers, SessionTakesArePeers};
 ghost use Rattle.x25_possible_peers.specs.laws.Peers.{DeedsAreSends, NoPeerIsTold, PacketsAreTaken};
-ghost use Rattle.x25_possible_peers.specs.laws.Peers.{StretchSendsArePeers};
 
 /// What a peer does by itself on a channel between two restarts, and what it makes of each packet that comes, is what
 /// an end may send and take by the rules of a channel.
@@ -13,10 +14,15 @@ pub fn peers_keep_the_rules()
     ensures takes { PacketsAreTaken }
 {}
 
-/// In d1 what the rules of a channel allow an end to send of a stretch is what a peer may do, in a call whose packet
-/// size is known.
-pub fn stretch_rules_are_those_of_peers()
-    ensures { StretchSendsArePeers }
+/// On a channel, in each state: what an end may send and take by the rules of a channel is what a peer does, and what
+/// has a name in `SendsBeyond` and `TakesBeyond`.
+pub fn channel_rules_are_those_of_peers()
+    ensures { ChannelRulesArePeers }
+{}
+
+/// The same of all channels at once, over RESTART and its confirmation.
+pub fn restart_rules_are_those_of_peers()
+    ensures { RestartRulesArePeers }
 {}
 
 /// From a restart on no rule is told of such a peer, whatever the other end sends.
@@ -40,6 +46,12 @@ pub fn link_peers_keep_the_rules()
     ensures { LinkStepsAreAllowed }
 {}
 
+/// On a link, wherever a peer stands: what an end may send, take and answer by the rules of a link a peer does, which
+/// may leave its session first, but for SABM where that isn't patient.
+pub fn link_rules_are_those_of_peers()
+    ensures { LinkRulesArePeers }
+{}
+
 /// No rule of order is told of such a peer, nor that numbers are left out, whatever the other end sends, with room on
 /// the way, or where nothing comes behind which 64 frames were sent.
 pub fn link_peers_stay_untold()
@@ -47,10 +59,3 @@ pub fn link_peers_stay_untold()
 {
     x25_possible_links::innocents_stay_untold();
 }
-
-/// In a session what the rules of a link allow of a frame with an N(R), sent or come, is what a peer may do, where an I
-/// frame with the next new N(S) carries the next packet that it was handed down.
-pub fn session_rules_are_those_of_peers()
-    ensures sends { SessionSendsArePeers }
-    ensures takes { SessionTakesArePeers }
-{}

@@ -266,7 +266,7 @@ judged c = record {
   strict = c.strict;
   wide = c.wide;
   k = unwrap_or c.k 7;
-  at = unwrap_or c.at at.Line;
+  at = unwrap_or c.at at.Either;
 }
 
 -- these words choose this behind a command

@@ -719,7 +719,7 @@ pub(crate) fn read_judging<S: AsStr>(words: &[S]) -> Option<Judging>
         strict: chosen.strict,
         wide: chosen.wide,
         k: rest.k,
-        at: chosen.at.unwrap_or(At::Line),
+        at: chosen.at.unwrap_or(At::Either),
     })
 }
 

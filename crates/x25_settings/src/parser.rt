@@ -209,11 +209,14 @@ static COMMANDS: [Row; 7] = [
         examples: Some(
             "Examples:
   x25 judge < examples/exchange.trace
-  x25 sim --tap < examples/losses.script | grep '^[<>]' | x25 judge",
+  x25 sim --tap < examples/losses.script | grep '^[<>]' | x25 judge --at line",
         ),
         words: &[
             WINDOW,
-            Word::At("Where the trace was made, which may lack what the line lost before"),
+            Word::At(
+                "What the trace may lack, as `!?` says: nothing (line), what the line lost before this end (dte, dce), \
+                any frame (either)",
+            ),
             LONG,
             LOOSE,
             WIDE,
@@ -247,7 +250,7 @@ static COMMANDS: [Row; 7] = [
 /// The words for an end.
 const ENDS: &[&str] = &["dte", "dce"];
 
-/// The words for the place of a trace, the default first.
+/// The words for the place of a trace.
 const PLACES: &[&str] = &["line", "dte", "dce", "either"];
 
 /// An option with a number; one that the end decides else is a time of a clock.
@@ -284,7 +287,7 @@ impl Word {
                     .long("at")
                     .value_name("PLACE")
                     .value_parser(PLACES)
-                    .default_value("line")
+                    .default_value("either")
                     .help(help),
             ),
         }

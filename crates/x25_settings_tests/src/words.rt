@@ -29,7 +29,7 @@ const PLAIN_JUDGING: Judging = Judging {
     strict: false,
     wide: false,
     k: 7,
-    at: At::Line,
+    at: At::Either,
 };
 
 fn judging_at(at: At) -> Task {
@@ -534,15 +534,15 @@ const JUDGE: &str =
     "Answer lines of a trace of both ends as `decode` does, in its place, and say which end broke which rule\n\n\
 Usage: x25 judge [OPTIONS] [FILE]\n\nOptions:\n      \
 --k <N>       The window of the link: 1 to 7 [default: 7]\n      \
---at <PLACE>  Where the trace was made, which may lack what the line lost before \
-[default: line] [possible values: line, dte, dce, either]\n      \
+--at <PLACE>  What the trace may lack, as `!?` says: nothing (line), what the line lost before this end (dte, dce), \
+any frame (either) [default: either] [possible values: line, dte, dce, either]\n      \
 --long        Take up to 128 octets of user data in a CALL, in place of 16\n      \
 --loose       Read a time and a tab before a line, comments (#), empty lines and CR LF too\n      \
 --wide        Read packets in all the forms that X.25 lets equipment send, and mark those by `~ wide`\n      \
 --manners     Answer status 1 too where manners were broken\n      \
 --strict      Answer status 1 too where something wasn't judged, or missing frames may explain a rule\n  \
 -h, --help        Print help\n\nExamples:\n  x25 judge < examples/exchange.trace\n  \
-x25 sim --tap < examples/losses.script | grep '^[<>]' | x25 judge\n";
+x25 sim --tap < examples/losses.script | grep '^[<>]' | x25 judge --at line\n";
 
 #[test]
 fn says_what_is_wrong(rt: HostRuntime) -> Result<(), Fail> {

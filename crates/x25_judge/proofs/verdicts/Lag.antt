@@ -1,9 +1,9 @@
 -- An end that keeps the rules, ahead of the trace: what it did since its last octets that the trace has seen.
-use Rattle.x25_judge.proofs.verdicts.Names.{◌≡◌, inl, inr, ℕ, ◌≤◌, le_trans, arith, length, length-append, List, [], ◌∷◌, ◌++◌, true, false, Option, Some, None, Result, Ok, Err, refl, sym, ap, ◌∙◌, subst, Role, n1, PlainFrame, info, rr, rnr, rej, frame_of, FrameError, Short, other, Peer, MayHear, number_in, is_visible, visible_reads, Judge, MaySend, MayStand, In, IsNumbered, Way}
+use Rattle.x25_judge.proofs.verdicts.Names.{◌≡◌, inl, inr, ℕ, ◌≤◌, le_trans, arith, length, length-append, List, [], ◌∷◌, ◌++◌, true, false, Option, Some, None, Result, Ok, Err, refl, sym, ap, ◌∙◌, subst, Role, n1, PlainFrame, info, rr, rnr, rej, frame_of, FrameError, Short, other, Peer, MayHear, number_in, is_visible, IsSeen, visible_reads, Judge, MaySend, MayStand, In, IsNumbered, Way}
 use Rattle.std.proofs.Common.{append_assoc}
 use Rattle.std.proofs.lemmas.List.{append-nil}
 use Rattle.x25_judge.specs.laws.Sessions as sessions
-use Rattle.x25_line.specs.laws.Loss.{LessAt, nothing as none_lost, gone, hurt, deeper, IsSeen}
+use Rattle.x25_line.specs.laws.Loss.{LessAt, nothing as none_lost, gone, hurt, deeper}
 
 -- it sends such octets: a frame with a number, or what has none
 pub data Sends (from : Role) (p : Peer) (octets : List ℕ) (q : Peer) : Type 0 where

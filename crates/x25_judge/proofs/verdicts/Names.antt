@@ -38,10 +38,10 @@ pub use Rattle.x25_line.specs.laws.Peer.{Peer, fresh_peer, MayAcknowledge, MayNu
 pub use Rattle.x25_line.specs.laws.PeerSessions.{In}
 pub use Rattle.x25_line.specs.laws.Said.{Said, Tells, said, Odd}
 pub use Rattle.x25_line.specs.laws.StationClaims.{number_in, EachEventHandsOne, HandsOne}
-pub use Rattle.x25_line.specs.laws.Stations.{is_visible, Near, acts}
+pub use Rattle.x25_line.specs.laws.Stations.{is_visible, IsSeen, Near, acts}
 pub use Rattle.x25_line.specs.laws.Tape.{notes, same_octets, is_item, judges_ack, then_ack, judges_item, judges, notes_said}
 pub use Rattle.x25_link.specs.Hearing.{other}
-pub use Rattle.x25_link.specs.Station.{Settings}
+pub use Rattle.x25_link.specs.Station.{LinkSettings}
 pub use Rattle.x25_packet_judge.specs.declared.packet_rule.PacketRule.{PacketRule}
 pub use Rattle.x25_possible.specs.Channel.{nth}
 pub use Rattle.x25_possible.specs.laws.Possible.{IsIn, Place, at, Item, Other}

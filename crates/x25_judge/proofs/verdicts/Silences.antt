@@ -1,6 +1,6 @@
 -- Behind a set-up the places of an end are within one session. So what it sends is what an end sends that keeps the
 -- rules, and a trace of which nothing is told is a silent tape of `x25_line`.
-use Rattle.x25_judge.proofs.verdicts.Names.{◌≡◌, ◌==◌, ◌⊎◌, inl, inr, ℕ, ◌+◌, ◌-◌, ◌%◌, ◌<◌, ◌≤◌, arith, max, Bool, true, false, if◌then◌else◌, List, [], ◌∷◌, ◌++◌, length, Some, None, Ok, refl, sym, ap, ◌∙◌, subst, slice_get, nat_lt, nat_le, not, ◌&&◌, ◌||◌, both_ways, eqb-true, ne_eqb, lt-ltb, and_from, and_parts, cond-true, cond-false, length_push, Role, n1, PlainFrame, info, rr, rnr, rej, frame_of, ReadsWhatIsSpelled, Peer, fresh_peer, MayAcknowledge, numbered_to, told_to, hearing, taking, Said, Tells, said, same_octets, is_item, judges_ack, then_ack, judges_item, judges, notes, notes_said, other, Settings, ROOM, Held, differs, keeps, own_of, answer_to, held_by, shown, Judge, End, MaySend, come, is_new, IsBegun, Shows, IsNumbered, Watched, more, IsSilent, Begins, Acts, Rests, Says, Comes, Fails, SilenceMeansOrder, nth, sends_to, shows_to, fresh, heard, may_acknowledge, may_count, may_number, least_of, number_of, Frame, Info, Ready, LinkSet, Nothing, Numbers, Stand, Out, Asking, Up, Free, AllAre, sent_all, shown_all, blind_sends, blind_shows, counted_at, Acknowledges, acknowledges, is_numbered, below_is, eq-eqb, le-leb}
+use Rattle.x25_judge.proofs.verdicts.Names.{◌≡◌, ◌==◌, ◌⊎◌, inl, inr, ℕ, ◌+◌, ◌-◌, ◌%◌, ◌<◌, ◌≤◌, arith, max, Bool, true, false, if◌then◌else◌, List, [], ◌∷◌, ◌++◌, length, Some, None, Ok, refl, sym, ap, ◌∙◌, subst, slice_get, nat_lt, nat_le, not, ◌&&◌, ◌||◌, both_ways, eqb-true, ne_eqb, lt-ltb, and_from, and_parts, cond-true, cond-false, length_push, Role, n1, PlainFrame, info, rr, rnr, rej, frame_of, ReadsWhatIsSpelled, Peer, fresh_peer, MayAcknowledge, numbered_to, told_to, hearing, taking, Said, Tells, said, same_octets, is_item, judges_ack, then_ack, judges_item, judges, notes, notes_said, other, LinkSettings, ROOM, Held, differs, keeps, own_of, answer_to, held_by, shown, Judge, End, MaySend, come, is_new, IsBegun, Shows, IsNumbered, Watched, more, IsSilent, Begins, Acts, Rests, Says, Comes, Fails, SilenceMeansOrder, nth, sends_to, shows_to, fresh, heard, may_acknowledge, may_count, may_number, least_of, number_of, Frame, Info, Ready, LinkSet, Nothing, Numbers, Stand, Out, Asking, Up, Free, AllAre, sent_all, shown_all, blind_sends, blind_shows, counted_at, Acknowledges, acknowledges, is_numbered, below_is, eq-eqb, le-leb}
 use Rattle.x25_possible_links.proofs.Stands.{IsNumbered as MayBeNumbered}
 use Rattle.x25_frame.specs.Spelling.{IsWithin as IsWithinLine, information_of}
 use Rattle.x25_line.specs.laws.InWindow.{IsPrefix}
@@ -340,13 +340,13 @@ passes_line reads from j line octets frame p shows is own e =
 abbrev joined : Watched → Peer → JoinedOnce
 joined w p = record { near = w.near; peer = p; out = w.out; back = w.back }
 
-record Explained (c : Settings) (w : Watched) : Type 0 where
+record Explained (c : LinkSettings) (w : Watched) : Type 0 where
   pub p : Peer
   pub silent : tape.IsSilent c (joined w p)
   pub given : p.given ≡ w.shown
   pub knows : Explains (own_of (other c.role) w.judge) p
 
-explained : ReadsWhatIsSpelled → (c : Settings) → c.longest ≡ n1 → (w : Watched) → IsSilent c w → (own_of (other c.role) w.judge).set.is_blind ≡ false → Explained c w
+explained : ReadsWhatIsSpelled → (c : LinkSettings) → c.longest ≡ n1 → (w : Watched) → IsSilent c w → (own_of (other c.role) w.judge).set.is_blind ≡ false → Explained c w
 explained reads c longest w (Begins j up) room =
     record { p = fresh_peer; silent = tape.Begins; given = refl; knows = begun_knows j (other c.role) (up (other c.role)) room }
 explained reads c longest w (Acts v act h) room =

@@ -1,5 +1,5 @@
 -- A station of ours keeps the rules, whatever the other end and the line do.
-use Rattle.x25_judge.proofs.verdicts.Names.{◌≡◌, ℕ, ◌+◌, ◌<◌, ◌≤◌, le_trans, List, [], ◌∷◌, ◌++◌, inl, length, false, Option, Some, None, Result, Ok, Err, refl, sym, ap, ◌∙◌, subst, arith, length-append, same_Some, slice_get_within, n1, PlainFrame, info, rr, rnr, rej, frame_of, ReadsSpelled, FrameError, Short, BadFcs, BadAddress, Settings, other, Peer, fresh_peer, MayHear, Said, Tells, Odd, number_in, EachEventHandsOne, HandsOne, Near, acts, Judge, MayStand, numbered, In, Way, NoSessionIsAccused, NoStationIsAccused, Watched, our_end, IsAny, Begins, Acts, Rests, Says, Comes, Fails}
+use Rattle.x25_judge.proofs.verdicts.Names.{◌≡◌, ℕ, ◌+◌, ◌<◌, ◌≤◌, le_trans, List, [], ◌∷◌, ◌++◌, inl, length, false, Option, Some, None, Result, Ok, Err, refl, sym, ap, ◌∙◌, subst, arith, length-append, same_Some, slice_get_within, n1, PlainFrame, info, rr, rnr, rej, frame_of, ReadsSpelled, FrameError, Short, BadFcs, BadAddress, LinkSettings, other, Peer, fresh_peer, MayHear, Said, Tells, Odd, number_in, EachEventHandsOne, HandsOne, Near, acts, Judge, MayStand, numbered, In, Way, NoSessionIsAccused, NoStationIsAccused, Watched, our_end, IsAny, Begins, Acts, Rests, Says, Comes, Fails}
 use Rattle.x25_line.specs.laws.Said.{said as read_as}
 use Rattle.std.specs.List.{slice_get}
 use Rattle.x25_line.specs.laws.LawsBelow.{Laws}
@@ -10,7 +10,7 @@ use Rattle.x25_judge.proofs.verdicts.Lag.{Did, Front, Sends, at_front, both, com
 use Rattle.x25_line.specs.laws.Peer as once
 use Rattle.x25_judge.specs.laws.Sessions as sessions
 
-module _ (c : Settings) (longest : c.longest ≡ n1) (j : Judge) (since : ℕ) where
+module _ (c : LinkSettings) (longest : c.longest ≡ n1) (j : Judge) (since : ℕ) where
   -- the trace, and how far the end is ahead of it
   pub record OnTrace (os : List (List ℕ)) (p : Peer) (out : List (List ℕ)) : Type 0 where
     pub before : Peer
@@ -86,7 +86,7 @@ timely way since few less = omega (arith, few, less)
 one_longer : (way : Way) (what : Option PlainFrame) (since : ℕ) → length way ≤ since → length (way ++ what ∷ []) ≤ since + 1
 one_longer way what since few = let e = length-append way (what ∷ []) in omega (arith, e, few)
 
-module _ (c : Settings) (high : c.window ≤ 7) (longest : c.longest ≡ n1) (reads : ReadsSpelled) (laws : Laws) (hands : EachEventHandsOne) where
+module _ (c : LinkSettings) (high : c.window ≤ 7) (longest : c.longest ≡ n1) (reads : ReadsSpelled) (laws : Laws) (hands : EachEventHandsOne) where
   abbrev Watches : Watched → Type 0
   Watches w = Seen c ⊥ (OnTrace c longest w.judge w.since) (our_end w)
 

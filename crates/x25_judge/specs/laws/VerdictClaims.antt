@@ -21,7 +21,7 @@ use Rattle.x25_possible_links.specs.declared.stand.Stand.TheVariants.{Free}
 use Rattle.x25_line.specs.laws.InWindow.{IsPrefix}
 use Rattle.x25_line.specs.laws.Peer.{Peer}
 use Rattle.x25_link.specs.Hearing.{other}
-use Rattle.x25_link.specs.Station.{Settings}
+use Rattle.x25_link.specs.Station.{LinkSettings}
 use Rattle.x25_line.specs.laws.PeerSessions.{Stand}
 use Rattle.x25_judge.specs.laws.Explaining.{IsKept, IsUntold, Carries}
 use Rattle.x25_judge.specs.laws.Sessions.{MaySay, MayStand}
@@ -41,14 +41,14 @@ NoSessionIsAccused =
 -- nor of a station of ours, whatever the other end and the line do, as long as it isn't set up anew
 abbrev pub NoStationIsAccused : Type 0
 NoStationIsAccused =
-    (c : Settings) → c.window ≤ 7 → c.longest ≡ n1 → (w : Watched) → IsAny c w → w.near.came_up ≡ false
+    (c : LinkSettings) → c.window ≤ 7 → c.longest ≡ n1 → (w : Watched) → IsAny c w → w.near.came_up ≡ false
     → (line octets : List ℕ) (frame : PlainFrame) (rest : List (List ℕ)) → w.out ≡ octets ∷ rest
     → Shows line c.role octets frame → IsNumbered frame → is_of_order (rule_of w.judge c.role frame) ≡ false
 
 -- where nothing is told and there is room, what the station handed up is a beginning of what the trace shows
 abbrev pub SilenceMeansOrder : Type 0
 SilenceMeansOrder =
-    (c : Settings) → 1 ≤ c.window → c.window ≤ 7 → c.longest ≡ n1 → (w : Watched) → IsSilent c w
+    (c : LinkSettings) → 1 ≤ c.window → c.window ≤ 7 → c.longest ≡ n1 → (w : Watched) → IsSilent c w
     → (own_of (other c.role) w.judge).set.is_blind ≡ false → w.near.came_up ≡ false → IsPrefix w.near.up w.shown
 
 -- and the lines of each end are those of an end that keeps the rules

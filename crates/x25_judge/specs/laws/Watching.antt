@@ -5,7 +5,7 @@ use Rattle.x25_judge.specs.Judge.{answer_to}
 use Rattle.x25_judge.specs.declared.judge.Judge.{Judge}
 use Rattle.x25_line.specs.laws.Stations.{StationEnd, Stations, Act, acts, fresh_station}
 use Rattle.x25_link.specs.Hearing.{other}
-use Rattle.x25_link.specs.Station.{Settings}
+use Rattle.x25_link.specs.Station.{LinkSettings}
 use Rattle.x25_judge.specs.laws.Session.{IsSetUp, Shows, IsDamaged, IsNumbered}
 
 -- The judge, the station, what the I frames of the other end carried, each number once, the octets between the tape and
@@ -34,7 +34,7 @@ more frame shown = shown
 
 -- Lines of the other end are as `Passes` has it. Where `Damage` holds they may be damaged, and where `MayLag` does of
 -- how many there were, one more may be shown.
-pub data IsWatched (Passes : Judge → List ℕ → Type 0) (Damage : Type 0) (MayLag : ℕ → Type 0) (c : Settings)
+pub data IsWatched (Passes : Judge → List ℕ → Type 0) (Damage : Type 0) (MayLag : ℕ → Type 0) (c : LinkSettings)
     : Watched → Type 0 where
   -- the trace has shown a set-up
   Begins : (j : Judge) → IsSetUp j → IsWatched Passes Damage MayLag c (watched_from j)
@@ -67,9 +67,9 @@ pub data IsWatched (Passes : Judge → List ℕ → Type 0) (Damage : Type 0) (M
       })
 
 -- nothing is told of the other end, and no line is damaged
-abbrev pub IsSilent : Settings → Watched → Type 0
+abbrev pub IsSilent : LinkSettings → Watched → Type 0
 IsSilent = IsWatched (λ j line. (answer_to j line).is_faulty ≡ false) ⊥ (λ n. Unit {0})
 
 -- Whatever is told. Of any 64 lines of the other end nothing is between the tape and the station behind one of them.
-abbrev pub IsAny : Settings → Watched → Type 0
+abbrev pub IsAny : LinkSettings → Watched → Type 0
 IsAny = IsWatched (λ j line. Unit {0}) (Unit {0}) (λ n. n < 64)

@@ -2,28 +2,22 @@
 use Rattle.std.specs.Prelude.{◌≡◌, ℕ, ◌%◌, ◌==◌, Bool, true, false, not, ◌&&◌, ◌||◌, if◌then◌else◌, List, [], ◌∷◌}
 use Rattle.std.specs.Prelude.{Option, Some, None, is_some}
 use Rattle.x25_bits.specs.Role.{other}
-use Rattle.x25_bits.specs.declared.role.Role.{Role}
-use Rattle.x25_bits.specs.declared.role.Role.TheVariants.{Dte, Dce}
+use Rattle.x25_bits.specs.declared.role.{Role.{Role}, Role.TheVariants.{Dte, Dce}}
 use Rattle.x25_packet.specs.Packet.{PlainPacket, restart, restart_conf}
 use Rattle.x25_packet_judge.specs.Book.{begins, is_of_all, is_restart, layers_of, takes}
-use Rattle.x25_packet_judge.specs.Channel.{any_channel, by_end, rule_of}
+use Rattle.x25_packet_judge.specs.Channel.{by_end, lost, rule_of}
 use Rattle.x25_packet_judge.specs.Channels.{channel_of}
 use Rattle.x25_packet_judge.specs.Item.{item_of}
 use Rattle.x25_packet_judge.specs.PacketRule.{is_of_manners, is_order}
-use Rattle.x25_packet_judge.specs.declared.book.Book.{Book}
-use Rattle.x25_packet_judge.specs.declared.channel.Channel.{Channel}
-use Rattle.x25_packet_judge.specs.declared.layers.Layers.{Layers}
+use Rattle.x25_packet_judge.specs.declared.{book.Book.{Book}, channel.Channel.{Channel}, layers.Layers.{Layers}}
 use Rattle.x25_packet_judge.specs.declared.packet_rule.PacketRule.{PacketRule}
 use Rattle.x25_packet_judge.specs.declared.packet_rule.PacketRule.TheVariants as rules
 use Rattle.x25_possible.specs.Channel.{channel_rules, is_polite, sends_as}
 use Rattle.x25_possible.specs.laws.Possible.{IsIn, IsUnexplained, Item, Own, Other, Stands}
 use Rattle.x25_possible.specs.laws.Sets.{Fits}
 use Rattle.x25_possible.specs.code.Steps.{behind, is_known, may_send, sends_to, shows_to}
-use Rattle.x25_possible.specs.declared.packet.Packet.{Packet}
-use Rattle.x25_possible.specs.declared.packet.Packet.TheVariants.{Elsewhere, Restart, RestartConf}
-use Rattle.x25_possible.specs.declared.phase.Phase.{Phase}
-use Rattle.x25_possible.specs.declared.phase.Phase.TheVariants.{Idle}
-use Rattle.x25_possible.specs.declared.set.Set.{Set}
+use Rattle.x25_possible.specs.declared.packet.{Packet.{Packet}, Packet.TheVariants.{Elsewhere, Restart, RestartConf}}
+use Rattle.x25_possible.specs.declared.{phase.Phase.{Phase}, phase.Phase.TheVariants.{Idle}, set.Set.{Set}}
 use Rattle.x25_possible.specs.declared.spots.Spot.{Spot}
 
 -- ---- the sets of an end
@@ -47,7 +41,7 @@ abbrev pub refuses : Role → Channel → Bool
 refuses from c = is_order (rule_of (sends_to Elsewhere (end_of from c)).told Elsewhere)
 
 abbrev pub awaits : Role → PlainPacket → Book → Bool
-awaits from packet b = not (is_of_all packet) && refuses from (if is_quiet from b then any_channel else b.restarts)
+awaits from packet b = not (is_of_all packet) && refuses from (if is_quiet from b then lost b.restarts else b.restarts)
 
 abbrev pub rule_told : Role → ℕ → PlainPacket → Book → Option PacketRule
 rule_told from channel packet b = (takes from channel packet b).verdict.rule

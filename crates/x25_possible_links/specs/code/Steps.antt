@@ -305,6 +305,14 @@ has_all way = true
 abbrev pub is_followed : LinkSet → Bool
 is_followed s = has_all s.way.items
 
+-- where it awaits UA, UA to what was sent before may come to it
+abbrev pub is_waiting : Stand → Bool
+is_waiting Asking = true
+is_waiting s = false
+
+abbrev pub awaits_before : LinkSet → Bool
+awaits_before s = not (is_followed s) && is_waiting (latest s.spots.items s.way.items)
+
 abbrev pub is_request : Frame → Bool
 is_request Sabm = true
 is_request Disc = true

@@ -2,19 +2,19 @@
 -- puts on the line goes by on the tape, and what is gone from the line to it came. ITU-T X.25 (10/96), sections 2.4.4
 -- and
 -- 2.4.5.
-use Rattle.std.specs.Prelude.{◌≡◌, ◌⊎◌, ℕ, ◌+◌, ◌-◌, ◌%◌, ◌≤◌, ◌<◌, Bool, false, not, List, [], ◌∷◌, ◌++◌, length}
+use Rattle.std.specs.Prelude.{◌≡◌, ◌⊎◌, ℕ, ◌+◌, ◌-◌, ◌≤◌, ◌<◌, Bool, false, not, List, [], ◌∷◌, ◌++◌, length}
 use Rattle.std.specs.Prelude.{slice_get}
-use Rattle.std.specs.Prelude.{Option, Some, None}
+use Rattle.std.specs.Prelude.{Some, None}
 use Rattle.x25_window.specs.code.Modulo.{resolved}
 use Rattle.x25_line.specs.laws.Ends as line
-use Rattle.x25_line.specs.laws.Ends.{Ends, Letter, Two, Stander, Does, moves, loses, near_now, with_packet}
+use Rattle.x25_line.specs.laws.Ends.{Ends, Letter, Stander, Does, moves, loses, near_now, with_packet}
 use Rattle.x25_line.specs.laws.Sessions.{Meeting}
-use Rattle.x25_line.specs.laws.Peer.{Peer, MaySay, MayMake}
+use Rattle.x25_line.specs.laws.Peer.{Peer}
 use Rattle.x25_line.specs.laws.Said as read
-use Rattle.x25_line.specs.laws.Said.{Said, Carried}
+use Rattle.x25_line.specs.laws.Said.{Said}
 use Rattle.x25_line.specs.laws.Tape.{is_item}
 use Rattle.x25_possible.specs.laws.Possible.{Item, Own, Other, IsIn}
-use Rattle.x25_possible_links.specs.laws.Link.{At, Owes, MaySend, MayTake, sends_as, heard}
+use Rattle.x25_possible_links.specs.laws.Link.{At, Owes, MaySend, MayTake}
 use Rattle.x25_possible_links.specs.laws.Sets.{IsRoomy}
 use Rattle.x25_possible_links.specs.code.Steps.{begun_as, played, sends_to}
 use Rattle.x25_possible_links.specs.declared.frame.Frame.{Frame}
@@ -122,34 +122,6 @@ abbrev pub LinkStepsAreAllowed : Type 0
 LinkStepsAreAllowed =
     (w v : Ends) (s : Stand) (came way own : List Frame) → StandsAt s w → AreShown v.two.back way → IsStep w v came own
     → IsAllowed s v came way own
-
--- ---- and back: what the rules of a link allow in a session a peer may do
-
--- an I frame with the next new N(S) carries the next packet that it was handed down
-abbrev pub IsGiven : Peer → Option Carried → Type 0
-IsGiven p None = Unit {0}
-IsGiven p (Some c) = c.ns ≡ p.sent % 8 → slice_get p.given p.sent ≡ Some c.packet
-
-pub record MaySayIt (p : Peer) (said : Said) (r : Stand) : Type 0 where
-  pub next : Peer
-  pub may : MaySay ⊥ p said next
-  pub stands : r ≡ Up (numbers_of next)
-
-pub record MayMakeIt (p : Peer) (said : Said) (k : Numbers) : Type 0 where
-  pub next : Peer
-  pub may : MayMake p said next
-  pub stands : k ≡ numbers_of next
-
-abbrev pub SessionSendsArePeers : Type 0
-SessionSendsArePeers =
-    (p : Peer) (way : List Frame) (carried : Option Carried) (nr n t : ℕ) (x : Frame) (r : Stand) → IsGiven p carried
-    → IsIn x (frames_of (differs p (read.Tells carried nr)) (read.Tells carried nr))
-    → sends_as n t (Up (numbers_of p)) way x ≡ Some r → MaySayIt p (read.Tells carried nr) r
-
-abbrev pub SessionTakesArePeers : Type 0
-SessionTakesArePeers =
-    (p : Peer) (carried : Option Carried) (nr : ℕ) (x : Frame) (hears takes : Bool) → IsShown (read.Tells carried nr) x
-    → MayMakeIt p (read.Tells carried nr) (heard hears takes (numbers_of p) x)
 
 -- ---- over a whole tape
 

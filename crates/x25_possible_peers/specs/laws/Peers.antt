@@ -1,6 +1,6 @@
 -- A peer of the packet layer, on one channel, as an end of which a judge knows the state. ITU-T X.25 (10/96), sections
 -- 4.1, 4.3 and 4.4.
-use Rattle.std.specs.Prelude.{◌≡◌, ℕ, ◌≤◌, ◌^◌, List, [], ◌∷◌, ◌++◌, length, Option, Some, None, true, false}
+use Rattle.std.specs.Prelude.{◌≡◌, ℕ, ◌^◌, List, [], ◌∷◌, ◌++◌, length, Option, Some, None, true, false}
 use Rattle.std.specs.Prelude.{Result, Ok, Err}
 use Rattle.x25_bits.specs.declared.role.Role.{Role}
 use Rattle.x25_bits.specs.declared.role.Role.TheVariants.{Dce}
@@ -12,7 +12,7 @@ use Rattle.x25_circuit.specs.Message.{Piece, More, Last, no_part, joining}
 use Rattle.x25_circuit.specs.declared.params.Params.{Params}
 use Rattle.x25_handshakes.specs.laws.Handshake.{Side, Live, Left, At}
 use Rattle.x25_handshakes.specs.laws.Stretch as theirs
-use Rattle.x25_handshakes.specs.laws.PeerStretch.{PeerStretch, Deed, MayDo, does, packet_of}
+use Rattle.x25_handshakes.specs.laws.PeerStretch.{PeerStretch}
 use Rattle.x25_handshakes.specs.laws.PeerCalls.{PeerCall}
 use Rattle.x25_handshakes.specs.laws.PeerChannel.{ChannelDeed, fresh_peer_channel, MayDoChannel, does_channel}
 use Rattle.x25_handshakes.specs.laws.PeerChannel.{channel_packet_of}
@@ -26,36 +26,47 @@ use Rattle.x25_possible.specs.declared.packet.Packet.{Packet}
 use Rattle.x25_possible.specs.declared.packet.Packet.TheVariants as item
 use Rattle.x25_possible.specs.declared.packet.Sizes.{Sizes}
 use Rattle.x25_possible.specs.declared.packet.Terms.{Terms}
+use Rattle.x25_possible.specs.declared.packet.Windows.{Windows}
 use Rattle.x25_possible.specs.declared.phase.Limits.{Limits}
 use Rattle.x25_possible.specs.declared.phase.Phase.{Phase}
 use Rattle.x25_possible.specs.declared.phase.Phase.TheVariants as phase
 use Rattle.x25_possible.specs.declared.phase.Talk.{Talk}
+use Rattle.x25_handshakes.specs.laws.Terms as agreed
 use Rattle.x25_handshakes.specs.laws.Calls.{Stage, Unused, Waiting, Offered, Crossed, Talking}
 
--- ---- its packets; windows are manners, and none is said
+-- ---- its packets
 
 abbrev pub terms_of : Params → Terms
 terms_of p = record {
   calling_size = 2 ^ p.size_calling;
   called_size = 2 ^ p.size_called;
-  calling_window = 0;
-  called_window = 0;
+  calling_window = p.win_calling;
+  called_window = p.win_called;
 }
 
 abbrev pub sizes_by : Option Directions → Option Sizes
 sizes_by None = None
 sizes_by (Some said) = Some (record { calling = 2 ^ said.calling; called = 2 ^ said.called })
 
--- what a facility field says of packet sizes
+abbrev pub windows_by : Option Directions → Option Windows
+windows_by None = None
+windows_by (Some said) = Some (record { calling = said.calling; called = said.called })
+
+-- what a facility field says of packet sizes, and of windows
 abbrev pub sizes_in : Result Facilities PacketError → Option Sizes
 sizes_in (Ok f) = sizes_by f.packet_size
 sizes_in (Err e) = None
 
-abbrev pub said_of : Result Facilities PacketError → Said
-said_of r = record { sizes = sizes_in r; windows = None }
+abbrev pub windows_in : Result Facilities PacketError → Option Windows
+windows_in (Ok f) = windows_by f.window_size
+windows_in (Err e) = None
 
-abbrev pub limits : ℕ → Limits
-limits size = record { most = size; window = 0 }
+abbrev pub said_of : Result Facilities PacketError → Said
+said_of r = record { sizes = sizes_in r; windows = windows_in r }
+
+-- of what it sends in a call with these terms
+abbrev pub limits : agreed.Terms → Limits
+limits t = record { most = t.size; window = t.window }
 
 abbrev pub data_of : ℕ → ℕ → Piece → Packet
 data_of ns nr (More q user) = item.Data q.q true ns nr (length user)
@@ -76,10 +87,10 @@ item_of theirs.ClearConf = item.ClearConf
 
 -- ---- its state
 
-abbrev pub talk_of : ℕ → PeerStretch → Talk
-talk_of size y = record {
-  most = size;
-  window = 0;
+abbrev pub talk_of : Limits → PeerStretch → Talk
+talk_of l y = record {
+  most = l.most;
+  window = l.window;
   sent = length y.sent;
   acked = y.acked;
   taken = length y.taken;
@@ -89,16 +100,16 @@ talk_of size y = record {
   owed = y.owed;
 }
 
-abbrev pub transfer_phase : ℕ → Side PeerStretch → Phase
-transfer_phase size (Live y) = phase.Talks (talk_of size y)
-transfer_phase size (Left y) = phase.Resets (limits size)
+abbrev pub transfer_phase : Limits → Side PeerStretch → Phase
+transfer_phase l (Live y) = phase.Talks (talk_of l y)
+transfer_phase l (Left y) = phase.Resets l
 
 abbrev pub stage_phase : Stage (At PeerStretch) → Phase
 stage_phase Unused = phase.Idle
 stage_phase (Waiting mine) = phase.Calls (terms_of mine)
 stage_phase (Offered theirs) = phase.WasCalled (terms_of theirs)
 stage_phase (Crossed mine) = phase.Calls (terms_of mine)
-stage_phase (Talking t b at) = transfer_phase t.size at.side
+stage_phase (Talking t b at) = transfer_phase (limits t) at.side
 
 abbrev pub phase_of : Side PeerCall → Phase
 phase_of (Live y) = stage_phase y.stage
@@ -131,28 +142,6 @@ abbrev pub PacketsAreTaken : Type 0
 PacketsAreTaken =
     (r : Role) (e : ℕ) (y : Side PeerCall) (p : theirs.Packet) → IsOfRole r y
     → IsTakenSo r (phase_of y) (item_of p) (channel_taking r e y p).out (phase_of (channel_taking r e y p).next.side)
-
--- ---- and back: what the rules of a channel allow in d1 a peer may do, where a message may get as long as it does
-
-abbrev pub IsInStretch : theirs.Packet → Type 0
-IsInStretch (theirs.Data ns nr piece) = Unit {0}
-IsInStretch (theirs.Rr nr) = Unit {0}
-IsInStretch (theirs.Rnr nr) = Unit {0}
-IsInStretch (theirs.Int user) = Unit {0}
-IsInStretch theirs.IntConf = Unit {0}
-IsInStretch p = ⊥
-
-pub record MayDoIt (size : ℕ) (y : PeerStretch) (p : theirs.Packet) (r : Phase) : Type 0 where
-  pub longest : ℕ
-  pub deed : Deed
-  pub may : MayDo longest size y deed
-  pub packet : packet_of y deed ≡ p
-  pub stands : r ≡ phase.Talks (talk_of size (does y deed))
-
-abbrev pub StretchSendsArePeers : Type 0
-StretchSendsArePeers =
-    (size t : ℕ) (y : PeerStretch) (p : theirs.Packet) (r : Phase) → 1 ≤ size → IsInStretch p
-    → sends_as t (phase.Talks (talk_of size y)) (item_of p) ≡ Some r → MayDoIt size y p r
 
 -- ---- over a whole tape
 
